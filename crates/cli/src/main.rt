@@ -1,0 +1,48 @@
+//! The program `pgn-extract`: gathers the words, hands over the real files, and ends with the status
+//! that `pgn_extract::program` answers.
+#![tactic(auto)]
+
+mod files;
+
+use files::RealFiles;
+use pgn_extract::program;
+use pgn_text::Tally;
+use std::alloc::Global;
+use std::io::{BufWriter, ErrorKind};
+use std::process::ExitCode;
+use std::{env, io, rt};
+
+/// How many bytes of output are gathered before they are written.
+const OUTPUT_BUFFER: usize = 65_536;
+
+/// Ends with a line on standard error; a fault in telling it is ignored.
+fn end_with(rt: &impl Eprint, line: &str, status: u8) -> ExitCode {
+    let _ = rt.eprint(line);
+    ExitCode::from(status)
+}
+
+/// The words of the command line, the program's name first.
+fn gather_words(rt: &HostRuntime, alloc: Global) -> io::Result<Vec<String>> {
+    Ok(env::args(rt)?.collect(alloc)?)
+}
+
+fn main(rt: HostRuntime) -> ExitCode {
+    let alloc = rt.alloc();
+    let words = match gather_words(&rt, alloc) {
+        Ok(words) => words,
+        Err(error) if error.kind() == ErrorKind::OutOfMemory => {
+            return end_with(&rt, "pgn-extract: out of memory\n", 3);
+        }
+        Err(_) => return end_with(&rt, "pgn-extract: the words are not UTF-8 text\n", 2),
+    };
+    let Ok(buffered) = BufWriter::with_capacity(alloc, OUTPUT_BUFFER, rt.stdout()) else {
+        return end_with(&rt, "pgn-extract: out of memory\n", 3);
+    };
+    let mut out = Tally::new(buffered);
+    let mut err = Tally::new(rt.stderr());
+    let mut files = RealFiles::new(rt);
+    ExitCode::from(program(alloc, words, &mut files, &mut out, &mut err))
+}
+
+#[cfg(test)]
+mod tests;

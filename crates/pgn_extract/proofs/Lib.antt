@@ -1,0 +1,10 @@
+pub mod Beginnings
+pub mod BlockTold
+pub mod BlocksGiven
+pub mod Dropping
+pub mod Listed
+pub mod RunProgress
+pub mod Telling
+pub mod WholeRun
+pub mod Writing
+pub mod Resumed

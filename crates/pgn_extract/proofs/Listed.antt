@@ -1,0 +1,71 @@
+-- The pieces of a block that the iterator has given so far.
+use Rattle.std.proofs.Common.{◌≡◌, ◌==◌, ℕ, ◌+◌, ◌≤◌, true, false, List, [], ◌∷◌, ◌++◌, map, length, refl, sym, ap, ◌∙◌, subst, arith, append_assoc, length-append, ◌⊎◌, inl, inr}
+use Rattle.std.proofs.lemmas.Bool.{both_ways}
+use Rattle.std.proofs.lemmas.List.{append-nil, map_push, length-map}
+use Rattle.pgn_text.specs.Left.{Left, ArePiecesLeft, TakesPiece}
+use Rattle.pgn_text.specs.Marks.{marked, within as in_limit}
+use Rattle.pgn_text.specs.Pieces as spec
+use Rattle.pgn_text.specs.declared.cut.Piece.{Piece}
+use Rattle.pgn_extract.specs.Blockwise.{AreLines, AreLinesOf, AddsPiece}
+use Rattle.pgn_extract.specs.declared.lines.Lines.{Lines}
+use Rattle.pgn_extract.proofs.Telling.{lines_more}
+
+-- some pieces are given and told, and those that are left complete them
+pub record Listed (start now : Left) (lines : Lines) (number offset : ℕ) : Type 0 where
+  pub done : List spec.Piece
+  pub completes : (more : List spec.Piece) → ArePiecesLeft 64 now more → ArePiecesLeft 64 start (done ++ more)
+  pub told : AreLines lines number (map (marked offset) done)
+  pub few : length done ≤ now.at
+  pub within : now.at ≤ length now.block
+  pub same : now.block ≡ start.block
+  pub sound : now.failed ≡ false
+
+-- at the start none is
+pub listed_start : {start : Left} {lines : Lines} {number offset : ℕ} → start.failed ≡ false → start.at ≤ length start.block
+    → AreLines lines number [] → Listed start start lines number offset
+listed_start {start} sound inside none = record {
+  done = [];
+  completes = λ more left. left;
+  told = none;
+  few = omega arith;
+  within = inside;
+  same = refl;
+  sound = sound;
+}
+
+module _ {start now : Left} {lines : Lines} {number offset : ℕ} (l : Listed start now lines number offset) where
+  -- how many there are
+  pub listed_count : lines.games ≡ length l.done
+  listed_count = l.told.games ∙ length-map l.done (marked offset)
+
+  -- one more piece
+  pub listed_more : {next : Left} {lines' : Lines} {here : ℕ} (piece : Piece) → TakesPiece 64 now next piece → here ≡ number + lines.games
+      → AddsPiece lines lines' here offset piece → Listed start next lines' number offset
+  listed_more {next} {lines'} {here} piece takes is adds = record {
+    done = l.done ++ takes.shown ∷ [];
+    completes = λ more left.
+        subst (ArePiecesLeft 64 start) (sym (append_assoc l.done (takes.shown ∷ []) more)) (l.completes (takes.shown ∷ more) (takes.completes more left));
+    told =
+        let more = lines_more lines lines' number here (map (marked offset) l.done) (marked offset takes.shown) l.told (is ∙ ap (λ n. number + n) l.told.games) (adds takes.shown takes.is) in
+        subst (AreLines lines' number) (sym (map_push (marked offset) l.done takes.shown)) more;
+    few = let f = l.few in let g = takes.grows in omega (arith, length-append l.done (takes.shown ∷ []));
+    within = takes.within;
+    same = takes.same.0 ∙ l.same;
+    sound = takes.same.2;
+  }
+
+  -- all of them, where none is left
+  pub listed_all : (block : List ℕ) → start ≡ record { block = block; file_start = offset == 0; at = 0; failed = false } → length block ≤ 1048576
+      → (now.failed ≡ true) ⊎ ArePiecesLeft 64 now [] → AreLinesOf lines 1048576 64 number offset block
+  listed_all block is fits end = record {
+    own = map (marked offset) l.done;
+    each = in_limit fits l.done (subst (λ (s : Left). ArePiecesLeft 64 s l.done) is whole) refl;
+    told = l.told;
+    few = let f = l.few in let w = l.within in omega (arith, length-map l.done (marked offset), ap length l.same, ap (λ (s : Left). length s.block) is);
+  }
+    where
+      whole : ArePiecesLeft 64 start l.done
+      whole = elim end [
+        | inl bad ↦ absurd (both_ways now.failed l.sound bad)
+        | inr left ↦ subst (ArePiecesLeft 64 start) (append-nil l.done) (l.completes [] left)
+      ]

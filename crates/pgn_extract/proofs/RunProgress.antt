@@ -1,0 +1,252 @@
+-- The run over the blocks: what stands at each turn, and what each way out of it gives.
+use Rattle.std.proofs.Common.{◌≡◌, ℕ, ◌+◌, ◌-◌, ◌^◌, ◌<◌, ◌≤◌, Bool, true, false, List, [], ◌∷◌, ◌++◌, length, Option, Some, None, refl, sym, ap, ◌∙◌, subst, arith, append_assoc, length-append, inl, inr, ◌⊎◌}
+use Rattle.std.specs.Prelude.{◌≢◌, count_by, IfSome}
+use Rattle.std.specs.Io.KnownBytes.{Keeps, IsAtEnd}
+use Rattle.std.proofs.lemmas.Bool.{cases_Bool, both_ways}
+use Rattle.std.proofs.lemmas.List.{append-nil}
+use Rattle.pgn_text.specs.Blocks.{IsFirstBlock}
+use Rattle.pgn_text.specs.Marks.{MarkedPiece, AreMarkedPieces}
+use Rattle.pgn_text.specs.Tallies.{Reads}
+use Rattle.pgn_text.specs.Windows.{Window, IsCutOff, FailsAfter}
+use Rattle.pgn_text.specs.declared.blocks.ReadError.{ReadError}
+use Rattle.pgn_text.specs.declared.blocks.ReadError.TheVariants as cause
+use Rattle.pgn_text.proofs.Joined.{reads_join, reads_none}
+use Rattle.pgn_text.proofs.OneBlocks.{empty_first}
+use Rattle.pgn_extract.specs.Index.{is_faulty}
+use Rattle.pgn_extract.specs.Blockwise.{TellsBlock, BeginsBlock, EndsBlocks, BreaksOff, StandsOver, run_error_of}
+use Rattle.pgn_extract.specs.Outcomes.{Tells, Begins, BeginsAll}
+use Rattle.pgn_extract.specs.declared.outcome.RunError.{RunError}
+use Rattle.pgn_extract.specs.declared.outcome.RunError.TheVariants.{Write, OutOfMemory}
+use Rattle.pgn_extract.specs.declared.outcome.Summary.{Summary}
+use Rattle.pgn_extract.proofs.Beginnings.{tells_kept, tells_more, begins_told, begins_more}
+use Rattle.pgn_extract.proofs.BlocksGiven.{Given, none_given, one_given, all_given, all_but_last, goes_on}
+use Rattle.pgn_extract.proofs.Dropping.{all_read}
+use Rattle.pgn_extract.proofs.Telling.{count_by-join}
+use Rattle.pgn_extract.proofs.Writing.{appends_none}
+
+-- how many turns an ended reader has left at most, and one that goes on
+abbrev pub turns : Bool → ℕ
+turns true = 0
+turns false = 1
+
+-- some blocks are read, and their pieces told and counted
+pub record Progress (limit max_depth number offset : ℕ) (now : Window) (first left : Option (List ℕ)) (moved count : ℕ) (out out' err err' : Option (List ℕ)) (games faulty : ℕ) : Type 0 where
+  pub bytes : List ℕ
+  pub pieces : List MarkedPiece
+  pub given : Given limit max_depth offset now bytes pieces
+  pub reads : Reads first left moved count (bytes ++ now.ahead)
+  pub told : Tells out out' err err' number pieces
+  pub counted : games ≡ length pieces
+  pub faults : faulty ≡ count_by is_faulty pieces
+  pub few : length pieces ≤ length bytes
+  pub within : now.place + length now.ahead ≤ 2 ^ 62
+  pub last : now.ended ≡ true → (now.ahead ≡ []) × IfSome first (λ whole. whole ≡ bytes)
+  pub sound : (now.failed ≡ false) × (now.over ≡ false)
+
+-- the window of a reader that has read nothing
+abbrev pub fresh : ℕ → Window
+fresh offset = record { done = []; ahead = []; place = offset; failed = false; ended = false; over = false }
+
+-- at the start nothing is read and nothing told
+pub progress_start : {limit max_depth number offset : ℕ} {now : Window} (left : Option (List ℕ)) (moved : ℕ) (out err : Option (List ℕ)) → now ≡ fresh offset → offset ≤ 2 ^ 62
+    → Progress limit max_depth number offset now left left moved moved out out err err 0 0
+progress_start {limit} {max_depth} {number} {offset} {now} left moved out err is small =
+    subst (λ (w : Window). Progress limit max_depth number offset w left left moved moved out out err err 0 0) (sym is) record {
+      bytes = [];
+      pieces = [];
+      given = none_given refl refl;
+      reads = reads_none left moved;
+      told = record { index = appends_none out; faults = appends_none err };
+      counted = refl;
+      faults = refl;
+      few = omega arith;
+      within = omega arith;
+      last = λ ended. cc;
+      sound = (refl, refl);
+    }
+
+-- of an input that is known, what is left follows what was read
+known : (first last : Option (List ℕ)) (moved count : ℕ) (read : List ℕ) (P : List ℕ → Type 0) → Reads first last moved count read
+    → ((rest : List ℕ) → (IsAtEnd last → rest ≡ []) → P (read ++ rest)) → IfSome first P
+known None last moved count read P reads holds = tt
+known (Some whole) None moved count read P reads holds = absurd reads.bytes
+known (Some whole) (Some rest) moved count read P reads holds = subst P (sym reads.bytes) (holds rest (λ end. end))
+
+module _ {limit max_depth number offset : ℕ} {now : Window} {first left : Option (List ℕ)} {moved count : ℕ} {out out' err err' : Option (List ℕ)} {games faulty : ℕ}
+    (p : Progress limit max_depth number offset now first left moved count out out' err err' games faulty) where
+  -- no further block is shorter than the way to the end
+  pub nearer : {next : Window} {left' : Option (List ℕ)} {read block : List ℕ} → IsCutOff now next left' read block
+      → (2 ^ 62 - next.place) + turns next.ended < (2 ^ 62 - now.place) + turns now.ended
+  nearer {next} {left'} {read} {block} cut =
+      let before : turns now.ended ≡ 1 = ap turns cut.going in
+      let place = cut.place in let within = cut.within in
+      elim (cases_Bool next.ended) [
+        | inl ended ↦ let after : turns next.ended ≡ 0 = ap turns ended in omega arith
+        | inr going ↦
+            let after : turns next.ended ≡ 1 = ap turns going in
+            let some : 0 < length block = some_bytes block (cut.more going) (cut.first [] (λ _. refl)) in
+            omega arith
+      ]
+    where
+      some_bytes : (b : List ℕ) → next.ahead ≢ [] → IsFirstBlock b (next.ahead ++ []) → 0 < length b
+      some_bytes [] more f = absurd (more (sym (append-nil next.ahead) ∙ empty_first (next.ahead ++ []) f))
+      some_bytes (x ∷ b) more f = omega arith
+
+  -- the bytes of a block and those ahead then, behind those before
+  total : {next : Window} {left' : Option (List ℕ)} {count' : ℕ} {read block : List ℕ} → IsCutOff now next left' read block → Reads left left' count count' read
+      → Reads first left' moved count' ((p.bytes ++ block) ++ next.ahead)
+  total {next} {left'} {count'} {read} {block} cut more =
+      subst (λ r. Reads first left' moved count' r)
+      (append_assoc p.bytes now.ahead read ∙ ap (λ t. p.bytes ++ t) cut.parted ∙ sym (append_assoc p.bytes block next.ahead))
+      (reads_join first left left' moved count count' (p.bytes ++ now.ahead) read p.reads more)
+
+  -- one more block is told
+  pub progress_more : {next : Window} {left' : Option (List ℕ)} {count' from : ℕ} {read block : List ℕ} {out'' err'' : Option (List ℕ)} {told : Summary}
+      → IsCutOff now next left' read block → Reads left left' count count' read → from + length block ≡ next.place
+      → TellsBlock limit max_depth (number + games) from block out' out'' err' err'' told
+      → Progress limit max_depth number offset next first left' moved count' out out'' err err'' (games + told.games) (faulty + told.faulty)
+  progress_more {next} {left'} {count'} {from} {read} {block} {out''} {err''} {told} cut more place tells =
+      let own = subst (λ n. Tells out' out'' err' err'' (number + n) tells.own) p.counted tells.told in
+      let reads = total cut more in
+      record {
+        bytes = p.bytes ++ block;
+        pieces = p.pieces ++ tells.own;
+        given = one_given p.given cut place tells.each;
+        reads = reads;
+        told = tells_more p.told tells.own own;
+        counted = let g = p.counted in let h = tells.games in omega (arith, length-append p.pieces tells.own);
+        faults = let g = p.faults in let h = tells.faulty in omega (arith, count_by-join p.pieces tells.own);
+        few = let g = p.few in let h = tells.few in omega (arith, length-append p.pieces tells.own, length-append p.bytes block);
+        within = cut.within;
+        last = λ ended.
+            let none = (cut.last ended).0 in
+            let here : (p.bytes ++ block) ++ next.ahead ≡ p.bytes ++ block = ap (λ t. (p.bytes ++ block) ++ t) none ∙ append-nil (p.bytes ++ block) in
+            (none, subst (λ b. IfSome first (λ whole. whole ≡ b)) here (all_read first left' moved count' ((p.bytes ++ block) ++ next.ahead) reads (cut.last ended).1));
+        sound = cut.sound;
+      }
+
+  -- one more block is told in part
+  pub block_breaks : {next : Window} {left' : Option (List ℕ)} {count' from : ℕ} {read block : List ℕ} {out'' err'' : Option (List ℕ)} (error : RunError)
+      → IsCutOff now next left' read block → Reads left left' count count' read → from + length block ≡ next.place
+      → BeginsBlock limit max_depth (number + games) from block out' out'' err' err'' → (error ≡ Write) ⊎ (error ≡ OutOfMemory)
+      → BreaksOff limit max_depth number offset first left' moved count' out out'' err err'' error
+  block_breaks {next} {left'} {count'} {from} {read} {block} {out''} {err''} error cut more place begins kind =
+      let own = subst (λ n. Begins out' out'' err' err'' (number + n) begins.own) p.counted begins.told in
+      let reads = total cut more in
+      let given = one_given p.given cut place begins.each in
+      record {
+        read = (p.bytes ++ block) ++ next.ahead;
+        reads = reads;
+        size = let w = cut.within in let q = given.place in omega (arith, length-append (p.bytes ++ block) next.ahead);
+        stands =
+            let begun = known first left' moved count' ((p.bytes ++ block) ++ next.ahead)
+            (λ whole. BeginsAll limit max_depth number offset whole out out'' err err'') reads
+            (λ rest end.
+            let others = goes_on given rest (λ ended. ((cut.last ended).0, end (cut.last ended).1)) in
+            record {
+              pieces = (p.pieces ++ begins.own) ++ others.0;
+              each = subst (λ t. AreMarkedPieces limit max_depth offset t ((p.pieces ++ begins.own) ++ others.0)) (sym (append_assoc (p.bytes ++ block) next.ahead rest)) others.1;
+              told = begins_more p.told begins.own others.0 own;
+            }) in
+            elim kind [
+              | inl is ↦ subst (StandsOver limit max_depth number offset first ((p.bytes ++ block) ++ next.ahead) out out'' err err'') (sym is) begun
+              | inr is ↦ subst (StandsOver limit max_depth number offset first ((p.bytes ++ block) ++ next.ahead) out out'' err err'') (sym is) begun
+            ];
+      }
+
+  -- all blocks are told
+  pub all_told : {left' : Option (List ℕ)} {count' : ℕ} {out'' err'' : Option (List ℕ)} {summary : Summary} → now.ended ≡ true → Reads left left' count count' []
+      → Keeps out' out'' → Keeps err' err'' → summary.games ≡ games → summary.faulty ≡ faulty
+      → EndsBlocks limit max_depth number offset first left' moved count' out out'' err err'' summary
+  all_told {left'} {count'} {out''} {err''} {summary} ended more out_kept err_kept counted faults =
+      let none = (p.last ended).0 in
+      let here : (p.bytes ++ now.ahead) ++ [] ≡ p.bytes = append-nil (p.bytes ++ now.ahead) ∙ ap (λ t. p.bytes ++ t) none ∙ append-nil p.bytes in
+      record {
+        read = p.bytes;
+        reads = subst (λ r. Reads first left' moved count' r) here (reads_join first left left' moved count count' (p.bytes ++ now.ahead) [] p.reads more);
+        all = (p.last ended).1;
+        size = let w = p.within in let q = p.given.place in omega arith;
+        pieces = p.pieces;
+        each = all_given p.given ended none;
+        told = tells_kept p.told out_kept err_kept;
+        games = counted ∙ p.counted;
+        faulty = faults ∙ p.faults;
+      }
+
+  -- all blocks are told, and a flush failed
+  pub flush_breaks : {left' : Option (List ℕ)} {count' : ℕ} {out'' err'' : Option (List ℕ)} (error : RunError) → now.ended ≡ true → Reads left left' count count' []
+      → Keeps out' out'' → Keeps err' err'' → error ≡ Write → BreaksOff limit max_depth number offset first left' moved count' out out'' err err'' error
+  flush_breaks {left'} {count'} {out''} {err''} error ended more out_kept err_kept is =
+      let none = (p.last ended).0 in
+      let here : (p.bytes ++ now.ahead) ++ [] ≡ p.bytes = append-nil (p.bytes ++ now.ahead) ∙ ap (λ t. p.bytes ++ t) none ∙ append-nil p.bytes in
+      record {
+        read = p.bytes;
+        reads = subst (λ r. Reads first left' moved count' r) here (reads_join first left left' moved count count' (p.bytes ++ now.ahead) [] p.reads more);
+        size = let w = p.within in let q = p.given.place in omega arith;
+        stands = subst (StandsOver limit max_depth number offset first p.bytes out out'' err err'') (sym is) (begun first (p.last ended).1);
+      }
+    where
+      all : BeginsAll limit max_depth number offset p.bytes out out'' err err''
+      all = record {
+        pieces = p.pieces ++ [];
+        each = subst (AreMarkedPieces limit max_depth offset p.bytes) (sym (append-nil p.pieces)) (all_given p.given ended (p.last ended).0);
+        told = begins_told (tells_kept p.told out_kept err_kept) [];
+      }
+
+      begun : (f : Option (List ℕ)) → IfSome f (λ whole. whole ≡ p.bytes) → IfSome f (λ whole. BeginsAll limit max_depth number offset whole out out'' err err'')
+      begun None is = tt
+      begun (Some whole) is = subst (λ w. BeginsAll limit max_depth number offset w out out'' err err'') (sym is) all
+
+  -- the next block could not be read
+  pub read_breaks : {left' : Option (List ℕ)} {count' : ℕ} (read : List ℕ) (error : ReadError) → Reads left left' count count' read
+      → (now.ended ≡ true → error ≡ cause.Failed) → error ≢ cause.Failed → FailsAfter now.place now.ahead read error
+      → BreaksOff limit max_depth number offset first left' moved count' out out' err err' (run_error_of error)
+  read_breaks {left'} {count'} read error more last other fails = by_kind error last other fails
+    where
+      all : Reads first left' moved count' (p.bytes ++ (now.ahead ++ read))
+      all = subst (λ r. Reads first left' moved count' r) (append_assoc p.bytes now.ahead read) (reads_join first left left' moved count count' (p.bytes ++ now.ahead) read p.reads more)
+
+      going : (e : ReadError) → (now.ended ≡ true → e ≡ cause.Failed) → e ≢ cause.Failed → now.ended ≡ false
+      going e l o = elim (cases_Bool now.ended) [ inl ended ↦ absurd (o (l ended)) | inr is ↦ is ]
+
+      fits : (size : ℕ) → now.place + length (now.ahead ++ read) ≤ size → offset + length (p.bytes ++ (now.ahead ++ read)) ≤ size
+      fits size h = let q = p.given.place in omega (arith, length-append p.bytes (now.ahead ++ read))
+
+      by_kind : (e : ReadError) → (now.ended ≡ true → e ≡ cause.Failed) → e ≢ cause.Failed → FailsAfter now.place now.ahead read e
+          → BreaksOff limit max_depth number offset first left' moved count' out out' err err' (run_error_of e)
+      by_kind cause.Read l o f = record {
+        read = p.bytes ++ (now.ahead ++ read);
+        reads = all;
+        size = fits (2 ^ 62 + 1) (let w = f.within in omega arith);
+        stands = record { pieces = p.pieces; each = all_but_last p.given read (going cause.Read l o) f.uncut; told = p.told };
+      }
+      by_kind cause.OutOfMemory l o f = record {
+        read = p.bytes ++ (now.ahead ++ read);
+        reads = all;
+        size = fits (2 ^ 62 + 1) (omega arith);
+        stands = known first left' moved count' (p.bytes ++ (now.ahead ++ read)) (λ whole. BeginsAll limit max_depth number offset whole out out' err err') all
+            (λ rest end.
+            let others = goes_on p.given (read ++ rest) (λ ended. absurd (both_ways now.ended (going cause.OutOfMemory l o) ended)) in
+            let shape : p.bytes ++ (now.ahead ++ (read ++ rest)) ≡ (p.bytes ++ (now.ahead ++ read)) ++ rest =
+            ap (λ t. p.bytes ++ t) (sym (append_assoc now.ahead read rest)) ∙ sym (append_assoc p.bytes (now.ahead ++ read) rest) in
+            record {
+              pieces = p.pieces ++ others.0;
+              each = subst (λ t. AreMarkedPieces limit max_depth offset t (p.pieces ++ others.0)) shape others.1;
+              told = begins_told p.told others.0;
+            });
+      }
+      by_kind cause.InputTooLong l o f = record {
+        read = p.bytes ++ (now.ahead ++ read);
+        reads = all;
+        size = fits (2 ^ 62 + 1) (let w = f.full in omega (arith, length-append now.ahead read, length-append now.ahead f.kept, ap length f.parted, length-append f.kept (f.byte ∷ [])));
+        stands = record {
+          kept = p.bytes ++ (now.ahead ++ f.kept);
+          byte = f.byte;
+          parted =
+              ap (λ t. p.bytes ++ (now.ahead ++ t)) f.parted ∙ ap (λ t. p.bytes ++ t) (sym (append_assoc now.ahead f.kept (f.byte ∷ [])))
+              ∙ sym (append_assoc p.bytes (now.ahead ++ f.kept) (f.byte ∷ []));
+          full = let w = f.full in let q = p.given.place in omega (arith, length-append p.bytes (now.ahead ++ f.kept));
+          told = record { pieces = p.pieces; each = all_but_last p.given f.kept (going cause.InputTooLong l o) f.uncut; told = p.told };
+        };
+      }
+      by_kind cause.Failed l o f = absurd (o refl)

@@ -1,0 +1,134 @@
+-- The run over a whole input: the bytes dropped, and the blocks of the others.
+use Rattle.std.proofs.Common.{◌≡◌, ℕ, ◌+◌, ◌^◌, ◌<◌, ◌≤◌, List, [], ◌∷◌, ◌++◌, length, take, drop, Option, Some, None, refl, sym, ap, ◌∙◌, subst, arith, append_assoc, length-append, inl, inr}
+use Rattle.std.specs.Prelude.{IfSome}
+use Rattle.std.proofs.lemmas.Bool.{cases_lt}
+use Rattle.std.proofs.lemmas.List.{append-nil, append_cancel_left, drop_all, drop_at, take_at}
+use Rattle.pgn_text.specs.Complete.{AreCompletePieces}
+use Rattle.pgn_text.specs.Marks.{AreMarkedPieces}
+use Rattle.pgn_extract.specs.Blockwise.{Drops, DropsSome, EndsBlocks, BreaksOff, StandsOver}
+use Rattle.pgn_extract.specs.Outcomes.{Ends, Stands, TellsComplete, BeginsAll}
+use Rattle.pgn_extract.specs.declared.outcome.RunError.{RunError}
+use Rattle.pgn_extract.specs.declared.outcome.RunError.TheVariants.{Read, Write, OutOfMemory, InputTooLong}
+use Rattle.pgn_extract.specs.declared.outcome.Summary.{Summary}
+use Rattle.pgn_extract.proofs.Writing.{appends_none}
+
+-- behind the bytes dropped stand the others, also where there were too few to be dropped
+drop_is : (most : ℕ) (dropped rest : List ℕ) → length dropped ≤ most → (length dropped < most → rest ≡ []) → drop most (dropped ++ rest) ≡ rest
+drop_is most dropped rest fits end =
+    elim (cases_lt (length dropped) most) [
+      | inl less ↦
+          let none = end less in
+          ap (λ t. drop most (dropped ++ t)) none ∙ ap (drop most) (append-nil dropped) ∙ drop_all most dropped (omega arith) ∙ sym none
+      | inr more ↦ drop_at dropped rest most (omega arith)
+    ]
+
+-- where there were too few, no other is left
+nothing_left : (whole dropped rest : List ℕ) → whole ≡ dropped ++ rest → whole ≡ dropped → rest ≡ []
+nothing_left whole dropped rest parted is = append_cancel_left dropped rest [] (sym parted ∙ is ∙ sym (append-nil dropped))
+
+no_front : (xs ys : List ℕ) → xs ++ ys ≡ [] → xs ≡ []
+no_front [] ys e = refl
+no_front (x ∷ xs) ys e = cc
+
+some_byte : (xs : List ℕ) (b : ℕ) → xs ++ b ∷ [] ≡ [] → ⊥
+some_byte [] b e = cc
+some_byte (x ∷ xs) b e = cc
+
+-- nothing is told where no byte is kept
+none_complete : (limit max_depth offset : ℕ) → AreCompletePieces limit max_depth offset [] []
+none_complete limit max_depth offset = record {
+  blocks = [];
+  complete = record { last = []; parted = (refl, record { ends = λ some. absurd (some refl); whole = λ x y e some other here. other (nothing x y e) }) };
+  each = refl;
+}
+  where
+    nothing : (x y : List ℕ) → [] ≡ x ++ y → y ≡ []
+    nothing [] y e = sym e
+    nothing (z ∷ x) y e = cc
+
+module _ (limit max_depth number offset : ℕ) where
+  -- the whole input is told
+  pub ends_whole : (first mid last : Option (List ℕ)) {out out' err err' : Option (List ℕ)} {moved count moved' : ℕ} {summary : Summary}
+      → Drops first mid moved count offset → EndsBlocks limit max_depth number offset mid last count moved' out out' err err' summary
+      → IfSome first (λ whole. Ends limit max_depth number offset whole out out' err err' summary)
+  ends_whole None mid last d e = tt
+  ends_whole (Some whole) None last d e = absurd d.reads.bytes
+  ends_whole (Some whole) (Some rest) last d e = record {
+    pieces = e.pieces;
+    each = subst (λ t. AreMarkedPieces limit max_depth offset t e.pieces) (sym kept) e.each;
+    told = e.told;
+    games = e.games;
+    faulty = e.faulty;
+  }
+    where
+      kept : drop offset whole ≡ e.read
+      kept = ap (drop offset) d.reads.bytes ∙ drop_is offset d.dropped rest d.within (λ less. nothing_left whole d.dropped rest d.reads.bytes (d.end less)) ∙ e.all
+
+  -- a read failed within the bytes to be dropped
+  pub skip_stands : (first last : Option (List ℕ)) {moved moved' : ℕ} (out err : Option (List ℕ)) (error : RunError) → error ≡ Read → moved ≡ 0 → offset ≤ 2 ^ 62
+      → DropsSome first last moved moved' offset → IfSome first (λ whole. Stands limit max_depth number offset whole moved' out out err err error)
+  skip_stands None last out err error is zero small d = tt
+  skip_stands (Some whole) None out err error is zero small d = absurd d.reads.bytes
+  skip_stands (Some whole) (Some rest) {moved} {moved'} out err error is zero small d =
+      subst (Stands limit max_depth number offset whole moved' out out err err) (sym is) record {
+        pieces = [];
+        each = subst (λ t. AreCompletePieces limit max_depth offset t []) (sym none) (none_complete limit max_depth offset);
+        told = record { index = appends_none out; faults = appends_none err };
+      }
+    where
+      size : length d.dropped ≡ moved'
+      size = let w = d.within in let c = d.reads.count (omega arith) in omega arith
+
+      none : drop offset (take moved' whole) ≡ []
+      none = ap (λ t. drop offset (take moved' t)) d.reads.bytes ∙ ap (drop offset) (take_at d.dropped rest moved' size) ∙ drop_all offset d.dropped d.within
+
+  -- what stands after an error, over the whole input
+  pub stands_whole : (first mid last : Option (List ℕ)) {out out' err err' : Option (List ℕ)} {moved count moved' : ℕ} (error : RunError) → moved ≡ 0 → offset ≤ 2 ^ 62
+      → Drops first mid moved count offset → BreaksOff limit max_depth number offset mid last count moved' out out' err err' error
+      → IfSome first (λ whole. Stands limit max_depth number offset whole moved' out out' err err' error)
+  stands_whole None mid last error zero small d b = tt
+  stands_whole (Some whole) None last error zero small d b = absurd d.reads.bytes
+  stands_whole (Some whole) (Some rest) None error zero small d b = absurd b.reads.bytes
+  stands_whole (Some whole) (Some rest) (Some after) {out} {out'} {err} {err'} {moved} {count} {moved'} error zero small d b = by_kind error b.stands
+    where
+      kept : drop offset whole ≡ rest
+      kept = ap (drop offset) d.reads.bytes ∙ drop_is offset d.dropped rest d.within (λ less. nothing_left whole d.dropped rest d.reads.bytes (d.end less))
+
+      none_read : length d.dropped < offset → b.read ≡ []
+      none_read less = no_front b.read after (sym b.reads.bytes ∙ nothing_left whole d.dropped rest d.reads.bytes (d.end less))
+
+      shape : whole ≡ (d.dropped ++ b.read) ++ after
+      shape = d.reads.bytes ∙ ap (λ t. d.dropped ++ t) b.reads.bytes ∙ sym (append_assoc d.dropped b.read after)
+
+      size : length (d.dropped ++ b.read) ≡ moved'
+      size =
+          let w = d.within in let s = b.size in
+          let here : count ≡ moved + length d.dropped = d.reads.count (omega arith) in
+          let there : moved' ≡ count + length b.read = b.reads.count (omega arith) in
+          omega (arith, length-append d.dropped b.read)
+
+      read_part : drop offset (take moved' whole) ≡ b.read
+      read_part =
+          ap (λ t. drop offset (take moved' t)) shape ∙ ap (drop offset) (take_at (d.dropped ++ b.read) after moved' size)
+          ∙ drop_is offset d.dropped b.read d.within none_read
+
+      by_kind : (e : RunError) → StandsOver limit max_depth number offset (Some rest) b.read out out' err err' e
+          → Stands limit max_depth number offset whole moved' out out' err err' e
+      by_kind Read s = subst (λ t. TellsComplete limit max_depth number offset t out out' err err') (sym read_part) s
+      by_kind Write s = subst (λ t. BeginsAll limit max_depth number offset t out out' err err') (sym kept) s
+      by_kind OutOfMemory s = subst (λ t. BeginsAll limit max_depth number offset t out out' err err') (sym kept) s
+      by_kind InputTooLong s =
+          elim (cases_lt (length d.dropped) offset) [
+            | inl less ↦ absurd (some_byte s.kept s.byte (sym s.parted ∙ none_read less))
+            | inr more ↦
+                let front : whole ≡ (d.dropped ++ s.kept) ++ (s.byte ∷ [] ++ after) =
+                d.reads.bytes ∙ ap (λ t. d.dropped ++ t) (b.reads.bytes ∙ ap (λ t. t ++ after) s.parted ∙ append_assoc s.kept (s.byte ∷ []) after)
+                ∙ sym (append_assoc d.dropped s.kept (s.byte ∷ [] ++ after)) in
+                let full : length (d.dropped ++ s.kept) ≡ 2 ^ 62 = (let w = d.within in let f = s.full in omega (arith, length-append d.dropped s.kept)) in
+                let part : drop offset (take (2 ^ 62) whole) ≡ s.kept =
+                ap (λ t. drop offset (take (2 ^ 62) t)) front ∙ ap (drop offset) (take_at (d.dropped ++ s.kept) (s.byte ∷ [] ++ after) (2 ^ 62) full)
+                ∙ drop_at d.dropped s.kept offset (let w = d.within in omega arith) in (
+                  omega (arith, full, ap length front, length-append (d.dropped ++ s.kept) (s.byte ∷ [] ++ after)),
+                  subst (λ t. TellsComplete limit max_depth number offset t out out' err err') (sym part) s.told,
+                )
+          ]

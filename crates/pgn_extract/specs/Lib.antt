@@ -1,0 +1,4 @@
+pub mod Blockwise
+pub mod Index
+pub mod Outcomes
+pub mod Resuming

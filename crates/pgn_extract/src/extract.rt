@@ -1,0 +1,166 @@
+//! The run over an input: block by block, each told before the next is read.
+ghost use Rattle.std.specs.Prelude.{◌≡◌, ◌↔◌, ◌⊎◌, ℕ, ◌+◌, ◌^◌, ◌<◌, ◌≤◌, false, true, List, [], length, drop, IsErrOf, IfOk, IfErr, IfSome, OnOk, OnErr};
+ghost use Rattle.std.specs.Io.KnownBytes.{Appends, Keeps};
+ghost use Rattle.pgn_text.specs.Windows.{Shows};
+ghost use Rattle.pgn_extract.specs.Blockwise.{IsShown, TellsBlock, BeginsBlock, EndsBlocks, BreaksOff};
+ghost use Rattle.pgn_extract.specs.Outcomes.{AppendsFront, Ends, Stands};
+ghost use Rattle.pgn_extract.specs.Resuming.{Resumes};
+
+use crate::lines::{Lines, lines_of};
+use crate::outcome::{RunError, Summary, of_read};
+use crate::put::{finish, put};
+use crate::settings::Settings;
+use crate::skip::skip;
+use pgn_text::{Block, Blocks, Tally};
+use std::alloc::Global;
+use std::io::{Read, Write};
+
+/// Writes lines, those for the output first.
+fn put_lines<O: Write, E: Write>(
+    out: &mut Tally<O>,
+    err: &mut Tally<E>,
+    lines: &Lines,
+) -> Result<(), RunError>
+    requires sound { (out.old.faulted ≡ false) × (err.old.faulted ≡ false) }
+    ensures ok { OnOk result (Appends (O.contents out.old.inner) (O.contents out.new.inner) lines.now.index.items
+        × Appends (E.contents err.old.inner) (E.contents err.new.inner) lines.now.faults.items) }
+    ensures err { OnErr result (AppendsFront (O.contents out.old.inner) (O.contents out.new.inner) lines.now.index.items
+        × AppendsFront (E.contents err.old.inner) (E.contents err.new.inner) lines.now.faults.items) }
+    ensures only { IfErr result (λ error. error ≡ RunError.Write) }
+    ensures fault { IsErrOf result RunError.Write ↔ ((out.new.faulted ≡ true) ⊎ (err.new.faulted ≡ true)) }
+    ensures alone { (out.new.faulted ≡ true) × (err.new.faulted ≡ true) → ⊥ }
+{
+    match put(out, &lines.index) {
+        Ok(()) => put(err, &lines.faults),
+        Err(error) => Err(error),
+    }
+}
+
+/// Writes the lines of the pieces of one block.
+fn put_block<O: Write, E: Write>(
+    alloc: Global,
+    out: &mut Tally<O>,
+    err: &mut Tally<E>,
+    number: u64,
+    block: Block<'_>,
+) -> Result<Summary, RunError>
+    requires sound { (out.old.faulted ≡ false) × (err.old.faulted ≡ false) }
+    requires number { number ≤ 2 ^ 63 }
+    requires offset { block.offset ≤ 2 ^ 62 }
+    requires size { IsShown 1048576 block.body }
+    ensures ok { IfOk result (λ summary. (bytes : List ℕ) → Shows 1048576 block.entry.body bytes
+        → TellsBlock 1048576 64 number block.entry.offset bytes (O.contents out.old.inner) (O.contents out.new.inner) (E.contents err.old.inner) (E.contents err.new.inner) summary) }
+    ensures err { OnErr result ((bytes : List ℕ) → Shows 1048576 block.entry.body bytes
+        → BeginsBlock 1048576 64 number block.entry.offset bytes (O.contents out.old.inner) (O.contents out.new.inner) (E.contents err.old.inner) (E.contents err.new.inner)) }
+    ensures only { IfErr result (λ error. (error ≡ RunError.Write) ⊎ (error ≡ RunError.OutOfMemory)) }
+    ensures fault { IsErrOf result RunError.Write ↔ ((out.new.faulted ≡ true) ⊎ (err.new.faulted ≡ true)) }
+    ensures alone { (out.new.faulted ≡ true) × (err.new.faulted ≡ true) → ⊥ }
+{
+    let lines = match lines_of(alloc, number, block) {
+        Ok(lines) => lines,
+        Err(_) => return Err(RunError::OutOfMemory),
+    };
+    match put_lines(out, err, &lines) {
+        Ok(()) => Ok(Summary {
+            games: lines.games,
+            faulty: lines.faulty,
+        }),
+        Err(error) => Err(error),
+    }
+}
+
+/// Flushes both writers.
+fn finish_both<O: Write, E: Write>(out: &mut Tally<O>, err: &mut Tally<E>) -> Result<(), RunError>
+    requires sound { (out.old.faulted ≡ false) × (err.old.faulted ≡ false) }
+    ensures kept { Keeps (O.contents out.old.inner) (O.contents out.new.inner) × Keeps (E.contents err.old.inner) (E.contents err.new.inner) }
+    ensures ok { OnOk result ((out.new.flushed ≡ true) × (err.new.flushed ≡ true)) }
+    ensures only { IfErr result (λ error. error ≡ RunError.Write) }
+    ensures fault { IsErrOf result RunError.Write ↔ ((out.new.faulted ≡ true) ⊎ (err.new.faulted ≡ true)) }
+    ensures alone { (out.new.faulted ≡ true) × (err.new.faulted ≡ true) → ⊥ }
+{
+    match finish(out) {
+        Ok(()) => finish(err),
+        Err(error) => Err(error),
+    }
+}
+
+/// Tells the pieces of the blocks that are left, and flushes the writers.
+fn run_blocks<R: Read, O: Write, E: Write>(
+    alloc: Global,
+    offset: u64,
+    input: &mut Tally<R>,
+    out: &mut Tally<O>,
+    err: &mut Tally<E>,
+    number: u64,
+) -> Result<Summary, RunError>
+    requires sound { (input.old.faulted ≡ false) × (out.old.faulted ≡ false) × (err.old.faulted ≡ false) }
+    requires number { number ≤ 2 ^ 62 }
+    requires offset { offset ≤ 2 ^ 62 }
+    ensures ok { IfOk result (EndsBlocks 1048576 64 number offset (R.remaining input.old.inner) (R.remaining input.new.inner) input.old.moved input.new.moved
+        (O.contents out.old.inner) (O.contents out.new.inner) (E.contents err.old.inner) (E.contents err.new.inner)) }
+    ensures flushed { OnOk result ((out.new.flushed ≡ true) × (err.new.flushed ≡ true)) }
+    ensures err { IfErr result (BreaksOff 1048576 64 number offset (R.remaining input.old.inner) (R.remaining input.new.inner) input.old.moved input.new.moved
+        (O.contents out.old.inner) (O.contents out.new.inner) (E.contents err.old.inner) (E.contents err.new.inner)) }
+    ensures read_fault { IsErrOf result RunError.Read ↔ (input.new.faulted ≡ true) }
+    ensures write_fault { IsErrOf result RunError.Write ↔ ((out.new.faulted ≡ true) ⊎ (err.new.faulted ≡ true)) }
+    ensures alone { (out.new.faulted ≡ true) × (err.new.faulted ≡ true) → ⊥ }
+{
+    let mut blocks = Blocks::new(alloc, offset);
+    let mut games = 0;
+    let mut faulty = 0;
+    loop {
+        match blocks.next(input) {
+            Ok(Some(block)) => match put_block(alloc, out, err, number + games, block) {
+                Ok(told) => {
+                    games += told.games;
+                    faulty += told.faulty;
+                }
+                Err(error) => return Err(error),
+            },
+            Ok(None) => match finish_both(out, err) {
+                Ok(()) => return Ok(Summary { games, faulty }),
+                Err(error) => return Err(error),
+            },
+            Err(error) => return Err(of_read(error)),
+        }
+    }
+}
+
+/// Reads the input, and writes what the settings ask for to `out` and the lines of faulty games to
+/// `err`.
+pub fn run<R: Read, O: Write, E: Write>(
+    alloc: Global,
+    input: &mut Tally<R>,
+    out: &mut Tally<O>,
+    err: &mut Tally<E>,
+    settings: &Settings,
+) -> Result<Summary, RunError>
+    requires sound { (input.old.faulted ≡ false) × (out.old.faulted ≡ false) × (err.old.faulted ≡ false) }
+    requires fresh { input.old.moved ≡ 0 }
+    requires number { (1 ≤ settings.now.number) × (settings.now.number ≤ 2 ^ 62) }
+    requires offset { settings.now.offset ≤ 2 ^ 62 }
+
+    // At `Ok` the whole input is told, and both writers are flushed.
+    ensures ok { IfOk result (λ summary. IfSome (R.remaining input.old.inner) (λ whole.
+        Ends 1048576 64 settings.now.number settings.now.offset whole
+        (O.contents out.old.inner) (O.contents out.new.inner) (E.contents err.old.inner) (E.contents err.new.inner) summary)) }
+    ensures flushed { OnOk result ((out.new.flushed ≡ true) × (err.new.flushed ≡ true)) }
+
+    // Begun at a mark of the whole input, the run tells exactly the rest of what a run over the whole tells.
+    ensures resumes { OnOk result (IfSome (R.remaining input.old.inner) (λ whole.
+        Resumes 1048576 64 settings.now.number settings.now.offset whole
+        (O.contents out.old.inner) (O.contents out.new.inner) (E.contents err.old.inner) (E.contents err.new.inner))) }
+
+    // What stands after an error, and when each comes.
+    ensures err { IfErr result (λ error. IfSome (R.remaining input.old.inner) (λ whole.
+        Stands 1048576 64 settings.now.number settings.now.offset whole input.new.moved
+        (O.contents out.old.inner) (O.contents out.new.inner) (E.contents err.old.inner) (E.contents err.new.inner) error)) }
+    ensures read_fault { IsErrOf result RunError.Read ↔ (input.new.faulted ≡ true) }
+    ensures write_fault { IsErrOf result RunError.Write ↔ ((out.new.faulted ≡ true) ⊎ (err.new.faulted ≡ true)) }
+    ensures alone { (out.new.faulted ≡ true) × (err.new.faulted ≡ true) → ⊥ }
+{
+    match skip(input, settings.offset) {
+        Ok(()) => run_blocks(alloc, settings.offset, input, out, err, settings.number),
+        Err(error) => Err(error),
+    }
+}

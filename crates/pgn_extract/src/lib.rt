@@ -1,0 +1,19 @@
+//! `pgn-extract` as a library: `run` writes the index of a file of chess games, and `program` is the command-line tool over words and
+//! files that are handed in.
+#![tactic(auto)]
+
+mod command;
+mod extract;
+mod lines;
+mod mark;
+mod messages;
+mod outcome;
+mod put;
+mod settings;
+mod skip;
+mod tool;
+
+pub use extract::run;
+pub use outcome::{RunError, Summary};
+pub use settings::{Mode, Settings};
+pub use tool::{Files, program};

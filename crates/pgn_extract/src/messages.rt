@@ -1,0 +1,15 @@
+//! What the program tells on standard error.
+
+pub const MODE_NOT_BUILT: &str = "pgn-extract: mode not built\n";
+
+pub const BAD_MARK: &str = "pgn-extract: bad mark\n";
+
+pub const CANNOT_OPEN_INPUT: &str = "pgn-extract: cannot open input\n";
+
+pub const READ_FAILED: &str = "pgn-extract: read failed\n";
+
+pub const WRITE_FAILED: &str = "pgn-extract: write failed\n";
+
+pub const OUT_OF_MEMORY: &str = "pgn-extract: out of memory\n";
+
+pub const INPUT_TOO_LONG: &str = "pgn-extract: input too long\n";

@@ -1,0 +1,215 @@
+//! The program over words and files that are handed in.
+ghost use Rattle.std.specs.Prelude.{◌≡◌, ◌≤◌, ◌^◌, false, OnErr};
+
+use crate::command::{Request, read_words};
+use crate::extract::run;
+use crate::mark::{Mark, read_mark};
+use crate::messages;
+use crate::outcome::RunError;
+use crate::put::put;
+use crate::settings::{Mode, Settings};
+use clap::Error;
+use clap::error::ErrorKind;
+use pgn_text::Tally;
+use std::alloc::{AllocError, Global};
+use std::io::{Read, Write};
+
+/// Where the program's input comes from: files by their paths, and standard input.
+pub trait Files {
+    type Input: Read;
+
+    /// Opens the file at `path`: `Ok(None)` where it cannot be opened, an error for want of memory.
+    fn open(&mut self, path: &str) -> Result<Option<Self::Input>, AllocError>;
+
+    /// Standard input.
+    fn standard(&mut self) -> Self::Input;
+}
+
+/// The status where all games were read.
+const SOUND: u8 = 0;
+/// The status where a game was faulty.
+const FAULTY: u8 = 1;
+/// The status where the words were refused or a file could not be opened.
+const REFUSED: u8 = 2;
+/// The status where the run failed.
+const FAILED: u8 = 3;
+
+/// Why the program ends before its run.
+#[derive(Drop)]
+enum Refusal {
+    /// The words ask for the help, which goes to standard output.
+    Help(String),
+    /// `clap` refuses the words with this text.
+    Words(String),
+    /// One of the program's own refusals, with its line.
+    Line(&'static str),
+    OutOfMemory,
+}
+
+impl From<AllocError> for Refusal {
+    fn from(_error: AllocError) -> Refusal {
+        Refusal::OutOfMemory
+    }
+}
+
+/// The refusal that `clap` answers.
+fn refused_words(alloc: Global, error: &Error) -> Refusal {
+    if error.kind() == ErrorKind::OutOfMemory {
+        return Refusal::OutOfMemory;
+    }
+    match format!(in alloc; "{error}") {
+        Ok(text) if error.use_stderr() => Refusal::Words(text),
+        Ok(text) => Refusal::Help(text),
+        Err(_) => Refusal::OutOfMemory,
+    }
+}
+
+/// What the words ask for: the settings of the run and the path of its input.
+#[derive(Drop)]
+struct Order<'a> {
+    settings: Settings,
+    file: Option<&'a str>,
+    ghost number: { (1 ≤ settings.number) × (settings.number ≤ 2 ^ 62) },
+    ghost offset: { settings.offset ≤ 2 ^ 62 },
+}
+
+/// Reads the words and tests them in the order of the refusals: the words, the mode, the mark.
+fn read_order<'a>(alloc: Global, words: &'a [String]) -> Result<Order<'a>, Refusal> {
+    let request = match read_words(alloc, words) {
+        Ok(request) => request,
+        Err(error) => return Err(refused_words(alloc, &error)),
+    };
+    if !request.index {
+        return Err(Refusal::Line(messages::MODE_NOT_BUILT));
+    }
+    let Some(mark) = mark_of(&request) else {
+        return Err(Refusal::Line(messages::BAD_MARK));
+    };
+    let settings = Settings {
+        mode: Mode::Index,
+        number: mark.number,
+        offset: mark.offset,
+    };
+    Ok(Order {
+        settings,
+        file: request.file,
+    })
+}
+
+/// The mark that the run begins at: that of `--from`, and `1@0` without it. `None` for a bad one.
+fn mark_of(request: &Request<'_>) -> Option<Mark> {
+    match request.from {
+        Some(text) => read_mark(text.as_bytes()),
+        None => Some(Mark::FIRST),
+    }
+}
+
+/// Opens the input: the file at the path, or standard input without one.
+fn open_input<F: Files>(files: &mut F, file: Option<&str>) -> Result<F::Input, Refusal> {
+    let Some(path) = file else {
+        return Ok(files.standard());
+    };
+    match files.open(path)? {
+        Some(input) => Ok(input),
+        None => Err(Refusal::Line(messages::CANNOT_OPEN_INPUT)),
+    }
+}
+
+/// Reads the words, opens the input and runs: the status, or what the program ends with before its run.
+fn start<F: Files, O: Write, E: Write>(
+    alloc: Global,
+    words: &[String],
+    files: &mut F,
+    out: &mut Tally<O>,
+    err: &mut Tally<E>,
+) -> Result<u8, Refusal>
+where
+    F::Input: Drop,
+    requires { (out.old.faulted ≡ false) × (err.old.faulted ≡ false) }
+    ensures { OnErr result (out.new.faulted ≡ false) }
+{
+    let order = read_order(alloc, words)?;
+    let input = open_input(files, order.file)?;
+    Ok(
+        match run(alloc, &mut Tally::new(input), out, err, &order.settings) {
+            Ok(summary) if summary.faulty == 0 => SOUND,
+            Ok(_) => FAULTY,
+            Err(error) => {
+                let _ = out.flush();
+                tell(err, line_of(error));
+                FAILED
+            }
+        },
+    )
+}
+
+/// The line that tells of a failed run.
+fn line_of(error: RunError) -> &'static str {
+    match error {
+        RunError::Read => messages::READ_FAILED,
+        RunError::Write => messages::WRITE_FAILED,
+        RunError::OutOfMemory => messages::OUT_OF_MEMORY,
+        RunError::InputTooLong => messages::INPUT_TOO_LONG,
+    }
+}
+
+/// Ends the program before its run: tells why, and answers the status.
+fn refuse<O: Write, E: Write>(refusal: Refusal, out: &mut Tally<O>, err: &mut Tally<E>) -> u8
+    requires { out.old.faulted ≡ false }
+{
+    match refusal {
+        Refusal::Help(text) => help(text.as_str(), out, err),
+        Refusal::Words(text) => {
+            tell(err, text.as_str());
+            REFUSED
+        }
+        Refusal::Line(line) => {
+            tell(err, line);
+            REFUSED
+        }
+        Refusal::OutOfMemory => {
+            tell(err, messages::OUT_OF_MEMORY);
+            FAILED
+        }
+    }
+}
+
+/// Writes the help to standard output.
+fn help<O: Write, E: Write>(text: &str, out: &mut Tally<O>, err: &mut Tally<E>) -> u8
+    requires { out.old.faulted ≡ false }
+{
+    if put(out, text.as_bytes()).is_ok() && out.flush().is_ok() {
+        return SOUND;
+    }
+    tell(err, messages::WRITE_FAILED);
+    FAILED
+}
+
+/// Writes a text to standard error. A fault in telling is ignored: there is nowhere left to tell it.
+fn tell<E: Write>(err: &mut Tally<E>, text: &str) {
+    if err.faulted() {
+        return;
+    }
+    let _ = put(err, text.as_bytes());
+    let _ = err.flush();
+}
+
+/// Does what the words ask for, of which the first is the program's name, and answers the exit status:
+/// 0 where all games were read (or the help was asked for), 1 where a game was faulty, 2 where the
+/// words were refused or a file could not be opened, 3 where the run failed.
+pub fn program<F: Files, O: Write, E: Write>(
+    alloc: Global,
+    words: Vec<String>,
+    files: &mut F,
+    out: &mut Tally<O>,
+    err: &mut Tally<E>,
+) -> u8
+where
+    F::Input: Drop,
+    requires { (out.old.faulted ≡ false) × (err.old.faulted ≡ false) }
+{
+    match start(alloc, words.as_slice(), files, out, err) {
+        Ok(status) => status,
+        Err(refusal) => refuse(refusal, out, err),
+    }
+}

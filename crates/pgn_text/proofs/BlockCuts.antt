@@ -1,0 +1,128 @@
+-- Where a text is cut: the tests by place, and the blocks between two cuts.
+use Rattle.std.proofs.Common.{◌≡◌, ℕ, ◌+◌, ◌-◌, ◌<◌, ◌≤◌, Bool, true, false, List, [], ◌∷◌, ◌++◌, length, get_or, take, drop, refl, sym, ap, ◌∙◌, arith, length-append, length-drop, append_assoc, inl, inr}
+use Rattle.std.specs.Prelude.{◌≢◌, ◌&&◌, ◌==◌, nat_eq, IsTrue}
+use Rattle.std.specs.List.{starts_with}
+use Rattle.std.specs.Cmp.Lexicographic.{pointwise}
+use Rattle.std.proofs.lemmas.List.{get_or_append_left, take-append-le, drop-append-le, drop_at, append-nil, get_or-append_right, get_or-drop, take_rest}
+use Rattle.std.proofs.lemmas.Bool.{and_left, both_ways, cases_lt, false_from_ne_true}
+use Rattle.pgn_text.specs.Blocks.{event_line, is_event_line, IsFirstBlock}
+use Rattle.pgn_text.specs.Cuts.{is_cut, NoCutBefore}
+
+-- the test of a cut, over the byte before and the eight bytes from there on
+abbrev cut_test : ℕ → List ℕ → Bool
+cut_test byte shown = (byte == 10) && pointwise nat_eq event_line shown
+
+-- an event line shows its eight bytes, so bytes behind them change nothing
+pub cut_stays : (text more : List ℕ) (j : ℕ) → 0 < j → j + 8 ≤ length text → is_cut (text ++ more) j ≡ is_cut text j
+cut_stays text more j low fits =
+    let here : j - 1 < length text = omega arith in
+    let within : j ≤ length text = omega arith in
+    let room : 8 ≤ length (drop j text) = omega (arith, length-drop j text) in
+    let shown : take 8 (drop j (text ++ more)) ≡ take 8 (drop j text) =
+    ap (take 8) (drop-append-le j text more within) ∙ take-append-le 8 (drop j text) more room in
+    ap (λ b. cut_test b (take 8 (drop j (text ++ more)))) (get_or_append_left text more 0 (j - 1) here)
+    ∙ ap (cut_test (get_or text (j - 1) 0)) shown
+
+-- a place behind some bytes of a text is a cut as the two sides show it
+pub seam : (before x y : List ℕ) → 0 < length x → is_cut (before ++ (x ++ y)) (length before + length x) ≡ is_event_line x y
+seam before x y some =
+    let at = length before + length x in
+    let last : get_or (before ++ (x ++ y)) (at - 1) 0 ≡ get_or x (length x - 1) 0 =
+    let low : length before ≤ at - 1 = omega arith in
+    let less : length x - 1 < length x = omega arith in
+    let same : at - 1 - length before ≡ length x - 1 = omega arith in
+    get_or-append_right before (x ++ y) (length before) (at - 1) 0 refl low
+    ∙ ap (λ i. get_or (x ++ y) i 0) same ∙ get_or_append_left x y 0 (length x - 1) less in
+    let rest : drop at (before ++ (x ++ y)) ≡ y =
+    ap (drop at) (sym (append_assoc before x y)) ∙ drop_at (before ++ x) y at (length-append before x) in
+    ap (λ b. cut_test b (take 8 (drop at (before ++ (x ++ y))))) last
+    ∙ ap (λ t. cut_test (get_or x (length x - 1) 0) (take 8 t)) rest
+
+-- a stretch without line feeds holds no cut behind its bytes
+pub no_cut_within : (text hay : List ℕ) (at gap : ℕ) → 0 < at → hay ≡ drop (at - 1) text
+    → ((k : ℕ) → k < gap → get_or hay k 0 == 10 ≡ true → ⊥) → NoCutBefore text at (at + gap)
+no_cut_within text hay at gap some is none j low high =
+    let less : j - at < gap = omega arith in
+    let place : at - 1 + (j - at) ≡ j - 1 = omega arith in
+    let same : get_or hay (j - at) 0 ≡ get_or text (j - 1) 0 =
+    ap (λ h. get_or h (j - at) 0) is ∙ get_or-drop (at - 1) text (j - at) 0 ∙ ap (λ i. get_or text i 0) place in
+    and_left (get_or text (j - 1) 0 == 10) (starts_with nat_eq (drop j text) event_line)
+    (false_from_ne_true _ (λ e. none (j - at) less (ap (λ b. b == 10) same ∙ e)))
+
+-- no cut up to a place, and none from there on
+pub no_cut_join : (text : List ℕ) (from mid end : ℕ) → NoCutBefore text from mid → NoCutBefore text mid end → NoCutBefore text from end
+no_cut_join text from mid end front back j low high =
+    elim (cases_lt j mid) [ inl less ↦ front j low less | inr more ↦ back j more high ]
+
+-- one place more is no cut
+pub no_cut_more : (text : List ℕ) (from at : ℕ) → NoCutBefore text from at → is_cut text at ≡ false → NoCutBefore text from (at + 1)
+no_cut_more text from at none here j low high =
+    elim (cases_lt j at) [
+      | inl less ↦ none j low less
+      | inr more ↦ let same : j ≡ at = omega arith in rw same here
+    ]
+
+-- bytes with no cut within, and a cut or the text's end behind them, are a first block
+pub first_block : (before bytes ahead : List ℕ) → NoCutBefore (before ++ (bytes ++ ahead)) (length before + 1) (length before + length bytes)
+    → (ahead ≢ [] → IsTrue (is_event_line bytes ahead)) → IsFirstBlock bytes ahead
+first_block before bytes ahead none ends = record {
+  ends = ends;
+  whole = λ x y parted some other here.
+      let sizes : length bytes ≡ length x + length y = ap length parted ∙ length-append x y in
+      let low : 0 < length x = nonempty x some in
+      let less : 0 < length y = nonempty y other in
+      let same : before ++ (bytes ++ ahead) ≡ before ++ (x ++ (y ++ ahead)) =
+      ap (λ b. before ++ (b ++ ahead)) parted ∙ ap (λ t. before ++ t) (append_assoc x y ahead) in
+      let no : is_cut (before ++ (bytes ++ ahead)) (length before + length x) ≡ false = none (length before + length x) (omega arith) (omega arith) in
+      let yes : is_cut (before ++ (x ++ (y ++ ahead))) (length before + length x) ≡ true = seam before x (y ++ ahead) low ∙ here in
+      both_ways (is_cut (before ++ (bytes ++ ahead)) (length before + length x)) no (ap (λ t. is_cut t (length before + length x)) same ∙ yes);
+}
+  where
+    nonempty : (xs : List ℕ) → xs ≢ [] → 0 < length xs
+    nonempty [] some = absurd (some refl)
+    nonempty (x ∷ xs) some = omega arith
+
+-- the same whatever follows a cut, since its bytes are there
+pub first_block_at_cut : (before bytes ahead rest : List ℕ) → 0 < length bytes
+    → NoCutBefore (before ++ (bytes ++ ahead)) (length before + 1) (length before + length bytes)
+    → is_cut (before ++ (bytes ++ ahead)) (length before + length bytes) ≡ true
+    → length before + length bytes + 8 ≤ length (before ++ (bytes ++ ahead)) → IsFirstBlock bytes (ahead ++ rest)
+first_block_at_cut before bytes ahead rest some none here fits =
+    let text = before ++ (bytes ++ ahead) in
+    let same : text ++ rest ≡ before ++ (bytes ++ (ahead ++ rest)) =
+    append_assoc before (bytes ++ ahead) rest ∙ ap (λ t. before ++ t) (append_assoc bytes ahead rest) in
+    let still : NoCutBefore (before ++ (bytes ++ (ahead ++ rest))) (length before + 1) (length before + length bytes) =
+    λ j low high. ap (λ t. is_cut t j) (sym same) ∙ cut_stays text rest j (omega arith) (omega arith) ∙ none j low high in
+    first_block before bytes (ahead ++ rest) still
+    (λ _. sym (seam before bytes (ahead ++ rest) some) ∙ ap (λ t. is_cut t (length before + length bytes)) (sym same)
+    ∙ cut_stays text rest (length before + length bytes) (omega arith) fits ∙ here)
+
+-- and at the text's end
+pub first_block_at_end : (before bytes : List ℕ) → NoCutBefore (before ++ bytes) (length before + 1) (length (before ++ bytes)) → IsFirstBlock bytes []
+first_block_at_end before bytes none =
+    let same : before ++ (bytes ++ []) ≡ before ++ bytes = ap (λ t. before ++ t) (append-nil bytes) in
+    first_block before bytes []
+    (λ j low high. ap (λ t. is_cut t j) same ∙ none j low (omega (arith, length-append before bytes)))
+    (λ some. absurd (some refl))
+
+-- a search for the next line feed that passed over `gap` bytes
+pub no_cut_past : (text : List ℕ) (from at gap : ℕ) → 0 < at → NoCutBefore text from at
+    → ((k : ℕ) → 0 ≤ k → k < gap → get_or (take (length text - (at - 1)) (drop (at - 1) text)) k 0 == 10 ≡ true → ⊥)
+    → NoCutBefore text from (at + gap)
+no_cut_past text from at gap some front none =
+    no_cut_join text from at (at + gap) front
+    (no_cut_within text (take (length text - (at - 1)) (drop (at - 1) text)) at gap some (take_rest text (at - 1)) (λ k less. none k (omega arith) less))
+
+-- the same where it came to the text's end
+pub no_cut_left : (text : List ℕ) (from at : ℕ) → 0 < at → NoCutBefore text from at
+    → ((k : ℕ) → 0 ≤ k → k < length (take (length text - (at - 1)) (drop (at - 1) text)) → get_or (take (length text - (at - 1)) (drop (at - 1) text)) k 0 == 10 ≡ true → ⊥)
+    → NoCutBefore text from (length text)
+no_cut_left text from at some front none j low high =
+    let size : length (take (length text - (at - 1)) (drop (at - 1) text)) ≡ length text - (at - 1) = ap length (take_rest text (at - 1)) ∙ length-drop (at - 1) text in
+    no_cut_past text from at (length text - (at - 1)) some front (λ k low' less. none k low' (omega arith)) j low (omega arith)
+
+-- the byte behind a line feed that was found is no further than the text's end
+pub gap_fits : (text : List ℕ) (at gap : ℕ) → 0 < at → gap < length (take (length text - (at - 1)) (drop (at - 1) text)) → at + gap ≤ length text
+gap_fits text at gap some less =
+    let size : length (take (length text - (at - 1)) (drop (at - 1) text)) ≡ length text - (at - 1) = ap length (take_rest text (at - 1)) ∙ length-drop (at - 1) text in
+    omega arith

@@ -1,0 +1,54 @@
+-- A block cut into pieces: one piece more in front of those that are left.
+use Rattle.std.proofs.Common.{◌≡◌, ◌≢◌, ℕ, ◌<◌, ◌≤◌, Bool, List, [], ◌∷◌, ◌++◌, length, take, drop, refl, sym, ap, ◌∙◌, subst, arith, length-drop}
+use Rattle.std.proofs.lemmas.List.{length-take-le, drop_all}
+use Rattle.pgn_text.specs.Parts.{Part, spelled}
+use Rattle.pgn_text.specs.Games.{IsGame}
+use Rattle.pgn_text.specs.Pieces.{Piece, Game, Unreadable, ArePieces, IsLongestGap, NoGame}
+use Rattle.pgn_text.specs.Walk.{GapTo, LongestGapTo, GameTo}
+use Rattle.pgn_text.proofs.OneList.{no_bytes, game_has_byte}
+
+-- lists that join to none have no element
+second_empty : (a b : List ℕ) → a ++ b ≡ [] → b ≡ []
+second_empty [] b is = is
+second_empty (x ∷ a) b is = absurd (cc)
+
+-- where no byte is left no piece is
+pub nothing_left : (max_depth : ℕ) (f : Bool) (before : List ℕ) (pieces : List Piece) → ArePieces max_depth f before pieces [] → pieces ≡ []
+nothing_left max_depth f before [] are = refl
+nothing_left max_depth f before (Game at parts ∷ more) are =
+    absurd (game_has_byte max_depth f (before ++ spelled are.0) parts are.1 are.5 (no_bytes (spelled parts) are.1 (second_empty (spelled are.0) (spelled parts ++ are.1) (sym are.2))))
+nothing_left max_depth f before (Unreadable at ∷ more) are = absurd (are.5 (second_empty (spelled are.0) are.1 (sym are.2)))
+
+-- the place behind a gap
+place_behind : (f : Bool) (block : List ℕ) (at begin : ℕ) → (to : GapTo f block at begin) → begin ≡ length (take at block ++ spelled to.gap)
+place_behind f block at begin to = sym (length-take-le begin block to.within) ∙ ap length to.passed
+
+-- a game behind a gap
+pub piece_game : (max_depth : ℕ) (f : Bool) (block : List ℕ) (at begin end : ℕ) (parts : List Part) → LongestGapTo f block at begin → GameTo max_depth f block begin parts end
+    → (more : List Piece) → ArePieces max_depth f (take end block) more (drop end block) → ArePieces max_depth f (take at block) (Game begin parts ∷ more) (drop at block)
+piece_game max_depth f block at begin end parts gap game more are = (
+  gap.to.gap,
+  drop end block,
+  gap.to.parted ∙ ap (λ xs. spelled gap.to.gap ++ xs) game.parted,
+  subst (IsLongestGap f (take at block) gap.to.gap) game.parted gap.longest,
+  place_behind f block at begin gap.to,
+  subst (λ xs. IsGame max_depth f xs parts (drop end block)) gap.to.passed game.is_game,
+  subst (λ xs. ArePieces max_depth f xs more (drop end block)) (game.passed ∙ ap (λ xs. xs ++ spelled parts) gap.to.passed) are,
+)
+
+-- bytes behind a gap that are no game
+pub piece_unreadable : (max_depth : ℕ) (f : Bool) (block : List ℕ) (at begin : ℕ) → LongestGapTo f block at begin → begin ≢ length block → NoGame max_depth f (take begin block) (drop begin block)
+    → (more : List Piece) → ArePieces max_depth f (take (length block) block) more (drop (length block) block) → ArePieces max_depth f (take at block) (Unreadable begin ∷ more) (drop at block)
+piece_unreadable max_depth f block at begin gap not_end none more are =
+    let within : begin ≤ length block = gap.to.within in
+    let has_byte : drop begin block ≢ [] = λ empty. not_end (let no : length (drop begin block) ≡ 0 = ap length empty in omega (arith, length-drop begin block)) in
+    let empty : drop (length block) block ≡ [] = drop_all (length block) block (omega arith) in (
+      gap.to.gap,
+      drop begin block,
+      gap.to.parted,
+      gap.longest,
+      place_behind f block at begin gap.to,
+      has_byte,
+      subst (λ xs. NoGame max_depth f xs (drop begin block)) gap.to.passed none,
+      nothing_left max_depth f (take (length block) block) more (subst (ArePieces max_depth f (take (length block) block) more) empty are),
+    )

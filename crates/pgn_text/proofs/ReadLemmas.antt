@@ -1,0 +1,163 @@
+-- A game read part by part at places of a block.
+use Rattle.std.proofs.Common.{◌≡◌, ◌≢◌, ℕ, ◌+◌, ◌-◌, ◌<◌, ◌≤◌, Bool, true, false, List, [], ◌∷◌, ◌++◌, length, take, drop, refl, sym, ap, ◌∙◌, subst, append_assoc, append-nil, arith, length-append}
+use Rattle.std.specs.Prelude.{Option, Some, None, IsTrue}
+use Rattle.std.specs.Option.{option_or}
+use Rattle.std.proofs.lemmas.Bool.{not_from_false}
+use Rattle.std.proofs.lemmas.List.{length-take-le, take_at}
+use Rattle.pgn_text.specs.Parts.{Part, Stands, AllStand, place_of, spelled_part, spelled}
+use Rattle.pgn_text.specs.Games.{Item, is_gap_part, is_result, begins_outside_gap, items_of, first_tag, result_of}
+use Rattle.pgn_text.specs.Pieces.{NoGame}
+use Rattle.pgn_text.specs.Steps.{State, start, step}
+use Rattle.pgn_text.specs.Reading.{Kept, KeptGap, KeptComment, KeptTag, KeptMove, KeptNumber, KeptResult, KeptStray, KeptDot, KeptGlyph, KeptMarks, KeptOpen, KeptClose, kept, is_kept_result, step_kept, items_of_kept, named_kept}
+use Rattle.pgn_text.specs.Walk.{PartAt, KeptAt, NothingAt, NoGapPartAt, GameTo}
+use Rattle.pgn_text.proofs.Halfway.{Reads, Halfway, halfway_start, halfway_more, halfway_end, halfway_stuck, halfway_none, game_reads, reads_game, before_more}
+use Rattle.pgn_text.proofs.KeptLemmas.{is_result-kept, step-kept, items-push}
+use Rattle.pgn_text.proofs.TagLemmas.{first_tag-push, option_or-none}
+
+-- the game that begins at the place `begin` has been read up to the place `at`, and these tags and elements were kept
+pub record ReadTo (max_depth : ℕ) (f : Bool) (block : List ℕ) (begin at : ℕ) (state : State) (tags : List ℕ → Option (List ℕ)) (elements : List Item) : Type 0 where
+  pub done : List Part
+  pub halfway : Halfway max_depth f (take begin block) (drop begin block) done state (drop at block)
+  pub passed : take at block ≡ take begin block ++ spelled done
+  pub forward : begin ≤ at
+  pub within : at ≤ length block
+  pub tags_kept : (wanted : List ℕ) → tags wanted ≡ first_tag wanted done
+  pub elements_kept : elements ≡ items_of done
+
+-- before the first part
+pub read_start : (max_depth : ℕ) (f : Bool) (block : List ℕ) (begin : ℕ) (state : State) (tags : List ℕ → Option (List ℕ)) (elements : List Item) → begin ≤ length block
+    → state ≡ start → ((wanted : List ℕ) → tags wanted ≡ None) → elements ≡ [] → ReadTo max_depth f block begin begin state tags elements
+read_start max_depth f block begin state tags elements within is_start no_tags no_elements = record {
+  done = [];
+  halfway = subst (λ s. Halfway max_depth f (take begin block) (drop begin block) [] s (drop begin block)) (sym is_start) (halfway_start max_depth f (take begin block) (drop begin block));
+  passed = sym (append-nil (take begin block));
+  forward = omega arith;
+  within = within;
+  tags_kept = no_tags;
+  elements_kept = no_elements;
+}
+
+-- where a part stands, it stands behind the parts that were read
+stands_behind : (f : Bool) (before there : List ℕ) (done : List Part) (part : Part) (rest : List ℕ) → there ≡ before ++ spelled done → Stands (place_of f there) part rest → Stands (place_of f (before ++ spelled done)) part rest
+stands_behind f before there done part rest passed stands = subst (λ xs. Stands (place_of f xs) part rest) passed stands
+
+-- behind one more part
+pub read_more : (max_depth : ℕ) (f : Bool) (block : List ℕ) (begin at end : ℕ) (state next : State) (tags more_tags : List ℕ → Option (List ℕ)) (elements more_elements : List Item) (token : Kept)
+    → ReadTo max_depth f block begin at state tags elements → KeptAt f block at token end → is_kept_result token ≡ false → step_kept max_depth state token ≡ Some next
+    → ((wanted : List ℕ) → more_tags wanted ≡ option_or (tags wanted) (named_kept wanted token)) → more_elements ≡ elements ++ items_of_kept token
+    → ReadTo max_depth f block begin end next more_tags more_elements
+read_more max_depth f block begin at end state next tags more_tags elements more_elements token read here no_result steps tags_is elements_is =
+    let found : PartAt f block at here.part end = here.found in
+    let no_end : is_result here.part ≡ false = is_result-kept here.part ∙ ap is_kept_result here.keeps ∙ no_result in
+    let goes : step max_depth state here.part ≡ Some next = step-kept max_depth state here.part ∙ ap (step_kept max_depth state) here.keeps ∙ steps in
+    let stands : Stands (place_of f (take begin block ++ spelled read.done)) here.part (drop end block) =
+    stands_behind f (take begin block) (take at block) read.done here.part (drop end block) read.passed found.stands in
+    record {
+      done = read.done ++ here.part ∷ [];
+      halfway = halfway_more max_depth f (take begin block) (drop begin block) read.done state next here.part (drop at block) (drop end block) read.halfway found.parted stands no_end goes;
+      passed = found.passed ∙ ap (λ xs. xs ++ spelled_part here.part) read.passed ∙ sym (before_more (take begin block) read.done here.part);
+      forward = (let a : begin ≤ at = read.forward in let b : at < end = found.forward in omega arith);
+      within = found.within;
+      tags_kept = λ wanted. tags_is wanted ∙ ap (λ o. option_or o (named_kept wanted token)) (read.tags_kept wanted)
+          ∙ ap (λ k. option_or (first_tag wanted read.done) (named_kept wanted k)) (sym here.keeps)
+          ∙ sym (first_tag-push wanted read.done here.part);
+      elements_kept = elements_is ∙ ap (λ xs. xs ++ items_of_kept token) read.elements_kept
+          ∙ ap (λ k. items_of read.done ++ items_of_kept k) (sym here.keeps) ∙ sym (items-push read.done here.part);
+    }
+
+-- where no game is read there is none
+no_game : (max_depth : ℕ) (f : Bool) (before text : List ℕ) → ((parts : List Part) (after : List ℕ) → Reads max_depth f before text start parts after → ⊥) → NoGame max_depth f before text
+no_game max_depth f before text none parts after parted game = none parts after (game_reads max_depth f before text parts after parted game)
+
+-- where no part stands there is no game
+pub read_nothing : (max_depth : ℕ) (f : Bool) (block : List ℕ) (begin at : ℕ) (state : State) (tags : List ℕ → Option (List ℕ)) (elements : List Item)
+    → ReadTo max_depth f block begin at state tags elements → NothingAt f block at → NoGame max_depth f (take begin block) (drop begin block)
+read_nothing max_depth f block begin at state tags elements read nothing =
+    no_game max_depth f (take begin block) (drop begin block)
+    (halfway_none max_depth f (take begin block) (drop begin block) read.done state (drop at block) read.halfway
+    (λ part rest parted stands. nothing part rest parted (subst (λ xs. Stands (place_of f xs) part rest) (sym read.passed) stands)))
+
+-- where a part stands that may not follow there is no game
+pub read_stuck : (max_depth : ℕ) (f : Bool) (block : List ℕ) (begin at end : ℕ) (state : State) (tags : List ℕ → Option (List ℕ)) (elements : List Item) (token : Kept)
+    → ReadTo max_depth f block begin at state tags elements → KeptAt f block at token end
+    → (is_kept_result token ≡ true → state.depth ≢ 0) → (is_kept_result token ≡ false → step_kept max_depth state token ≡ None)
+    → NoGame max_depth f (take begin block) (drop begin block)
+read_stuck max_depth f block begin at end state tags elements token read here deep stuck =
+    let found : PartAt f block at here.part end = here.found in
+    let kind : is_result here.part ≡ is_kept_result token = is_result-kept here.part ∙ ap is_kept_result here.keeps in
+    no_game max_depth f (take begin block) (drop begin block)
+    (halfway_stuck max_depth f (take begin block) (drop begin block) read.done state here.part (drop at block) (drop end block) read.halfway found.parted
+    (stands_behind f (take begin block) (take at block) read.done here.part (drop end block) read.passed found.stands)
+    (λ is. deep (sym kind ∙ is))
+    (λ is. step-kept max_depth state here.part ∙ ap (step_kept max_depth state) here.keeps ∙ stuck (sym kind ∙ is)))
+
+-- a token that is a result
+kept_result : (k : Kept) → is_kept_result k ≡ true → k ≡ KeptResult
+kept_result KeptResult is = refl
+kept_result KeptGap is = absurd (cc)
+kept_result (KeptComment text) is = absurd (cc)
+kept_result (KeptTag name contents) is = absurd (cc)
+kept_result (KeptMove word) is = absurd (cc)
+kept_result KeptNumber is = absurd (cc)
+kept_result KeptStray is = absurd (cc)
+kept_result KeptDot is = absurd (cc)
+kept_result (KeptGlyph number) is = absurd (cc)
+kept_result (KeptMarks marks) is = absurd (cc)
+kept_result KeptOpen is = absurd (cc)
+kept_result KeptClose is = absurd (cc)
+
+-- the result of parts is the last of them
+result_of-push : (xs : List Part) (p : Part) → result_of (xs ++ p ∷ []) ≡ spelled_part p
+result_of-push [] p = refl
+result_of-push (x ∷ []) p = refl
+result_of-push (x ∷ y ∷ xs) p = result_of-push (y ∷ xs) p
+
+-- where no part of a gap stands, what is read begins outside a gap
+outside_gap : (max_depth : ℕ) (f : Bool) (block : List ℕ) (begin : ℕ) (parts : List Part) (after : List ℕ) → NoGapPartAt f block begin → Reads max_depth f (take begin block) (drop begin block) start parts after → IsTrue (begins_outside_gap parts)
+outside_gap max_depth f block begin [] after outside reads = absurd reads.leads
+outside_gap max_depth f block begin (p ∷ back) after outside reads =
+    not_from_false _ (outside p (spelled back ++ after) (reads.parted ∙ append_assoc (spelled_part p) (spelled back) after) reads.stand.0)
+
+-- the bytes of a part are a stretch of the block
+pub part_bytes : (f : Bool) (block : List ℕ) (at end : ℕ) (part : Part) → PartAt f block at part end → at ≤ length block → take (end - at) (drop at block) ≡ spelled_part part
+part_bytes f block at end part found within =
+    let ends : length (take end block) ≡ end = length-take-le end block found.within in
+    let begins : length (take at block) ≡ at = length-take-le at block within in
+    let lengths : length (take end block) ≡ length (take at block) + length (spelled_part part) = ap length found.passed ∙ length-append (take at block) (spelled_part part) in
+    ap (take (end - at)) found.parted ∙ take_at (spelled_part part) (drop end block) (end - at) (omega arith)
+
+-- a result outside all variations ends the game
+pub record GameRead (max_depth : ℕ) (f : Bool) (block : List ℕ) (begin at end : ℕ) (tags : List ℕ → Option (List ℕ)) (elements : List Item) : Type 0 where
+  pub parts : List Part
+  pub game : GameTo max_depth f block begin parts end
+  pub tags_kept : (wanted : List ℕ) → tags wanted ≡ first_tag wanted parts
+  pub elements_kept : elements ≡ items_of parts
+  pub result : take (end - at) (drop at block) ≡ result_of parts
+
+pub read_end : (max_depth : ℕ) (f : Bool) (block : List ℕ) (begin at end : ℕ) (state : State) (tags : List ℕ → Option (List ℕ)) (elements : List Item) (token : Kept)
+    → ReadTo max_depth f block begin at state tags elements → NoGapPartAt f block begin → KeptAt f block at token end → is_kept_result token ≡ true → state.depth ≡ 0
+    → GameRead max_depth f block begin at end tags elements
+read_end max_depth f block begin at end state tags elements token read outside here is closed =
+    let found : PartAt f block at here.part end = here.found in
+    let result : is_result here.part ≡ true = is_result-kept here.part ∙ ap is_kept_result here.keeps ∙ is in
+    let kept_is : kept here.part ≡ KeptResult = here.keeps ∙ kept_result token is in
+    let stands : Stands (place_of f (take begin block ++ spelled read.done)) here.part (drop end block) =
+    stands_behind f (take begin block) (take at block) read.done here.part (drop end block) read.passed found.stands in
+    let parts : List Part = read.done ++ here.part ∷ [] in
+    let reads : Reads max_depth f (take begin block) (drop begin block) start (read.done ++ here.part ∷ []) (drop end block) =
+    halfway_end max_depth f (take begin block) (drop begin block) read.done state here.part (drop at block) (drop end block) read.halfway found.parted stands result closed in
+    record {
+      parts = read.done ++ here.part ∷ [];
+      game = record {
+        is_game = reads_game max_depth f (take begin block) (drop begin block) (read.done ++ here.part ∷ []) (drop end block)
+            (outside_gap max_depth f block begin (read.done ++ here.part ∷ []) (drop end block) outside reads) reads;
+        parted = reads.parted;
+        passed = found.passed ∙ ap (λ xs. xs ++ spelled_part here.part) read.passed ∙ sym (before_more (take begin block) read.done here.part);
+        forward = (let a : begin ≤ at = read.forward in let b : at < end = found.forward in omega arith);
+        within = found.within;
+      };
+      tags_kept = λ wanted. read.tags_kept wanted ∙ sym (first_tag-push wanted read.done here.part
+          ∙ ap (λ k. option_or (first_tag wanted read.done) (named_kept wanted k)) kept_is ∙ option_or-none (first_tag wanted read.done));
+      elements_kept = read.elements_kept ∙ sym (items-push read.done here.part ∙ ap (λ k. items_of read.done ++ items_of_kept k) kept_is ∙ append-nil (items_of read.done));
+      result = part_bytes f block at end here.part found read.within ∙ sym (result_of-push read.done here.part);
+    }

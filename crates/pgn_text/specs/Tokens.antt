@@ -1,0 +1,56 @@
+-- The values of the lexer's types, as the definitions of `Reading` see them.
+use Rattle.std.specs.Prelude.{ℕ, Bool, List, Option}
+use Rattle.std.specs.Borrow.{Bor}
+use Rattle.pgn_text.specs.Bytes.{is_white, is_digit, is_name_byte, is_word_byte, is_mark}
+use Rattle.pgn_text.specs.Parts.{Place as PlaceOf}
+use Rattle.pgn_text.specs.Reading.{Kept, KeptGap, KeptComment, KeptTag, KeptMove, KeptNumber, KeptResult, KeptStray, KeptDot, KeptGlyph, KeptMarks, KeptOpen, KeptClose}
+use Rattle.pgn_text.specs.Steps.{State}
+use Rattle.pgn_text.specs.declared.class.Class.{Class}
+use Rattle.pgn_text.specs.declared.class.Class.TheVariants.{White, Digit, Name, Word, Mark}
+use Rattle.pgn_text.specs.declared.progress.Progress.{Progress}
+use Rattle.pgn_text.specs.declared.scan.Place.{Place}
+use Rattle.pgn_text.specs.declared.token.Token.{Token}
+use Rattle.pgn_text.specs.declared.token.Token.TheVariants.{Gap, Comment, Tag, Move, Number, Result, Stray, Dot, Glyph, Marks, Open, Close}
+
+-- the test of a class
+abbrev pub test_of : Class → ℕ → Bool
+test_of White = is_white
+test_of Digit = is_digit
+test_of Name = is_name_byte
+test_of Word = is_word_byte
+test_of Mark = is_mark
+
+-- what a token keeps of a part
+abbrev pub token_of : Token → Kept
+token_of Gap = KeptGap
+token_of (Comment text) = KeptComment text.now
+token_of (Tag name contents) = KeptTag name.now contents.now
+token_of (Move word) = KeptMove word.now
+token_of Number = KeptNumber
+token_of Result = KeptResult
+token_of Stray = KeptStray
+token_of Dot = KeptDot
+token_of (Glyph number) = KeptGlyph number
+token_of (Marks marks) = KeptMarks marks.now
+token_of Open = KeptOpen
+token_of Close = KeptClose
+
+-- what a token keeps of a part that was found, and the text behind it
+abbrev pub found_of : Token × Bor (List ℕ) → Kept × List ℕ
+found_of found = (token_of found.0, found.1.now)
+
+-- a place, as the definitions see it
+abbrev pub place_view : Place → PlaceOf
+place_view place = record { file_start = place.file_start; column_one = place.column_one }
+
+-- the list behind a slice
+abbrev pub now_of : Bor (List ℕ) → List ℕ
+now_of text = text.now
+
+-- the lists behind two slices
+abbrev pub both_now : Bor (List ℕ) × Bor (List ℕ) → List ℕ × List ℕ
+both_now found = (found.0.now, found.1.now)
+
+-- how far a game has been read, as the definitions see it
+abbrev pub state_of : Progress → State
+state_of progress = record { in_tags = progress.in_tags; depth = progress.depth; has_move = progress.has_move }

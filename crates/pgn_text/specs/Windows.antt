@@ -1,0 +1,69 @@
+-- What contracts see of a `Blocks`, and what one call of `next` does to it.
+use Rattle.std.specs.Prelude.{◌≡◌, ◌≢◌, ℕ, ◌+◌, ◌^◌, ◌<◌, ◌≤◌, Bool, true, false, List, [], ◌∷◌, ◌++◌, length, Option, Some, None, Result, Ok, Err}
+use Rattle.std.specs.Io.KnownBytes.{IsAtEnd}
+use Rattle.pgn_text.specs.Blocks.{IsFirstBlock}
+use Rattle.pgn_text.specs.declared.blocks.Block.{Block}
+use Rattle.pgn_text.specs.declared.blocks.Body.{Body}
+use Rattle.pgn_text.specs.declared.blocks.Body.TheVariants.{Bytes, TooLong}
+use Rattle.pgn_text.specs.declared.blocks.ReadError.{ReadError}
+use Rattle.pgn_text.specs.declared.blocks.ReadError.TheVariants.{Read, OutOfMemory, InputTooLong, Failed}
+
+-- the bytes held: those done with, which end with the block answered last, and those ahead, the first of which has the
+-- offset `place`; and whether an error, the last block and the end have been answered
+pub record Window : Type 0 where
+  pub done : List ℕ
+  pub ahead : List ℕ
+  pub place : ℕ
+  pub failed : Bool
+  pub ended : Bool
+  pub over : Bool
+
+-- the bytes of the next block, cut off from those held ahead and those read in the call: they are its first block
+-- whatever follows, and the last one where the reader is at its end
+pub record IsCutOff (old new : Window) (left' : Option (List ℕ)) (read bytes : List ℕ) : Type 0 where
+  pub going : old.ended ≡ false
+  pub parted : old.ahead ++ read ≡ bytes ++ new.ahead
+  pub first : (rest : List ℕ) → (new.ended ≡ true → rest ≡ []) → IsFirstBlock bytes (new.ahead ++ rest)
+  pub place : new.place ≡ old.place + length bytes
+  pub within : new.place + length new.ahead ≤ 2 ^ 62
+  pub last : new.ended ≡ true → (new.ahead ≡ []) × IsAtEnd left'
+  pub more : new.ended ≡ false → new.ahead ≢ []
+  pub sound : (new.failed ≡ false) × (new.over ≡ false)
+
+-- what was read of the block holds no event line, up to where reading failed
+pub record IsCutShort (place : ℕ) (bytes : List ℕ) : Type 0 where
+  pub uncut : IsFirstBlock bytes []
+  pub within : place + length bytes ≤ 2 ^ 62
+
+-- the block reaches the largest offset, and one more byte was there
+pub record IsPastEnd (place : ℕ) (ahead read : List ℕ) : Type 0 where
+  pub kept : List ℕ
+  pub byte : ℕ
+  pub parted : read ≡ kept ++ byte ∷ []
+  pub uncut : IsFirstBlock (ahead ++ kept) []
+  pub full : place + length (ahead ++ kept) ≡ 2 ^ 62
+
+-- what holds of the bytes ahead and those read where a call ends with the error
+abbrev pub FailsAfter : ℕ → List ℕ → List ℕ → ReadError → Type 0
+FailsAfter place ahead read Read = IsCutShort place (ahead ++ read)
+FailsAfter place ahead read OutOfMemory = place + length (ahead ++ read) ≤ 2 ^ 62
+FailsAfter place ahead read InputTooLong = IsPastEnd place ahead read
+FailsAfter place ahead read Failed = read ≡ []
+
+-- the body shows the bytes of the block, or that they are more than the limit
+abbrev pub Shows : ℕ → Body → List ℕ → Type 0
+Shows limit (Bytes shown) bytes = (shown.now ≡ bytes) × (length bytes ≤ limit)
+Shows limit TooLong bytes = limit < length bytes
+
+-- the block has these bytes, which end where the window now begins
+abbrev pub IsBlock : ℕ → Window → List ℕ → Block → Type 0
+IsBlock limit window bytes block = Shows limit block.body bytes × (block.offset + length bytes ≡ window.place)
+
+-- what a call of `next` that took the bytes `read` did, by its answer
+abbrev pub Gives : ℕ → Window → Window → Option (List ℕ) → List ℕ → Result (Option Block) ReadError → Type 0
+Gives limit old new left' read (Ok (Some block)) =
+    (bytes : List ℕ) × IsCutOff old new left' read bytes × IsBlock limit new bytes block
+Gives limit old new left' read (Ok None) =
+    (old.ended ≡ true) × (read ≡ []) × (new.over ≡ true) × (new.ended ≡ true) × (new.failed ≡ false)
+Gives limit old new left' read (Err error) =
+    (new.failed ≡ true) × (old.ended ≡ true → error ≡ Failed) × FailsAfter old.place old.ahead read error

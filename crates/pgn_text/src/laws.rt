@@ -1,0 +1,23 @@
+//! What holds of every text, whatever reads it. Each law is the contract of a function that does nothing.
+
+ghost use Rattle.pgn_text.specs.Laws.{AtMostOneGame, TextHasOneParting, BlockHasOneList, TextHasOneList, ResumesAnywhere, BlockKeepsPieces, TextKeepsPieces};
+
+/// A text has one reading: one parting into blocks, one list of pieces in each block, and so one list of pieces with their offsets;
+/// and at any place of a block at most one game begins.
+pub fn one_reading()
+    ensures one_game { AtMostOneGame }
+    ensures one_parting { TextHasOneParting }
+    ensures one_list { BlockHasOneList }
+    ensures one_marked_list { TextHasOneList }
+{}
+
+/// A reading that begins again at a piece of a text gives that piece and those behind it, with the same offsets.
+pub fn resumption()
+    ensures { ResumesAnywhere }
+{}
+
+/// A block or a text whose pieces are all games keeps its pieces, and so its marks, under larger limits.
+pub fn old_marks()
+    ensures block { BlockKeepsPieces }
+    ensures text { TextKeepsPieces }
+{}

@@ -1,0 +1,32 @@
+//! Chess games in Portable Game Notation: what a reader gives is parted into blocks, a block into games, and each game is read as
+//! tags, elements and a result. Nothing of a game is copied: tags, words, comments and results are slices of the block.
+#![tactic(auto)]
+
+pub mod blocks;
+mod class;
+mod cut;
+mod draft;
+mod game;
+pub mod laws;
+mod place;
+mod progress;
+mod quoted;
+mod reader;
+mod scan;
+pub mod tally;
+mod token;
+mod unquoted;
+
+pub use blocks::{Block, Blocks, Body, ReadError};
+pub use cut::{Games, Piece};
+pub use game::{Element, RawGame};
+pub use progress::MAX_DEPTH;
+pub use quoted::{is_contents, value};
+pub use reader::games;
+pub use tally::Tally;
+pub use unquoted::Value;
+
+#[cfg(test)]
+mod piecewise;
+#[cfg(test)]
+mod tests;

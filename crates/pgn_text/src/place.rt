@@ -1,0 +1,70 @@
+//! Parts at places of a block.
+
+ghost use Rattle.std.specs.Prelude.{◌≡◌, ◌≤◌, length, take, drop, MatchOption};
+ghost use Rattle.pgn_text.specs.Parts.{is_column_one as is_in_column_one, place_of};
+ghost use Rattle.pgn_text.specs.Tokens.{place_view, token_of};
+ghost use Rattle.pgn_text.specs.Walk.{KeptAt, NothingAt, GapPartAt, NoGapPartAt, LongestGapTo};
+
+use crate::scan::{Found, Place, gap_part, part};
+use crate::token::Token;
+
+const BYTE_ORDER_MARK: [u8; 3] = [0xEF, 0xBB, 0xBF];
+
+/// Whether the place behind these bytes of a block is in column one.
+#[inline]
+fn is_column_one(before: &[u8], file_start: bool) -> bool
+    ensures { result ≡ is_in_column_one file_start before.now }
+{
+    before.last() == Some(&b'\n')
+        || (file_start && (before.is_empty() || before == BYTE_ORDER_MARK.as_slice()))
+}
+
+/// What the place tells a part that stands there.
+#[inline]
+#[tactic(auto, using(crate::proofs::Runs::is_empty_length))]
+fn place_at(block: &[u8], at: usize, file_start: bool) -> Place
+    requires { at ≤ length block.now }
+    ensures { place_view result ≡ place_of file_start (take at block.now) }
+{
+    let before = &block[..at];
+    Place {
+        file_start: file_start && before.is_empty(),
+        column_one: is_column_one(before, file_start),
+    }
+}
+
+/// The part at the place of the block, and the place behind it.
+#[inline]
+pub(crate) fn part_at(block: &[u8], at: usize, file_start: bool) -> Option<(Token<'_>, usize)>
+    requires { at ≤ length block.now }
+    ensures { MatchOption result (NothingAt file_start block.now at) (λ found. KeptAt file_start block.now at (token_of found.0) found.1) }
+{
+    let Some((token, rest)) = part(&block[at..], place_at(block, at, file_start)) else {
+        return None;
+    };
+    Some((token, block.len() - rest.len()))
+}
+
+/// The place behind the part of a gap at the place of the block.
+#[inline]
+fn gap_part_at(block: &[u8], at: usize, file_start: bool) -> Option<usize>
+    requires { at ≤ length block.now }
+    ensures { MatchOption result (NoGapPartAt file_start block.now at) (λ end. GapPartAt file_start block.now at end) }
+{
+    let Some((_, rest)) = gap_part(&block[at..], place_at(block, at, file_start)) else {
+        return None;
+    };
+    Some(block.len() - rest.len())
+}
+
+/// The place behind the longest gap at the place of the block.
+pub(crate) fn gap_end(block: &[u8], begin: usize, file_start: bool) -> usize
+    requires { begin ≤ length block.now }
+    ensures { LongestGapTo file_start block.now begin result }
+{
+    let mut at = begin;
+    while let Some(end) = gap_part_at(block, at, file_start) {
+        at = end;
+    }
+    at
+}

@@ -1,0 +1,211 @@
+//! The part at the front of a text, one function for each kind.
+
+ghost use Rattle.std.specs.Prelude.{◌≡◌, ◌≤◌, length, if◌then◌else◌, option_map, Some, None};
+ghost use Rattle.pgn_text.specs.Bytes.{is_not_line_feed};
+ghost use Rattle.pgn_text.specs.Parts.{EscapeLine, Line, number_of};
+ghost use Rattle.pgn_text.specs.Reading.{run_of, after_run, rest_behind, brace_front, mark_front, gap_front, tag_front, is_glyph, glyph_front, game_front, part_front, kept_found};
+ghost use Rattle.pgn_text.specs.Tokens.{found_of, now_of, place_view};
+
+use crate::class::{Class, is_in, run};
+use crate::quoted::contents;
+use crate::token::{Token, word_token};
+use memchr::memchr;
+
+/// What a place tells a part that stands there.
+#[derive(Clone, Copy)]
+pub(crate) struct Place {
+    /// It is the start of the file.
+    pub(crate) file_start: bool,
+    /// It is in column one.
+    pub(crate) column_one: bool,
+}
+
+/// A part and the text behind it.
+pub(crate) type Found<'a> = (Token<'a>, &'a [u8]);
+
+/// The text behind the byte, if the text begins with it.
+#[inline]
+pub(crate) fn behind(byte: u8, text: &[u8]) -> Option<&[u8]>
+    ensures { option_map now_of result ≡ rest_behind byte text.now }
+{
+    let Some((first, rest)) = text.split_first() else {
+        return None;
+    };
+    if *first == byte { Some(rest) } else { None }
+}
+
+/// The comment whose opening brace stands before the text.
+#[inline]
+fn brace_comment(text: &[u8]) -> Option<Found<'_>>
+    ensures { option_map found_of result ≡ option_map kept_found (brace_front text.now) }
+{
+    let Some(end) = memchr(b'}', text) else {
+        return None;
+    };
+    Some((Token::Comment(&text[..end]), &text[end + 1..]))
+}
+
+/// How many bytes the text's first line has, without its line feed.
+#[inline]
+fn line_len(text: &[u8]) -> usize
+    ensures value { result ≡ length (run_of is_not_line_feed text.now) }
+    ensures within { result ≤ length text.now }
+{
+    match memchr(b'\n', text) {
+        Some(len) => len,
+        None => text.len(),
+    }
+}
+
+/// The text's first line without its line feed, and what follows it.
+#[inline]
+fn line(text: &[u8]) -> (&[u8], &[u8])
+    ensures front { result.0.now ≡ run_of is_not_line_feed text.now }
+    ensures rest { result.1.now ≡ after_run is_not_line_feed text.now }
+{
+    let len = line_len(text);
+    (&text[..len], &text[len..])
+}
+
+/// The comment whose semicolon stands before the text.
+#[inline]
+fn line_comment(text: &[u8]) -> Found<'_>
+    ensures { found_of result ≡ kept_found (Line (run_of is_not_line_feed text.now), after_run is_not_line_feed text.now) }
+{
+    let (comment, rest) = line(text);
+    (Token::Comment(comment), rest)
+}
+
+/// The escape line whose percent sign stands before the text.
+#[inline]
+fn escape_line(text: &[u8], column_one: bool) -> Option<Found<'_>>
+    ensures { option_map found_of result ≡ option_map kept_found (if column_one then Some (EscapeLine (run_of is_not_line_feed text.now), after_run is_not_line_feed text.now) else None) }
+{
+    if column_one {
+        Some((Token::Gap, line(text).1))
+    } else {
+        None
+    }
+}
+
+/// The byte order mark whose first byte stands before the text.
+#[inline]
+fn byte_order_mark(text: &[u8], file_start: bool) -> Option<Found<'_>>
+    ensures { option_map found_of result ≡ option_map kept_found (if file_start then mark_front text.now else None) }
+{
+    if file_start && text.starts_with(&[0xBB, 0xBF]) {
+        Some((Token::Gap, &text[2..]))
+    } else {
+        None
+    }
+}
+
+/// The part of a gap at the front of the text.
+#[inline]
+pub(crate) fn gap_part(text: &[u8], place: Place) -> Option<Found<'_>>
+    ensures { option_map found_of result ≡ option_map kept_found (gap_front (place_view place) text.now) }
+{
+    let Some((first, rest)) = text.split_first() else {
+        return None;
+    };
+    match *first {
+        9..=13 | b' ' => Some((Token::Gap, rest)),
+        b'{' => brace_comment(rest),
+        b';' => Some(line_comment(rest)),
+        b'%' => escape_line(rest, place.column_one),
+        0xEF => byte_order_mark(rest, place.file_start),
+        _ => None,
+    }
+}
+
+/// The tag whose opening bracket stands before the text.
+#[tactic(auto, using(crate::proofs::Runs::is_empty_length))]
+fn tag(text: &[u8]) -> Option<Found<'_>>
+    ensures { option_map found_of result ≡ option_map kept_found (tag_front text.now) }
+{
+    let (_, text) = run(Class::White, text);
+    let (name, text) = run(Class::Name, text);
+    if name.is_empty() {
+        return None;
+    }
+    let (_, text) = run(Class::White, text);
+    let Some(text) = behind(b'"', text) else {
+        return None;
+    };
+    let Some((contents, text)) = contents(text) else {
+        return None;
+    };
+    let Some(text) = behind(b'"', text) else {
+        return None;
+    };
+    let (_, text) = run(Class::White, text);
+    let Some(rest) = behind(b']', text) else {
+        return None;
+    };
+    Some((Token::Tag { name, contents }, rest))
+}
+
+/// The number that one to three digits write, if it is at most 255.
+#[inline]
+fn glyph_number(digits: &[u8]) -> Option<u8>
+    ensures { result ≡ (if is_glyph digits.now then Some (number_of digits.now) else None) }
+{
+    let value = |digit: u8| u16::from(digit.saturating_sub(b'0'));
+    let number = match digits {
+        [last] => value(*last),
+        [tens, last] => 10 * value(*tens) + value(*last),
+        [hundreds, tens, last] => 100 * value(*hundreds) + 10 * value(*tens) + value(*last),
+        _ => return None,
+    };
+    u8::try_from(number).ok()
+}
+
+/// The glyph whose dollar sign stands before the text.
+#[inline]
+fn glyph(text: &[u8]) -> Option<Found<'_>>
+    ensures { option_map found_of result ≡ option_map kept_found (glyph_front text.now) }
+{
+    let (digits, rest) = run(Class::Digit, text);
+    let Some(number) = glyph_number(digits) else {
+        return None;
+    };
+    Some((Token::Glyph(number), rest))
+}
+
+/// The part at the front of the text that only a game can have.
+#[inline]
+pub(crate) fn game_part(text: &[u8]) -> Option<Found<'_>>
+    ensures { option_map found_of result ≡ option_map kept_found (game_front text.now) }
+{
+    let Some((first, rest)) = text.split_first() else {
+        return None;
+    };
+    match *first {
+        byte if is_in(Class::Word, byte) => {
+            let (word, rest) = run(Class::Word, text);
+            Some((word_token(word), rest))
+        }
+        b'.' => Some((Token::Dot, rest)),
+        b'$' => glyph(rest),
+        b'!' | b'?' => {
+            let (marks, rest) = run(Class::Mark, text);
+            Some((Token::Marks(marks), rest))
+        }
+        b'(' => Some((Token::Open, rest)),
+        b')' => Some((Token::Close, rest)),
+        b'*' => Some((Token::Result, rest)),
+        b'[' => tag(rest),
+        _ => None,
+    }
+}
+
+/// The part at the front of the text.
+#[inline]
+pub(crate) fn part(text: &[u8], place: Place) -> Option<Found<'_>>
+    ensures { option_map found_of result ≡ option_map kept_found (part_front (place_view place) text.now) }
+{
+    match gap_part(text, place) {
+        Some(found) => Some(found),
+        None => game_part(text),
+    }
+}
