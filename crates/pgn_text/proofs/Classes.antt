@@ -1,5 +1,5 @@
 -- Classes of bytes that have no byte in common.
-use Rattle.std.proofs.Common.{◌≡◌, ℕ, Bool, true, false, arith}
+use Rattle.std.proofs.Common.{◌≡◌, ℕ, true, false, arith}
 use Rattle.std.proofs.lemmas.Bool.Decides.{nat_tests}
 use Rattle.std.specs.Prelude.{◌==◌}
 use Rattle.pgn_text.specs.Bytes.{is_white, is_name_byte, is_word_byte, is_mark}

@@ -20,6 +20,7 @@ pub mod MarkedPieces
 pub mod OldMarks
 pub mod OneBlocks
 pub mod OneList
+pub mod Pairing
 pub mod PartLemmas
 pub mod Places
 pub mod ReadLemmas

@@ -1,14 +1,14 @@
 -- The part at the front of a text is the one that may stand there, and no other.
-use Rattle.std.proofs.Common.{◌≡◌, ◌≢◌, ℕ, Bool, true, false, List, [], ◌∷◌, ◌++◌, length, refl, sym, ap, ◌∙◌, append_assoc, arith, cond}
-use Rattle.std.specs.Prelude.{Option, Some, None, option_map, option_and_then, if◌then◌else◌, IsTrue, ◌==◌, ◌&&◌, not, flat_map, nat_le, ◌⊎◌}
+use Rattle.std.proofs.Common.{◌≡◌, ◌≢◌, ℕ, Bool, true, false, List, [], ◌∷◌, ◌++◌, refl, sym, ap, ◌∙◌, append_assoc}
+use Rattle.std.specs.Prelude.{Option, Some, None, option_map, IsTrue, ◌==◌, ◌&&◌, not, flat_map}
 use Rattle.std.specs.Option.{option_or}
 use Rattle.std.specs.List.{list_all}
-use Rattle.std.proofs.lemmas.Bool.{and_parts, not-true, not-false, eqb-true, cond_both, not_from_false, not_from_true}
+use Rattle.std.proofs.lemmas.Bool.{and_parts, not-true, not_from_false}
 use Rattle.pgn_text.specs.Bytes.{is_white, is_digit, is_name_byte, is_word_byte, is_mark, is_plain, is_not_line_feed, is_not_brace, is_empty, stops}
 use Rattle.pgn_text.specs.Strings.{Sign, Single, Escaped, spelled_sign, is_sign, IsContents}
-use Rattle.pgn_text.specs.Parts.{Part, ByteOrderMark, White, Brace, Line, EscapeLine, Tag, Word, Star, Dot, Glyph, Marks, Open, Close, Place, Stands, spelled_part, number_of}
-use Rattle.pgn_text.specs.Reading.{run_of, after_run, rest_behind, brace_front, mark_front, gap_front, with_byte, contents_front, tag_end, tag_string, tag_name, tag_front, is_glyph, glyph_front, game_front, part_front, kept_found}
-use Rattle.pgn_text.proofs.Fronts.{run_of-append, after_run-append, run-append-after, list_all-run, stops-after_run}
+use Rattle.pgn_text.specs.Parts.{Part, ByteOrderMark, White, Brace, Line, EscapeLine, Tag, Word, Star, Dot, Glyph, Marks, Open, Close, Place, Stands, spelled_part}
+use Rattle.pgn_text.specs.Reading.{gap_front, with_byte, contents_front, tag_end, tag_string, tag_front, game_front, part_front, kept_found}
+use Rattle.pgn_text.proofs.Fronts.{run_of-append, after_run-append}
 use Rattle.pgn_text.proofs.Classes.{is_white-word, brace-word, semicolon-word, percent-word, order_mark-word, is_white-mark, brace-mark, semicolon-mark, percent-mark, order_mark-mark, is_word_byte-mark, dot-mark, dollar-mark, is_name_byte-white, is_white-name}
 
 pub kept-or : (a b : Option (Part × List ℕ)) → option_map kept_found (option_or a b) ≡ option_or (option_map kept_found a) (option_map kept_found b)

@@ -4,14 +4,16 @@ use Rattle.std.specs.Prelude.{Option, Some, None, IsTrue}
 use Rattle.std.specs.Option.{option_or}
 use Rattle.std.proofs.lemmas.Bool.{not_from_false}
 use Rattle.std.proofs.lemmas.List.{length-take-le, take_at}
-use Rattle.pgn_text.specs.Parts.{Part, Stands, AllStand, place_of, spelled_part, spelled}
-use Rattle.pgn_text.specs.Games.{Item, is_gap_part, is_result, begins_outside_gap, items_of, first_tag, result_of}
+use Rattle.pgn_text.specs.Parts.{Part, Stands, place_of, spelled_part, spelled}
+use Rattle.pgn_text.specs.Games.{Item, is_result, begins_outside_gap, items_of, first_tag, result_of}
+use Rattle.pgn_text.specs.GameTexts.{IsPaired}
 use Rattle.pgn_text.specs.Pieces.{NoGame}
 use Rattle.pgn_text.specs.Steps.{State, start, step}
-use Rattle.pgn_text.specs.Reading.{Kept, KeptGap, KeptComment, KeptTag, KeptMove, KeptNumber, KeptResult, KeptStray, KeptDot, KeptGlyph, KeptMarks, KeptOpen, KeptClose, kept, is_kept_result, step_kept, items_of_kept, named_kept}
+use Rattle.pgn_text.specs.Reading.{Kept, KeptResult, kept, is_kept_result, step_kept, items_of_kept, named_kept}
 use Rattle.pgn_text.specs.Walk.{PartAt, KeptAt, NothingAt, NoGapPartAt, GameTo}
 use Rattle.pgn_text.proofs.Halfway.{Reads, Halfway, halfway_start, halfway_more, halfway_end, halfway_stuck, halfway_none, game_reads, reads_game, before_more}
-use Rattle.pgn_text.proofs.KeptLemmas.{is_result-kept, step-kept, items-push}
+use Rattle.pgn_text.proofs.KeptLemmas.{is_result-kept, step-kept, items-push, kept_result}
+use Rattle.pgn_text.proofs.Pairing.{leads_paired}
 use Rattle.pgn_text.proofs.TagLemmas.{first_tag-push, option_or-none}
 
 -- the game that begins at the place `begin` has been read up to the place `at`, and these tags and elements were kept
@@ -91,21 +93,6 @@ read_stuck max_depth f block begin at end state tags elements token read here de
     (λ is. deep (sym kind ∙ is))
     (λ is. step-kept max_depth state here.part ∙ ap (step_kept max_depth state) here.keeps ∙ stuck (sym kind ∙ is)))
 
--- a token that is a result
-kept_result : (k : Kept) → is_kept_result k ≡ true → k ≡ KeptResult
-kept_result KeptResult is = refl
-kept_result KeptGap is = absurd (cc)
-kept_result (KeptComment text) is = absurd (cc)
-kept_result (KeptTag name contents) is = absurd (cc)
-kept_result (KeptMove word) is = absurd (cc)
-kept_result KeptNumber is = absurd (cc)
-kept_result KeptStray is = absurd (cc)
-kept_result KeptDot is = absurd (cc)
-kept_result (KeptGlyph number) is = absurd (cc)
-kept_result (KeptMarks marks) is = absurd (cc)
-kept_result KeptOpen is = absurd (cc)
-kept_result KeptClose is = absurd (cc)
-
 -- the result of parts is the last of them
 result_of-push : (xs : List Part) (p : Part) → result_of (xs ++ p ∷ []) ≡ spelled_part p
 result_of-push [] p = refl
@@ -132,6 +119,7 @@ pub record GameRead (max_depth : ℕ) (f : Bool) (block : List ℕ) (begin at en
   pub game : GameTo max_depth f block begin parts end
   pub tags_kept : (wanted : List ℕ) → tags wanted ≡ first_tag wanted parts
   pub elements_kept : elements ≡ items_of parts
+  pub paired : IsPaired 0 elements
   pub result : take (end - at) (drop at block) ≡ result_of parts
 
 pub read_end : (max_depth : ℕ) (f : Bool) (block : List ℕ) (begin at end : ℕ) (state : State) (tags : List ℕ → Option (List ℕ)) (elements : List Item) (token : Kept)
@@ -143,9 +131,10 @@ read_end max_depth f block begin at end state tags elements token read outside h
     let kept_is : kept here.part ≡ KeptResult = here.keeps ∙ kept_result token is in
     let stands : Stands (place_of f (take begin block ++ spelled read.done)) here.part (drop end block) =
     stands_behind f (take begin block) (take at block) read.done here.part (drop end block) read.passed found.stands in
-    let parts : List Part = read.done ++ here.part ∷ [] in
     let reads : Reads max_depth f (take begin block) (drop begin block) start (read.done ++ here.part ∷ []) (drop end block) =
     halfway_end max_depth f (take begin block) (drop begin block) read.done state here.part (drop at block) (drop end block) read.halfway found.parted stands result closed in
+    let elements_is : elements ≡ items_of (read.done ++ here.part ∷ []) =
+    read.elements_kept ∙ sym (items-push read.done here.part ∙ ap (λ k. items_of read.done ++ items_of_kept k) kept_is ∙ append-nil (items_of read.done)) in
     record {
       parts = read.done ++ here.part ∷ [];
       game = record {
@@ -158,6 +147,7 @@ read_end max_depth f block begin at end state tags elements token read outside h
       };
       tags_kept = λ wanted. read.tags_kept wanted ∙ sym (first_tag-push wanted read.done here.part
           ∙ ap (λ k. option_or (first_tag wanted read.done) (named_kept wanted k)) kept_is ∙ option_or-none (first_tag wanted read.done));
-      elements_kept = read.elements_kept ∙ sym (items-push read.done here.part ∙ ap (λ k. items_of read.done ++ items_of_kept k) kept_is ∙ append-nil (items_of read.done));
+      elements_kept = elements_is;
+      paired = subst (IsPaired 0) (sym elements_is) (leads_paired max_depth start (read.done ++ here.part ∷ []) reads.leads);
       result = part_bytes f block at end here.part found read.within ∙ sym (result_of-push read.done here.part);
     }

@@ -8,6 +8,7 @@ use Rattle.std.specs.Ordering.{nat_cmp, is_eq}
 use Rattle.std.specs.Cmp.Lexicographic.{slice_cmp}
 use Rattle.std.proofs.lemmas.Map.Text.{btree_map_updates_str, is_eq-slice_cmp}
 use Rattle.std.proofs.lemmas.Slice.Eq.{bytes_eq-Decides}
+use Rattle.pgn_text.specs.Bytes.{is_letter, begins}
 use Rattle.pgn_text.specs.Parts.{Part, ByteOrderMark, White, Brace, Line, EscapeLine, Tag, Word, Star, Dot, Glyph, Marks, Open, Close}
 use Rattle.pgn_text.specs.Games.{first_tag, is_move_text, is_number, is_result_word}
 use Rattle.pgn_text.specs.Reading.{kept, kept_word, named_kept, KeptMove, KeptNumber, KeptResult, KeptStray}
@@ -59,13 +60,14 @@ kept_old m name wanted contents present = go (bytes_eq name wanted) refl
 -- a word names no tag
 named-word : (wanted word : List ℕ) → named_kept wanted (kept_word word) ≡ None
 named-word wanted word =
-    elim (is_move_text word) as (λ v. named_kept wanted (if v then KeptMove word else (if is_number word then KeptNumber else (if is_result_word word then KeptResult else KeptStray))) ≡ None) [
-      | true ↦ refl
-      | false ↦ elim (is_number word) as (λ v. named_kept wanted (if v then KeptNumber else (if is_result_word word then KeptResult else KeptStray)) ≡ None) [
-        | true ↦ refl
-        | false ↦ elim (is_result_word word) as (λ v. named_kept wanted (if v then KeptResult else KeptStray) ≡ None) [ true ↦ refl | false ↦ refl ]
-      ]
-    ]
+    go (begins is_letter word) (is_number word) (is_move_text word) (is_result_word word)
+  where
+    go : (letter number moves result : Bool) → named_kept wanted (if letter then KeptMove word else (if number then KeptNumber else (if moves then KeptMove word else (if result then KeptResult else KeptStray)))) ≡ None
+    go true number moves result = refl
+    go false true moves result = refl
+    go false false true result = refl
+    go false false false true = refl
+    go false false false false = refl
 
 -- the first tag of a list with one part more at its head
 first_tag-cons : (wanted : List ℕ) (p : Part) (more : List Part) → first_tag wanted (p ∷ more) ≡ option_or (named_kept wanted (kept p)) (first_tag wanted more)

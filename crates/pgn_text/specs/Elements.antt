@@ -1,7 +1,7 @@
 -- What readers of a game see: its elements and its tags.
 use Rattle.std.specs.Prelude.{ℕ, List, Option, map, option_map}
 use Rattle.std.specs.Borrow.{Bor}
-use Rattle.std.specs.BTreeMap.{BTreeMap, get_by}
+use Rattle.std.specs.BTreeMap.{BTreeMap, get_by, IsOrdered}
 use Rattle.std.specs.Ordering.{nat_cmp}
 use Rattle.std.specs.Cmp.Lexicographic.{slice_cmp}
 use Rattle.pgn_text.specs.Games.{Item, MoveText, GlyphNumber, CommentText, VariationOpen, VariationClose}
@@ -27,3 +27,7 @@ tag_of tag = (tag.0.now, tag.1.now)
 -- the tags of a map, by their bytes
 abbrev pub tags_of : BTreeMap (Bor (List ℕ)) (Bor (List ℕ)) → List (List ℕ × List ℕ)
 tags_of tags = map tag_of tags.entries
+
+-- the names of a map of tags ascend
+abbrev pub AreOrdered : BTreeMap (Bor (List ℕ)) (Bor (List ℕ)) → Type 0
+AreOrdered tags = IsOrdered (λ x y. slice_cmp nat_cmp x.now y.now) tags

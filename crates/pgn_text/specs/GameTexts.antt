@@ -1,7 +1,10 @@
 -- A game as its reader hands it out.
-use Rattle.std.specs.Prelude.{◌≡◌, ℕ, ◌<◌, ◌≤◌, Bool, List, [], ◌∷◌, ◌++◌, length, take, drop, bytes_eq, if◌then◌else◌, Option, Some, None}
-use Rattle.pgn_text.specs.Parts.{Part, spelled}
-use Rattle.pgn_text.specs.Games.{Item, items_of, first_tag, result_of}
+use Rattle.std.specs.Prelude.{◌≡◌, ℕ, ◌+◌, ◌-◌, ◌<◌, List, [], ◌∷◌, map, bytes_eq, if◌then◌else◌, Option, Some, None}
+use Rattle.std.specs.List.Sorted.{IsStrictlySortedBy}
+use Rattle.std.specs.Ordering.{nat_cmp}
+use Rattle.std.specs.Cmp.Lexicographic.{slice_cmp}
+use Rattle.pgn_text.specs.Parts.{Part}
+use Rattle.pgn_text.specs.Games.{Item, MoveText, GlyphNumber, CommentText, VariationOpen, VariationClose, items_of, first_tag, result_of}
 
 -- a game: its place in the block, its tags by their names, its elements and its result
 pub record GameText : Type 0 where
@@ -9,6 +12,25 @@ pub record GameText : Type 0 where
   pub tags : List (List ℕ × List ℕ)
   pub elements : List Item
   pub result : List ℕ
+
+-- from this depth on the elements end each variation that is open or that they begin, and no other
+abbrev pub IsPaired : ℕ → List Item → Type 0
+IsPaired depth [] = depth ≡ 0
+IsPaired depth (MoveText word ∷ more) = IsPaired depth more
+IsPaired depth (GlyphNumber number ∷ more) = IsPaired depth more
+IsPaired depth (CommentText text ∷ more) = IsPaired depth more
+IsPaired depth (VariationOpen ∷ more) = IsPaired (depth + 1) more
+IsPaired depth (VariationClose ∷ more) = (0 < depth) × IsPaired (depth - 1) more
+
+-- the names of tags
+abbrev pub tag_names : List (List ℕ × List ℕ) → List (List ℕ)
+tag_names tags = map (λ tag. tag.0) tags
+
+-- what holds of each game that is handed out: the names of its tags ascend in the order of their bytes, so none is there twice, and its
+-- variations are paired
+pub record IsGameText (game : GameText) : Type 0 where
+  pub ordered : IsStrictlySortedBy (slice_cmp nat_cmp) (tag_names game.tags)
+  pub paired : IsPaired 0 game.elements
 
 -- the contents of the string of the tag with the wanted name
 abbrev pub tag_in : List ℕ → List (List ℕ × List ℕ) → Option (List ℕ)

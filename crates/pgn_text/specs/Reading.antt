@@ -1,8 +1,8 @@
 -- The part at the front of a text, computed: what the functions of `scan` and `token` answer, and what a game keeps of a part.
-use Rattle.std.specs.Prelude.{ℕ, Bool, true, false, not, ◌&&◌, ◌||◌, ◌==◌, ◌+◌, ◌-◌, nat_le, nat_lt, nat_eq, bytes_eq, if◌then◌else◌, List, [], ◌∷◌, ◌++◌, length, drop, option_map, option_and_then, Option, Some, None}
+use Rattle.std.specs.Prelude.{ℕ, Bool, true, false, not, ◌&&◌, ◌||◌, ◌==◌, ◌+◌, ◌-◌, nat_le, nat_lt, nat_eq, bytes_eq, if◌then◌else◌, List, [], ◌∷◌, length, drop, option_map, option_and_then, Option, Some, None}
 use Rattle.std.specs.List.{starts_with}
 use Rattle.std.specs.Option.{option_or}
-use Rattle.pgn_text.specs.Bytes.{is_white, is_digit, is_name_byte, is_word_byte, is_mark, is_plain, is_not_line_feed, is_not_brace, is_empty}
+use Rattle.pgn_text.specs.Bytes.{is_white, is_digit, is_name_byte, is_word_byte, is_mark, is_plain, is_not_line_feed, is_not_brace, is_empty, is_letter, begins}
 use Rattle.pgn_text.specs.Parts.{Part, ByteOrderMark, White, Brace, Line, EscapeLine, Tag, Word, Star, Dot, Glyph, Marks, Open, Close, Place, number_of}
 use Rattle.pgn_text.specs.Games.{is_number, is_result_word, is_move_text, Item, MoveText, GlyphNumber, CommentText, VariationOpen, VariationClose, glyphs_of_marks}
 use Rattle.pgn_text.specs.Steps.{State, in_movetext}
@@ -122,9 +122,10 @@ pub data Kept : Type 0 where
 -- what a game keeps of a word
 abbrev pub kept_word : List ℕ → Kept
 kept_word word =
-    if is_move_text word then KeptMove word
+    if begins is_letter word then KeptMove word
     else (if is_number word then KeptNumber
-    else (if is_result_word word then KeptResult else KeptStray))
+    else (if is_move_text word then KeptMove word
+    else (if is_result_word word then KeptResult else KeptStray)))
 
 -- what a game keeps of a part
 abbrev pub kept : Part → Kept

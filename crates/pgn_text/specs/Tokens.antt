@@ -1,5 +1,5 @@
 -- The values of the lexer's types, as the definitions of `Reading` see them.
-use Rattle.std.specs.Prelude.{ℕ, Bool, List, Option}
+use Rattle.std.specs.Prelude.{ℕ, Bool, List}
 use Rattle.std.specs.Borrow.{Bor}
 use Rattle.pgn_text.specs.Bytes.{is_white, is_digit, is_name_byte, is_word_byte, is_mark}
 use Rattle.pgn_text.specs.Parts.{Place as PlaceOf}

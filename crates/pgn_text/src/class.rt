@@ -16,7 +16,7 @@ pub(crate) enum Class {
 }
 
 /// Whether the byte belongs to the class.
-#[inline]
+#[inline(always)]
 pub(crate) fn is_in(class: Class, byte: u8) -> bool
     ensures { result ≡ test_of class byte }
 {
@@ -33,7 +33,7 @@ pub(crate) fn is_in(class: Class, byte: u8) -> bool
 }
 
 /// Whether the byte may stand in a string: a tab, or anything from the space on but the delete byte.
-#[inline]
+#[inline(always)]
 pub(crate) fn is_plain(byte: u8) -> bool
     ensures { result ≡ is_plain_byte byte }
 {
@@ -41,7 +41,7 @@ pub(crate) fn is_plain(byte: u8) -> bool
 }
 
 /// The index of the first byte outside the class, if there is one.
-#[inline]
+#[inline(always)]
 fn first_outside(class: Class, text: &[u8]) -> Option<usize>
     ensures { result ≡ position (λ byte. not (test_of class byte)) text.now }
 {
@@ -49,7 +49,7 @@ fn first_outside(class: Class, text: &[u8]) -> Option<usize>
 }
 
 /// How many bytes the longest front within the class has.
-#[inline]
+#[inline(always)]
 fn run_len(class: Class, text: &[u8]) -> usize
     ensures value { result ≡ length (run_of (test_of class) text.now) }
     ensures within { result ≤ length text.now }
@@ -61,7 +61,7 @@ fn run_len(class: Class, text: &[u8]) -> usize
 }
 
 /// The longest front of the text within the class, and what follows it.
-#[inline]
+#[inline(always)]
 pub(crate) fn run(class: Class, text: &[u8]) -> (&[u8], &[u8])
     ensures front { result.0.now ≡ run_of (test_of class) text.now }
     ensures rest { result.1.now ≡ after_run (test_of class) text.now }

@@ -2,7 +2,7 @@
 
 ghost use Rattle.std.specs.Prelude.{◌≡◌, ◌++◌, ℕ, List, [], None, OnOk, map};
 ghost use Rattle.std.specs.Option.{option_or};
-ghost use Rattle.pgn_text.specs.Elements.{item_of, tag_at};
+ghost use Rattle.pgn_text.specs.Elements.{AreOrdered, item_of, tag_at};
 ghost use Rattle.pgn_text.specs.Games.{single_mark as glyph_of_mark, double_mark as glyph_of_two, glyphs_of_marks};
 ghost use Rattle.pgn_text.specs.Reading.{KeptTag, items_of_kept, named_kept};
 ghost use Rattle.pgn_text.specs.Tokens.{token_of};
@@ -25,7 +25,8 @@ fn keep_first<'a>(
     name: &'a [u8],
     contents: &'a [u8],
 ) -> Result<(), AllocError>
-    ensures { OnOk result ((wanted : List ℕ) → tag_at tags.new wanted ≡ option_or (tag_at tags.old wanted) (named_kept wanted (KeptTag name.now contents.now))) }
+    ensures ordered { OnOk result (AreOrdered tags.old → AreOrdered tags.new) }
+    ensures first { OnOk result ((wanted : List ℕ) → tag_at tags.new wanted ≡ option_or (tag_at tags.old wanted) (named_kept wanted (KeptTag name.now contents.now))) }
 {
     if !tags.contains_key(name) {
         tags.insert(name, contents)?;
@@ -85,7 +86,8 @@ fn push_elements<'a>(elements: &mut Vec<Element<'a>>, token: Token<'a>) -> Resul
 
 /// Keeps a tag, unless there is one of its name.
 fn keep_tag<'a>(tags: &mut BTreeMap<&'a [u8], &'a [u8]>, token: Token<'a>) -> Result<(), AllocError>
-    ensures { OnOk result ((wanted : List ℕ) → tag_at tags.new wanted ≡ option_or (tag_at tags.old wanted) (named_kept wanted (token_of token.entry))) }
+    ensures ordered { OnOk result (AreOrdered tags.old → AreOrdered tags.new) }
+    ensures first { OnOk result ((wanted : List ℕ) → tag_at tags.new wanted ≡ option_or (tag_at tags.old wanted) (named_kept wanted (token_of token.entry))) }
 {
     match token {
         Token::Tag { name, contents } => keep_first(tags, name, contents),
@@ -95,6 +97,7 @@ fn keep_tag<'a>(tags: &mut BTreeMap<&'a [u8], &'a [u8]>, token: Token<'a>) -> Re
 
 impl<'a> Draft<'a> {
     pub(crate) fn new(alloc: Global) -> Self
+        ensures ordered { AreOrdered result.tags }
         ensures tags { (wanted : List ℕ) → tag_at result.tags wanted ≡ None }
         ensures elements { result.elements.items ≡ [] }
     {
@@ -105,8 +108,9 @@ impl<'a> Draft<'a> {
     }
 
     /// Adds what a part gives.
-    #[inline]
+    #[inline(always)]
     pub(crate) fn keep(&mut self, token: Token<'a>) -> Result<(), AllocError>
+        ensures ordered { OnOk result (AreOrdered self.old.tags → AreOrdered self.new.tags) }
         ensures tags { OnOk result ((wanted : List ℕ) → tag_at self.new.tags wanted ≡ option_or (tag_at self.old.tags wanted) (named_kept wanted (token_of token.entry))) }
         ensures elements { OnOk result (map item_of self.new.elements.items ≡ map item_of self.old.elements.items ++ items_of_kept (token_of token.entry)) }
     {

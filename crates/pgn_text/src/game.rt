@@ -1,8 +1,11 @@
 //! A game as it stands in a block.
 
 ghost use Rattle.std.specs.Prelude.{◌≡◌, ◌≤◌, List, length, take, drop, map, IfOk, MatchOption};
+ghost use Rattle.std.specs.Cmp.Lexicographic.{slice_cmp};
+ghost use Rattle.std.specs.List.Sorted.{IsStrictlySortedBy};
+ghost use Rattle.std.specs.Ordering.{nat_cmp};
 ghost use Rattle.pgn_text.specs.Elements.{item_of, tags_of};
-ghost use Rattle.pgn_text.specs.GameTexts.{GameText, ShowsGame};
+ghost use Rattle.pgn_text.specs.GameTexts.{GameText, IsGameText, IsPaired, ShowsGame, tag_names};
 ghost use Rattle.pgn_text.specs.Parts.{Part};
 ghost use Rattle.pgn_text.specs.Pieces.{NoGame};
 ghost use Rattle.pgn_text.specs.Walk.{GameTo, NoGapPartAt};
@@ -42,6 +45,8 @@ impl<'a> Model for RawGame<'a> {
     ghost Value = { GameText };
 
     ghost view = { λ game. record { at = game.at; tags = tags_of game.tags; elements = map item_of game.elements.items; result = game.result.now } };
+
+    ghost invariant = { λ game. IsGameText (record { at = game.at; tags = tags_of game.tags; elements = map item_of game.elements.items; result = game.result.now }) };
 }
 
 impl<'a> RawGame<'a> {
@@ -54,14 +59,16 @@ impl<'a> RawGame<'a> {
 
     /// The contents of the tags' strings as they stand in the block, by the tags' names; of a repeated tag the first.
     pub fn tags(&self) -> &BTreeMap<&'a [u8], &'a [u8]>
-        ensures { tags_of result.now ≡ self.now.tags }
+        ensures tags { tags_of result.now ≡ self.now.tags }
+        ensures ordered { IsStrictlySortedBy (slice_cmp nat_cmp) (tag_names self.now.tags) }
     {
         &self.tags
     }
 
     /// The moves, glyphs, comments and variation ends in their order.
     pub fn elements(&self) -> &[Element<'a>]
-        ensures { map item_of result.now ≡ self.now.elements }
+        ensures elements { map item_of result.now ≡ self.now.elements }
+        ensures paired { IsPaired 0 self.now.elements }
     {
         self.elements.as_slice()
     }

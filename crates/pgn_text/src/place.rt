@@ -11,7 +11,7 @@ use crate::token::Token;
 const BYTE_ORDER_MARK: [u8; 3] = [0xEF, 0xBB, 0xBF];
 
 /// Whether the place behind these bytes of a block is in column one.
-#[inline]
+#[inline(always)]
 fn is_column_one(before: &[u8], file_start: bool) -> bool
     ensures { result ≡ is_in_column_one file_start before.now }
 {
@@ -20,7 +20,7 @@ fn is_column_one(before: &[u8], file_start: bool) -> bool
 }
 
 /// What the place tells a part that stands there.
-#[inline]
+#[inline(always)]
 #[tactic(auto, using(crate::proofs::Runs::is_empty_length))]
 fn place_at(block: &[u8], at: usize, file_start: bool) -> Place
     requires { at ≤ length block.now }
@@ -34,7 +34,7 @@ fn place_at(block: &[u8], at: usize, file_start: bool) -> Place
 }
 
 /// The part at the place of the block, and the place behind it.
-#[inline]
+#[inline(always)]
 pub(crate) fn part_at(block: &[u8], at: usize, file_start: bool) -> Option<(Token<'_>, usize)>
     requires { at ≤ length block.now }
     ensures { MatchOption result (NothingAt file_start block.now at) (λ found. KeptAt file_start block.now at (token_of found.0) found.1) }
@@ -46,7 +46,7 @@ pub(crate) fn part_at(block: &[u8], at: usize, file_start: bool) -> Option<(Toke
 }
 
 /// The place behind the part of a gap at the place of the block.
-#[inline]
+#[inline(always)]
 fn gap_part_at(block: &[u8], at: usize, file_start: bool) -> Option<usize>
     requires { at ≤ length block.now }
     ensures { MatchOption result (NoGapPartAt file_start block.now at) (λ end. GapPartAt file_start block.now at end) }

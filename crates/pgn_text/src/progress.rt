@@ -35,7 +35,7 @@ impl Progress {
     }
 
     /// Whether no variation is open.
-    #[inline]
+    #[inline(always)]
     pub(crate) fn is_closed(self) -> bool
         ensures { IsTrue result ↔ (self.depth ≡ 0) }
     {
@@ -90,7 +90,7 @@ impl Progress {
     }
 
     /// How far the game has been read behind one more part, if that part may stand there. A result is no such part.
-    #[inline]
+    #[inline(always)]
     pub(crate) fn step(self, token: Token<'_>) -> Option<Self>
         ensures { option_map state_of result ≡ step_kept MAX_DEPTH (state_of self) (token_of token.entry) }
     {

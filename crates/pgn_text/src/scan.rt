@@ -24,7 +24,7 @@ pub(crate) struct Place {
 pub(crate) type Found<'a> = (Token<'a>, &'a [u8]);
 
 /// The text behind the byte, if the text begins with it.
-#[inline]
+#[inline(always)]
 pub(crate) fn behind(byte: u8, text: &[u8]) -> Option<&[u8]>
     ensures { option_map now_of result ≡ rest_behind byte text.now }
 {
@@ -35,7 +35,7 @@ pub(crate) fn behind(byte: u8, text: &[u8]) -> Option<&[u8]>
 }
 
 /// The comment whose opening brace stands before the text.
-#[inline]
+#[inline(always)]
 fn brace_comment(text: &[u8]) -> Option<Found<'_>>
     ensures { option_map found_of result ≡ option_map kept_found (brace_front text.now) }
 {
@@ -46,7 +46,7 @@ fn brace_comment(text: &[u8]) -> Option<Found<'_>>
 }
 
 /// How many bytes the text's first line has, without its line feed.
-#[inline]
+#[inline(always)]
 fn line_len(text: &[u8]) -> usize
     ensures value { result ≡ length (run_of is_not_line_feed text.now) }
     ensures within { result ≤ length text.now }
@@ -58,7 +58,7 @@ fn line_len(text: &[u8]) -> usize
 }
 
 /// The text's first line without its line feed, and what follows it.
-#[inline]
+#[inline(always)]
 fn line(text: &[u8]) -> (&[u8], &[u8])
     ensures front { result.0.now ≡ run_of is_not_line_feed text.now }
     ensures rest { result.1.now ≡ after_run is_not_line_feed text.now }
@@ -68,7 +68,7 @@ fn line(text: &[u8]) -> (&[u8], &[u8])
 }
 
 /// The comment whose semicolon stands before the text.
-#[inline]
+#[inline(always)]
 fn line_comment(text: &[u8]) -> Found<'_>
     ensures { found_of result ≡ kept_found (Line (run_of is_not_line_feed text.now), after_run is_not_line_feed text.now) }
 {
@@ -77,7 +77,7 @@ fn line_comment(text: &[u8]) -> Found<'_>
 }
 
 /// The escape line whose percent sign stands before the text.
-#[inline]
+#[inline(always)]
 fn escape_line(text: &[u8], column_one: bool) -> Option<Found<'_>>
     ensures { option_map found_of result ≡ option_map kept_found (if column_one then Some (EscapeLine (run_of is_not_line_feed text.now), after_run is_not_line_feed text.now) else None) }
 {
@@ -89,7 +89,7 @@ fn escape_line(text: &[u8], column_one: bool) -> Option<Found<'_>>
 }
 
 /// The byte order mark whose first byte stands before the text.
-#[inline]
+#[inline(always)]
 fn byte_order_mark(text: &[u8], file_start: bool) -> Option<Found<'_>>
     ensures { option_map found_of result ≡ option_map kept_found (if file_start then mark_front text.now else None) }
 {
@@ -101,7 +101,7 @@ fn byte_order_mark(text: &[u8], file_start: bool) -> Option<Found<'_>>
 }
 
 /// The part of a gap at the front of the text.
-#[inline]
+#[inline(always)]
 pub(crate) fn gap_part(text: &[u8], place: Place) -> Option<Found<'_>>
     ensures { option_map found_of result ≡ option_map kept_found (gap_front (place_view place) text.now) }
 {
@@ -146,7 +146,7 @@ fn tag(text: &[u8]) -> Option<Found<'_>>
 }
 
 /// The number that one to three digits write, if it is at most 255.
-#[inline]
+#[inline(always)]
 fn glyph_number(digits: &[u8]) -> Option<u8>
     ensures { result ≡ (if is_glyph digits.now then Some (number_of digits.now) else None) }
 {
@@ -161,7 +161,7 @@ fn glyph_number(digits: &[u8]) -> Option<u8>
 }
 
 /// The glyph whose dollar sign stands before the text.
-#[inline]
+#[inline(always)]
 fn glyph(text: &[u8]) -> Option<Found<'_>>
     ensures { option_map found_of result ≡ option_map kept_found (glyph_front text.now) }
 {
@@ -173,7 +173,7 @@ fn glyph(text: &[u8]) -> Option<Found<'_>>
 }
 
 /// The part at the front of the text that only a game can have.
-#[inline]
+#[inline(always)]
 pub(crate) fn game_part(text: &[u8]) -> Option<Found<'_>>
     ensures { option_map found_of result ≡ option_map kept_found (game_front text.now) }
 {
@@ -200,7 +200,7 @@ pub(crate) fn game_part(text: &[u8]) -> Option<Found<'_>>
 }
 
 /// The part at the front of the text.
-#[inline]
+#[inline(always)]
 pub(crate) fn part(text: &[u8], place: Place) -> Option<Found<'_>>
     ensures { option_map found_of result ≡ option_map kept_found (part_front (place_view place) text.now) }
 {

@@ -2,7 +2,7 @@
 
 ghost use Rattle.std.specs.Prelude.{◌≡◌};
 ghost use Rattle.std.specs.List.{list_all};
-ghost use Rattle.pgn_text.specs.Bytes.{is_check_mark, is_digit};
+ghost use Rattle.pgn_text.specs.Bytes.{begins, is_check_mark, is_digit, is_letter};
 ghost use Rattle.pgn_text.specs.Games.{is_zero_castling as is_zero_castling_word, is_move_text as is_move_word, is_number as is_number_word, is_result_word as is_result_text};
 ghost use Rattle.pgn_text.specs.Reading.{is_kept_result, kept_word};
 ghost use Rattle.pgn_text.specs.Tokens.{token_of};
@@ -40,7 +40,7 @@ pub(crate) enum Token<'a> {
 
 impl<'a> Token<'a> {
     /// Whether the part is the result that ends a game.
-    #[inline]
+    #[inline(always)]
     pub(crate) fn is_result(self) -> bool
         ensures { result ≡ is_kept_result (token_of self.entry) }
     {
@@ -63,13 +63,19 @@ fn is_zero_castling(word: &[u8]) -> bool
         || (word.starts_with(b"0-0") && are_check_marks(&word[3..]))
 }
 
+/// Whether the word begins with a letter.
+#[inline(always)]
+fn begins_with_letter(word: &[u8]) -> bool
+    ensures { result ≡ begins is_letter word.now }
+{
+    word.first().is_some_and(|byte| byte.is_ascii_alphabetic())
+}
+
 /// Whether the word is read as a move.
 fn is_move_text(word: &[u8]) -> bool
     ensures { result ≡ is_move_word word.now }
 {
-    word.first().is_some_and(|byte| byte.is_ascii_alphabetic())
-        || is_zero_castling(word)
-        || word == b"--".as_slice()
+    begins_with_letter(word) || is_zero_castling(word) || word == b"--".as_slice()
 }
 
 /// Whether all bytes are digits.
@@ -95,14 +101,16 @@ fn is_result_word(word: &[u8]) -> bool
 }
 
 /// The token of a word.
-#[inline]
+#[inline(always)]
 pub(crate) fn word_token(word: &[u8]) -> Token<'_>
     ensures { token_of result ≡ kept_word word.now }
 {
-    if is_move_text(word) {
+    if begins_with_letter(word) {
         Token::Move(word)
     } else if is_number(word) {
         Token::Number
+    } else if is_move_text(word) {
+        Token::Move(word)
     } else if is_result_word(word) {
         Token::Result
     } else {

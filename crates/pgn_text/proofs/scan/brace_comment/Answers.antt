@@ -1,4 +1,4 @@
-use Rattle.std.proofs.Common.{refl, ap, take, drop, ◌+◌, Some}
+use Rattle.std.proofs.Common.{refl, ap, take, ◌+◌, Some}
 use Rattle.std.proofs.lemmas.List.{take_rest}
 use Rattle.pgn_text.specs.Reading.{KeptComment}
 use Rattle.pgn_text.proofs.Braces.{brace_found, brace_none}
