@@ -7,7 +7,7 @@ use Rattle.std.proofs.lemmas.List.{append-nil}
 use Rattle.pgn_text.specs.Blocks.{IsFirstBlock}
 use Rattle.pgn_text.specs.Marks.{MarkedPiece, AreMarkedPieces}
 use Rattle.pgn_text.specs.Tallies.{Reads}
-use Rattle.pgn_text.specs.Windows.{Window, IsCutOff, FailsAfter}
+use Rattle.pgn_text.specs.Windows.{Window, fresh_window, IsCutOff, FailsAfter}
 use Rattle.pgn_text.specs.declared.blocks.ReadError.{ReadError}
 use Rattle.pgn_text.specs.declared.blocks.ReadError.TheVariants as cause
 use Rattle.pgn_text.proofs.Joined.{reads_join, reads_none}
@@ -43,12 +43,8 @@ pub record Progress (limit max_depth number offset : ℕ) (now : Window) (first 
   pub last : now.ended ≡ true → (now.ahead ≡ []) × IfSome first (λ whole. whole ≡ bytes)
   pub sound : (now.failed ≡ false) × (now.over ≡ false)
 
--- the window of a reader that has read nothing
-abbrev pub fresh : ℕ → Window
-fresh offset = record { done = []; ahead = []; place = offset; failed = false; ended = false; over = false }
-
 -- at the start nothing is read and nothing told
-pub progress_start : {limit max_depth number offset : ℕ} {now : Window} (left : Option (List ℕ)) (moved : ℕ) (out err : Option (List ℕ)) → now ≡ fresh offset → offset ≤ 2 ^ 62
+pub progress_start : {limit max_depth number offset : ℕ} {now : Window} (left : Option (List ℕ)) (moved : ℕ) (out err : Option (List ℕ)) → now ≡ fresh_window offset → offset ≤ 2 ^ 62
     → Progress limit max_depth number offset now left left moved moved out out err err 0 0
 progress_start {limit} {max_depth} {number} {offset} {now} left moved out err is small =
     subst (λ (w : Window). Progress limit max_depth number offset w left left moved moved out out err err 0 0) (sym is) record {

@@ -27,7 +27,8 @@ fn put_lines<O: Write, E: Write>(
     ensures err { OnErr result (AppendsFront (O.contents out.old.inner) (O.contents out.new.inner) lines.now.index.items
         × AppendsFront (E.contents err.old.inner) (E.contents err.new.inner) lines.now.faults.items) }
     ensures only { IfErr result (λ error. error ≡ RunError.Write) }
-    ensures fault { IsErrOf result RunError.Write ↔ ((out.new.faulted ≡ true) ⊎ (err.new.faulted ≡ true)) }
+    ensures fault { IsErrOf result RunError.Write
+        ↔ ((out.new.faulted ≡ true) ⊎ (err.new.faulted ≡ true)) }
     ensures alone { (out.new.faulted ≡ true) × (err.new.faulted ≡ true) → ⊥ }
 {
     match put(out, &lines.index) {
@@ -49,11 +50,16 @@ fn put_block<O: Write, E: Write>(
     requires offset { block.offset ≤ 2 ^ 62 }
     requires size { IsShown 1048576 block.body }
     ensures ok { IfOk result (λ summary. (bytes : List ℕ) → Shows 1048576 block.entry.body bytes
-        → TellsBlock 1048576 64 number block.entry.offset bytes (O.contents out.old.inner) (O.contents out.new.inner) (E.contents err.old.inner) (E.contents err.new.inner) summary) }
+        → TellsBlock 1048576 64 number block.entry.offset bytes
+        (O.contents out.old.inner) (O.contents out.new.inner)
+        (E.contents err.old.inner) (E.contents err.new.inner) summary) }
     ensures err { OnErr result ((bytes : List ℕ) → Shows 1048576 block.entry.body bytes
-        → BeginsBlock 1048576 64 number block.entry.offset bytes (O.contents out.old.inner) (O.contents out.new.inner) (E.contents err.old.inner) (E.contents err.new.inner)) }
+        → BeginsBlock 1048576 64 number block.entry.offset bytes
+        (O.contents out.old.inner) (O.contents out.new.inner)
+        (E.contents err.old.inner) (E.contents err.new.inner)) }
     ensures only { IfErr result (λ error. (error ≡ RunError.Write) ⊎ (error ≡ RunError.OutOfMemory)) }
-    ensures fault { IsErrOf result RunError.Write ↔ ((out.new.faulted ≡ true) ⊎ (err.new.faulted ≡ true)) }
+    ensures fault { IsErrOf result RunError.Write
+        ↔ ((out.new.faulted ≡ true) ⊎ (err.new.faulted ≡ true)) }
     ensures alone { (out.new.faulted ≡ true) × (err.new.faulted ≡ true) → ⊥ }
 {
     let lines = match lines_of(alloc, number, block) {
@@ -72,10 +78,12 @@ fn put_block<O: Write, E: Write>(
 /// Flushes both writers.
 fn finish_both<O: Write, E: Write>(out: &mut Tally<O>, err: &mut Tally<E>) -> Result<(), RunError>
     requires sound { (out.old.faulted ≡ false) × (err.old.faulted ≡ false) }
-    ensures kept { Keeps (O.contents out.old.inner) (O.contents out.new.inner) × Keeps (E.contents err.old.inner) (E.contents err.new.inner) }
+    ensures kept { Keeps (O.contents out.old.inner) (O.contents out.new.inner)
+        × Keeps (E.contents err.old.inner) (E.contents err.new.inner) }
     ensures ok { OnOk result ((out.new.flushed ≡ true) × (err.new.flushed ≡ true)) }
     ensures only { IfErr result (λ error. error ≡ RunError.Write) }
-    ensures fault { IsErrOf result RunError.Write ↔ ((out.new.faulted ≡ true) ⊎ (err.new.faulted ≡ true)) }
+    ensures fault { IsErrOf result RunError.Write
+        ↔ ((out.new.faulted ≡ true) ⊎ (err.new.faulted ≡ true)) }
     ensures alone { (out.new.faulted ≡ true) × (err.new.faulted ≡ true) → ⊥ }
 {
     match finish(out) {
@@ -93,16 +101,22 @@ fn run_blocks<R: Read, O: Write, E: Write>(
     err: &mut Tally<E>,
     number: u64,
 ) -> Result<Summary, RunError>
-    requires sound { (input.old.faulted ≡ false) × (out.old.faulted ≡ false) × (err.old.faulted ≡ false) }
+    requires sound { (input.old.faulted ≡ false) × (out.old.faulted ≡ false)
+        × (err.old.faulted ≡ false) }
     requires number { number ≤ 2 ^ 62 }
     requires offset { offset ≤ 2 ^ 62 }
-    ensures ok { IfOk result (EndsBlocks 1048576 64 number offset (R.remaining input.old.inner) (R.remaining input.new.inner) input.old.moved input.new.moved
-        (O.contents out.old.inner) (O.contents out.new.inner) (E.contents err.old.inner) (E.contents err.new.inner)) }
+    ensures ok { IfOk result (EndsBlocks 1048576 64 number offset
+        (R.remaining input.old.inner) (R.remaining input.new.inner) input.old.moved input.new.moved
+        (O.contents out.old.inner) (O.contents out.new.inner)
+        (E.contents err.old.inner) (E.contents err.new.inner)) }
     ensures flushed { OnOk result ((out.new.flushed ≡ true) × (err.new.flushed ≡ true)) }
-    ensures err { IfErr result (BreaksOff 1048576 64 number offset (R.remaining input.old.inner) (R.remaining input.new.inner) input.old.moved input.new.moved
-        (O.contents out.old.inner) (O.contents out.new.inner) (E.contents err.old.inner) (E.contents err.new.inner)) }
+    ensures err { IfErr result (BreaksOff 1048576 64 number offset
+        (R.remaining input.old.inner) (R.remaining input.new.inner) input.old.moved input.new.moved
+        (O.contents out.old.inner) (O.contents out.new.inner)
+        (E.contents err.old.inner) (E.contents err.new.inner)) }
     ensures read_fault { IsErrOf result RunError.Read ↔ (input.new.faulted ≡ true) }
-    ensures write_fault { IsErrOf result RunError.Write ↔ ((out.new.faulted ≡ true) ⊎ (err.new.faulted ≡ true)) }
+    ensures write_fault { IsErrOf result RunError.Write
+        ↔ ((out.new.faulted ≡ true) ⊎ (err.new.faulted ≡ true)) }
     ensures alone { (out.new.faulted ≡ true) × (err.new.faulted ≡ true) → ⊥ }
 {
     let mut blocks = Blocks::new(alloc, offset);
@@ -135,7 +149,8 @@ pub fn run<R: Read, O: Write, E: Write>(
     err: &mut Tally<E>,
     settings: &Settings,
 ) -> Result<Summary, RunError>
-    requires sound { (input.old.faulted ≡ false) × (out.old.faulted ≡ false) × (err.old.faulted ≡ false) }
+    requires sound { (input.old.faulted ≡ false) × (out.old.faulted ≡ false)
+        × (err.old.faulted ≡ false) }
     requires fresh { input.old.moved ≡ 0 }
     requires number { (1 ≤ settings.now.number) × (settings.now.number ≤ 2 ^ 62) }
     requires offset { settings.now.offset ≤ 2 ^ 62 }
@@ -143,20 +158,24 @@ pub fn run<R: Read, O: Write, E: Write>(
     // At `Ok` the whole input is told, and both writers are flushed.
     ensures ok { IfOk result (λ summary. IfSome (R.remaining input.old.inner) (λ whole.
         Ends 1048576 64 settings.now.number settings.now.offset whole
-        (O.contents out.old.inner) (O.contents out.new.inner) (E.contents err.old.inner) (E.contents err.new.inner) summary)) }
+        (O.contents out.old.inner) (O.contents out.new.inner)
+        (E.contents err.old.inner) (E.contents err.new.inner) summary)) }
     ensures flushed { OnOk result ((out.new.flushed ≡ true) × (err.new.flushed ≡ true)) }
 
     // Begun at a mark of the whole input, the run tells exactly the rest of what a run over the whole tells.
     ensures resumes { OnOk result (IfSome (R.remaining input.old.inner) (λ whole.
         Resumes 1048576 64 settings.now.number settings.now.offset whole
-        (O.contents out.old.inner) (O.contents out.new.inner) (E.contents err.old.inner) (E.contents err.new.inner))) }
+        (O.contents out.old.inner) (O.contents out.new.inner)
+        (E.contents err.old.inner) (E.contents err.new.inner))) }
 
-    // What stands after an error, and when each comes.
+    // What stands after an error, and when each comes: at most one of the three has failed then.
     ensures err { IfErr result (λ error. IfSome (R.remaining input.old.inner) (λ whole.
         Stands 1048576 64 settings.now.number settings.now.offset whole input.new.moved
-        (O.contents out.old.inner) (O.contents out.new.inner) (E.contents err.old.inner) (E.contents err.new.inner) error)) }
+        (O.contents out.old.inner) (O.contents out.new.inner)
+        (E.contents err.old.inner) (E.contents err.new.inner) error)) }
     ensures read_fault { IsErrOf result RunError.Read ↔ (input.new.faulted ≡ true) }
-    ensures write_fault { IsErrOf result RunError.Write ↔ ((out.new.faulted ≡ true) ⊎ (err.new.faulted ≡ true)) }
+    ensures write_fault { IsErrOf result RunError.Write
+        ↔ ((out.new.faulted ≡ true) ⊎ (err.new.faulted ≡ true)) }
     ensures alone { (out.new.faulted ≡ true) × (err.new.faulted ≡ true) → ⊥ }
 {
     match skip(input, settings.offset) {

@@ -12,9 +12,11 @@ const CHUNK: usize = 8192;
 /// Drops the first `count` bytes of the input, or all where there are fewer.
 pub fn skip<R: Read>(input: &mut Tally<R>, count: u64) -> Result<(), RunError>
     requires { input.old.faulted ≡ false }
-    ensures ok { IfOk result (λ _. Drops (R.remaining input.old.inner) (R.remaining input.new.inner) input.old.moved input.new.moved count) }
+    ensures ok { IfOk result (λ _. Drops (R.remaining input.old.inner) (R.remaining input.new.inner)
+        input.old.moved input.new.moved count) }
     ensures err { IfErr result (λ error. (error ≡ RunError.Read)
-        × DropsSome (R.remaining input.old.inner) (R.remaining input.new.inner) input.old.moved input.new.moved count) }
+        × DropsSome (R.remaining input.old.inner) (R.remaining input.new.inner)
+        input.old.moved input.new.moved count) }
     ensures fault { IsErrOf result RunError.Read ↔ (input.new.faulted ≡ true) }
 {
     let mut buf = [0u8; CHUNK];

@@ -18,6 +18,10 @@ pub record Window : Type 0 where
   pub ended : Bool
   pub over : Bool
 
+-- the window before the first byte of a text that begins at an offset
+abbrev pub fresh_window : ℕ → Window
+fresh_window offset = record { done = []; ahead = []; place = offset; failed = false; ended = false; over = false }
+
 -- the bytes of the next block, cut off from those held ahead and those read in the call: they are its first block
 -- whatever follows, and the last one where the reader is at its end
 pub record IsCutOff (old new : Window) (left' : Option (List ℕ)) (read bytes : List ℕ) : Type 0 where

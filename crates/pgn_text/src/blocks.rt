@@ -7,7 +7,7 @@ ghost use Rattle.pgn_text.specs.Cuts.{is_cut};
 ghost use Rattle.pgn_text.specs.Held.{IsHeld};
 ghost use Rattle.pgn_text.specs.Searches.{FindsCut, FindsMore, AppendsRead, FindsEnd, FailsFrom, StepGives};
 ghost use Rattle.pgn_text.specs.Tallies.{Reads};
-ghost use Rattle.pgn_text.specs.Windows.{Window, IsBlock, Gives};
+ghost use Rattle.pgn_text.specs.Windows.{IsBlock, Gives, fresh_window};
 ghost use Rattle.pgn_text.specs.contracts.blocks.Blocks.{the_row};
 
 use crate::tally::Tally;
@@ -77,17 +77,20 @@ pub enum Phase {
     Failed,
 }
 
-/// The blocks of the text that a reader gives.
+/// The blocks of the text that a reader gives, in order. The bytes read are kept.
 #[derive(Drop)]
 pub struct Blocks {
+    /// The bytes read so far.
     buf: Vec<u8>,
+    /// Where in them the next block begins.
     at: usize,
+    /// The offset of the next block.
     place: u64,
     phase: Phase,
 }
 
 impl Model for Blocks {
-    ghost use Rattle.std.specs.Prelude.{◌≡◌, ℕ, ◌+◌, ◌-◌, ◌^◌, ◌≤◌, take, drop, vec_len};
+    ghost use Rattle.std.specs.Prelude.{take, drop};
     ghost use Rattle.pgn_text.specs.Phases.{is_failed, is_ended, is_over};
     ghost use Rattle.pgn_text.specs.Held.{IsHeld};
     ghost use Rattle.pgn_text.specs.Windows.{Window};
@@ -110,7 +113,7 @@ impl Blocks {
     /// The blocks of a text whose first byte has this offset.
     pub fn new(alloc: Global, offset: u64) -> Self
         requires { offset ≤ 2 ^ 62 }
-        ensures { result ≡ record { done = []; ahead = []; place = offset; failed = false; ended = false; over = false } }
+        ensures { result ≡ fresh_window offset }
     {
         Blocks {
             buf: Vec::new(alloc),
@@ -127,12 +130,20 @@ impl Blocks {
         self.buf.len()
     }
 
-    /// The next block of the text, or `None` at its end.
+    /// The next block of the text, or `None` at its end, which stays.
+    ///
+    /// More is read only where no event line is held behind the block's first byte, and each growth
+    /// is made before the read that needs it. After an error no block follows.
     pub fn next<R: Read>(&mut self, input: &mut Tally<R>) -> Result<Option<Block<'_>>, ReadError>
-        ensures failed { IsErrOf result ReadError.Failed ↔ ((self.old.failed ≡ true) ⊎ ((self.old.over ≡ false) × (input.old.faulted ≡ true))) }
-        ensures fault { IsErrOf result ReadError.Read ↔ ((input.old.faulted ≡ false) × (input.new.faulted ≡ true)) }
+        ensures failed { IsErrOf result ReadError.Failed
+            ↔ ((self.old.failed ≡ true) ⊎ ((self.old.over ≡ false) × (input.old.faulted ≡ true))) }
+        ensures fault { IsErrOf result ReadError.Read
+            ↔ ((input.old.faulted ≡ false) × (input.new.faulted ≡ true)) }
+
+        // What was read, and what the call gives of it and of the bytes held.
         ensures* after_borrow { sem 𝓛 (Rests the_row self.entry (λ new. (read : List ℕ)
-            × Reads (R.remaining input.old.inner) (R.remaining input.new.inner) input.old.moved input.new.moved read
+            × Reads (R.remaining input.old.inner) (R.remaining input.new.inner)
+            input.old.moved input.new.moved read
             × Gives 1048576 self.old new (R.remaining input.new.inner) read result)) }
     {
         match self.phase {
@@ -154,10 +165,12 @@ impl Blocks {
 
     /// Goes on to the end of the next block, and says where in the buffer it begins.
     fn step<R: Read>(&mut self, input: &mut Tally<R>) -> Result<usize, ReadError>
-        requires going { (self.old.failed ≡ false) × (self.old.ended ≡ false) × (self.old.over ≡ false) }
+        requires going { (self.old.failed ≡ false) × (self.old.ended ≡ false)
+            × (self.old.over ≡ false) }
         requires sound { input.old.faulted ≡ false }
         ensures gives { (read : List ℕ)
-            × Reads (R.remaining input.old.inner) (R.remaining input.new.inner) input.old.moved input.new.moved read
+            × Reads (R.remaining input.old.inner) (R.remaining input.new.inner)
+            input.old.moved input.new.moved read
             × StepGives self.old self.new (R.remaining input.new.inner) read result }
         ensures fault { IsErrOf result ReadError.Read ↔ (input.new.faulted ≡ true) }
     {
@@ -237,9 +250,12 @@ fn read_more<R: Read>(
 ) -> Result<usize, ReadError>
     requires some { (0 < room) × (vec_len buf.old + room < 2 ^ 64) }
     requires sound { input.old.faulted ≡ false }
-    ensures ok { IfOk result (AppendsRead buf.old.items buf.new.items (R.remaining input.old.inner) (R.remaining input.new.inner) input.old.moved input.new.moved room) }
+    ensures ok { IfOk result (AppendsRead buf.old.items buf.new.items
+        (R.remaining input.old.inner) (R.remaining input.new.inner)
+        input.old.moved input.new.moved room) }
     ensures err { IfErr result (λ error. (error ≢ ReadError.Failed) × (error ≢ ReadError.InputTooLong)
-        × Reads (R.remaining input.old.inner) (R.remaining input.new.inner) input.old.moved input.new.moved []) }
+        × Reads (R.remaining input.old.inner) (R.remaining input.new.inner)
+        input.old.moved input.new.moved []) }
     ensures fault { IsErrOf result ReadError.Read ↔ (input.new.faulted ≡ true) }
 {
     let held = buf.len();
@@ -261,9 +277,11 @@ fn read_more<R: Read>(
 /// Whether one more byte can be read.
 fn is_more<R: Read>(input: &mut Tally<R>) -> Result<bool, ReadError>
     requires sound { input.old.faulted ≡ false }
-    ensures ok { IfOk result (FindsMore (R.remaining input.old.inner) (R.remaining input.new.inner) input.old.moved input.new.moved) }
+    ensures ok { IfOk result (FindsMore (R.remaining input.old.inner) (R.remaining input.new.inner)
+        input.old.moved input.new.moved) }
     ensures err { IfErr result (λ error. (error ≡ ReadError.Read)
-        × Reads (R.remaining input.old.inner) (R.remaining input.new.inner) input.old.moved input.new.moved []) }
+        × Reads (R.remaining input.old.inner) (R.remaining input.new.inner)
+        input.old.moved input.new.moved []) }
     ensures fault { IsErrOf result ReadError.Read ↔ (input.new.faulted ≡ true) }
 {
     let mut byte = [0u8; 1];
@@ -283,8 +301,12 @@ fn find_end<R: Read>(
 ) -> Result<Option<usize>, ReadError>
     requires held { IsHeld buf.old.items at place }
     requires sound { input.old.faulted ≡ false }
-    ensures ok { IfOk result (FindsEnd buf.old.items buf.new.items at place (R.remaining input.old.inner) (R.remaining input.new.inner) input.old.moved input.new.moved) }
-    ensures err { IfErr result (FailsFrom place (drop at buf.old.items) (R.remaining input.old.inner) (R.remaining input.new.inner) input.old.moved input.new.moved) }
+    ensures ok { IfOk result (FindsEnd buf.old.items buf.new.items at place
+        (R.remaining input.old.inner) (R.remaining input.new.inner)
+        input.old.moved input.new.moved) }
+    ensures err { IfErr result (FailsFrom place (drop at buf.old.items)
+        (R.remaining input.old.inner) (R.remaining input.new.inner)
+        input.old.moved input.new.moved) }
     ensures fault { IsErrOf result ReadError.Read ↔ (input.new.faulted ≡ true) }
 {
     let mut from = at + 1;

@@ -2,7 +2,7 @@
 //! tags, elements and a result. Nothing of a game is copied: tags, words, comments and results are slices of the block.
 #![tactic(auto)]
 
-pub mod blocks;
+mod blocks;
 mod class;
 mod cut;
 mod draft;
@@ -13,7 +13,7 @@ mod progress;
 mod quoted;
 mod reader;
 mod scan;
-pub mod tally;
+mod tally;
 mod token;
 mod unquoted;
 

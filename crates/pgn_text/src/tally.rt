@@ -21,7 +21,12 @@ pub struct Tally<T> {
 impl<T> Model for Tally<T> {
     ghost Value = { Told T };
 
-    ghost view = { λ t. record { inner = t.inner; faulted = t.faulted; moved = t.moved; flushed = t.flushed } };
+    ghost view = { λ t. record {
+      inner = t.inner;
+      faulted = t.faulted;
+      moved = t.moved;
+      flushed = t.flushed;
+    } };
 }
 
 impl<T> Tally<T> {
@@ -77,7 +82,8 @@ impl<R: Read> Tally<R> {
     /// One read of the reader, with its answer.
     pub fn read(&mut self, buf: &mut [u8]) -> io::Result<usize>
         ensures bound { ReadsAtMost result buf.new }
-        ensures bytes { ReadConsumes (R.remaining self.old.inner) (R.remaining self.new.inner) result buf.new }
+        ensures bytes { ReadConsumes (R.remaining self.old.inner) (R.remaining self.new.inner)
+            result buf.new }
         ensures faulted { self.new.faulted ≡ (self.old.faulted || is_err result) }
         ensures moved { self.new.moved ≡ moved_by self.old.moved result }
         ensures flushed { self.new.flushed ≡ false }
@@ -100,8 +106,10 @@ impl<W: Write> Tally<W> {
     /// One write of the writer, with its answer.
     pub fn write(&mut self, buf: &[u8]) -> io::Result<usize>
         ensures bound { WritesAtMost result buf.now }
-        ensures bytes { WriteAppends (W.contents self.old.inner) (W.contents self.new.inner) result buf.now }
-        ensures faulted { self.new.faulted ≡ (self.old.faulted || (is_err result || takes_nothing result buf.now)) }
+        ensures bytes { WriteAppends (W.contents self.old.inner) (W.contents self.new.inner)
+            result buf.now }
+        ensures faulted { self.new.faulted
+            ≡ (self.old.faulted || (is_err result || takes_nothing result buf.now)) }
         ensures moved { self.new.moved ≡ moved_by self.old.moved result }
         ensures flushed { self.new.flushed ≡ false }
     {

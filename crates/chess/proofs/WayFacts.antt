@@ -1,0 +1,67 @@
+-- Where legal moves begin, and where pawns go.
+use Rattle.std.proofs.Common.{◌≡◌, ◌↔◌, ◌≤◌, ◌+◌, ◌⊎◌, ℕ, inl, inr, ap, refl, sym, subst, ◌∙◌, arith, Option, Some, None}
+use Rattle.chess.specs.Squares.{Place, IsOnBoard}
+use Rattle.chess.specs.Placements.{Placement, man_at}
+use Rattle.chess.specs.Attacks.{Reaches, IsInReach, IsForward}
+use Rattle.chess.specs.Positions.{State}
+use Rattle.chess.specs.Moves.{Goes, IsKingMove, IsPseudoLegal, IsLegal, CanGo, HasMove}
+use Rattle.chess.specs.MoveWords.{IsMover, CanGoPlainly, CanPromote, CanCastle, CanLeave, CanMove, IsPawnGoal, IsCastlingGoal, IsSquareAhead}
+use Rattle.chess.specs.declared.man.Man.{Man}
+use Rattle.chess.specs.declared.man.Side.{Side}
+use Rattle.chess.specs.declared.man.Side.TheVariants.{White, Black}
+use Rattle.chess.specs.declared.man.Kind.{Kind}
+use Rattle.chess.specs.declared.man.Kind.TheVariants.{King, Queen, Rook, Bishop, Knight, Pawn}
+use Rattle.chess.specs.declared.man.Wing.{Wing}
+use Rattle.chess.specs.declared.moves.Move.{Move}
+use Rattle.chess.proofs.PlaceFacts.{man_of}
+use Rattle.chess.proofs.GoesFacts.{goes_castle, goes_promote}
+
+-- a man of the side to move stands where a legal move begins
+pub mover : (P : State) (s t : Place) (h : CanGo P s t) → IsMover P h.2.pseudo_legal.man.kind s
+mover P s t h =
+    let rules = h.2.pseudo_legal in
+    rules.here ∙ ap Some (man_of rules.man (record { side = P.turn; kind = rules.man.kind }) rules.own refl)
+
+-- some man of the side to move has a legal move
+pub moving : (P : State) (h : HasMove P) → (other : Kind) × CanMove P other
+moving P h =
+    let go = h.4 in
+    (go.2.pseudo_legal.man.kind, (h.0, h.2, mover P h.0 h.1 go, (h.1, h.3, go)))
+
+pub no_move : (P : State) → (CanMove P Pawn → ⊥) → (CanMove P Knight → ⊥) → (CanMove P Bishop → ⊥) → (CanMove P Rook → ⊥) → (CanMove P Queen → ⊥)
+    → (CanMove P King → ⊥) → HasMove P → ⊥
+no_move P pawn knight bishop rook queen king h =
+    let some = moving P h in
+    elim some.0 as (λ other. CanMove P other → ⊥) [
+      | King ↦ king
+      | Queen ↦ queen
+      | Rook ↦ rook
+      | Bishop ↦ bishop
+      | Knight ↦ knight
+      | Pawn ↦ pawn
+    ] some.1
+
+between_low : (side : Side) (a n b : ℕ) → IsForward side a n → IsForward side n b → 1 ≤ b → 1 ≤ n
+between_low White a n b first second low = omega arith
+between_low Black a n b first second low = omega arith
+
+between_high : (side : Side) (a n b : ℕ) → IsForward side a n → IsForward side n b → a ≤ 8 → b ≤ 8 → n ≤ 8
+between_high White a n b first second high top = omega arith
+between_high Black a n b first second high top = omega arith
+
+-- where no square is straight ahead a pawn goes nowhere
+pub no_goal : (P : State) (s : Place) (side : Side) → IsOnBoard s → side ≡ P.turn → IsSquareAhead side s None → (t : Place) → IsOnBoard t → IsPawnGoal P s t → ⊥
+no_goal P s side on turn none t there goal =
+    let next = subst (λ (a : Side). IsSquareAhead a s None) turn none in
+    elim goal.1 [
+      | inl one ↦ next t there goal.0 one
+      | inr two ↦
+          next (record { file = s.file; rank = two.0 })
+          (record {
+            file_low = on.file_low;
+            file_high = on.file_high;
+            rank_low = between_low P.turn s.rank two.0 t.rank two.1 two.2 there.rank_low;
+            rank_high = between_high P.turn s.rank two.0 t.rank two.1 two.2 on.rank_high there.rank_high;
+          })
+          refl two.1
+    ]

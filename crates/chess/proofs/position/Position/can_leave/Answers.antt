@@ -1,0 +1,21 @@
+use Rattle.std.proofs.Common.{◌≡◌, subst, Bool, true, false, Option}
+use Rattle.chess.specs.Squares.{Place}
+use Rattle.chess.specs.Sets.{IsTakenFirst}
+use Rattle.chess.specs.Moves.{CanGo}
+use Rattle.chess.proofs.PlaceFacts.{true_not_false}
+use Rattle.chess.proofs.LoopFacts.{left_more, left_end}
+use Rattle.chess.proofs.position.Position.can_leave.Goals as goal
+
+pub loop-step-preserved : goal.loop-step-preserved
+loop-step-preserved g c =
+    left_more (λ t. Unit {0}) (λ t. CanGo c.args.self.now c.args.from t) c.loop-step.step c.loop-step.left c.take_first.new.self c.in-Some.to
+    c.loop-step.invariant
+    (subst (λ (o : Option Place). IsTakenFirst c.loop-step.left c.take_first.new.self o) c.in-Some.is c.take_first.ensures)
+    (λ goes. true_not_false c.can_go.result (c.can_go.ensures.1 goes) c.if-can_go.false)
+
+pub returns : goal.returns
+returns g c = (
+  (λ e. let f : false ≡ true = e in absurd (cc)),
+  (λ h. absurd (left_end (λ t. Unit {0}) (λ t. CanGo c.args.self.now c.args.from t) c.loop-step.step c.loop-step.left c.loop-step.invariant
+      c.loop-step-test.false h.0 h.1 h.2)),
+)

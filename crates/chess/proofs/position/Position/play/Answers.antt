@@ -1,0 +1,35 @@
+use Rattle.std.proofs.Common.{◌≡◌, sym, ap, subst, ◌∙◌}
+use Rattle.chess.specs.Placements.{opposite}
+use Rattle.chess.specs.Positions.{State, IsKept}
+use Rattle.chess.specs.Moves.{after}
+use Rattle.chess.proofs.GoesFacts.{IsTried}
+use Rattle.chess.proofs.SoundFacts.{after_sound}
+use Rattle.chess.proofs.position.Position.play.Goals as goal
+
+pub invariant_of-result : goal.invariant_of-result
+invariant_of-result g c =
+    let P = c.args.self.now in
+    let m = c.args.m in
+    let shown : record {
+      men = g.B.Board.men c.board_after.result;
+      turn = c.opposite.result;
+      rights = c.rights_after.result;
+      en_passant = c.en_passant_after.result;
+      halfmove_clock = c.halfmove_clock_after.result;
+      fullmove_number = c.fullmove_number_after.result;
+    }
+    ≡ after P m =
+    λ i. record {
+      men = c.board_after.ensures i;
+      turn = (c.opposite.ensures ∙ ap opposite c.side.ensures) i;
+      rights = c.rights_after.ensures i;
+      en_passant = c.en_passant_after.ensures i;
+      halfmove_clock = c.halfmove_clock_after.ensures i;
+      fullmove_number = c.fullmove_number_after.ensures i;
+    } in
+    subst (λ (Q : State). IsKept Q c.king_after.result c.king_after-2.result) (sym shown)
+    (record {
+      sound = after_sound P m (record { sound = c.known.ensures; from = c.file.ensures.on_board; rules = c.requires.pseudo_legal }) c.requires.safe;
+      white = c.king_after.ensures;
+      black = c.king_after-2.ensures;
+    })

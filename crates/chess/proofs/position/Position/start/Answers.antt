@@ -1,0 +1,19 @@
+use Rattle.std.proofs.Common.{◌≡◌, sym, subst, true, None}
+use Rattle.chess.specs.Squares.{Place}
+use Rattle.chess.specs.Placements.{Placement}
+use Rattle.chess.specs.Positions.{State, IsKept, king_from}
+use Rattle.chess.specs.Start.{usual}
+use Rattle.chess.specs.declared.man.Side.TheVariants.{White, Black}
+use Rattle.chess.proofs.StartFacts.{usual_kept}
+use Rattle.chess.proofs.position.Position.start.Goals as goal
+
+-- the usual position with that placement
+with_men : Placement → State
+with_men men = record usual { men = men }
+
+pub invariant_of-result : goal.invariant_of-result
+unfolding with_men
+invariant_of-result g c =
+    subst (λ (men : Placement). IsKept (with_men men) c.at.result c.at-2.result) (sym c.usual_board.ensures)
+    (subst (λ (k : Place). IsKept usual k c.at-2.result) (sym c.at.ensures.square)
+    (subst (λ (k : Place). IsKept usual (king_from White) k) (sym c.at-2.ensures.square) usual_kept))

@@ -1,0 +1,26 @@
+use Rattle.std.proofs.Common.{◌≡◌, ◌∙◌, ap, sym, arith}
+use Rattle.chess.specs.Squares.{Place, square_at}
+use Rattle.chess.specs.Placements.{with_man}
+use Rattle.chess.specs.Cells.{first_men}
+use Rattle.chess.specs.Start.{usual_man}
+use Rattle.chess.proofs.StartFacts.{usual_none, usual_next}
+use Rattle.chess.proofs.start.usual_board.Goals as goal
+
+pub loop-index-init : goal.loop-index-init
+loop-index-init g c = c.empty-board.ensures ∙ sym usual_none
+
+pub loop-index-preserved : goal.loop-index-preserved
+loop-index-preserved g c =
+    let n = c.loop-index.index in
+    let men = first_men (λ n. usual_man (square_at n)) n in
+    let square = c.of_index-square.ensures.square in
+    c.put.ensures
+    ∙ ap (λ p. with_man p c.of_index-square.result c.usual_man.result) c.loop-index.invariant
+    ∙ ap (λ (s : Place). with_man men s c.usual_man.result) square
+    ∙ ap (with_man men (square_at n)) (c.usual_man.ensures ∙ ap usual_man square)
+    ∙ sym (usual_next n)
+
+pub returns : goal.returns
+returns g c =
+    let all : c.loop-index.index ≡ 64 = omega arith in
+    c.loop-index.invariant ∙ ap (first_men (λ n. usual_man (square_at n))) all

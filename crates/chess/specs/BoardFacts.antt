@@ -1,0 +1,139 @@
+-- Facts that the plain board rests on.
+use Rattle.std.proofs.Common.{◌≡◌, ◌↔◌, ◌<◌, ◌≤◌, ◌+◌, ◌⊎◌, ◌&&◌, ◌||◌, ℕ, zero, suc, Bool, true, false, inl, inr, ap, refl, sym, subst, ◌∙◌, arith, rules, Option, Some, None, IsTrue}
+use Rattle.std.proofs.lemmas.Bool.{cases_eq, cases_lt}
+use Rattle.chess.specs.Squares.{Place, IsOnBoard, square_at, index_of, IsAhead, IsStraight, same_square}
+use Rattle.chess.specs.SquareFacts.{index_of-square_at}
+use Rattle.chess.specs.SetFacts.{square_at-index_of, index_of-below, on_board-square_at, same_squares, other_squares, is_in-empty}
+use Rattle.chess.specs.Sets.{Places, is_in, HoldsExactly, no_places}
+use Rattle.chess.specs.Placements.{Placement, man_at, IsEmpty}
+use Rattle.chess.specs.Attacks.{IsOnRay, IsClearFor}
+use Rattle.chess.specs.declared.direction.Direction.{Direction}
+use Rattle.chess.specs.declared.direction.Direction.TheVariants.{North, South, East, West, NorthEast, NorthWest, SouthEast, SouthWest}
+
+-- one square is so many steps ahead
+one_place : (s t : Place) → s.file ≡ t.file → s.rank ≡ t.rank → s ≡ t
+one_place s t e f = λ i. record { file = e i; rank = f i }
+
+pub one_ahead : (way : Direction) (k : ℕ) (s t u : Place) → IsAhead way k s t → IsAhead way k s u → t ≡ u
+one_ahead North k s t u a b = let a0 = a.0 in let a1 = a.1 in let b0 = b.0 in let b1 = b.1 in one_place t u (omega arith) (omega arith)
+one_ahead South k s t u a b = let a0 = a.0 in let a1 = a.1 in let b0 = b.0 in let b1 = b.1 in one_place t u (omega arith) (omega arith)
+one_ahead East k s t u a b = let a0 = a.0 in let a1 = a.1 in let b0 = b.0 in let b1 = b.1 in one_place t u (omega arith) (omega arith)
+one_ahead West k s t u a b = let a0 = a.0 in let a1 = a.1 in let b0 = b.0 in let b1 = b.1 in one_place t u (omega arith) (omega arith)
+one_ahead NorthEast k s t u a b = let a0 = a.0 in let a1 = a.1 in let b0 = b.0 in let b1 = b.1 in one_place t u (omega arith) (omega arith)
+one_ahead NorthWest k s t u a b = let a0 = a.0 in let a1 = a.1 in let b0 = b.0 in let b1 = b.1 in one_place t u (omega arith) (omega arith)
+one_ahead SouthEast k s t u a b = let a0 = a.0 in let a1 = a.1 in let b0 = b.0 in let b1 = b.1 in one_place t u (omega arith) (omega arith)
+one_ahead SouthWest k s t u a b = let a0 = a.0 in let a1 = a.1 in let b0 = b.0 in let b1 = b.1 in one_place t u (omega arith) (omega arith)
+
+-- a square is so many steps ahead for one number of steps only
+pub one_count : (way : Direction) (j k : ℕ) (s t : Place) → IsAhead way j s t → IsAhead way k s t → j ≡ k
+one_count North j k s t a b = let a1 = a.1 in let b1 = b.1 in omega arith
+one_count South j k s t a b = let a1 = a.1 in let b1 = b.1 in omega arith
+one_count East j k s t a b = let a1 = a.0 in let b1 = b.0 in omega arith
+one_count West j k s t a b = let a1 = a.0 in let b1 = b.0 in omega arith
+one_count NorthEast j k s t a b = let a1 = a.0 in let b1 = b.0 in omega arith
+one_count NorthWest j k s t a b = let a1 = a.0 in let b1 = b.0 in omega arith
+one_count SouthEast j k s t a b = let a1 = a.0 in let b1 = b.0 in omega arith
+one_count SouthWest j k s t a b = let a1 = a.0 in let b1 = b.0 in omega arith
+
+-- from a square of the board one of the board is at most seven steps ahead
+pub near_ahead : (way : Direction) (k : ℕ) (s t : Place) → IsOnBoard s → IsOnBoard t → IsAhead way k s t → k < 8
+near_ahead North k s t p q a = let a1 = a.1 in let l = p.rank_low in let h = q.rank_high in omega arith
+near_ahead South k s t p q a = let a1 = a.1 in let l = q.rank_low in let h = p.rank_high in omega arith
+near_ahead East k s t p q a = let a1 = a.0 in let l = p.file_low in let h = q.file_high in omega arith
+near_ahead West k s t p q a = let a1 = a.0 in let l = q.file_low in let h = p.file_high in omega arith
+near_ahead NorthEast k s t p q a = let a1 = a.0 in let l = p.file_low in let h = q.file_high in omega arith
+near_ahead NorthWest k s t p q a = let a1 = a.0 in let l = q.file_low in let h = p.file_high in omega arith
+near_ahead SouthEast k s t p q a = let a1 = a.0 in let l = p.file_low in let h = q.file_high in omega arith
+near_ahead SouthWest k s t p q a = let a1 = a.0 in let l = q.file_low in let h = p.file_high in omega arith
+
+-- ---- loops over the 64 squares that gather those with a fact
+
+pub record IsGathered (fact : Place → Type 0) (n : ℕ) (set : Places) : Type 0 where
+  pub there : (s : Place) → IsOnBoard s → index_of s < n → (is_in set s ≡ true) ↔ fact s
+  pub none : (s : Place) → IsOnBoard s → n ≤ index_of s → is_in set s ≡ false
+
+true_not_false : true ≡ false → ⊥
+true_not_false e = cc
+
+index_of-at : (n : ℕ) → n < 64 → index_of (square_at n) ≡ n
+index_of-at n h = index_of-square_at n h
+
+true_or : (b : Bool) → b ≡ true → (a : Bool) → (b || a) ≡ true
+true_or true e a = refl
+true_or false e a = let f : false ≡ true = e in cc
+
+-- the nth square is the one at its place
+the_square : (s : Place) (n : ℕ) → IsOnBoard s → index_of s ≡ n → s ≡ square_at n
+the_square s n on_board e = sym (square_at-index_of s on_board) ∙ ap square_at e
+
+pub gathered_more : (fact : Place → Type 0) (n : ℕ) (old new : Places) → n < 64 → IsGathered fact n old → fact (square_at n)
+    → ((s : Place) → IsOnBoard s → is_in new s ≡ (same_square (square_at n) s || is_in old s)) → IsGathered fact (n + 1) new
+gathered_more fact n old new h so_far holds put = record {
+  there = λ s on_board less. elim (cases_eq (index_of s) n) [
+    | inl same ↦
+        let here = the_square s n on_board same in
+        let in_set : is_in new s ≡ true =
+        put s on_board ∙ true_or _ (same_squares (square_at n) s (on_board-square_at n h) on_board (ap index_of (sym here))) (is_in old s) in
+        ((λ e. subst fact (sym here) holds), (λ f. in_set))
+    | inr other ↦
+        let apart = other_squares (square_at n) s (on_board-square_at n h) on_board
+        (λ e. other (sym e ∙ index_of-at n h)) in
+        let as_before : is_in new s ≡ is_in old s = put s on_board ∙ ap (λ b. b || is_in old s) apart in
+        let before = so_far.there s on_board (omega arith) in
+        ((λ e. before.0 (sym as_before ∙ e)), (λ f. as_before ∙ before.1 f))
+  ];
+  none = λ s on_board more.
+      let apart = other_squares (square_at n) s (on_board-square_at n h) on_board
+      (λ e. let place = index_of-at n h in omega arith) in
+      put s on_board ∙ ap (λ b. b || is_in old s) apart ∙ so_far.none s on_board (omega arith);
+}
+
+pub gathered_skip : (fact : Place → Type 0) (n : ℕ) (set : Places) → n < 64 → IsGathered fact n set → (fact (square_at n) → ⊥) → IsGathered fact (n + 1) set
+gathered_skip fact n set h so_far fails = record {
+  there = λ s on_board less. elim (cases_eq (index_of s) n) [
+    | inl same ↦
+        let here = the_square s n on_board same in (
+          (λ e. let out = so_far.none s on_board (omega arith) in let no : true ≡ false = sym e ∙ out in absurd (true_not_false no)),
+          (λ f. absurd (fails (subst fact here f))),
+        )
+    | inr other ↦ so_far.there s on_board (omega arith)
+  ];
+  none = λ s on_board more. so_far.none s on_board (omega arith);
+}
+
+gathered_same : (fact : Place → Type 0) (n : ℕ) (old new : Places) → IsGathered fact n old
+    → ((s : Place) → IsOnBoard s → is_in new s ≡ is_in old s) → IsGathered fact n new
+gathered_same fact n old new so_far same = record {
+  there = λ s on_board less.
+      let before = so_far.there s on_board less in
+      ((λ e. before.0 (sym (same s on_board) ∙ e)), (λ f. same s on_board ∙ before.1 f));
+  none = λ s on_board more. same s on_board ∙ so_far.none s on_board more;
+}
+
+pub gathered_step : (fact : Place → Type 0) (n : ℕ) (old new : Places) (t : Place) (b : Bool) → n < 64 → IsGathered fact n old → t ≡ square_at n
+    → IsTrue b ↔ fact t → ((s : Place) → IsOnBoard s → is_in new s ≡ ((b && same_square t s) || is_in old s)) → IsGathered fact (n + 1) new
+gathered_step fact n old new t true h so_far here test put =
+    gathered_more fact n old new h so_far (subst fact here (test.0 refl))
+    (λ s on_board. put s on_board ∙ ap (λ (u : Place). same_square u s || is_in old s) here)
+gathered_step fact n old new t false h so_far here test put =
+    gathered_same fact (n + 1) old new
+    (gathered_skip fact n old h so_far (λ f. let no : false ≡ true = test.1 (subst fact (sym here) f) in absurd (true_not_false (sym no)))) put
+
+pub gathered_all : (fact : Place → Type 0) (set : Places) → IsGathered fact 64 set → HoldsExactly fact set
+gathered_all fact set all s on_board = all.there s on_board (index_of-below s on_board)
+
+pub gathered_none : (fact : Place → Type 0) (set : Places) → set ≡ no_places → IsGathered fact 0 set
+gathered_none fact set e = record {
+  there = λ s on_board less. absurd (omega arith);
+  none = λ s on_board more. ap (λ set. is_in set s) e ∙ is_in-empty s;
+}
+
+-- no square of 64 has the fact
+abbrev pub IsNoneYet : (Place → Type 0) → ℕ → Type 0
+IsNoneYet fact n = (s : Place) → IsOnBoard s → index_of s < n → fact s → ⊥
+
+pub none_yet_more : (fact : Place → Type 0) (n : ℕ) → IsNoneYet fact n → (fact (square_at n) → ⊥) → IsNoneYet fact (n + 1)
+none_yet_more fact n before fails s on_board less holds = elim (cases_eq (index_of s) n) [
+  | inl same ↦ fails (subst fact (the_square s n on_board same) holds)
+  | inr other ↦ before s on_board (omega arith) holds
+]

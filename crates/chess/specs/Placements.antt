@@ -1,0 +1,39 @@
+-- Which man stands on which square: a map from squares to men (Laws 2.3).
+use Rattle.std.specs.Prelude.{◌≡◌, Option, Some, None}
+use Rattle.std.specs.FinMap.{FinMap, get, insert, remove, empty}
+use Rattle.chess.specs.Squares.{Place, place_cmp}
+use Rattle.chess.specs.declared.man.Man.{Man}
+use Rattle.chess.specs.declared.man.Side.{Side}
+use Rattle.chess.specs.declared.man.Side.TheVariants.{White, Black}
+use Rattle.chess.specs.declared.man.Kind.{Kind}
+use Rattle.chess.specs.declared.man.Kind.TheVariants.{King, Queen, Rook, Bishop, Knight, Pawn}
+
+-- a placement: the squares on which men stand, and which man stands on each
+abbrev pub Placement : Type 0
+Placement = FinMap place_cmp Man
+
+-- the board without men
+abbrev pub no_men : Placement
+no_men = empty
+
+-- the man on a square, or none
+abbrev pub man_at : Placement → Place → Option Man
+man_at p s = get p s
+
+-- the placement with that man, or none, on the square, and all else as it was
+abbrev pub with_man : Placement → Place → Option Man → Placement
+with_man p s None = remove p s
+with_man p s (Some man) = insert p s man
+
+-- the other side
+abbrev pub opposite : Side → Side
+opposite White = Black
+opposite Black = White
+
+-- a man of the side stands on the square
+abbrev pub IsHeld : Placement → Side → Place → Type 0
+IsHeld p side s = (man : Man) × (man_at p s ≡ Some man) × (man.side ≡ side)
+
+-- no man stands on the square
+abbrev pub IsEmpty : Placement → Place → Type 0
+IsEmpty p s = man_at p s ≡ None

@@ -1,0 +1,60 @@
+-- Sets of squares.
+use Rattle.std.specs.Prelude.{◌≡◌, ◌≤◌, ◌↔◌, ◌==◌, ◌&&◌, ℕ, zero, suc, Bool, true, false, not, if◌then◌else◌, Option, Some, None}
+use Rattle.std.specs.Coded.{Coded}
+use Rattle.std.specs.Int.{bit_at}
+use Rattle.std.specs.FinSet.{FinSet, empty, insert, contains, len, code}
+use Rattle.chess.specs.Squares.{Place, IsOnBoard, place_cmp, square_at, index_of, same_square, coded_place}
+use Rattle.chess.specs.Placements.{Placement, man_at}
+use Rattle.chess.specs.Attacks.{IsInReach}
+use Rattle.chess.specs.declared.man.Man.{Man}
+
+-- a set of squares
+abbrev pub Places : Type 0
+Places = FinSet place_cmp
+
+abbrev pub no_places : Places
+no_places = empty
+
+-- the square is in the set
+abbrev pub is_in : Places → Place → Bool
+is_in set s = contains set s
+
+-- the set is that of the squares which have the fact
+abbrev pub HoldsExactly : (Place → Type 0) → Places → Type 0
+HoldsExactly fact set = (s : Place) → IsOnBoard s → (is_in set s ≡ true) ↔ fact s
+
+-- the squares that the man on s attacks; the empty set where there is none
+abbrev pub IsReachOf : Placement → Place → Places → Type 0
+IsReachOf p s set = HoldsExactly (IsInReach p s) set
+
+-- the squares on which that man stands
+abbrev pub IsSquaresOf : Placement → Man → Places → Type 0
+IsSquaresOf p man set = HoldsExactly (λ s. man_at p s ≡ Some man) set
+
+-- those of the first n squares that pass the test
+unfoldable pub first_places : (ℕ → Bool) → ℕ → Places
+first_places test zero = empty
+first_places test (suc n) = if test n then insert (first_places test n) (square_at n) else first_places test n
+
+-- the squares that pass the test
+abbrev pub places_of : (ℕ → Bool) → Places
+places_of test = first_places test 64
+
+-- the bit of a word for the nth square
+abbrev pub has_bit : ℕ → ℕ → Bool
+has_bit word n = bit_at word n == 1
+
+-- how many squares a set has
+abbrev pub size_of : Places → ℕ
+size_of set = len set
+
+-- the first square of a set in the order a1, b1 to h1, a2 and so on was taken out, if there was one
+abbrev pub IsTakenFirst : Places → Places → Option Place → Type 0
+IsTakenFirst old new None = (s : Place) → IsOnBoard s → is_in old s ≡ false
+IsTakenFirst old new (Some t) = IsOnBoard t × (is_in old t ≡ true)
+    × ((s : Place) → IsOnBoard s → is_in old s ≡ true → index_of t ≤ index_of s)
+    × ((s : Place) → IsOnBoard s → is_in new s ≡ (is_in old s && not (same_square s t)))
+
+-- a set is stored as its squares in order
+abbrev pub coded_places : Coded Places
+coded_places = code coded_place

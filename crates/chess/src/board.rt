@@ -1,0 +1,43 @@
+//! What a board is: a map from squares to men.
+ghost use Rattle.std.specs.Prelude.{◌≡◌, ◌↔◌, IsTrue, Some};
+ghost use Rattle.chess.specs.Squares.{Place, IsOnBoard};
+ghost use Rattle.chess.specs.Placements.{Placement, no_men, man_at, with_man};
+ghost use Rattle.chess.specs.Attacks.{IsAttacked};
+ghost use Rattle.chess.specs.Sets.{IsReachOf, IsSquaresOf};
+ghost use Rattle.chess.specs.declared.man.Man.{Man};
+
+use crate::man::{Man, Side};
+use crate::set::SquareSet;
+use crate::square::Square;
+
+/// A board: which man stands on which square. Contracts see the map from squares to men alone.
+pub trait Board: Copy {
+    /// The men on their squares.
+    ghost men: { Self → Placement };
+
+    /// The board without men.
+    fn empty() -> Self
+        ensures { men result ≡ no_men };
+
+    /// The man on a square, or none.
+    fn at(&self, square: Square) -> Option<Man>
+        ensures { result ≡ man_at (men self.now) square };
+
+    /// Puts the man, or none, on the square. No other square changes.
+    fn put(&mut self, square: Square, man: Option<Man>)
+        ensures { men self.new ≡ with_man (men self.old) square man };
+
+    /// Whether some man of the side attacks the square (Laws 3.1.2).
+    fn attacked(&self, square: Square, side: Side) -> bool
+        ensures { IsTrue result ↔ IsAttacked (men self.now) side square };
+
+    /// The squares that the man on the square attacks; the empty set where there is none (Laws 3.2 to 3.8).
+    fn reach(&self, square: Square) -> SquareSet
+        ensures { IsReachOf (men self.now) square result };
+
+    /// The squares on which that man stands.
+    fn squares_of(&self, man: Man) -> SquareSet
+        ensures { IsSquaresOf (men self.now) man result };
+
+    ghost on_board: { (b : Self) (s : Place) (man : Man) → man_at (men b) s ≡ Some man → IsOnBoard s };
+}
