@@ -1,7 +1,7 @@
 -- Who stands where after a move.
-use Rattle.std.proofs.Common.{◌≡◌, ◌↔◌, ◌≤◌, ◌&&◌, ◌⊎◌, ℕ, Bool, true, false, inl, inr, ap, refl, sym, subst, ◌∙◌, arith, Option, Some, None, IsTrue}
-use Rattle.chess.specs.Squares.{Place, IsOnBoard}
-use Rattle.chess.specs.Placements.{Placement, man_at, with_man, opposite, IsHeld, IsEmpty}
+use Rattle.std.proofs.Common.{◌≡◌, ◌⊎◌, inl, inr, ap, refl, sym, ◌∙◌, Option, Some, None}
+use Rattle.chess.specs.Squares.{Place}
+use Rattle.chess.specs.Placements.{Placement, man_at, with_man, IsEmpty}
 use Rattle.chess.specs.Positions.{State, rook_of, rook_from, rook_to}
 use Rattle.chess.specs.Moves.{arriving, taken, with_rook, men_after}
 use Rattle.chess.specs.CellFacts.{man_at-same, man_at-other}

@@ -1,18 +1,17 @@
 -- What follows from how a man goes.
-use Rattle.std.proofs.Common.{◌≡◌, ◌↔◌, ◌≤◌, ◌&&◌, ◌⊎◌, ℕ, Bool, true, false, inl, inr, ap, refl, sym, subst, ◌∙◌, arith, Option, Some, None, IsTrue}
-use Rattle.chess.specs.Squares.{Place, IsOnBoard}
-use Rattle.chess.specs.Placements.{Placement, man_at, opposite, IsHeld, IsEmpty}
+use Rattle.std.proofs.Common.{◌≡◌, ◌⊎◌, inl, inr, ap, refl, sym, subst, ◌∙◌, arith, Option, Some, None}
+use Rattle.chess.specs.Squares.{IsOnBoard}
+use Rattle.chess.specs.Placements.{man_at, opposite, IsEmpty}
 use Rattle.chess.specs.Attacks.{Reaches, IsAttacked}
-use Rattle.chess.specs.Positions.{State, king_of, IsCheck, IsSound, home_rank}
+use Rattle.chess.specs.Positions.{State, king_of, IsSound}
 use Rattle.chess.specs.Moves.{Goes, IsPseudoLegal, IsPromotion, Castles, IsKingMove, arriving}
 use Rattle.chess.specs.declared.man.Man.{Man}
-use Rattle.chess.specs.declared.man.Side.{Side}
 use Rattle.chess.specs.declared.man.Kind.{Kind}
 use Rattle.chess.specs.declared.man.Kind.TheVariants.{King, Queen, Rook, Bishop, Knight, Pawn}
 use Rattle.chess.specs.declared.man.Wing.{Wing}
 use Rattle.chess.specs.declared.man.Wing.TheVariants.{KingSide, QueenSide}
 use Rattle.chess.specs.declared.moves.Move.{Move}
-use Rattle.chess.proofs.PlaceFacts.{opposite-opposite, some_not_none, same_side, same_kind, man_of}
+use Rattle.chess.proofs.PlaceFacts.{opposite-opposite, some_not_none, same_side, same_kind}
 
 -- a pseudo-legal move in a sound position
 pub record IsTried (P : State) (m : Move) : Type 0 where

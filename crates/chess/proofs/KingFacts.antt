@@ -1,22 +1,21 @@
 -- Where the kings stand after a move.
-use Rattle.std.proofs.Common.{◌≡◌, ◌↔◌, ◌≤◌, ◌&&◌, ◌⊎◌, ℕ, Bool, true, false, not, inl, inr, ap, refl, sym, subst, ◌∙◌, arith, Option, Some, None, IsTrue, IfSome, if◌then◌else◌}
+use Rattle.std.proofs.Common.{◌≡◌, ◌&&◌, ◌⊎◌, Bool, true, false, not, inl, inr, ap, refl, sym, subst, ◌∙◌, arith, Option, Some, None, IfSome, if◌then◌else◌}
 use Rattle.std.specs.Prelude.{◌==◌}
 use Rattle.std.proofs.lemmas.Bool.Decides.{nat_tests}
-use Rattle.chess.specs.Squares.{Place, IsOnBoard, same_square}
-use Rattle.chess.specs.Placements.{Placement, man_at, with_man, opposite, IsHeld, IsEmpty}
+use Rattle.chess.specs.Squares.{Place}
+use Rattle.chess.specs.Placements.{Placement, man_at, opposite, IsEmpty}
 use Rattle.chess.specs.Attacks.{IsForward}
-use Rattle.chess.specs.Positions.{State, king_of, rook_of, pawn_of, king_from, king_to, rook_from, rook_to, IsOnlyKing, IsSound, FitsEnPassant}
-use Rattle.chess.specs.Moves.{Goes, Castles, IsPromotion, arriving, taken, is_pawn, is_square, is_en_passant, men_after, IsPawnMove}
+use Rattle.chess.specs.Positions.{State, king_of, rook_of, pawn_of, king_to, rook_from, rook_to, IsOnlyKing, FitsEnPassant}
+use Rattle.chess.specs.Moves.{Goes, Castles, arriving, taken, is_pawn, is_square, is_en_passant, men_after, IsPawnMove}
 use Rattle.chess.specs.declared.man.Man.{Man}
 use Rattle.chess.specs.declared.man.Side.{Side}
-use Rattle.chess.specs.declared.man.Kind.{Kind}
 use Rattle.chess.specs.declared.man.Kind.TheVariants.{King, Queen, Rook, Bishop, Knight, Pawn}
 use Rattle.chess.specs.declared.man.Wing.{Wing}
 use Rattle.chess.specs.declared.man.Wing.TheVariants.{KingSide, QueenSide}
 use Rattle.chess.specs.declared.moves.Move.{Move}
-use Rattle.chess.proofs.PlaceFacts.{cases_place, same_square-then, cases_side, not_opposite, same_side, same_kind, some_not_none, true_not_false, man_of}
-use Rattle.chess.proofs.GoesFacts.{IsTried, goes_castle, goes_promote, no_king_taken, HasArrived, has_arrived}
-use Rattle.chess.proofs.AfterFacts.{IsNoRook, IsApart, after_apart, after_to, HasCome, has_come}
+use Rattle.chess.proofs.PlaceFacts.{same_square-then, cases_side, same_kind, some_not_none}
+use Rattle.chess.proofs.GoesFacts.{IsTried, goes_castle, goes_promote, no_king_taken, has_arrived}
+use Rattle.chess.proofs.AfterFacts.{IsNoRook, IsApart, after_apart, after_to, has_come}
 
 -- ---- the man that is taken
 

@@ -6,3 +6,10 @@ pub mod SoundFacts
 pub mod WayFacts
 pub mod LoopFacts
 pub mod StartFacts
+pub mod FieldFacts
+pub mod RestFacts
+pub mod RankFacts
+pub mod CountFacts
+pub mod FenFacts
+pub mod FenTextFacts
+pub mod Examples

@@ -1,5 +1,5 @@
 -- Loops over the squares of a set, first to last.
-use Rattle.std.proofs.Common.{◌≡◌, ◌↔◌, ◌≤◌, ◌<◌, ◌+◌, ◌&&◌, ◌||◌, ◌⊎◌, ℕ, Bool, true, false, not, inl, inr, ap, refl, sym, subst, ◌∙◌, arith, Option, Some, None, IsTrue}
+use Rattle.std.proofs.Common.{◌≡◌, ◌↔◌, ◌≤◌, ◌+◌, ◌&&◌, ◌||◌, ◌⊎◌, ℕ, Bool, true, false, not, inl, inr, ap, refl, sym, subst, ◌∙◌, arith, Some, None, IsTrue}
 use Rattle.chess.specs.Squares.{Place, IsOnBoard, index_of, square_at, same_square}
 use Rattle.chess.specs.SetFacts.{square_at-index_of, index_of-below, is_in-empty}
 use Rattle.chess.specs.Sets.{Places, is_in, no_places, IsTakenFirst, HoldsExactly}

@@ -1,5 +1,5 @@
 -- Facts about squares, sides and men, by cases.
-use Rattle.std.proofs.Common.{◌≡◌, ◌↔◌, ◌&&◌, ◌⊎◌, ℕ, Bool, true, false, inl, inr, ap, refl, sym, subst, ◌∙◌, arith, Option, Some, None, IsTrue}
+use Rattle.std.proofs.Common.{◌≡◌, ◌↔◌, ◌&&◌, ◌⊎◌, ℕ, Bool, true, false, inl, inr, ap, refl, sym, ◌∙◌, arith, Option, Some, None, IsTrue}
 use Rattle.std.specs.Prelude.{◌==◌}
 use Rattle.std.proofs.lemmas.Bool.{cases_eq}
 use Rattle.std.proofs.lemmas.Bool.Decides.{nat_tests}
@@ -8,8 +8,6 @@ use Rattle.chess.specs.Placements.{opposite}
 use Rattle.chess.specs.declared.man.Man.{Man}
 use Rattle.chess.specs.declared.man.Side.{Side}
 use Rattle.chess.specs.declared.man.Side.TheVariants.{White, Black}
-use Rattle.chess.specs.declared.man.Kind.{Kind}
-use Rattle.chess.specs.declared.man.Kind.TheVariants.{King}
 
 pub place_of : (s t : Place) → s.file ≡ t.file → s.rank ≡ t.rank → s ≡ t
 place_of s t e f = λ i. record { file = e i; rank = f i }

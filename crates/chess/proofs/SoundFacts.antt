@@ -1,25 +1,25 @@
 -- A move keeps a position sound.
-use Rattle.std.proofs.Common.{◌≡◌, ◌≢◌, ◌↔◌, ◌≤◌, ◌<◌, ◌+◌, ◌-◌, ◌/◌, ◌&&◌, ◌||◌, ◌⊎◌, ℕ, Bool, true, false, not, inl, inr, ap, refl, sym, subst, ◌∙◌, arith, Option, Some, None, IsTrue, IfSome, if◌then◌else◌}
+use Rattle.std.proofs.Common.{◌≡◌, ◌≢◌, ◌≤◌, ◌+◌, ◌/◌, ◌&&◌, ◌⊎◌, ℕ, Bool, true, false, not, inl, inr, ap, refl, sym, subst, ◌∙◌, arith, Option, Some, None, IfSome, if◌then◌else◌}
 use Rattle.std.specs.Prelude.{◌==◌}
 use Rattle.std.proofs.lemmas.Bool.Decides.{nat_tests}
 use Rattle.chess.specs.Squares.{Place, IsOnBoard, same_square, gap}
-use Rattle.chess.specs.Placements.{Placement, man_at, opposite, IsHeld, IsEmpty}
+use Rattle.chess.specs.Placements.{man_at, opposite, IsEmpty}
 use Rattle.chess.specs.Attacks.{IsForward}
-use Rattle.chess.specs.Positions.{State, king_of, rook_of, pawn_of, home_rank, pawn_rank, passed_rank, has_right, king_from, rook_from, rook_to, IsCheck, IsOnlyKing, IsSound, FitsEnPassant}
-use Rattle.chess.specs.Moves.{Goes, Castles, IsPromotion, Promotes, IsPawnMove, IsDoubleStep, arriving, taken, is_pawn, men_after, keeps_right, rights_after, en_passant_after, after}
+use Rattle.chess.specs.Positions.{State, king_of, rook_of, pawn_of, home_rank, pawn_rank, passed_rank, has_right, king_from, rook_from, IsCheck, IsOnlyKing, IsSound, FitsEnPassant}
+use Rattle.chess.specs.Moves.{Goes, IsPromotion, Promotes, IsPawnMove, IsDoubleStep, arriving, is_pawn, men_after, keeps_right, rights_after, en_passant_after, after}
 use Rattle.chess.specs.declared.man.Man.{Man}
 use Rattle.chess.specs.declared.man.Side.{Side}
 use Rattle.chess.specs.declared.man.Side.TheVariants.{White, Black}
 use Rattle.chess.specs.declared.man.Kind.{Kind}
-use Rattle.chess.specs.declared.man.Kind.TheVariants.{King, Queen, Rook, Bishop, Knight, Pawn}
+use Rattle.chess.specs.declared.man.Kind.TheVariants.{Rook, Pawn}
 use Rattle.chess.specs.declared.man.Wing.{Wing}
 use Rattle.chess.specs.declared.man.Wing.TheVariants.{KingSide, QueenSide}
 use Rattle.chess.specs.declared.man.CastlingRights.{CastlingRights}
 use Rattle.chess.specs.declared.moves.Move.{Move}
-use Rattle.chess.proofs.PlaceFacts.{place_of, cases_place, same_square-same, cases_side, opposite-opposite, same_side, same_kind, some_not_none, true_not_false, man_of}
-use Rattle.chess.proofs.GoesFacts.{IsTried, goes_castle, HasArrived, has_arrived}
-use Rattle.chess.proofs.AfterFacts.{IsNoRook, IsApart, after_apart, after_to, after_from, HasCome, has_come}
-use Rattle.chess.proofs.KingFacts.{pawn_kind, taken_cases, no_rook, rook_to-empty, king_apart, king_stays, king_moves, no_rook_to, and_left, and_right}
+use Rattle.chess.proofs.PlaceFacts.{place_of, cases_place, same_square-same, cases_side, opposite-opposite, same_kind, some_not_none, man_of}
+use Rattle.chess.proofs.GoesFacts.{IsTried, goes_castle, has_arrived}
+use Rattle.chess.proofs.AfterFacts.{IsNoRook, IsApart, after_apart, after_to, after_from, has_come}
+use Rattle.chess.proofs.KingFacts.{pawn_kind, taken_cases, rook_to-empty, king_apart, king_stays, king_moves, no_rook_to, and_left, and_right}
 
 -- ---- pawns
 

@@ -1,20 +1,15 @@
 -- Where legal moves begin, and where pawns go.
-use Rattle.std.proofs.Common.{◌≡◌, ◌↔◌, ◌≤◌, ◌+◌, ◌⊎◌, ℕ, inl, inr, ap, refl, sym, subst, ◌∙◌, arith, Option, Some, None}
+use Rattle.std.proofs.Common.{◌≡◌, ◌≤◌, ℕ, inl, inr, ap, refl, subst, ◌∙◌, arith, Some, None, Option, ◌⊎◌}
 use Rattle.chess.specs.Squares.{Place, IsOnBoard}
-use Rattle.chess.specs.Placements.{Placement, man_at}
-use Rattle.chess.specs.Attacks.{Reaches, IsInReach, IsForward}
+use Rattle.chess.specs.Attacks.{IsForward}
 use Rattle.chess.specs.Positions.{State}
-use Rattle.chess.specs.Moves.{Goes, IsKingMove, IsPseudoLegal, IsLegal, CanGo, HasMove}
-use Rattle.chess.specs.MoveWords.{IsMover, CanGoPlainly, CanPromote, CanCastle, CanLeave, CanMove, IsPawnGoal, IsCastlingGoal, IsSquareAhead}
-use Rattle.chess.specs.declared.man.Man.{Man}
+use Rattle.chess.specs.Moves.{CanGo, HasMove, IsLegal}
+use Rattle.chess.specs.MoveWords.{IsMover, CanMove, IsPawnGoal, IsSquareAhead, CanPromote}
 use Rattle.chess.specs.declared.man.Side.{Side}
 use Rattle.chess.specs.declared.man.Side.TheVariants.{White, Black}
 use Rattle.chess.specs.declared.man.Kind.{Kind}
 use Rattle.chess.specs.declared.man.Kind.TheVariants.{King, Queen, Rook, Bishop, Knight, Pawn}
-use Rattle.chess.specs.declared.man.Wing.{Wing}
-use Rattle.chess.specs.declared.moves.Move.{Move}
 use Rattle.chess.proofs.PlaceFacts.{man_of}
-use Rattle.chess.proofs.GoesFacts.{goes_castle, goes_promote}
 
 -- a man of the side to move stands where a legal move begins
 pub mover : (P : State) (s t : Place) (h : CanGo P s t) → IsMover P h.2.pseudo_legal.man.kind s
@@ -65,3 +60,31 @@ no_goal P s side on turn none t there goal =
           })
           refl two.1
     ]
+
+-- a legal move of a man of some kind is a legal move
+pub found_move : (P : State) (other : Kind) → CanMove P other → HasMove P
+found_move P other h = (h.0, h.3.0, h.1, h.3.1, h.3.2)
+
+-- a pawn becomes a queen, a rook, a bishop or a knight
+abbrev pub CanBecome : State → Place → Place → Kind → Type 0
+CanBecome P s t other = IsLegal P (record { from = s; to = t; promote = Some other; castle = None })
+
+become_by : (P : State) (s t : Place) (promote : Option Kind) (other : Kind) → promote ≡ Some other
+    → IsLegal P (record { from = s; to = t; promote = promote; castle = None }) → CanBecome P s t other
+become_by P s t promote other e legal = subst (λ o. IsLegal P (record { from = s; to = t; promote = o; castle = None })) e legal
+
+pub becomes_knight : (P : State) (s t : Place) → (CanBecome P s t Queen → ⊥) → (CanBecome P s t Rook → ⊥) → (CanBecome P s t Bishop → ⊥)
+    → CanPromote P s t → CanBecome P s t Knight
+becomes_knight P s t queen rook bishop h = elim h.1 [
+  | inl a ↦ absurd (queen (become_by P s t h.0 Queen a h.2))
+  | inr b ↦ elim b [
+    | inl a ↦ absurd (rook (become_by P s t h.0 Rook a h.2))
+    | inr d ↦ elim d [
+      | inl a ↦ absurd (bishop (become_by P s t h.0 Bishop a h.2))
+      | inr a ↦ become_by P s t h.0 Knight a h.2
+    ]
+  ]
+]
+
+pub can_become_knight : (P : State) (s t : Place) → CanBecome P s t Knight → CanPromote P s t
+can_become_knight P s t h = (Some Knight, inr (inr (inr refl)), h)

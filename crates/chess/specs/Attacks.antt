@@ -1,5 +1,5 @@
 -- Which squares a man attacks (Laws 3.1 to 3.8).
-use Rattle.std.specs.Prelude.{◌≡◌, ◌≢◌, ◌⊎◌, ◌↔◌, ℕ, ◌+◌, ◌<◌, ◌≤◌, Option, Some, None, true}
+use Rattle.std.specs.Prelude.{◌≡◌, ◌⊎◌, ℕ, ◌+◌, ◌<◌, ◌≤◌, Some}
 use Rattle.chess.specs.Squares.{Place, IsOnBoard, IsStraight, IsAhead, gap}
 use Rattle.chess.specs.declared.direction.Direction.{Direction}
 use Rattle.chess.specs.Placements.{Placement, man_at, IsEmpty}

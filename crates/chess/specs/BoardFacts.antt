@@ -1,12 +1,10 @@
 -- Facts that the plain board rests on.
-use Rattle.std.proofs.Common.{◌≡◌, ◌↔◌, ◌<◌, ◌≤◌, ◌+◌, ◌⊎◌, ◌&&◌, ◌||◌, ℕ, zero, suc, Bool, true, false, inl, inr, ap, refl, sym, subst, ◌∙◌, arith, rules, Option, Some, None, IsTrue}
-use Rattle.std.proofs.lemmas.Bool.{cases_eq, cases_lt}
-use Rattle.chess.specs.Squares.{Place, IsOnBoard, square_at, index_of, IsAhead, IsStraight, same_square}
+use Rattle.std.proofs.Common.{◌≡◌, ◌↔◌, ◌<◌, ◌≤◌, ◌+◌, ◌&&◌, ◌||◌, ℕ, Bool, true, false, inl, inr, ap, refl, sym, subst, ◌∙◌, arith, IsTrue}
+use Rattle.std.proofs.lemmas.Bool.{cases_eq}
+use Rattle.chess.specs.Squares.{Place, IsOnBoard, square_at, index_of, IsAhead, same_square}
 use Rattle.chess.specs.SquareFacts.{index_of-square_at}
 use Rattle.chess.specs.SetFacts.{square_at-index_of, index_of-below, on_board-square_at, same_squares, other_squares, is_in-empty}
 use Rattle.chess.specs.Sets.{Places, is_in, HoldsExactly, no_places}
-use Rattle.chess.specs.Placements.{Placement, man_at, IsEmpty}
-use Rattle.chess.specs.Attacks.{IsOnRay, IsClearFor}
 use Rattle.chess.specs.declared.direction.Direction.{Direction}
 use Rattle.chess.specs.declared.direction.Direction.TheVariants.{North, South, East, West, NorthEast, NorthWest, SouthEast, SouthWest}
 

@@ -1,12 +1,12 @@
 -- Facts about placements given square by square.
-use Rattle.std.proofs.Common.{◌≡◌, ◌≢◌, ◌<◌, ◌≤◌, ◌+◌, ◌⊎◌, ℕ, zero, suc, Bool, true, false, inl, inr, ap, refl, sym, subst, ◌∙◌, arith, if◌then◌else◌, Option, Some, None, cond}
+use Rattle.std.proofs.Common.{◌≡◌, ◌<◌, ◌≤◌, ◌⊎◌, ℕ, zero, suc, true, false, inl, inr, ap, refl, sym, subst, ◌∙◌, arith, Option, Some, None, cond}
 use Rattle.std.specs.Ordering.{eq_by_cmp}
-use Rattle.std.specs.FinMap.{get, insert, remove, empty, get-empty, get-insert, get-remove, same_map}
+use Rattle.std.specs.FinMap.{get-empty, get-insert, get-remove, same_map}
 use Rattle.std.proofs.lemmas.Bool.{cases_eq, cases_lt}
 use Rattle.chess.specs.Squares.{Place, IsOnBoard, place_cmp, square_at, index_of}
 use Rattle.chess.specs.SquareFacts.{index_of-square_at}
 use Rattle.chess.specs.OrderFacts.{place_total, place_exact}
-use Rattle.chess.specs.SetFacts.{square_at-index_of, index_of-below, on_board-square_at, ties, tied, false_of, apart}
+use Rattle.chess.specs.SetFacts.{square_at-index_of, index_of-below, on_board-square_at, ties, tied, false_of}
 use Rattle.chess.specs.Placements.{Placement, no_men, man_at, with_man}
 use Rattle.std.specs.Prelude.{replicate}
 use Rattle.std.proofs.lemmas.List.{get_or-replicate, get_or_past, length-replicate}

@@ -1,5 +1,5 @@
 -- Forsyth-Edwards notation: the text of a position, and how texts are read (PGN 16.1).
-use Rattle.std.specs.Prelude.{◌≡◌, ◌≢◌, ◌⊎◌, ◌↔◌, ℕ, ◌+◌, ◌-◌, ◌*◌, ◌≤◌, Bool, true, false, not, ◌&&◌, ◌||◌, ◌==◌, nat_le, if◌then◌else◌, List, [], ◌∷◌, ◌++◌, length, flat_map, get_or, replicate, codes, decimal, Option, Some, None, IsTrue}
+use Rattle.std.specs.Prelude.{◌≡◌, ◌≢◌, ◌⊎◌, ◌↔◌, ℕ, ◌+◌, ◌-◌, ◌*◌, ◌≤◌, Bool, true, false, not, ◌&&◌, ◌||◌, ◌==◌, nat_le, if◌then◌else◌, List, [], ◌∷◌, ◌++◌, length, replicate, codes, decimal, Option, Some, None, IsTrue}
 use Rattle.std.specs.List.{list_all}
 use Rattle.chess.specs.Squares.{Place, IsOnBoard}
 use Rattle.chess.specs.Placements.{Placement, man_at, opposite}

@@ -2,11 +2,10 @@
 use Rattle.std.specs.Prelude.{◌≡◌, ◌⊎◌, ◌≤◌, true, ℕ, Option, Some, None, MatchOption}
 use Rattle.chess.specs.Squares.{Place, IsOnBoard, index_of}
 use Rattle.chess.specs.Placements.{man_at, IsEmpty}
-use Rattle.chess.specs.Attacks.{Reaches, IsForward, IsInReach}
+use Rattle.chess.specs.Attacks.{Reaches, IsForward}
 use Rattle.chess.specs.Positions.{State, home_rank, king_to}
 use Rattle.chess.specs.Moves.{IsBetween, CanGo, IsLegal, IsPromotion}
-use Rattle.chess.specs.Sets.{Places, is_in, HoldsExactly}
-use Rattle.chess.specs.declared.man.Man.{Man}
+use Rattle.chess.specs.Sets.{Places, is_in}
 use Rattle.chess.specs.declared.man.Side.{Side}
 use Rattle.chess.specs.declared.man.Kind.{Kind}
 use Rattle.chess.specs.declared.man.Wing.{Wing}

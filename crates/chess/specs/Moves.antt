@@ -1,9 +1,9 @@
 -- Which moves there are, and the position after one (Laws 3.1 to 3.9; PGN 16.1.3.3 to 16.1.3.6).
-use Rattle.std.specs.Prelude.{◌≡◌, ◌≢◌, ◌⊎◌, ℕ, ◌+◌, ◌-◌, ◌/◌, ◌<◌, ◌≤◌, Bool, true, false, not, ◌&&◌, ◌||◌, ◌==◌, if◌then◌else◌, min, Option, Some, None, is_some}
+use Rattle.std.specs.Prelude.{◌≡◌, ◌≢◌, ◌⊎◌, ℕ, ◌+◌, ◌/◌, ◌≤◌, Bool, true, false, not, ◌&&◌, ◌||◌, ◌==◌, if◌then◌else◌, min, Option, Some, None, is_some}
 use Rattle.chess.specs.Squares.{Place, IsOnBoard, same_square, gap}
 use Rattle.chess.specs.Placements.{Placement, man_at, with_man, opposite, IsHeld, IsEmpty}
 use Rattle.chess.specs.Attacks.{Reaches, IsAttacked, IsForward}
-use Rattle.chess.specs.Positions.{State, king_of, rook_of, home_rank, pawn_rank, has_right, king_from, king_to, rook_from, rook_to, IsCheck}
+use Rattle.chess.specs.Positions.{State, rook_of, home_rank, pawn_rank, has_right, king_from, king_to, rook_from, rook_to, IsCheck}
 use Rattle.chess.specs.declared.man.Man.{Man}
 use Rattle.chess.specs.declared.man.Side.{Side}
 use Rattle.chess.specs.declared.man.Side.TheVariants.{White, Black}

@@ -1,11 +1,11 @@
 -- The order of squares is total, and squares that compare alike are one.
-use Rattle.std.proofs.Common.{◌≡◌, ◌≢◌, ℕ, ap, refl, sym, ◌∙◌, true, false, Bool, arith}
+use Rattle.std.proofs.Common.{ℕ, ap}
 use Rattle.std.specs.Cmp.{IsTotalOrder, nat_cmp_total}
 use Rattle.std.specs.FinMap.{IsAntisymmetric}
-use Rattle.std.specs.Ordering.{nat_cmp, eq_by_cmp}
+use Rattle.std.specs.Ordering.{nat_cmp}
 use Rattle.std.proofs.lemmas.Cmp.{on_total, then_total}
 use Rattle.std.proofs.lemmas.Map.Lookups.{exact_pairs, exact_unsigned}
-use Rattle.chess.specs.Squares.{Place, IsOnBoard, place_cmp}
+use Rattle.chess.specs.Squares.{place_cmp}
 
 pub place_total : IsTotalOrder place_cmp
 place_total = then_total (on_total (λ s. s.file) nat_cmp_total) (on_total (λ s. s.rank) nat_cmp_total)

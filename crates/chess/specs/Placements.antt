@@ -5,8 +5,6 @@ use Rattle.chess.specs.Squares.{Place, place_cmp}
 use Rattle.chess.specs.declared.man.Man.{Man}
 use Rattle.chess.specs.declared.man.Side.{Side}
 use Rattle.chess.specs.declared.man.Side.TheVariants.{White, Black}
-use Rattle.chess.specs.declared.man.Kind.{Kind}
-use Rattle.chess.specs.declared.man.Kind.TheVariants.{King, Queen, Rook, Bishop, Knight, Pawn}
 
 -- a placement: the squares on which men stand, and which man stands on each
 abbrev pub Placement : Type 0

@@ -1,13 +1,12 @@
 -- A position: men, the side to move, castling rights, the en passant square, and two counts (Laws 3; PGN 16.1.3).
-use Rattle.std.specs.Prelude.{◌≡◌, ◌≢◌, ◌⊎◌, ℕ, ◌+◌, Bool, true, false, Option, Some, None, IfSome}
+use Rattle.std.specs.Prelude.{◌≡◌, ◌≢◌, ℕ, Bool, true, Option, Some, IfSome}
 use Rattle.chess.specs.Squares.{Place, IsOnBoard}
-use Rattle.chess.specs.Placements.{Placement, man_at, opposite, IsHeld, IsEmpty}
+use Rattle.chess.specs.Placements.{Placement, man_at, opposite, IsEmpty}
 use Rattle.chess.specs.Attacks.{IsAttacked, IsForward}
 use Rattle.chess.specs.declared.man.Man.{Man}
 use Rattle.chess.specs.declared.man.Side.{Side}
 use Rattle.chess.specs.declared.man.Side.TheVariants.{White, Black}
-use Rattle.chess.specs.declared.man.Kind.{Kind}
-use Rattle.chess.specs.declared.man.Kind.TheVariants.{King, Queen, Rook, Bishop, Knight, Pawn}
+use Rattle.chess.specs.declared.man.Kind.TheVariants.{King, Rook, Pawn}
 use Rattle.chess.specs.declared.man.Wing.{Wing}
 use Rattle.chess.specs.declared.man.Wing.TheVariants.{KingSide, QueenSide}
 use Rattle.chess.specs.declared.man.CastlingRights.{CastlingRights}

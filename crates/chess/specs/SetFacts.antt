@@ -1,9 +1,9 @@
 -- Facts about sets of squares and their words of 64 bits.
-use Rattle.std.proofs.Common.{◌≡◌, ◌≢◌, ◌<◌, ◌≤◌, ◌+◌, ◌*◌, ◌^◌, ◌%◌, ◌/◌, ◌||◌, ◌&&◌, ◌⊎◌, bit_and, bit_or, w64, nat_eq, ℕ, zero, suc, Bool, true, false, not, inl, inr, ap, refl, sym, subst, ◌∙◌, arith, rules, if◌then◌else◌}
+use Rattle.std.proofs.Common.{◌≡◌, ◌<◌, ◌≤◌, ◌+◌, ◌*◌, ◌^◌, ◌%◌, ◌/◌, ◌||◌, ◌&&◌, bit_and, bit_or, w64, ℕ, zero, suc, Bool, true, false, not, inl, inr, ap, refl, sym, ◌∙◌, arith, if◌then◌else◌}
 use Rattle.std.specs.Prelude.{◌==◌}
 use Rattle.std.specs.Ordering.{eq_by_cmp, is_eq}
 use Rattle.std.specs.Cmp.{tied_itself, Equal-is}
-use Rattle.std.specs.FinSet.{empty, insert, contains, contains-empty, contains-insert, len-empty, len-insert}
+use Rattle.std.specs.FinSet.{empty, insert, contains-empty, contains-insert, len-empty, len-insert}
 use Rattle.std.specs.Int.{bit_at, bit_not, trailing_zeros}
 use Rattle.std.proofs.lemmas.Bool.{cases_eq}
 use Rattle.std.proofs.lemmas.Nat.Bits.{bit_at-zero, bit_at-lt, shr_and_one, bit_at-trailing_zeros, bit_at_set_same, bit_at_set_other, bit_at_clear_same, bit_at_clear_other}

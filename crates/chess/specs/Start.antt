@@ -1,11 +1,10 @@
 -- The position in which games usually begin (Laws 2.3).
-use Rattle.std.specs.Prelude.{◌≡◌, ℕ, Bool, true, ◌==◌, ◌||◌, if◌then◌else◌, Option, Some, None}
+use Rattle.std.specs.Prelude.{ℕ, true, ◌==◌, ◌||◌, if◌then◌else◌, Option, Some, None}
 use Rattle.chess.specs.Squares.{Place, square_at}
 use Rattle.chess.specs.Placements.{Placement}
 use Rattle.chess.specs.Cells.{men_of}
 use Rattle.chess.specs.Positions.{State, pawn_of}
 use Rattle.chess.specs.declared.man.Man.{Man}
-use Rattle.chess.specs.declared.man.Side.{Side}
 use Rattle.chess.specs.declared.man.Side.TheVariants.{White, Black}
 use Rattle.chess.specs.declared.man.Kind.{Kind}
 use Rattle.chess.specs.declared.man.Kind.TheVariants.{King, Queen, Rook, Bishop, Knight}

@@ -1,14 +1,13 @@
 //! Legal moves (Laws 3.9.2, 3.8.2.2), the squares that they reach, and whether there is one.
-ghost use Rattle.std.specs.Prelude.{◌≡◌, ◌↔◌, ◌⊎◌, IsTrue, Some, None, true};
-ghost use Rattle.chess.specs.Squares.{Place, IsOnBoard};
+ghost use Rattle.std.specs.Prelude.{◌↔◌, IsTrue, Some, None};
 ghost use Rattle.chess.specs.Attacks.{IsInReach};
-ghost use Rattle.chess.specs.Positions.{State, IsCheck};
+ghost use Rattle.chess.specs.Positions.{IsCheck};
 ghost use Rattle.chess.specs.Moves.{IsBarred, IsUnbarred, men_after, IsPseudoLegal, IsLegal, CanGo, HasMove};
 ghost use Rattle.chess.specs.MoveWords.{CanGoPlainly, CanPromote, CanCastle, CanLeave, CanMove, HasEach, IsPawnGoal, IsCastlingGoal};
-ghost use Rattle.chess.specs.Sets.{HoldsExactly, is_in};
+ghost use Rattle.chess.specs.Sets.{HoldsExactly};
 
 use crate::board::Board;
-use crate::castling::{king_arrives, king_leaves, rook_arrives};
+use crate::castling::{king_arrives, king_leaves, rank_of_pieces, rook_arrives};
 use crate::man::{Kind, Man, Wing};
 use crate::moves::Move;
 use crate::position::Position;
@@ -102,7 +101,10 @@ impl<B: Board> Position<B> {
     pub(crate) fn can_go(&self, from: Square, to: Square) -> bool
         ensures { IsTrue result ↔ CanGo self.now from to }
     {
-        if self.can_go_plainly(from, to) || self.can_promote(from, to) {
+        if self.can_go_plainly(from, to) {
+            return true;
+        }
+        if self.can_promote(from, to) {
             return true;
         }
         self.can_castle(from, to)
@@ -136,10 +138,19 @@ impl<B: Board> Position<B> {
     fn can_promote(&self, from: Square, to: Square) -> bool
         ensures { IsTrue result ↔ CanPromote self.now from to }
     {
-        self.can_become(from, to, Kind::Queen)
-            || self.can_become(from, to, Kind::Rook)
-            || self.can_become(from, to, Kind::Bishop)
-            || self.can_become(from, to, Kind::Knight)
+        if to.rank() != rank_of_pieces(self.side().opposite()) {
+            return false;
+        }
+        if self.can_become(from, to, Kind::Queen) {
+            return true;
+        }
+        if self.can_become(from, to, Kind::Rook) {
+            return true;
+        }
+        if self.can_become(from, to, Kind::Bishop) {
+            return true;
+        }
+        self.can_become(from, to, Kind::Knight)
     }
 
     /// Whether castling on the wing goes so.
@@ -158,6 +169,9 @@ impl<B: Board> Position<B> {
     fn can_castle(&self, from: Square, to: Square) -> bool
         ensures { IsTrue result ↔ CanCastle self.now from to }
     {
+        if !from.is(king_leaves(self.side())) {
+            return false;
+        }
         self.can_castle_on(from, to, Wing::KingSide)
             || self.can_castle_on(from, to, Wing::QueenSide)
     }

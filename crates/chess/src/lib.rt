@@ -1,17 +1,23 @@
-//! Chess by the FIDE Laws: boards, positions, legal moves, FEN and SAN. No call takes memory.
+//! Chess by the FIDE Laws: boards, positions, legal moves and FEN. No call takes memory.
 #![tactic(auto)]
 
 pub mod board;
 mod castling;
 pub mod direction;
 pub mod fen;
+mod fen_text;
+mod fields;
+mod given;
+mod kept;
 mod legal;
+mod letters;
 pub mod mailbox;
 pub mod man;
 pub mod moves;
 mod play;
 pub mod position;
 mod pseudo_legal;
+mod ranks;
 pub mod set;
 pub mod square;
 mod start;
@@ -24,3 +30,6 @@ pub use moves::Move;
 pub use position::Position;
 pub use set::SquareSet;
 pub use square::Square;
+
+#[cfg(test)]
+mod rows;

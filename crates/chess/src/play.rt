@@ -1,9 +1,9 @@
 //! The position after a move (Laws 3.7, 3.8; PGN 16.1.3.3 to 16.1.3.6).
-ghost use Rattle.std.specs.Prelude.{◌≡◌, ◌↔◌, IsTrue};
-ghost use Rattle.chess.specs.Squares.{same_square, IsOnBoard};
-ghost use Rattle.chess.specs.Positions.{State, IsOnlyKing};
-ghost use Rattle.chess.specs.Moves.{is_pawn, is_square, is_en_passant, taken, arriving, men_after, keeps_right, rights_after, en_passant_after, one_more, halfmove_clock_after, fullmove_number_after, after, IsPseudoLegal, IsLegal};
-ghost use Rattle.chess.specs.Placements.{man_at};
+ghost use Rattle.std.specs.Prelude.{◌≡◌};
+ghost use Rattle.chess.specs.Squares.{same_square};
+ghost use Rattle.chess.specs.Positions.{IsOnlyKing};
+ghost use Rattle.chess.specs.Moves.{is_pawn, is_en_passant, taken, arriving, men_after, keeps_right, rights_after, en_passant_after, one_more, halfmove_clock_after, fullmove_number_after, after, IsPseudoLegal, IsLegal};
+ghost use Rattle.chess.specs.Placements.{opposite};
 
 use crate::board::Board;
 use crate::castling::{king_leaves, rook_arrives, rook_leaves};
@@ -41,7 +41,7 @@ impl<B: Board> Position<B> {
     fn is_en_passant(&self, m: &Move) -> bool
         ensures { result ≡ is_en_passant self.now m.now }
     {
-        is_pawn(self.at(m.from)) && m.from.file() != m.to.file() && self.passes(m.to)
+        self.passes(m.to) && m.from.file() != m.to.file() && is_pawn(self.at(m.from))
     }
 
     /// The square of the man that the move takes, if it takes one.
@@ -142,13 +142,20 @@ impl<B: Board> Position<B> {
         }
     }
 
+    /// The side to move after a move.
+    fn turn_after(&self) -> Side
+        ensures { result ≡ opposite self.now.turn }
+    {
+        self.side().opposite()
+    }
+
     /// The square of the side's king after the move.
     pub(crate) fn king_after(&self, m: &Move, side: Side) -> Square
         requires { IsPseudoLegal self.now m.now }
         ensures { IsOnlyKing (men_after self.now m.now) side result }
     {
         self.known();
-        let _ = m.from.file();
+        let _ = m.from.file(); // a square is on the board
         let king = self.king(side);
         if king.is(m.from) { m.to } else { king }
     }
@@ -159,10 +166,10 @@ impl<B: Board> Position<B> {
         ensures { result ≡ after self.now m }
     {
         self.known();
-        let _ = m.from.file();
+        let _ = m.from.file(); // a square is on the board
         Position {
             board: self.board_after(&m),
-            turn: self.side().opposite(),
+            turn: self.turn_after(),
             rights: self.rights_after(&m),
             en_passant: self.en_passant_after(&m),
             halfmove_clock: self.halfmove_clock_after(&m),

@@ -1,12 +1,10 @@
 //! Positions, over any board.
 ghost use Rattle.std.specs.Prelude.{◌≡◌, ◌↔◌, IsTrue};
-ghost use Rattle.chess.specs.Squares.{IsOnBoard};
-ghost use Rattle.chess.specs.Placements.{man_at, IsHeld, IsEmpty, opposite};
+ghost use Rattle.chess.specs.Placements.{man_at, IsHeld, IsEmpty};
 ghost use Rattle.chess.specs.Attacks.{IsAttacked};
 ghost use Rattle.chess.specs.Positions.{State, IsSound, IsOnlyKing, IsCheck, has_right};
 ghost use Rattle.chess.specs.Moves.{is_square};
 ghost use Rattle.chess.specs.Sets.{IsReachOf, IsSquaresOf};
-ghost use Rattle.chess.specs.declared.man.Man.{Man};
 
 use crate::board::Board;
 use crate::man::{CastlingRights, Man, Side, Wing};

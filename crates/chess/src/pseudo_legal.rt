@@ -1,12 +1,8 @@
 //! Pseudo-legal moves: how the men go, whether or not the own king is then attacked.
-ghost use Rattle.std.specs.Prelude.{◌≡◌, ◌↔◌, ◌≤◌, IsTrue};
-ghost use Rattle.chess.specs.Squares.{Place, IsOnBoard};
-ghost use Rattle.chess.specs.Placements.{man_at, IsHeld};
-ghost use Rattle.chess.specs.Attacks.{Reaches, IsForward};
-ghost use Rattle.chess.specs.Positions.{State, home_rank};
-ghost use Rattle.chess.specs.Moves.{IsSingleStep, IsDoubleStep, IsPawnCapture, IsPawnMove, IsPromotion, Promotes, IsBetween, Castles, IsKingMove, Goes, IsPseudoLegal};
+ghost use Rattle.std.specs.Prelude.{◌↔◌, IsTrue};
+ghost use Rattle.chess.specs.Attacks.{Reaches};
+ghost use Rattle.chess.specs.Moves.{IsSingleStep, IsDoubleStep, IsPawnCapture, IsPawnMove, IsPromotion, Promotes, Castles, IsKingMove, Goes, IsPseudoLegal};
 ghost use Rattle.chess.specs.MoveWords.{IsMover, IsOpen, IsPlainMove, IsSquareAhead};
-ghost use Rattle.chess.specs.declared.man.Man.{Man};
 
 use crate::board::Board;
 use crate::castling::{at_home, king_arrives, king_leaves, rank_of_pawns, rank_of_pieces};
@@ -151,8 +147,8 @@ impl<B: Board> Position<B> {
         match kind {
             Kind::Pawn => {
                 m.castle.is_none()
-                    && self.is_pawn_move(m.from, m.to)
                     && promotes(self.side(), m.to, m.promote)
+                    && self.is_pawn_move(m.from, m.to)
             }
             Kind::King => m.promote.is_none() && self.is_king_move(m),
             Kind::Queen | Kind::Rook | Kind::Bishop | Kind::Knight => self.is_plain_move(kind, m),

@@ -1,5 +1,5 @@
 //! The position in which games usually begin (Laws 2.3).
-ghost use Rattle.std.specs.Prelude.{◌≡◌, ◌≤◌};
+ghost use Rattle.std.specs.Prelude.{◌≡◌};
 ghost use Rattle.chess.specs.Start.{usual_piece, usual_man, usual_men, usual};
 
 use crate::board::Board;

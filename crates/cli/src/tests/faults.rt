@@ -148,3 +148,28 @@ fn the_summary_counts_games_and_faulty_ones(rt: HostRuntime) -> Result<(), Fail>
     }
     Ok(())
 }
+
+#[test]
+fn the_pieces_that_a_reader_gives_change_nothing(rt: HostRuntime) -> Result<(), Fail> {
+    // 23 to 29 cut the second event line behind each of its first seven bytes.
+    for piece in [1, 7, 8, 23, 24, 25, 26, 27, 28, 29, 8192usize] {
+        let mut input = Tally::new(Pieces::new(TWO_GAMES, piece));
+        let mut out = Tally::new(Page::new());
+        let mut err = Tally::new(Page::new());
+        let answer = run(rt.alloc(), &mut input, &mut out, &mut err, &ALL);
+        assert_eq!(rt;
+            answer,
+            Ok(Summary {
+                games: 2,
+                faulty: 0
+            }),
+            "at {piece}"
+        );
+        assert_eq!(rt;
+            out.into_inner().text(),
+            b"1@0\n2@22\n".as_slice(),
+            "at {piece}"
+        );
+    }
+    Ok(())
+}

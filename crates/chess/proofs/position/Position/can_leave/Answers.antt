@@ -1,4 +1,4 @@
-use Rattle.std.proofs.Common.{◌≡◌, subst, Bool, true, false, Option}
+use Rattle.std.proofs.Common.{◌≡◌, subst, true, false, Option}
 use Rattle.chess.specs.Squares.{Place}
 use Rattle.chess.specs.Sets.{IsTakenFirst}
 use Rattle.chess.specs.Moves.{CanGo}

@@ -1,5 +1,4 @@
 use Rattle.chess.proofs.PlaceFacts.{true_not_false}
-use Rattle.chess.proofs.GoesFacts.{IsTried}
 use Rattle.chess.proofs.KingFacts.{king_stays, king_moves}
 use Rattle.chess.proofs.position.Position.king_after.Goals as goal
 

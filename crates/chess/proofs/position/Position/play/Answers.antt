@@ -2,7 +2,6 @@ use Rattle.std.proofs.Common.{◌≡◌, sym, ap, subst, ◌∙◌}
 use Rattle.chess.specs.Placements.{opposite}
 use Rattle.chess.specs.Positions.{State, IsKept}
 use Rattle.chess.specs.Moves.{after}
-use Rattle.chess.proofs.GoesFacts.{IsTried}
 use Rattle.chess.proofs.SoundFacts.{after_sound}
 use Rattle.chess.proofs.position.Position.play.Goals as goal
 
@@ -12,7 +11,7 @@ invariant_of-result g c =
     let m = c.args.m in
     let shown : record {
       men = g.B.Board.men c.board_after.result;
-      turn = c.opposite.result;
+      turn = c.turn_after.result;
       rights = c.rights_after.result;
       en_passant = c.en_passant_after.result;
       halfmove_clock = c.halfmove_clock_after.result;
@@ -21,7 +20,7 @@ invariant_of-result g c =
     ≡ after P m =
     λ i. record {
       men = c.board_after.ensures i;
-      turn = (c.opposite.ensures ∙ ap opposite c.side.ensures) i;
+      turn = c.turn_after.ensures i;
       rights = c.rights_after.ensures i;
       en_passant = c.en_passant_after.ensures i;
       halfmove_clock = c.halfmove_clock_after.ensures i;

@@ -1,9 +1,9 @@
-use Rattle.std.proofs.Common.{◌≡◌, sym, subst, true, None}
+use Rattle.std.proofs.Common.{sym, subst}
 use Rattle.chess.specs.Squares.{Place}
 use Rattle.chess.specs.Placements.{Placement}
 use Rattle.chess.specs.Positions.{State, IsKept, king_from}
 use Rattle.chess.specs.Start.{usual}
-use Rattle.chess.specs.declared.man.Side.TheVariants.{White, Black}
+use Rattle.chess.specs.declared.man.Side.TheVariants.{White}
 use Rattle.chess.proofs.StartFacts.{usual_kept}
 use Rattle.chess.proofs.position.Position.start.Goals as goal
 

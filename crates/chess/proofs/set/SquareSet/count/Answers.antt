@@ -1,6 +1,6 @@
-use Rattle.std.proofs.Common.{◌≡◌, sym, ap, subst, ◌∙◌, arith, ◌+◌, ◌/◌, ◌^◌, ◌<◌, ◌≤◌, bit_and, ℕ}
+use Rattle.std.proofs.Common.{sym, ap, subst, ◌∙◌, arith, ◌+◌, ◌/◌, ◌^◌, ◌<◌, bit_and}
 use Rattle.std.proofs.lemmas.Nat.Bits.{bit_at-lt, shr_and_one}
-use Rattle.chess.specs.Sets.{first_places, has_bit, size_of}
+use Rattle.chess.specs.Sets.{has_bit}
 use Rattle.chess.specs.SetFacts.{size-no_places, size-next_bit}
 use Rattle.chess.proofs.set.SquareSet.count.Goals as goal
 

@@ -1,9 +1,7 @@
-use Rattle.std.proofs.Common.{rules, arith, refl, sym, ap, subst, ◌∙◌, ◌≡◌, ◌||◌, ◌↔◌, ◌<◌, ◌≤◌, IsTrue, Some, None, ℕ, ◌+◌, ◌-◌, ◌*◌, ◌^◌, ◌/◌, ◌%◌, Bool, true, false, nat_eq, bit_and, bit_or, w64}
-use Rattle.std.proofs.lemmas.Bool.Decides.{nat_tests}
-use Rattle.chess.specs.SquareFacts.{index_of-square_at}
-use Rattle.chess.specs.Squares.{Place, IsOnBoard, same_square, index_of, square_at}
-use Rattle.chess.specs.Sets.{is_in, no_places, places_of, first_places, has_bit, size_of, IsTakenFirst}
-use Rattle.chess.specs.SetFacts.{empty_word, not_empty_word, is_in-places_of, is_in-set_bit, is_in-clear_bit, on_board-square_at, index_of-below}
+use Rattle.std.proofs.Common.{arith, ap, ◌∙◌, ◌||◌, ◌<◌, ◌*◌, ◌^◌, ◌%◌, bit_or}
+use Rattle.chess.specs.Squares.{same_square}
+use Rattle.chess.specs.Sets.{is_in, places_of, has_bit}
+use Rattle.chess.specs.SetFacts.{is_in-set_bit}
 use Rattle.chess.proofs.set.SquareSet.insert.Goals as goal
 use Rattle.std.proofs.lemmas.Nat.{or_lt}
 

@@ -1,0 +1,76 @@
+-- What is right and what is wrong with a position that a text spells.
+use Rattle.std.proofs.Common.{◌≡◌, ◌↔◌, ℕ, List, Bool, true, false, inl, inr, sym, refl, subst, Option, Some, None, IfSome, IsTrue}
+use Rattle.chess.specs.Squares.{Place, IsOnBoard}
+use Rattle.chess.specs.Placements.{opposite}
+use Rattle.chess.specs.Attacks.{IsAttacked}
+use Rattle.chess.specs.Positions.{State, IsOnlyKing, IsKept, FitsEnPassant}
+use Rattle.chess.specs.Fen.{SpellsPosition, HasWrongKings, HasWrongPawns, HasWrongCheck}
+use Rattle.chess.specs.FenWords.{IsEdgePawn}
+use Rattle.chess.specs.declared.man.Side.{Side}
+use Rattle.chess.specs.declared.man.Side.TheVariants.{White, Black}
+use Rattle.chess.proofs.PlaceFacts.{opposite-opposite}
+
+-- the square of each side's king
+pub record HasKings (P : State) (white black : Place) : Type 0 where
+  pub white_on : IsOnBoard white
+  pub white_only : IsOnlyKing P.men White white
+  pub black_on : IsOnBoard black
+  pub black_only : IsOnlyKing P.men Black black
+
+each_king : (P : State) (white black : Place) → HasKings P white black → (side : Side) → (s : Place) × IsOnBoard s × IsOnlyKing P.men side s
+each_king P white black kings White = (white, kings.white_on, kings.white_only)
+each_king P white black kings Black = (black, kings.black_on, kings.black_only)
+
+pub right_kings : (P : State) (white black : Place) → HasKings P white black → HasWrongKings P → ⊥
+right_kings P white black kings wrong = let king = each_king P white black kings wrong.0 in wrong.1 king.0 king.2
+
+-- an answer that is no
+denied : (b : Bool) → b ≡ false → IsTrue b → ⊥
+denied true e t = let clash : true ≡ false = e in cc
+denied false e t = let clash : false ≡ true = t in cc
+
+pub wrong_pawns : (P : State) (b : Bool) → IsTrue b ↔ ((s : Place) × IsEdgePawn P.men s) → b ≡ true → HasWrongPawns P
+wrong_pawns P b test found = let s = test.0 found in (s.1.0.0, s.0, s.1.0.1, s.1.1)
+
+pub right_pawns : (P : State) (b : Bool) → IsTrue b ↔ ((s : Place) × IsEdgePawn P.men s) → b ≡ false → HasWrongPawns P → ⊥
+right_pawns P b test none wrong = denied b none (test.1 (wrong.1, ((wrong.0, wrong.2), wrong.3)))
+
+-- the king of the side not to move
+pub enemy_white : (P : State) (white black king : Place) → HasKings P white black → P.turn ≡ White → king ≡ black → IsOnlyKing P.men (opposite P.turn) king
+enemy_white P white black king kings turn e =
+    subst (λ side. IsOnlyKing P.men (opposite side) king) (sym turn) (subst (λ (s : Place). IsOnlyKing P.men Black s) (sym e) kings.black_only)
+
+pub enemy_black : (P : State) (white black king : Place) → HasKings P white black → P.turn ≡ Black → king ≡ white → IsOnlyKing P.men (opposite P.turn) king
+enemy_black P white black king kings turn e =
+    subst (λ side. IsOnlyKing P.men (opposite side) king) (sym turn) (subst (λ (s : Place). IsOnlyKing P.men White s) (sym e) kings.white_only)
+
+pub wrong_check : (P : State) (king : Place) (b : Bool) → IsOnlyKing P.men (opposite P.turn) king → IsTrue b ↔ IsAttacked P.men P.turn king → b ≡ true
+    → HasWrongCheck P
+wrong_check P king b only test attacked =
+    (king, only.here, subst (λ side. IsAttacked P.men side king) (sym (opposite-opposite P.turn)) (test.0 attacked))
+
+pub right_check : (P : State) (king : Place) (b : Bool) → IsOnlyKing P.men (opposite P.turn) king → IsTrue b ↔ IsAttacked P.men P.turn king → b ≡ false
+    → HasWrongCheck P → ⊥
+right_check P king b only test quiet wrong =
+    denied b quiet (test.1
+    (subst (IsAttacked P.men P.turn) (only.only wrong.0 wrong.1)
+    (subst (λ side. IsAttacked P.men side wrong.0) (opposite-opposite P.turn) wrong.2)))
+
+if_some : (o : Option Place) (fact : Place → Type 0) → ((s : Place) → o ≡ Some s → fact s) → IfSome o fact
+if_some None fact each = tt
+if_some (Some s) fact each = each s refl
+
+-- a position that is spelled, and with which nothing is wrong, keeps all facts
+pub spelled_kept : (x : List ℕ) (P : State) (white black : Place) → SpellsPosition x P → HasKings P white black → (HasWrongPawns P → ⊥) → (HasWrongCheck P → ⊥)
+    → IsKept P white black
+spelled_kept x P white black spelled kings pawns quiet = record {
+  sound = record {
+    king = each_king P white black kings;
+    pawns = λ side s here. ((λ e. pawns (side, s, here, inl e)), (λ e. pawns (side, s, here, inr e)));
+    quiet = quiet;
+    rights = λ side wing held. ((spelled.rights side wing).0 held).1;
+    en_passant = if_some P.en_passant (FitsEnPassant P.men P.turn) (λ s here. ((spelled.en_passant s).0 here).1);
+  };
+  white = kings.white_only;
+  black = kings.black_only;
+}

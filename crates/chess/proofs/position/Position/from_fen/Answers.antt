@@ -1,0 +1,84 @@
+use Rattle.chess.specs.Placements.{opposite}
+use Rattle.chess.specs.Positions.{State, IsOnlyKing}
+use Rattle.chess.specs.declared.man.Side.TheVariants.{White, Black}
+use Rattle.chess.proofs.FenFacts.{HasKings, right_kings, wrong_pawns, right_pawns, enemy_white, enemy_black, wrong_check, right_check, spelled_kept}
+use Rattle.chess.proofs.position.Position.from_fen.Goals as goal
+use Rattle.chess.proofs.position.Position.from_fen.Goals.{in-White, in-Black}
+
+pub returns-in_default-only_king : goal.returns-in_default-only_king
+returns-in_default-only_king g c = (_, c.in-Some.ensures, (White, c.in_default-only_king.ensures))
+
+pub returns-in_default-only_king-2 : goal.returns-in_default-only_king-2
+returns-in_default-only_king-2 g c = (_, c.in-Some.ensures, (Black, c.in_default-only_king-2.ensures))
+
+pub returns-then-has_edge_pawn : goal.returns-then-has_edge_pawn
+returns-then-has_edge_pawn g c =
+    let draft = c.in-Some.draft in
+    let P : State = record {
+      men = g.B.Board.men draft.board;
+      turn = draft.turn;
+      rights = draft.rights;
+      en_passant = draft.en_passant;
+      halfmove_clock = draft.halfmove_clock;
+      fullmove_number = draft.fullmove_number;
+    } in
+    let white = c.in-Some-only_king in
+    let black = c.in-Some-only_king-2 in
+    let kings : HasKings P white.white_king black.black_king =
+    record { white_on = white.ensures.0; white_only = white.ensures.1; black_on = black.ensures.0; black_only = black.ensures.1 } in (
+      P,
+      c.in-Some.ensures,
+      right_kings P white.white_king black.black_king kings,
+      wrong_pawns P c.has_edge_pawn.result c.has_edge_pawn.ensures c.if-has_edge_pawn.true,
+    )
+
+pub returns-then-attacked : goal.returns-then-attacked
+returns-then-attacked g c =
+    let draft = c.in-Some.draft in
+    let P : State = record {
+      men = g.B.Board.men draft.board;
+      turn = draft.turn;
+      rights = draft.rights;
+      en_passant = draft.en_passant;
+      halfmove_clock = draft.halfmove_clock;
+      fullmove_number = draft.fullmove_number;
+    } in
+    let white = c.in-Some-only_king in
+    let black = c.in-Some-only_king-2 in
+    let king = c.match-draft.king in
+    let kings : HasKings P white.white_king black.black_king =
+    record { white_on = white.ensures.0; white_only = white.ensures.1; black_on = black.ensures.0; black_only = black.ensures.1 } in
+    let enemy : IsOnlyKing P.men (opposite P.turn) king = elim c.match-draft.branch [
+      | in-White w ↦ enemy_white P white.white_king black.black_king king kings w.in-White.is w.king-is
+      | in-Black w ↦ enemy_black P white.white_king black.black_king king kings w.in-Black.is w.king-is
+    ] in (
+      P,
+      c.in-Some.ensures,
+      right_kings P white.white_king black.black_king kings,
+      right_pawns P c.has_edge_pawn.result c.has_edge_pawn.ensures c.if-has_edge_pawn.false,
+      wrong_check P king c.attacked.result enemy c.attacked.ensures c.if-attacked.true,
+    )
+
+pub invariant_of-result : goal.invariant_of-result
+invariant_of-result g c =
+    let draft = c.in-Some.draft in
+    let P : State = record {
+      men = g.B.Board.men draft.board;
+      turn = draft.turn;
+      rights = draft.rights;
+      en_passant = draft.en_passant;
+      halfmove_clock = draft.halfmove_clock;
+      fullmove_number = draft.fullmove_number;
+    } in
+    let white = c.in-Some-only_king in
+    let black = c.in-Some-only_king-2 in
+    let king = c.match-draft.king in
+    let kings : HasKings P white.white_king black.black_king =
+    record { white_on = white.ensures.0; white_only = white.ensures.1; black_on = black.ensures.0; black_only = black.ensures.1 } in
+    let enemy : IsOnlyKing P.men (opposite P.turn) king = elim c.match-draft.branch [
+      | in-White w ↦ enemy_white P white.white_king black.black_king king kings w.in-White.is w.king-is
+      | in-Black w ↦ enemy_black P white.white_king black.black_king king kings w.in-Black.is w.king-is
+    ] in
+    spelled_kept c.args.text.now P white.white_king black.black_king c.in-Some.ensures kings
+    (right_pawns P c.has_edge_pawn.result c.has_edge_pawn.ensures c.if-has_edge_pawn.false)
+    (right_check P king c.attacked.result enemy c.attacked.ensures c.if-attacked.false)

@@ -1,0 +1,53 @@
+//! The letters of men and squares, written into a text of limited length (PGN 8.2.3.1, 8.2.3.2, 16.1.3.1).
+ghost use Rattle.std.specs.Prelude.{◌≡◌, ◌+◌, ◌≤◌, ◌<◌, ◌++◌, ◌∷◌, []};
+ghost use Rattle.arrayvec.specs.ArrayString.{array_string_len};
+ghost use Rattle.chess.specs.Letters.{kind_letter, man_letter, square_text};
+
+use crate::man::{Kind, Man, Side};
+use crate::square::Square;
+use arrayvec::ArrayString;
+
+/// The letter of a kind, in upper case.
+pub(crate) fn kind_letter(kind: Kind) -> u8
+    ensures letter { result ≡ kind_letter kind }
+    ensures ascii { result ≤ 82 }
+{
+    match kind {
+        Kind::King => b'K',
+        Kind::Queen => b'Q',
+        Kind::Rook => b'R',
+        Kind::Bishop => b'B',
+        Kind::Knight => b'N',
+        Kind::Pawn => b'P',
+    }
+}
+
+/// The letter of a man: White's in upper case, Black's in lower case.
+pub(crate) fn man_letter(man: Man) -> u8
+    ensures letter { result ≡ man_letter man }
+    ensures ascii { result < 128 }
+{
+    let letter = kind_letter(man.kind);
+    match man.side {
+        Side::White => letter,
+        Side::Black => letter + 32,
+    }
+}
+
+/// Appends an ASCII byte.
+pub(crate) fn push_byte<const CAP: usize>(out: &mut ArrayString<CAP>, byte: u8)
+    requires ascii { byte < 128 }
+    requires room { array_string_len out.old < CAP }
+    ensures { out.new.bytes ≡ out.old.bytes ++ byte ∷ [] }
+{
+    out.push(byte as char);
+}
+
+/// Appends a square.
+pub(crate) fn push_square<const CAP: usize>(out: &mut ArrayString<CAP>, square: Square)
+    requires { array_string_len out.old + 2 ≤ CAP }
+    ensures { out.new.bytes ≡ out.old.bytes ++ square_text square }
+{
+    push_byte(out, b'a' - 1 + square.file());
+    push_byte(out, b'0' + square.rank());
+}
