@@ -72,6 +72,50 @@ fn counts_of_games_from_the_start(rt: HostRuntime) -> Result<(), Fail> {
     Ok(())
 }
 
+/// How many games of so many moves there are from the position of the text.
+fn count_from(text: &[u8], depth: u8) -> Result<u32, Fail> {
+    match Position::<Mailbox>::from_fen(text) {
+        Ok(position) => Ok(count(&position, depth)),
+        Err(_) => Err("a position was refused")?,
+    }
+}
+
+#[test]
+fn counts_of_games_with_castling(rt: HostRuntime) -> Result<(), Fail> {
+    let text = b"r3k2r/p1ppqpb1/bn2pnp1/3PN3/1p2P3/2N2Q1p/PPPBBPPP/R3K2R w KQkq - 0 1";
+    assert_eq!(rt; count_from(text, 1)?, 48);
+    assert_eq!(rt; count_from(text, 2)?, 2039);
+    Ok(())
+}
+
+#[test]
+fn counts_of_games_with_captures_en_passant(rt: HostRuntime) -> Result<(), Fail> {
+    let text = b"8/2p5/3p4/KP5r/1R3p1k/8/4P1P1/8 w - - 0 1";
+    assert_eq!(rt; count_from(text, 1)?, 14);
+    assert_eq!(rt; count_from(text, 2)?, 191);
+    assert_eq!(rt; count_from(text, 3)?, 2812);
+    Ok(())
+}
+
+#[test]
+fn counts_of_games_with_promotions(rt: HostRuntime) -> Result<(), Fail> {
+    let one = b"r3k2r/Pppp1ppp/1b3nbN/nP6/BBP1P3/q4N2/Pp1P2PP/R2Q1RK1 w kq - 0 1";
+    assert_eq!(rt; count_from(one, 1)?, 6);
+    assert_eq!(rt; count_from(one, 2)?, 264);
+    let other = b"rnbq1k1r/pp1Pbppp/2p5/8/2B5/8/PPP1NnPP/RNBQK2R w KQ - 1 8";
+    assert_eq!(rt; count_from(other, 1)?, 44);
+    assert_eq!(rt; count_from(other, 2)?, 1486);
+    Ok(())
+}
+
+#[test]
+fn counts_of_games_from_a_middle_game(rt: HostRuntime) -> Result<(), Fail> {
+    let text = b"r4rk1/1pp1qppp/p1np1n2/2b1p1B1/2B1P1b1/P1NP1N2/1PP1QPPP/R4RK1 w - - 0 10";
+    assert_eq!(rt; count_from(text, 1)?, 46);
+    assert_eq!(rt; count_from(text, 2)?, 2079);
+    Ok(())
+}
+
 /// The move written as its two squares, with the letter of a promotion; a king's step of two files is castling.
 fn move_of(position: &Position<Mailbox>, text: &[u8]) -> Result<Move, Fail> {
     if text.len() < 4 {
