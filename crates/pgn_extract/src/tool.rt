@@ -47,6 +47,10 @@ enum Refusal {
 }
 
 impl From<AllocError> for Refusal {
+    ghost use Rattle.pgn_extract.specs.declared.tool.Refusal.TheVariants.{OutOfMemory};
+
+    ghost from_gives = { λ _ refusal. refusal ≡ OutOfMemory };
+
     fn from(_error: AllocError) -> Refusal {
         Refusal::OutOfMemory
     }
