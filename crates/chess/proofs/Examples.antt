@@ -1,14 +1,14 @@
 -- What the definitions say of squares and texts that every player can check.
-use Rattle.std.proofs.Common.{◌≡◌, ℕ, ◌<◌, ◌≤◌, true, false, List, [], ◌∷◌, Some, None, inl, inr, refl, sym, ap, ◌∙◌, subst, arith, codes}
-use Rattle.chess.specs.Squares.{Place, IsOnBoard, IsAhead}
+use Rattle.std.proofs.Common.{◌≡◌, ℕ, ◌≤◌, true, false, [], ◌∷◌, Some, None, inl, inr, refl, sym, ◌∙◌, arith, codes}
+use Rattle.chess.specs.Squares.{IsAhead}
 use Rattle.chess.specs.Placements.{Placement, man_at}
 use Rattle.chess.specs.Attacks.{Reaches, IsOnRay}
-use Rattle.chess.specs.Positions.{king_from, king_to, rook_from, rook_to, has_right}
-use Rattle.chess.specs.San.{Said, Spells}
+use Rattle.chess.specs.Positions.{king_from, king_to, rook_from, rook_to}
+use Rattle.chess.specs.San.{Spells}
 use Rattle.chess.specs.Fen.{fields_of, parted_at, is_shortest, number_from}
 use Rattle.chess.specs.declared.man.Man.{Man}
 use Rattle.chess.specs.declared.man.Side.TheVariants.{White, Black}
-use Rattle.chess.specs.declared.man.Kind.TheVariants.{King, Queen, Rook, Bishop, Knight, Pawn}
+use Rattle.chess.specs.declared.man.Kind.TheVariants.{King, Queen, Rook, Knight, Pawn}
 use Rattle.chess.specs.declared.man.Wing.TheVariants.{KingSide, QueenSide}
 use Rattle.chess.specs.declared.direction.Direction.{Direction}
 use Rattle.chess.specs.declared.direction.Direction.TheVariants.{North, South, East, West, NorthEast, NorthWest, SouthEast, SouthWest}

@@ -11,5 +11,11 @@ pub mod RestFacts
 pub mod RankFacts
 pub mod CountFacts
 pub mod FenFacts
+pub mod FenOnce
 pub mod FenTextFacts
+pub mod ReadingFacts
+pub mod CastlingTextFacts
+pub mod TextParts
+pub mod SpelledParts
+pub mod NamedFacts
 pub mod Examples

@@ -57,7 +57,7 @@ letter_high Black other = let high = kind_high other in omega arith
 
 -- ---- what a byte spells
 
-step_only : (b : ℕ) (own : List (Option Man)) → IsSquares b own → b ≤ 56 → own ≡ replicate (b - 48) None
+pub step_only : (b : ℕ) (own : List (Option Man)) → IsSquares b own → b ≤ 56 → own ≡ replicate (b - 48) None
 step_only _ _ (letter man) high = let low = letter_high man.side man.kind in absurd (omega arith)
 step_only _ _ (step n low high) small = let same : n ≡ 48 + n - 48 = omega arith in ap (λ m. replicate m None) same
 
@@ -72,7 +72,7 @@ step_byte b low high =
       one = inl refl;
     }
 
-letter_only : (b : ℕ) (own : List (Option Man)) (man : Man) → IsSquares b own → man_letter man ≡ b → own ≡ Some man ∷ []
+pub letter_only : (b : ℕ) (own : List (Option Man)) (man : Man) → IsSquares b own → man_letter man ≡ b → own ≡ Some man ∷ []
 letter_only _ _ man (letter other) e = ap (λ m. Some m ∷ []) (sym (one_man man other e))
 letter_only _ _ man (step n low high) e = let far = letter_high man.side man.kind in absurd (omega arith)
 

@@ -8,6 +8,7 @@ pub mod Moves
 pub mod Letters
 pub mod San
 pub mod Fen
+pub mod Laws
 pub mod Sets
 pub mod SetFacts
 pub mod MoveWords
@@ -19,3 +20,5 @@ pub mod BoardFacts
 pub mod Runs
 pub mod FenWords
 pub mod FenTextWords
+pub mod SanWords
+pub mod SanAnswers

@@ -1,5 +1,4 @@
-use Rattle.std.proofs.Common.{◌≡◌, sym, ap, subst, ◌∙◌}
-use Rattle.chess.specs.Placements.{opposite}
+use Rattle.std.proofs.Common.{◌≡◌, sym, subst}
 use Rattle.chess.specs.Positions.{State, IsKept}
 use Rattle.chess.specs.Moves.{after}
 use Rattle.chess.proofs.SoundFacts.{after_sound}

@@ -1,0 +1,277 @@
+-- The moves that a text names: over the squares of the men that it speaks of.
+use Rattle.std.proofs.Common.{◌≡◌, ◌≢◌, ◌↔◌, ◌&&◌, ◌+◌, ◌⊎◌, ℕ, Bool, true, false, not, inl, inr, ap, refl, sym, subst, ◌∙◌, arith, Option, Some, None, Result, Ok, Err, IsTrue, MatchOption, is_some, IfSome, IfOk, IsErrOf, List, [], ◌∷◌, ◌++◌, ◌≤◌}
+use Rattle.chess.specs.Squares.{Place, IsOnBoard}
+use Rattle.chess.specs.Placements.{man_at}
+use Rattle.chess.specs.Positions.{State}
+use Rattle.chess.specs.Moves.{IsLegal, Goes, Castles}
+use Rattle.chess.specs.San.{Said, Spells, IsCastlingText, Agrees, IsNamed, IsOnlyNamed, kind_said, letter_text, file_text, rank_text, IsFileOrRank}
+use Rattle.chess.specs.Letters.{kind_letter, is_sign, square_text}
+use Rattle.chess.specs.SanWords.{Fits, IsNext, HasNone, IsMoveSaid, IsCastlingOn, move_from, castling_on}
+use Rattle.chess.specs.SanAnswers.{IsAnswer}
+use Rattle.chess.specs.Sets.{Places, is_in, IsTakenFirst, IsSquaresOf}
+use Rattle.chess.specs.MoveWords.{IsLeft}
+use Rattle.chess.specs.declared.man.Man.{Man}
+use Rattle.chess.specs.declared.man.Kind.{Kind}
+use Rattle.chess.specs.declared.man.Kind.TheVariants.{King, Queen, Rook, Bishop, Knight, Pawn}
+use Rattle.chess.specs.declared.man.Wing.{Wing}
+use Rattle.chess.specs.declared.man.Wing.TheVariants.{KingSide, QueenSide}
+use Rattle.chess.specs.declared.moves.Move.{Move}
+use Rattle.chess.specs.declared.san_read.SanError.{SanError}
+use Rattle.chess.specs.declared.san_read.SanError.TheVariants as errors
+use Rattle.chess.proofs.PlaceFacts.{cases_place, same_square-same, true_not_false, same_side, man_of}
+use Rattle.chess.proofs.LoopFacts.{left_more}
+use Rattle.chess.proofs.GoesFacts.{goes_castle}
+
+-- the square that was taken out is gone
+and_not_true : (a : Bool) → (a && not true) ≡ false
+and_not_true true = refl
+and_not_true false = refl
+
+gone : (old new : Places) (t s : Place) → IsTakenFirst old new (Some t) → IsOnBoard s → is_in new s ≡ true → s ≡ t → ⊥
+gone old new t s taken on here e =
+    true_not_false (is_in new s) here
+    (taken.3 s on ∙ ap (λ b. is_in old s && not b) (same_square-same s t e) ∙ and_not_true (is_in old s))
+
+pub next_found : (fact : Place → Type 0) (n : ℕ) (squares old new : Places) (t : Place)
+    → IsLeft (λ s. is_in squares s ≡ true) (λ s. (is_in squares s ≡ true) × fact s) n old → IsTakenFirst old new (Some t) → fact t → IsNext fact squares new t
+next_found fact n squares old new t left taken fits =
+    let other : IsLeft (λ s. is_in squares s ≡ true) (λ s. (is_in squares s ≡ true) × fact s × (s ≢ t)) n old =
+    record { each = λ s on holds. left.each s on (holds.0, holds.1); within = left.within; low = left.low } in
+    let more = left_more (λ s. is_in squares s ≡ true) (λ s. (is_in squares s ≡ true) × fact s × (s ≢ t)) n old new t other taken (λ holds. holds.2 refl) in record {
+      on_board = taken.0;
+      here = left.within t taken.0 taken.1;
+      fits = fits;
+      each = λ s on here holds apart. more.each s on (here, holds, apart);
+      within = λ s on here. (more.within s on here, (λ e. gone old new t s taken on here e));
+    }
+
+-- ---- the man and the move that are spoken of
+
+-- the man that is spoken of
+abbrev pub man_said : State → Said → Man
+man_said P said = record { side = P.turn; kind = kind_said said.letter }
+
+said_move : (P : State) (said : Said) (m : Move) → Agrees P said m → move_from said m.from ≡ m
+said_move P said m agrees = λ i. record {
+  from = m.from;
+  to = sym agrees.target i;
+  promote = sym agrees.promote i;
+  castle = sym agrees.not_castling i;
+}
+
+said_fits : (P : State) (said : Said) (m : Move) → IsMoveSaid P said m → Fits P said m.from
+said_fits P said m named =
+    let agrees = named.2 in record {
+      file = agrees.file;
+      rank = agrees.rank;
+      stays = λ pawn none. agrees.stays (agrees.kind ∙ pawn) none ∙ ap (λ (s : Place). s.file) agrees.target;
+      legal = subst (IsLegal P) (sym (said_move P said m agrees)) named.0;
+    }
+
+said_man : (P : State) (said : Said) (m : Move) → IsMoveSaid P said m → man_at P.men m.from ≡ Some (man_said P said)
+said_man P said m named =
+    let agrees = named.2 in
+    let rules = named.0.pseudo_legal in
+    let side : agrees.man.side ≡ P.turn = same_side agrees.man rules.man (sym agrees.here ∙ rules.here) ∙ rules.own in
+    agrees.here ∙ ap (λ (man : Man). Some man) (man_of agrees.man (man_said P said) side agrees.kind)
+
+fits_said : (P : State) (said : Said) (s : Place) → IsOnBoard s → man_at P.men s ≡ Some (man_said P said) → Fits P said s → IsMoveSaid P said (move_from said s)
+fits_said P said s on here fits = (
+  fits.legal,
+  on,
+  record {
+    not_castling = refl;
+    man = man_said P said;
+    here = here;
+    kind = refl;
+    target = refl;
+    file = fits.file;
+    rank = fits.rank;
+    promote = refl;
+    stays = fits.stays;
+  },
+)
+
+pub said_none : (P : State) (said : Said) (squares : Places) → IsSquaresOf P.men (man_said P said) squares → HasNone (Fits P said) squares
+    → (m : Move) → IsMoveSaid P said m → ⊥
+said_none P said squares are none m named =
+    none m.from named.1 ((are m.from named.1).1 (said_man P said m named)) (said_fits P said m named)
+
+pub said_only : (P : State) (said : Said) (squares rest : Places) (s : Place) → IsSquaresOf P.men (man_said P said) squares
+    → IsNext (Fits P said) squares rest s → HasNone (Fits P said) rest
+    → IsMoveSaid P said (move_from said s) × ((n : Move) → IsMoveSaid P said n → n ≡ move_from said s)
+said_only P said squares rest s are next none = (
+  fits_said P said s next.on_board ((are s next.on_board).0 next.here) next.fits,
+  (λ n named. elim (cases_place n.from s) [
+    | inl same ↦ sym (said_move P said n named.2) ∙ ap (move_from said) same
+    | inr other ↦
+        let fits = said_fits P said n named in
+        absurd (none n.from named.1 (next.each n.from named.1 ((are n.from named.1).1 (said_man P said n named)) fits other) fits)
+  ]),
+)
+
+pub said_several : (P : State) (said : Said) (squares rest more : Places) (s t : Place) → IsSquaresOf P.men (man_said P said) squares
+    → IsNext (Fits P said) squares rest s → IsNext (Fits P said) rest more t
+    → (m n : Move) × IsMoveSaid P said m × IsMoveSaid P said n × (m ≢ n)
+said_several P said squares rest more s t are next second =
+    let before = next.within t second.on_board second.here in (
+      move_from said s,
+      move_from said t,
+      fits_said P said s next.on_board ((are s next.on_board).0 next.here) next.fits,
+      fits_said P said t second.on_board ((are t second.on_board).0 before.0) second.fits,
+      (λ e. before.1 (sym (ap (λ (m : Move). m.from) e))),
+    )
+
+-- ---- castling
+
+pub castling_only : (P : State) (wing : Wing) (n : Move) → IsCastlingOn P wing n → n ≡ castling_on P.turn wing
+castling_only P wing n named =
+    let rules = named.0.pseudo_legal in
+    let goes = goes_castle P n rules.man.kind rules.goes wing named.2 in
+    let castles : Castles P wing n = goes.1 in
+    let plain : n.promote ≡ None = (subst (Goes P n) goes.0 rules.goes).0 in
+    λ i. record { from = castles.from i; to = castles.to i; promote = plain i; castle = named.2 i }
+
+-- ---- answers
+
+pub same_answer : (fact own : Move → Type 0) (result : Result Move SanError) → ((m : Move) → fact m → own m) → ((m : Move) → own m → fact m)
+    → IsAnswer fact result → IsAnswer own result
+same_answer fact own (Ok m) there back answer = (there m answer.0, (λ n holds. answer.1 n (back n holds)))
+same_answer fact own (Err errors.None) there back answer = λ m holds. answer m (back m holds)
+same_answer fact own (Err errors.Several) there back answer =
+    (answer.0, answer.1, there answer.0 answer.2, there answer.1 answer.3, answer.4)
+
+pub answer_only : (P : State) (x : List ℕ) (result : Result Move SanError) → IsAnswer (IsNamed P x) result → IfOk result (λ m. IsOnlyNamed P x m)
+answer_only P x (Ok m) answer = record { named = answer.0; only = answer.1 }
+answer_only P x (Err e) answer = tt
+
+pub answer_none : (fact : Move → Type 0) (result : Result Move SanError) → IsAnswer fact result → IsErrOf result errors.None ↔ ((m : Move) → fact m → ⊥)
+answer_none fact (Ok m) answer = ((λ e. absurd (cc)), (λ none. absurd (none m answer.0)))
+answer_none fact (Err errors.None) answer = ((λ e. answer), (λ none. refl))
+answer_none fact (Err errors.Several) answer = ((λ e. absurd (cc)), (λ none. absurd (none answer.0 answer.2)))
+
+pub answer_several : (fact : Move → Type 0) (result : Result Move SanError) → IsAnswer fact result
+    → IsErrOf result errors.Several ↔ ((m n : Move) × fact m × fact n × (m ≢ n))
+answer_several fact (Ok m) answer = (
+  (λ e. absurd (cc)),
+  (λ two. absurd (two.4 (answer.1 two.0 two.2 ∙ sym (answer.1 two.1 two.3)))),
+)
+answer_several fact (Err errors.None) answer = ((λ e. absurd (cc)), (λ two. absurd (answer two.0 two.2)))
+answer_several fact (Err errors.Several) answer = ((λ e. answer), (λ two. refl))
+
+-- ---- texts
+
+-- no other move text begins as castling does
+abbrev pub BeginsCastling : ℕ → Type 0
+BeginsCastling b = (b ≡ 79) ⊎ (b ≡ 48)
+
+no_letter : (kind : Kind) → BeginsCastling (kind_letter kind) → ⊥
+no_letter King (inl e) = absurd (omega arith)
+no_letter King (inr e) = absurd (omega arith)
+no_letter Queen (inl e) = absurd (omega arith)
+no_letter Queen (inr e) = absurd (omega arith)
+no_letter Rook (inl e) = absurd (omega arith)
+no_letter Rook (inr e) = absurd (omega arith)
+no_letter Bishop (inl e) = absurd (omega arith)
+no_letter Bishop (inr e) = absurd (omega arith)
+no_letter Knight (inl e) = absurd (omega arith)
+no_letter Knight (inr e) = absurd (omega arith)
+no_letter Pawn (inl e) = absurd (omega arith)
+no_letter Pawn (inr e) = absurd (omega arith)
+
+no_number : (start n b : ℕ) → b ≡ start + n → 1 ≤ n → n ≤ 8 → (start ≡ 96) ⊎ (start ≡ 48) → BeginsCastling b → ⊥
+no_number start n b e low high (inl f) (inl g) = omega arith
+no_number start n b e low high (inl f) (inr g) = omega arith
+no_number start n b e low high (inr f) (inl g) = omega arith
+no_number start n b e low high (inr f) (inr g) = omega arith
+
+no_sign : (b : ℕ) → IsTrue (is_sign b) → BeginsCastling b → ⊥
+no_sign b sign (inl e) = let f : false ≡ true = ap is_sign (sym e) ∙ sign in cc
+no_sign b sign (inr e) = let f : false ≡ true = ap is_sign (sym e) ∙ sign in cc
+
+-- the first byte of a text
+abbrev pub Begins : (ℕ → Type 0) → List ℕ → Type 0
+Begins fact [] = ⊥
+Begins fact (b ∷ x) = fact b
+
+no_target : (sign : List ℕ) (s : Place) (more : List ℕ) → (sign ≡ []) ⊎ ((b : ℕ) × IsTrue (is_sign b) × (sign ≡ b ∷ [])) → IsOnBoard s
+    → Begins BeginsCastling (sign ++ (square_text s ++ more)) → ⊥
+no_target sign s more (inl none) on begins =
+    no_number 96 s.file (96 + s.file) refl on.file_low on.file_high (inl refl) (subst (λ y. Begins BeginsCastling (y ++ (square_text s ++ more))) none begins)
+no_target sign s more (inr found) on begins =
+    no_sign found.0 found.1 (subst (λ y. Begins BeginsCastling (y ++ (square_text s ++ more))) found.2 begins)
+
+no_parts : (letter : Option Kind) (file rank : Option ℕ) (rest : List ℕ) → IfSome file IsFileOrRank → IfSome rank IsFileOrRank
+    → (Begins BeginsCastling rest → ⊥) → Begins BeginsCastling (letter_text letter ++ (file_text file ++ (rank_text rank ++ rest))) → ⊥
+no_parts (Some kind) file rank rest f r none begins = no_letter kind begins
+no_parts None (Some n) rank rest f r none begins = no_number 96 n (96 + n) refl f.0 f.1 (inl refl) begins
+no_parts None None (Some n) rest f r none begins = no_number 48 n (48 + n) refl r.0 r.1 (inr refl) begins
+no_parts None None None rest f r none begins = none begins
+
+castling_begins : (x : List ℕ) (wing : Wing) → IsCastlingText wing x → Begins BeginsCastling x
+castling_begins x KingSide (marks, are, inl e) = subst (Begins BeginsCastling) (sym e) (inl refl)
+castling_begins x KingSide (marks, are, inr e) = subst (Begins BeginsCastling) (sym e) (inr refl)
+castling_begins x QueenSide (marks, are, inl e) = subst (Begins BeginsCastling) (sym e) (inl refl)
+castling_begins x QueenSide (marks, are, inr e) = subst (Begins BeginsCastling) (sym e) (inr refl)
+
+pub not_both : (x : List ℕ) (wing : Wing) (said : Said) → IsCastlingText wing x → Spells x said → ⊥
+not_both x wing said castles spells =
+    no_parts said.letter said.file said.rank _ spells.file spells.rank
+    (no_target spells.sign said.target _ spells.sign_is spells.target)
+    (subst (Begins BeginsCastling) spells.text (castling_begins x wing castles))
+
+some_wing : (a b : Wing) → Some a ≡ Some b → a ≡ b
+some_wing a b e = cc
+
+pub some_said : (a b : Said) → Some a ≡ Some b → a ≡ b
+some_said a b e = cc
+
+pub named_castling : (P : State) (x : List ℕ) (wing : Wing) (read : Option Wing) (result : Result Move SanError)
+    → ((w : Wing) → IsCastlingText w x ↔ (read ≡ Some w)) → read ≡ Some wing → IsAnswer (IsCastlingOn P wing) result → IsAnswer (IsNamed P x) result
+named_castling P x wing read result texts is answer =
+    let castles = (texts wing).1 is in
+    same_answer (IsCastlingOn P wing) (IsNamed P x) result
+    (λ m holds. record { legal = holds.0; on_board = holds.1; by = inl (wing, castles, holds.2) })
+    (λ m named. (
+      named.legal,
+      named.on_board,
+      elim named.by [
+        | inl by ↦ by.2 ∙ ap (λ (w : Wing). Some w) (some_wing by.0 wing (sym ((texts by.0).0 by.1) ∙ is))
+        | inr by ↦ absurd (not_both x wing by.0 castles by.1)
+      ],
+    )) answer
+
+no_wing : (x : List ℕ) (read : Option Wing) → ((w : Wing) → IsCastlingText w x ↔ (read ≡ Some w)) → read ≡ None → (w : Wing) → IsCastlingText w x → ⊥
+no_wing x read texts is w castles = let e : None ≡ Some w = sym is ∙ (texts w).0 castles in cc
+
+pub named_none : (P : State) (x : List ℕ) (read : Option Wing) (said : Option Said) → ((w : Wing) → IsCastlingText w x ↔ (read ≡ Some w)) → read ≡ None
+    → ((s : Said) → Spells x s ↔ (said ≡ Some s)) → said ≡ None → (m : Move) → IsNamed P x m → ⊥
+named_none P x read said texts is spelled none m named = elim named.by [
+  | inl by ↦ no_wing x read texts is by.0 by.1
+  | inr by ↦ let e : None ≡ Some by.0 = sym none ∙ (spelled by.0).0 by.1 in absurd (cc)
+]
+
+pub named_said : (P : State) (x : List ℕ) (read : Option Wing) (said : Option Said) (own : Said) (result : Result Move SanError)
+    → ((w : Wing) → IsCastlingText w x ↔ (read ≡ Some w)) → read ≡ None → ((s : Said) → Spells x s ↔ (said ≡ Some s)) → said ≡ Some own
+    → IsAnswer (IsMoveSaid P own) result → IsAnswer (IsNamed P x) result
+named_said P x read said own result texts is spelled found answer =
+    same_answer (IsMoveSaid P own) (IsNamed P x) result
+    (λ m holds. record { legal = holds.0; on_board = holds.1; by = inr (own, (spelled own).1 found, holds.2) })
+    (λ m named. (
+      named.legal,
+      named.on_board,
+      elim named.by [
+        | inl by ↦ absurd (no_wing x read texts is by.0 by.1)
+        | inr by ↦ subst (λ s. Agrees P s m) (some_said by.0 own (sym ((spelled by.0).0 by.1) ∙ found)) by.2
+      ],
+    )) answer
+
+-- what an answer gives where it is asked whether there is one
+pub none_given : {A : Type 0} (none : Type 0) (some : A → Type 0) (o : Option A) (b : Bool) → MatchOption o none some → b ≡ is_some o → b ≡ false → none
+none_given none some None b m e f = m
+none_given none some (Some x) b m e f = let clash : true ≡ false = sym e ∙ f in absurd (cc)
+
+pub some_given : {A : Type 0} (none : Type 0) (some : A → Type 0) (o : Option A) (b : Bool) → MatchOption o none some → b ≡ is_some o → b ≡ true
+    → (x : A) × some x
+some_given none some None b m e f = let clash : false ≡ true = sym e ∙ f in absurd (cc)
+some_given none some (Some x) b m e f = (x, m)

@@ -1,0 +1,11 @@
+-- The answers to a search for the only move that has a fact.
+use Rattle.std.specs.Prelude.{◌≡◌, ◌≢◌, Result, Ok, Err}
+use Rattle.chess.specs.declared.moves.Move.{Move}
+use Rattle.chess.specs.declared.san_read.SanError.{SanError}
+use Rattle.chess.specs.declared.san_read.SanError.TheVariants.{None, Several}
+
+-- the only move that has the fact; or none has it; or two have it
+abbrev pub IsAnswer : (Move → Type 0) → Result Move SanError → Type 0
+IsAnswer fact (Ok m) = fact m × ((n : Move) → fact n → n ≡ m)
+IsAnswer fact (Err None) = (m : Move) → fact m → ⊥
+IsAnswer fact (Err Several) = (m n : Move) × fact m × fact n × (m ≢ n)

@@ -1,0 +1,124 @@
+-- What the reader of move texts knows on its way: the bytes of a text by their classes, from its end.
+use Rattle.std.specs.Prelude.{◌≡◌, ◌↔◌, ◌⊎◌, ◌≢◌, ℕ, ◌-◌, Bool, true, ◌||◌, ◌&&◌, ◌==◌, ltb, if◌then◌else◌, List, [], ◌∷◌, Option, Some, None, IfSome, is_some, option_map}
+use Rattle.chess.specs.Squares.{Place, IsOnBoard}
+use Rattle.chess.specs.Positions.{State, king_from, king_to}
+use Rattle.chess.specs.Moves.{IsLegal}
+use Rattle.chess.specs.Letters.{is_check_mark, is_sign}
+use Rattle.chess.specs.San.{Said, Spells, Agrees, kind_said, castling_text, castling_with_zeros}
+use Rattle.chess.specs.Sets.{Places, is_in}
+use Rattle.chess.specs.declared.man.Kind.{Kind}
+use Rattle.chess.specs.declared.man.Kind.TheVariants.{King, Queen, Rook, Bishop, Knight, Pawn}
+use Rattle.chess.specs.declared.man.Side.{Side}
+use Rattle.chess.specs.declared.man.Wing.{Wing}
+use Rattle.chess.specs.declared.moves.Move.{Move}
+use Rattle.chess.specs.declared.move_text.ByteClass.{ByteClass}
+use Rattle.chess.specs.declared.move_text.ByteClass.TheVariants.{Sign, Digit, FileLetter, KindLetter, Equals, PromotionLetter}
+use Rattle.chess.specs.declared.move_text.SaidMove.{SaidMove}
+
+-- the kind of that letter
+abbrev pub kind_of : ℕ → Option Kind
+kind_of b = if b == 75 then Some King else if b == 81 then Some Queen else if b == 82 then Some Rook else if b == 66 then Some Bishop
+    else if b == 78 then Some Knight else if b == 80 then Some Pawn else None
+
+-- the byte is of the class
+abbrev pub is_of : ByteClass → ℕ → Bool
+is_of Sign b = is_sign b
+is_of Digit b = ltb 48 b && ltb b 57
+is_of FileLetter b = ltb 96 b && ltb b 105
+is_of KindLetter b = is_some (kind_of b)
+is_of Equals b = b == 61
+is_of PromotionLetter b = (b == 81 || b == 82) || (b == 66 || b == 78)
+
+-- of a text from its end: the last byte if it is of the class, and what stands before it
+abbrev pub last_of : ByteClass → List ℕ → Option ℕ
+last_of class [] = None
+last_of class (b ∷ y) = if is_of class b then Some b else None
+
+abbrev pub before_last : ByteClass → List ℕ → List ℕ
+before_last class [] = []
+before_last class (b ∷ y) = if is_of class b then y else b ∷ y
+
+-- without the marks of check and mate
+abbrev pub unmarked : List ℕ → List ℕ
+unmarked [] = []
+unmarked (b ∷ y) = if is_check_mark b then unmarked y else b ∷ y
+
+-- what stands before a promotion's =
+abbrev pub before_equals : Option ℕ → List ℕ → List ℕ
+before_equals None y = y
+before_equals (Some b) y = before_last Equals y
+
+-- what stands before each part, from the end: the promotion, the target's rank and file, the sign, the rank, the file, the letter
+abbrev pub stem : List ℕ → List ℕ
+stem y = before_equals (last_of PromotionLetter (unmarked y)) (before_last PromotionLetter (unmarked y))
+
+abbrev pub behind_target_rank : List ℕ → List ℕ
+behind_target_rank y = before_last Digit (stem y)
+
+abbrev pub behind_target : List ℕ → List ℕ
+behind_target y = before_last FileLetter (behind_target_rank y)
+
+abbrev pub behind_sign : List ℕ → List ℕ
+behind_sign y = before_last Sign (behind_target y)
+
+abbrev pub behind_rank : List ℕ → List ℕ
+behind_rank y = before_last Digit (behind_sign y)
+
+abbrev pub behind_file : List ℕ → List ℕ
+behind_file y = before_last FileLetter (behind_rank y)
+
+abbrev pub behind_letter : List ℕ → List ℕ
+behind_letter y = before_last KindLetter (behind_file y)
+
+abbrev pub kind_given : Option ℕ → Option Kind
+kind_given None = None
+kind_given (Some b) = kind_of b
+
+abbrev pub number_given : Option ℕ → ℕ → Option ℕ
+number_given None start = None
+number_given (Some b) start = Some (b - start)
+
+-- what the reader found, as what a text says
+abbrev pub said_by : SaidMove → Said
+said_by r = record { letter = r.letter; file = r.file; rank = r.rank; target = r.target; promote = r.promote }
+
+-- the text says this alone; or it says nothing
+abbrev pub IsReadSaid : List ℕ → Option SaidMove → Type 0
+IsReadSaid x result = (said : Said) → Spells x said ↔ (option_map said_by result ≡ Some said)
+
+-- the move of a man on s that the text speaks of
+abbrev pub move_from : Said → Place → Move
+move_from said s = record { from = s; to = said.target; promote = said.promote; castle = None }
+
+-- the text of castling on the wing, without marks
+abbrev pub IsCastlingStem : Wing → List ℕ → Type 0
+IsCastlingStem wing stem = (stem ≡ castling_text wing) ⊎ (stem ≡ castling_with_zeros wing)
+
+-- castling of the side on the wing
+abbrev pub castling_on : Side → Wing → Move
+castling_on side wing = record { from = king_from side; to = king_to side wing; promote = None; castle = Some wing }
+
+-- the man on s may be the one that the text speaks of
+pub record Fits (P : State) (said : Said) (s : Place) : Type 0 where
+  pub file : IfSome said.file (λ file. s.file ≡ file)
+  pub rank : IfSome said.rank (λ rank. s.rank ≡ rank)
+  pub stays : kind_said said.letter ≡ Pawn → said.file ≡ None → s.file ≡ said.target.file
+  pub legal : IsLegal P (move_from said s)
+
+-- a square of the set that fits was taken out, with some that do not fit; or none fits
+pub record IsNext (fact : Place → Type 0) (old new : Places) (t : Place) : Type 0 where
+  pub on_board : IsOnBoard t
+  pub here : is_in old t ≡ true
+  pub fits : fact t
+  pub each : (s : Place) → IsOnBoard s → is_in old s ≡ true → fact s → s ≢ t → is_in new s ≡ true
+  pub within : (s : Place) → IsOnBoard s → is_in new s ≡ true → (is_in old s ≡ true) × (s ≢ t)
+
+abbrev pub HasNone : (Place → Type 0) → Places → Type 0
+HasNone fact old = (s : Place) → IsOnBoard s → is_in old s ≡ true → fact s → ⊥
+
+-- a legal move that castles on the wing; one that agrees with what is said
+abbrev pub IsCastlingOn : State → Wing → Move → Type 0
+IsCastlingOn P wing m = IsLegal P m × IsOnBoard m.from × (m.castle ≡ Some wing)
+
+abbrev pub IsMoveSaid : State → Said → Move → Type 0
+IsMoveSaid P said m = IsLegal P m × IsOnBoard m.from × Agrees P said m
