@@ -152,6 +152,9 @@ impl Mailbox {
     fn runs_straight(&self, from: Square, to: Square) -> bool
         ensures { IsTrue result ↔ ((way : Direction) × IsStraight way × IsOnRay (cells_men self.now.cells) way from to) }
     {
+        if from.file() != to.file() && from.rank() != to.rank() {
+            return false;
+        }
         self.runs(Direction::North, from, to)
             || self.runs(Direction::South, from, to)
             || self.runs(Direction::East, from, to)
@@ -162,6 +165,9 @@ impl Mailbox {
     fn runs_diagonally(&self, from: Square, to: Square) -> bool
         ensures { IsTrue result ↔ ((way : Direction) × (¬ IsStraight way) × IsOnRay (cells_men self.now.cells) way from to) }
     {
+        if distance(from.file(), to.file()) != distance(from.rank(), to.rank()) {
+            return false;
+        }
         self.runs(Direction::NorthEast, from, to)
             || self.runs(Direction::NorthWest, from, to)
             || self.runs(Direction::SouthEast, from, to)
