@@ -18,4 +18,5 @@ pub mod CastlingTextFacts
 pub mod TextParts
 pub mod SpelledParts
 pub mod NamedFacts
+pub mod SanTextFacts
 pub mod Examples

@@ -22,3 +22,4 @@ pub mod FenWords
 pub mod FenTextWords
 pub mod SanWords
 pub mod SanAnswers
+pub mod SanTextWords

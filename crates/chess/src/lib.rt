@@ -21,6 +21,7 @@ pub mod position;
 mod pseudo_legal;
 mod ranks;
 pub mod san_read;
+pub mod san_write;
 pub mod set;
 pub mod square;
 mod start;
@@ -32,6 +33,7 @@ pub use man::{Kind, Man, Side, Wing};
 pub use moves::Move;
 pub use position::Position;
 pub use san_read::{SanError, resolve};
+pub use san_write::san;
 pub use set::SquareSet;
 pub use square::Square;
 

@@ -45,7 +45,7 @@ impl<B: Board> Position<B> {
     }
 
     /// The square of the man that the move takes, if it takes one.
-    fn taken(&self, m: &Move) -> Square
+    pub(crate) fn taken(&self, m: &Move) -> Square
         ensures { result ≡ taken self.now m.now }
     {
         if self.is_en_passant(m) {

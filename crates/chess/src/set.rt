@@ -1,5 +1,5 @@
 //! Sets of squares.
-ghost use Rattle.std.specs.Prelude.{◌≡◌, ◌&&◌, ◌||◌, ◌↔◌, ◌<◌, ◌≤◌, IsTrue, IsSome, Some, None};
+ghost use Rattle.std.specs.Prelude.{◌≡◌, ◌&&◌, ◌||◌, ◌↔◌, ◌<◌, ◌≤◌, IsTrue, IsSome, Some, None, true};
 ghost use Rattle.chess.specs.Squares.{Place, IsOnBoard, same_square, index_of};
 ghost use Rattle.chess.specs.Sets.{is_in, no_places, size_of, IsTakenFirst};
 
@@ -61,6 +61,13 @@ impl SquareSet {
         ensures { IsTrue result ↔ (self.now ≡ no_places) }
     {
         self.word == 0
+    }
+
+    /// Whether some square is in the set.
+    pub(crate) fn has_some(&self) -> bool
+        ensures { IsTrue result ↔ ((s : Place) × IsOnBoard s × (is_in self.now s ≡ true)) }
+    {
+        self.word != 0
     }
 
     /// How many squares are in the set.

@@ -1,0 +1,73 @@
+-- Facts about the text that is written for a move.
+use Rattle.std.proofs.Common.{◌≡◌, ◌↔◌, ◌++◌, ◌∷◌, [], ℕ, List, true, Bool, Some, ap, sym, ◌∙◌, IsTrue, ◌+◌, ◌&&◌, ◌||◌}
+use Rattle.std.proofs.lemmas.List.{append-nil}
+use Rattle.chess.specs.Squares.{Place, IsOnBoard, same_square}
+use Rattle.chess.specs.Placements.{man_at}
+use Rattle.chess.specs.Positions.{State}
+use Rattle.chess.specs.Letters.{file_letter, rank_digit, square_text}
+use Rattle.chess.specs.San.{IsRival, HasRival, IsDisambiguation}
+use Rattle.chess.specs.San.IsDisambiguation.{alone, by_file, by_rank, by_both}
+use Rattle.chess.specs.Sets.{Places, is_in, no_places, HoldsExactly, IsSquaresOf, IsTakenFirst}
+use Rattle.chess.specs.SanTextWords.{Appends, HasSquare, AreRivalsSifted}
+use Rattle.chess.specs.declared.man.Man.{Man}
+use Rattle.chess.specs.declared.moves.Move.{Move}
+use Rattle.chess.proofs.LoopFacts.{sifted_start, sifted_more, left_start, left_more}
+
+-- a rival on a square that has the fact is a square of the set of rivals that has it
+pub rival_of_square : (P : State) (m : Move) (set : Places) (fact : Place → Type 0) → HoldsExactly (IsRival P m) set → HasSquare set fact → HasRival P m fact
+rival_of_square P m set fact rivals found = (found.0, (rivals found.0 found.1).0 found.2, found.3)
+
+pub square_of_rival : (P : State) (m : Move) (set : Places) (fact : Place → Type 0) → HoldsExactly (IsRival P m) set → HasRival P m fact → HasSquare set fact
+square_of_rival P m set fact rivals found = (found.0, found.1.on_board, (rivals found.0 found.1.on_board).1 found.1, found.2)
+
+-- ---- the loop over the men that are alike
+
+pub rivals_start : (P : State) (m : Move) (man : Man) (squares found : Places) → man_at P.men m.from ≡ Some man → IsSquaresOf P.men man squares
+    → found ≡ no_places → AreRivalsSifted P m man 0 squares found
+rivals_start P m man squares found here alike none = record {
+  sifted = sifted_start (IsRival P m) squares found (λ s on rival. (alike s on).1 (rival.alike ∙ here)) none;
+  alike = left_start (λ s. man_at P.men s ≡ Some man) (λ s. ⊥) squares (λ s on clash. absurd clash) (λ s on in_set. (alike s on).0 in_set);
+}
+
+pub rivals_more : (P : State) (m : Move) (man : Man) (n : ℕ) (old new found more : Places) (t : Place) (test : Bool)
+    → AreRivalsSifted P m man n old found → IsTakenFirst old new (Some t) → IsTrue test ↔ IsRival P m t
+    → ((s : Place) → IsOnBoard s → is_in more s ≡ ((test && same_square t s) || is_in found s)) → AreRivalsSifted P m man (n + 1) new more
+rivals_more P m man n old new found more t test so_far taken tested put = record {
+  sifted = sifted_more (IsRival P m) n old new found more t test so_far.sifted taken tested put;
+  alike = left_more (λ s. man_at P.men s ≡ Some man) (λ s. ⊥) n old new t so_far.alike taken (λ clash. clash);
+}
+
+-- ---- what tells a man from its rivals
+
+pub alone_is_told : (P : State) (m : Move) (set : Places) (old : List ℕ) → HoldsExactly (IsRival P m) set
+    → (((s : Place) × IsOnBoard s × (is_in set s ≡ true)) → ⊥) → Appends (IsDisambiguation P m) old old
+alone_is_told P m set old rivals none =
+    ([], alone (λ rival. none (rival.0, rival.1.on_board, (rivals rival.0 rival.1.on_board).1 rival.1)), sym (append-nil old))
+
+pub file_is_told : (P : State) (m : Move) (set : Places) (old new : List ℕ) (file : ℕ) → HoldsExactly (IsRival P m) set
+    → ((s : Place) × IsOnBoard s × (is_in set s ≡ true)) → (HasSquare set (λ s. s.file ≡ m.from.file) → ⊥) → file ≡ m.from.file
+    → new ≡ old ++ file_letter file ∷ [] → Appends (IsDisambiguation P m) old new
+file_is_told P m set old new file rivals some none is_file written = (
+  file_letter m.from.file ∷ [],
+  by_file (some.0, (rivals some.0 some.1).0 some.2, tt) (λ rival. none (square_of_rival P m set (λ s. s.file ≡ m.from.file) rivals rival)),
+  written ∙ ap (λ n. old ++ file_letter n ∷ []) is_file,
+)
+
+pub rank_is_told : (P : State) (m : Move) (set : Places) (old new : List ℕ) (rank : ℕ) → HoldsExactly (IsRival P m) set
+    → HasSquare set (λ s. s.file ≡ m.from.file) → (HasSquare set (λ s. s.rank ≡ m.from.rank) → ⊥) → rank ≡ m.from.rank
+    → new ≡ old ++ rank_digit rank ∷ [] → Appends (IsDisambiguation P m) old new
+rank_is_told P m set old new rank rivals some none is_rank written = (
+  rank_digit m.from.rank ∷ [],
+  by_rank (rival_of_square P m set (λ s. s.file ≡ m.from.file) rivals some)
+      (λ rival. none (square_of_rival P m set (λ s. s.rank ≡ m.from.rank) rivals rival)),
+  written ∙ ap (λ n. old ++ rank_digit n ∷ []) is_rank,
+)
+
+pub both_are_told : (P : State) (m : Move) (set : Places) (old new : List ℕ) → HoldsExactly (IsRival P m) set
+    → HasSquare set (λ s. s.file ≡ m.from.file) → HasSquare set (λ s. s.rank ≡ m.from.rank)
+    → new ≡ old ++ square_text m.from → Appends (IsDisambiguation P m) old new
+both_are_told P m set old new rivals file rank written = (
+  square_text m.from,
+  by_both (rival_of_square P m set (λ s. s.file ≡ m.from.file) rivals file) (rival_of_square P m set (λ s. s.rank ≡ m.from.rank) rivals rank),
+  written,
+)
