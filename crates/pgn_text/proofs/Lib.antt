@@ -30,4 +30,5 @@ pub mod Rows
 pub mod Runs
 pub mod Spliced
 pub mod TagLemmas
+pub mod TagStrings
 pub mod Values

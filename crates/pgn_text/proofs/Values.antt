@@ -68,3 +68,7 @@ value_of-signs (Escaped b ∷ signs) all =
 pub has_value : (contents : List ℕ) → IsContents contents → (signs : List Sign) × HasValue contents (value_of contents) signs
 has_value contents (signs, spells, all) =
     (signs, record { spells = spells; each = all; gives = ap value_of spells ∙ value_of-signs signs all })
+
+-- contents have one value
+pub one_value : (contents value : List ℕ) (signs : List Sign) → HasValue contents value signs → value ≡ value_of contents
+one_value contents value signs has = has.gives ∙ sym (value_of-signs signs has.each) ∙ ap value_of (sym has.spells)

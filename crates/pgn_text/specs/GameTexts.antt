@@ -4,6 +4,7 @@ use Rattle.std.specs.List.Sorted.{IsStrictlySortedBy}
 use Rattle.std.specs.Ordering.{nat_cmp}
 use Rattle.std.specs.Cmp.Lexicographic.{slice_cmp}
 use Rattle.pgn_text.specs.Parts.{Part}
+use Rattle.pgn_text.specs.Strings.{IsContents}
 use Rattle.pgn_text.specs.Games.{Item, MoveText, GlyphNumber, CommentText, VariationOpen, VariationClose, items_of, first_tag, result_of}
 
 -- a game: its place in the block, its tags by their names, its elements and its result
@@ -26,16 +27,21 @@ IsPaired depth (VariationClose ∷ more) = (0 < depth) × IsPaired (depth - 1) m
 abbrev pub tag_names : List (List ℕ × List ℕ) → List (List ℕ)
 tag_names tags = map (λ tag. tag.0) tags
 
--- what holds of each game that is handed out: the names of its tags ascend in the order of their bytes, so none is there twice, and its
--- variations are paired
-pub record IsGameText (game : GameText) : Type 0 where
-  pub ordered : IsStrictlySortedBy (slice_cmp nat_cmp) (tag_names game.tags)
-  pub paired : IsPaired 0 game.elements
-
 -- the contents of the string of the tag with the wanted name
 abbrev pub tag_in : List ℕ → List (List ℕ × List ℕ) → Option (List ℕ)
 tag_in wanted [] = None
 tag_in wanted (tag ∷ tags) = if bytes_eq wanted tag.0 then Some tag.1 else tag_in wanted tags
+
+-- what stands under each name is the contents of a string
+abbrev pub HoldStrings : List (List ℕ × List ℕ) → Type 0
+HoldStrings tags = (name contents : List ℕ) → tag_in name tags ≡ Some contents → IsContents contents
+
+-- what holds of each game that is handed out: the names of its tags ascend in the order of their bytes, so none is there twice, its tags
+-- hold contents of strings, and its variations are paired
+pub record IsGameText (game : GameText) : Type 0 where
+  pub ordered : IsStrictlySortedBy (slice_cmp nat_cmp) (tag_names game.tags)
+  pub strings : HoldStrings game.tags
+  pub paired : IsPaired 0 game.elements
 
 -- the game is the one that these parts make at this place: of each name it has the first tag, and its elements and result are theirs
 pub record ShowsGame (game : GameText) (at : ℕ) (parts : List Part) : Type 0 where

@@ -5,7 +5,7 @@ ghost use Rattle.std.specs.Cmp.Lexicographic.{slice_cmp};
 ghost use Rattle.std.specs.List.Sorted.{IsStrictlySortedBy};
 ghost use Rattle.std.specs.Ordering.{nat_cmp};
 ghost use Rattle.pgn_text.specs.Elements.{item_of, tags_of};
-ghost use Rattle.pgn_text.specs.GameTexts.{GameText, IsGameText, IsPaired, ShowsGame, tag_names};
+ghost use Rattle.pgn_text.specs.GameTexts.{GameText, HoldStrings, IsGameText, IsPaired, ShowsGame, tag_names};
 ghost use Rattle.pgn_text.specs.Parts.{Part};
 ghost use Rattle.pgn_text.specs.Pieces.{NoGame};
 ghost use Rattle.pgn_text.specs.Walk.{GameTo, NoGapPartAt};
@@ -61,6 +61,7 @@ impl<'a> RawGame<'a> {
     pub fn tags(&self) -> &BTreeMap<&'a [u8], &'a [u8]>
         ensures tags { tags_of result.now ≡ self.now.tags }
         ensures ordered { IsStrictlySortedBy (slice_cmp nat_cmp) (tag_names self.now.tags) }
+        ensures strings { HoldStrings self.now.tags }
     {
         &self.tags
     }

@@ -1,4 +1,4 @@
-use Rattle.std.proofs.Common.{◌≡◌, true, false, map, sym, ap, ◌∙◌, refl}
+use Rattle.std.proofs.Common.{◌≡◌, true, false, map, take, drop, sym, ap, ◌∙◌, refl}
 use Rattle.pgn_text.specs.Elements.{item_of, tag_at}
 use Rattle.pgn_text.specs.Reading.{is_kept_result}
 use Rattle.pgn_text.specs.Tokens.{state_of, token_of}
@@ -6,6 +6,7 @@ use Rattle.pgn_text.specs.declared.progress.TheConstants.{MAX_DEPTH}
 use Rattle.pgn_text.proofs.ReadLemmas.{read_start, read_more, read_nothing, read_stuck, GameRead, read_end}
 use Rattle.pgn_text.proofs.Pairing.{tags_ascend}
 use Rattle.pgn_text.proofs.TagLemmas.{tag_in-tags_of}
+use Rattle.pgn_text.proofs.TagStrings.{first_string}
 use Rattle.pgn_text.proofs.game.read_game.Goals as goal
 
 pub loop-token-init : goal.loop-token-init
@@ -31,7 +32,12 @@ invariant_of-game c =
     (tag_at c.loop-token.draft.tags) (map item_of c.loop-token.draft.elements.items) (token_of c.in-Some.token)
     c.loop-token.invariant.read c.requires.outside c.in-Some.ensures (sym c.is_result.ensures ∙ c.if-is_result.true)
     (c.is_closed.ensures.0 c.if-not-is_closed.false) in
-    record { ordered = tags_ascend c.loop-token.draft.tags.entries c.loop-token.invariant.ordered; paired = read.paired }
+    record {
+      ordered = tags_ascend c.loop-token.draft.tags.entries c.loop-token.invariant.ordered;
+      strings = λ name contents is. first_string name contents c.args.file_start (take c.args.begin c.args.block.now) read.parts (drop c.in-Some.end c.args.block.now)
+          read.game.is_game.stand (sym (tag_in-tags_of c.loop-token.draft.tags name ∙ read.tags_kept name) ∙ is);
+      paired = read.paired;
+    }
 
 pub returns-then-is_result : goal.returns-then-is_result
 returns-then-is_result c =

@@ -1,0 +1,3 @@
+pub mod OneReplay
+pub mod Tags
+pub mod WalkFacts

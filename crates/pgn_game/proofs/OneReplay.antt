@@ -1,0 +1,156 @@
+-- A game is replayed in one way at most, has one fault at most, and not both.
+use Rattle.std.proofs.Common.{◌≡◌, ℕ, ◌+◌, zero, suc, List, [], ◌∷◌, refl, sym, ap, ◌∙◌, subst, inl, inr}
+use Rattle.std.specs.Prelude.{Option, Some, None}
+use Rattle.std.specs.List.{slice_get}
+use Rattle.chess.specs.Positions.{State}
+use Rattle.chess.specs.Moves.{after}
+use Rattle.chess.specs.Fen.{SpellsPosition, IsRefused}
+use Rattle.chess.specs.San.{IsOnlyNamed}
+use Rattle.chess.specs.declared.moves.Move.{Move}
+use Rattle.chess.proofs.FenOnce.{one_spelling, read_or_refused}
+use Rattle.pgn_text.proofs.Values.{one_value}
+use Rattle.pgn_text.specs.Games.{Item}
+use Rattle.pgn_game.specs.MainLines.{main_words, IsMainLine}
+use Rattle.pgn_game.specs.Starts.{IsValueOf, IsStart, IsBadStart}
+use Rattle.pgn_game.specs.Faults.{Fault, BadStart, IllegalMove, AmbiguousMove, NamesSeveral, IsRefusedWord, IsMoveFault, IsFault}
+use Rattle.pgn_game.specs.Replays.{Replay, IsReplay}
+
+-- ---- the move at a place
+
+same_move : (m n : Move) → Some m ≡ Some n → m ≡ n
+same_move m n is = cc
+
+-- the first position of a main line is the one that it is played from
+line_head : (now : State) (words : List (List ℕ)) (positions : List State) (played : List Move) → IsMainLine now words positions played → slice_get positions 0 ≡ Some now
+line_head now [] positions played line = ap (λ ps. slice_get ps 0) line.0
+line_head now (word ∷ words) positions played (m, later, more, positions_is, played_is, named, rest) = ap (λ ps. slice_get ps 0) positions_is
+
+-- what stands at a place of a main line
+abbrev pub IsMoveAt : List (List ℕ) → List State → ℕ → Move → Type 0
+IsMoveAt words positions i m =
+    (word : List ℕ) × (now : State) × (slice_get words i ≡ Some word) × (slice_get positions i ≡ Some now)
+    × IsOnlyNamed now word m × (slice_get positions (suc i) ≡ Some (after now m))
+
+pub move_at : (start : State) (words : List (List ℕ)) (positions : List State) (played : List Move) → IsMainLine start words positions played
+    → (i : ℕ) (m : Move) → slice_get played i ≡ Some m → IsMoveAt words positions i m
+move_at start [] positions played line i m at = let none : None ≡ Some m = sym (ap (λ ms. slice_get ms i) line.1) ∙ at in absurd (cc)
+move_at start (word ∷ words) positions played (own, later, more, positions_is, played_is, named, rest) zero m at =
+    let same : own ≡ m = same_move own m (sym (ap (λ ms. slice_get ms 0) played_is) ∙ at) in
+    subst (λ n. IsMoveAt (word ∷ words) positions 0 n) same (
+      word,
+      start,
+      refl,
+      ap (λ ps. slice_get ps 0) positions_is,
+      named,
+      ap (λ ps. slice_get ps 1) positions_is ∙ line_head (after start own) words later more rest,
+    )
+move_at start (word ∷ words) positions played (own, later, more, positions_is, played_is, named, rest) (suc i) m at =
+    let there : IsMoveAt words later i m = move_at (after start own) words later more rest i m (sym (ap (λ ms. slice_get ms (suc i)) played_is) ∙ at) in (
+      there.0,
+      there.1,
+      there.2,
+      ap (λ ps. slice_get ps (suc i)) positions_is ∙ there.3,
+      there.4,
+      ap (λ ps. slice_get ps (suc (suc i))) positions_is ∙ there.5,
+    )
+
+-- ---- one main line
+
+one_move : (now : State) (word : List ℕ) (m n : Move) → IsOnlyNamed now word m → IsOnlyNamed now word n → m ≡ n
+one_move now word m n named other = other.only m named.named
+
+pub one_line : (now : State) (words : List (List ℕ)) (positions others : List State) (played moves : List Move)
+    → IsMainLine now words positions played → IsMainLine now words others moves → (positions ≡ others) × (played ≡ moves)
+one_line now [] positions others played moves line other = (line.0 ∙ sym other.0, line.1 ∙ sym other.1)
+one_line now (word ∷ words) positions others played moves (m, later, more, positions_is, played_is, named, rest) (n, later2, more2, others_is, moves_is, named2, rest2) =
+    let same : n ≡ m = one_move now word n m named2 named in
+    let tails : (later ≡ later2) × (more ≡ more2) =
+    one_line (after now m) words later later2 more more2 rest (subst (λ k. IsMainLine (after now k) words later2 more2) same rest2) in (
+      positions_is ∙ ap (λ ps. now ∷ ps) tails.0 ∙ sym others_is,
+      played_is ∙ ap (λ ms. m ∷ ms) tails.1 ∙ ap (λ k. k ∷ more2) (sym same) ∙ sym moves_is,
+    )
+
+-- ---- one start
+
+same_value : (contents value other : List ℕ) → IsValueOf contents value → IsValueOf contents other → value ≡ other
+same_value contents value other (signs, has) (signs2, has2) = one_value contents value signs has ∙ sym (one_value contents other signs2 has2)
+
+pub one_start : (fen : Option (List ℕ)) (start other : State) → IsStart fen start → IsStart fen other → start ≡ other
+one_start None start other is is2 = is ∙ sym is2
+one_start (Some contents) start other (value, given, reads) (value2, given2, reads2) =
+    one_spelling value start other reads.spells (subst (λ x. SpellsPosition x other) (same_value contents value2 value given2 given) reads2.spells)
+
+pub start_or_bad : (fen : Option (List ℕ)) (start : State) → IsStart fen start → IsBadStart fen → ⊥
+start_or_bad None start is bad = bad
+start_or_bad (Some contents) start (value, given, reads) (value2, error, given2, refused) =
+    read_or_refused value start error reads (subst (λ x. IsRefused x error) (same_value contents value2 value given2 given) refused)
+
+-- ---- one fault
+
+-- a word that names one legal move alone is not refused
+named_or_refused : (now : State) (plies : ℕ) (word : List ℕ) (m : Move) (fault : Fault) → IsOnlyNamed now word m → IsRefusedWord now plies word fault → ⊥
+named_or_refused now plies word m BadStart named refused = refused
+named_or_refused now plies word m (IllegalMove told ply) named refused = refused.2 m named.named
+named_or_refused now plies word m (AmbiguousMove told ply) named refused =
+    let several : NamesSeveral now word = refused.2 in
+    several.4 (named.only several.0 several.2 ∙ sym (named.only several.1 several.3))
+
+same_told : (make : List ℕ → ℕ → Fault) (told other word : List ℕ) (ply place plies : ℕ) → told ≡ word → ply ≡ plies + 1 → other ≡ word → place ≡ plies + 1 → make told ply ≡ make other place
+same_told make told other word ply place plies a b c d = ap (λ w. make w ply) (a ∙ sym c) ∙ ap (make other) (b ∙ sym d)
+
+one_refused : (now : State) (plies : ℕ) (word : List ℕ) (fault other : Fault) → IsRefusedWord now plies word fault → IsRefusedWord now plies word other → fault ≡ other
+one_refused now plies word BadStart other a b = absurd a
+one_refused now plies word (IllegalMove told ply) BadStart a b = absurd b
+one_refused now plies word (IllegalMove told ply) (IllegalMove again place) a b = same_told IllegalMove told again word ply place plies a.0 a.1 b.0 b.1
+one_refused now plies word (IllegalMove told ply) (AmbiguousMove again place) a b = absurd (a.2 b.2.0 b.2.2)
+one_refused now plies word (AmbiguousMove told ply) BadStart a b = absurd b
+one_refused now plies word (AmbiguousMove told ply) (IllegalMove again place) a b = absurd (b.2 a.2.0 a.2.2)
+one_refused now plies word (AmbiguousMove told ply) (AmbiguousMove again place) a b = same_told AmbiguousMove told again word ply place plies a.0 a.1 b.0 b.1
+
+one_move_fault : (now : State) (plies : ℕ) (words : List (List ℕ)) (fault other : Fault) → IsMoveFault now plies words fault → IsMoveFault now plies words other → fault ≡ other
+one_move_fault now plies [] fault other a b = absurd a
+one_move_fault now plies (word ∷ words) fault other (inl a) (inl b) = one_refused now plies word fault other a b
+one_move_fault now plies (word ∷ words) fault other (inl a) (inr (n, named, rest)) = absurd (named_or_refused now plies word n fault named a)
+one_move_fault now plies (word ∷ words) fault other (inr (m, named, rest)) (inl b) = absurd (named_or_refused now plies word m other named b)
+one_move_fault now plies (word ∷ words) fault other (inr (m, named, rest)) (inr (n, named2, rest2)) =
+    one_move_fault (after now m) (plies + 1) words fault other rest
+    (subst (λ k. IsMoveFault (after now k) (plies + 1) words other) (one_move now word n m named2 named) rest2)
+
+pub one_fault : (fen : Option (List ℕ)) (items : List Item) (fault other : Fault) → IsFault fen items fault → IsFault fen items other → fault ≡ other
+one_fault fen items fault other (inl (bad, is)) (inl (bad2, is2)) = is ∙ sym is2
+one_fault fen items fault other (inl (bad, is)) (inr (start, is_start, met)) = absurd (start_or_bad fen start is_start bad)
+one_fault fen items fault other (inr (start, is_start, met)) (inl (bad, is)) = absurd (start_or_bad fen start is_start bad)
+one_fault fen items fault other (inr (start, is_start, met)) (inr (start2, is_start2, met2)) =
+    one_move_fault start 0 (main_words items 0) fault other met
+    (subst (λ s. IsMoveFault s 0 (main_words items 0) other) (one_start fen start2 start is_start2 is_start) met2)
+
+-- ---- and a game with a replay has none
+
+line_or_fault : (now : State) (plies : ℕ) (words : List (List ℕ)) (positions : List State) (played : List Move) (fault : Fault)
+    → IsMainLine now words positions played → IsMoveFault now plies words fault → ⊥
+line_or_fault now plies [] positions played fault line met = met
+line_or_fault now plies (word ∷ words) positions played fault (m, later, more, positions_is, played_is, named, rest) (inl refused) =
+    named_or_refused now plies word m fault named refused
+line_or_fault now plies (word ∷ words) positions played fault (m, later, more, positions_is, played_is, named, rest) (inr (n, named2, met)) =
+    line_or_fault (after now m) (plies + 1) words later more fault rest
+    (subst (λ k. IsMoveFault (after now k) (plies + 1) words fault) (one_move now word n m named2 named) met)
+
+pub replay_or_fault : (fen : Option (List ℕ)) (items : List Item) (replay : Replay) (fault : Fault) → IsReplay fen items replay → IsFault fen items fault → ⊥
+replay_or_fault fen items replay fault is (inl (bad, told)) = start_or_bad fen is.start is.is_start bad
+replay_or_fault fen items replay fault is (inr (start, is_start, met)) =
+    line_or_fault is.start 0 (main_words items 0) replay.positions replay.played fault is.line
+    (subst (λ s. IsMoveFault s 0 (main_words items 0) fault) (one_start fen start is.start is_start is.is_start) met)
+
+-- ---- one replay
+
+same_replay : (replay other : Replay) → replay.positions ≡ other.positions → replay.played ≡ other.played → replay ≡ other
+same_replay replay other positions played i = record { positions = positions i; played = played i }
+
+pub one_replay : (fen : Option (List ℕ)) (items : List Item) (replay other : Replay) → IsReplay fen items replay → IsReplay fen items other → replay ≡ other
+one_replay fen items replay other is is2 =
+    let start : is2.start ≡ is.start = one_start fen is2.start is.start is2.is_start is.is_start in
+    let line2 : IsMainLine is.start (main_words items 0) other.positions other.played =
+    subst (λ s. IsMainLine s (main_words items 0) other.positions other.played) start is2.line in
+    let same : (replay.positions ≡ other.positions) × (replay.played ≡ other.played) =
+    one_line is.start (main_words items 0) replay.positions other.positions replay.played other.played is.line line2 in
+    same_replay replay other same.0 same.1

@@ -1,0 +1,14 @@
+use Rattle.std.proofs.Common.{refl, subst}
+use Rattle.chess.specs.Fen.{IsRefused}
+use Rattle.pgn_game.proofs.starting.given_position.Goals as goal
+
+pub returns : goal.returns
+returns c = (
+  (
+    c.in-Ok.text.items,
+    c.in-Err-from_fen.field-0,
+    c.in-Ok.ensures,
+    subst (λ text. IsRefused text c.in-Err-from_fen.field-0) c.as_slice.ensures.value c.in-Err-from_fen.ensures,
+  ),
+  refl,
+)

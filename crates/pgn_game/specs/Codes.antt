@@ -1,0 +1,36 @@
+-- Replays are stored as lists of pairs of numbers, so that a type may have one as its value.
+use Rattle.std.specs.Prelude.{◌≡◌, Bool, true, false, List, Option, refl}
+use Rattle.std.specs.Coded.{Coded, coded_bool, coded_list, coded_option, coded×, code_by}
+use Rattle.chess.specs.Squares.{Place, coded_place}
+use Rattle.chess.specs.Positions.{State}
+use Rattle.chess.specs.Codes.{coded_state, coded_kind}
+use Rattle.chess.specs.declared.man.Kind.{Kind}
+use Rattle.chess.specs.declared.man.Wing.{Wing}
+use Rattle.chess.specs.declared.man.Wing.TheVariants.{KingSide, QueenSide}
+use Rattle.chess.specs.declared.moves.Move.{Move}
+use Rattle.pgn_game.specs.Replays.{Replay}
+
+abbrev pub is_queen_side : Wing → Bool
+is_queen_side KingSide = false
+is_queen_side QueenSide = true
+
+abbrev pub wing_of : Bool → Wing
+wing_of false = KingSide
+wing_of true = QueenSide
+
+pub wing_back : (wing : Wing) → wing_of (is_queen_side wing) ≡ wing
+wing_back KingSide = refl
+wing_back QueenSide = refl
+
+abbrev pub coded_wing : Coded Wing
+coded_wing = code_by Bool coded_bool is_queen_side wing_of wing_back
+
+abbrev pub coded_move : Coded Move
+coded_move = code_by (Place × (Place × (Option Kind × Option Wing)))
+    (coded× coded_place (coded× coded_place (coded× (coded_option coded_kind) (coded_option coded_wing))))
+    (λ m. (m.from, (m.to, (m.promote, m.castle))))
+    (λ p. record { from = p.0; to = p.1.0; promote = p.1.1.0; castle = p.1.1.1 }) (λ _. refl)
+
+abbrev pub coded_replay : Coded Replay
+coded_replay = code_by (List State × List Move) (coded× (coded_list coded_state) (coded_list coded_move))
+    (λ r. (r.positions, r.played)) (λ p. record { positions = p.0; played = p.1 }) (λ _. refl)

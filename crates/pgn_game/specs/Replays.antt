@@ -1,0 +1,32 @@
+-- A game that is replayed, and what the answers to a replay mean.
+use Rattle.std.specs.Prelude.{ℕ, List, Option, Some, None}
+use Rattle.chess.specs.Positions.{State}
+use Rattle.chess.specs.declared.moves.Move.{Move}
+use Rattle.pgn_text.specs.Games.{Item}
+use Rattle.pgn_game.specs.MainLines.{main_words, IsMainLine}
+use Rattle.pgn_game.specs.Starts.{IsStart}
+use Rattle.pgn_game.specs.Faults.{Fault, BadStart, IllegalMove, AmbiguousMove}
+use Rattle.pgn_game.specs.declared.fault.GameFault.{GameFault}
+use Rattle.pgn_game.specs.declared.fault.GameFault.TheVariants as answers
+
+-- the positions of a main line from its start on, and the moves between them
+pub record Replay : Type 0 where
+  pub positions : List State
+  pub played : List Move
+
+-- it is the replay of the game with these contents of its FEN tag and these elements: the game is sound
+pub record IsReplay (fen : Option (List ℕ)) (items : List Item) (replay : Replay) : Type 0 where
+  pub start : State
+  pub is_start : IsStart fen start
+  pub line : IsMainLine start (main_words items 0) replay.positions replay.played
+
+-- there is a replay of the game
+abbrev pub IsSoundGame : Option (List ℕ) → List Item → Type 0
+IsSoundGame fen items = (replay : Replay) × IsReplay fen items replay
+
+-- the fault that an answer tells: none for want of memory
+abbrev pub fault_of : GameFault → Option Fault
+fault_of answers.BadPosition = Some BadStart
+fault_of (answers.Illegal word ply) = Some (IllegalMove word.now ply)
+fault_of (answers.Ambiguous word ply) = Some (AmbiguousMove word.now ply)
+fault_of answers.OutOfMemory = None

@@ -1,0 +1,15 @@
+//! What holds of every game, whatever replays it. Each law is the contract of a function that does nothing.
+
+ghost use Rattle.pgn_game.specs.Laws.{EachMoveIsNamed, GameHasOneReplay, GameHasOneFault, SoundGameHasNoFault};
+
+/// Each move of a main line is the only legal move that its word names in the position before it.
+pub fn one_legal_move()
+    ensures { EachMoveIsNamed }
+{}
+
+/// A game is sound or faulty and not both, with one replay or one fault.
+pub fn one_answer()
+    ensures replay { GameHasOneReplay }
+    ensures fault { GameHasOneFault }
+    ensures not_both { SoundGameHasNoFault }
+{}

@@ -1,0 +1,138 @@
+//! The main line, played element by element.
+ghost use Rattle.std.specs.Prelude.{◌≡◌, ◌+◌, ◌<◌, ◌≤◌, ◌++◌, ℕ, List, [], ◌∷◌, length, map, MatchResult, IfErr, IfOk, IfSome, OnOk};
+ghost use Rattle.chess.specs.Moves.{after, IsLegal};
+ghost use Rattle.chess.specs.Positions.{State};
+ghost use Rattle.pgn_text.specs.Elements.{item_of};
+ghost use Rattle.pgn_text.specs.Games.{MoveText};
+ghost use Rattle.pgn_game.specs.MainLines.{main_words, IsMainLine};
+ghost use Rattle.pgn_game.specs.Faults.{IsMoveFault};
+ghost use Rattle.pgn_game.specs.Replays.{fault_of};
+ghost use Rattle.pgn_game.specs.Walks.{IsLast, HasStepped, IsStuck};
+
+use crate::fault::GameFault;
+use crate::naming::named;
+use crate::replayed::{GamePosition, Replayed};
+use chess::Move;
+use pgn_text::Element;
+use std::alloc::{AllocError, Global};
+
+/// The main line as far as it was played, and how many variations are open.
+#[derive(Drop)]
+struct MainWalk {
+    positions: Vec<GamePosition>,
+    played: Vec<Move>,
+    depth: usize,
+}
+
+/// The number of moves, those of variations too.
+fn count_moves(elements: &[Element]) -> usize {
+    elements
+        .iter()
+        .filter(|element| matches!(element, Element::Move(_)))
+        .count()
+}
+
+impl MainWalk {
+    /// Before the first of the elements: there is room for all their moves.
+    fn new(alloc: Global, start: GamePosition, elements: &[Element]) -> Result<Self, AllocError>
+        ensures positions { IfOk result (λ walk. walk.positions.items ≡ start ∷ []) }
+        ensures played { IfOk result (λ walk. walk.played.items ≡ []) }
+        ensures depth { IfOk result (λ walk. walk.depth ≡ 0) }
+    {
+        let moves = count_moves(elements);
+        let mut positions = Vec::with_capacity(alloc, moves.saturating_add(1))?;
+        let played = Vec::with_capacity(alloc, moves)?;
+        positions.push(start)?;
+        Ok(MainWalk {
+            positions,
+            played,
+            depth: 0,
+        })
+    }
+
+    /// The last position.
+    fn last(&self) -> &GamePosition
+        requires { length self.now.positions.items ≡ length self.now.played.items + 1 }
+        ensures { IsLast self.now result.now }
+    {
+        &self.positions[self.played.len()]
+    }
+
+    /// Keeps a legal move of the last position, and the position after it.
+    fn advance(&mut self, m: &Move) -> Result<(), AllocError>
+        requires count { length self.old.positions.items ≡ length self.old.played.items + 1 }
+        requires legal { (now : State) → IsLast self.old now → IsLegal now m.now }
+        ensures positions { OnOk result ((now : State) → IsLast self.old now → self.new.positions.items ≡ self.old.positions.items ++ after now m.now ∷ []) }
+        ensures played { OnOk result (self.new.played.items ≡ self.old.played.items ++ m.now ∷ []) }
+        ensures depth { self.new.depth ≡ self.old.depth }
+    {
+        let next = self.last().play(*m);
+        self.positions.push(next)?;
+        self.played.push(*m)?;
+        Ok(())
+    }
+
+    /// Plays the only move that the word names in the last position.
+    fn play<'a>(&mut self, word: &'a [u8]) -> Result<(), GameFault<'a>>
+        requires count { length self.old.positions.items ≡ length self.old.played.items + 1 }
+        requires outside { self.old.depth ≡ 0 }
+        ensures played { OnOk result (HasStepped self.old self.new (MoveText word.now)) }
+        ensures stuck { IfErr result (λ fault. IsStuck self.old (MoveText word.now) fault) }
+    {
+        let m = match named(self.last(), word, self.positions.len()) {
+            Ok(m) => m,
+            Err(fault) => return Err(fault),
+        };
+        match self.advance(&m) {
+            Ok(()) => Ok(()),
+            Err(_) => Err(GameFault::OutOfMemory),
+        }
+    }
+
+    /// Plays the element, if it is a move of the main line.
+    fn step<'a>(&mut self, element: Element<'a>) -> Result<(), GameFault<'a>>
+        requires count { length self.old.positions.items ≡ length self.old.played.items + 1 }
+        requires room { self.old.depth < usize.MAX }
+        ensures stepped { OnOk result (HasStepped self.old self.new (item_of element.entry)) }
+        ensures stuck { IfErr result (λ fault. IsStuck self.old (item_of element.entry) fault) }
+    {
+        match element {
+            Element::Move(word) => {
+                if self.depth == 0 {
+                    return self.play(word);
+                }
+            }
+            Element::Open => self.depth += 1,
+            Element::Close => self.depth = self.depth.saturating_sub(1),
+            _ => {}
+        }
+        Ok(())
+    }
+}
+
+/// Plays the main line of the elements from the position.
+pub(crate) fn play_main_line<'a>(
+    alloc: Global,
+    start: GamePosition,
+    elements: &[Element<'a>],
+) -> Result<Replayed, GameFault<'a>>
+    ensures { MatchResult result
+        (λ replayed. IsMainLine start (main_words (map item_of elements.now) 0) replayed.positions replayed.played)
+        (λ fault. IfSome (fault_of fault) (IsMoveFault start 0 (main_words (map item_of elements.now) 0))) }
+{
+    let mut walk = match MainWalk::new(alloc, start, elements) {
+        Ok(walk) => walk,
+        Err(_) => return Err(GameFault::OutOfMemory),
+    };
+    for element in elements {
+        if let Err(fault) = walk.step(*element) {
+            return Err(fault);
+        }
+    }
+    let MainWalk {
+        positions,
+        played,
+        ..
+    } = walk;
+    Ok(Replayed { positions, played })
+}

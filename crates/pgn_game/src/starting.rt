@@ -1,0 +1,56 @@
+//! The position from which a game starts.
+ghost use Rattle.std.specs.Prelude.{◌≡◌, Some, MatchResult, IfOk, IfSome};
+ghost use Rattle.pgn_text.specs.Elements.{tags_of};
+ghost use Rattle.pgn_text.specs.GameTexts.{HoldStrings, tag_in};
+ghost use Rattle.pgn_text.specs.Strings.{IsContents};
+ghost use Rattle.pgn_game.specs.Starts.{fen_tag, IsStart, IsBadStart, IsValueOf};
+ghost use Rattle.pgn_game.specs.Faults.{BadStart};
+ghost use Rattle.pgn_game.specs.Replays.{fault_of};
+
+use crate::fault::GameFault;
+use crate::replayed::GamePosition;
+use pgn_text::value;
+use std::alloc::{AllocError, Global};
+use std::collections::BTreeMap;
+
+/// The value of a string with these contents.
+fn value_of(alloc: Global, contents: &[u8]) -> Result<Vec<u8>, AllocError>
+    requires { IsContents contents.now }
+    ensures { IfOk result (λ text. IsValueOf contents.now text.items) }
+{
+    value(contents).collect(alloc)
+}
+
+/// The position that the value of the contents spells.
+fn given_position<'a>(alloc: Global, contents: &[u8]) -> Result<GamePosition, GameFault<'a>>
+    requires { IsContents contents.now }
+    ensures { MatchResult result
+        (IsStart (Some contents.now))
+        (λ fault. IfSome (fault_of fault) (λ told. IsBadStart (Some contents.now) × (told ≡ BadStart))) }
+{
+    let text = match value_of(alloc, contents) {
+        Ok(text) => text,
+        Err(_) => return Err(GameFault::OutOfMemory),
+    };
+    match GamePosition::from_fen(text.as_slice()) {
+        Ok(position) => Ok(position),
+        Err(_) => Err(GameFault::BadPosition),
+    }
+}
+
+/// The position from which a game with these tags starts.
+pub(crate) fn starting_position<'a>(
+    alloc: Global,
+    tags: &BTreeMap<&[u8], &[u8]>,
+) -> Result<GamePosition, GameFault<'a>>
+    requires { HoldStrings (tags_of tags.now) }
+    ensures { MatchResult result
+        (IsStart (tag_in fen_tag (tags_of tags.now)))
+        (λ fault. IfSome (fault_of fault) (λ told. IsBadStart (tag_in fen_tag (tags_of tags.now)) × (told ≡ BadStart))) }
+{
+    let name: &[u8] = b"FEN";
+    match tags.get(&name) {
+        Some(contents) => given_position(alloc, *contents),
+        None => Ok(GamePosition::start()),
+    }
+}
