@@ -62,7 +62,7 @@ no_marks : (wing : Wing) → (unmarked (reverse (castling_text wing)) ≡ revers
 no_marks KingSide = (refl, refl)
 no_marks QueenSide = (refl, refl)
 
-stem_castles : (wing : Wing) (x stem : List ℕ) → IsStem x stem → IsCastlingText wing x → IsCastlingStem wing stem
+pub stem_castles : (wing : Wing) (x stem : List ℕ) → IsStem x stem → IsCastlingText wing x → IsCastlingStem wing stem
 stem_castles wing x stem is (marks, are, inl e) =
     inl (bare stem (castling_text wing) (is ∙ ap (λ z. unmarked (reverse z)) e ∙ marks_off marks (castling_text wing) are ∙ (no_marks wing).0))
 stem_castles wing x stem is (marks, are, inr e) =

@@ -19,4 +19,11 @@ pub mod TextParts
 pub mod SpelledParts
 pub mod NamedFacts
 pub mod SanTextFacts
+pub mod SaidOnceFacts
+pub mod OriginFacts
+pub mod PawnTextFacts
+pub mod SaidNamesFacts
+pub mod PieceNamesFacts
+pub mod PawnNamesFacts
+pub mod SanNamesFacts
 pub mod Examples

@@ -68,7 +68,7 @@ said_fits P said m named =
       legal = subst (IsLegal P) (sym (said_move P said m agrees)) named.0;
     }
 
-said_man : (P : State) (said : Said) (m : Move) → IsMoveSaid P said m → man_at P.men m.from ≡ Some (man_said P said)
+pub said_man : (P : State) (said : Said) (m : Move) → IsMoveSaid P said m → man_at P.men m.from ≡ Some (man_said P said)
 said_man P said m named =
     let agrees = named.2 in
     let rules = named.0.pseudo_legal in
@@ -220,7 +220,7 @@ not_both x wing said castles spells =
     (no_target spells.sign said.target _ spells.sign_is spells.target)
     (subst (Begins BeginsCastling) spells.text (castling_begins x wing castles))
 
-some_wing : (a b : Wing) → Some a ≡ Some b → a ≡ b
+pub some_wing : (a b : Wing) → Some a ≡ Some b → a ≡ b
 some_wing a b e = cc
 
 pub some_said : (a b : Said) → Some a ≡ Some b → a ≡ b

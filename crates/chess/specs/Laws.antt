@@ -1,8 +1,12 @@
--- What holds of every text in FEN, whatever reads it.
+-- What holds of every text in FEN and of the text of every move, whatever writes and reads it.
 use Rattle.std.specs.Prelude.{◌≡◌, ℕ, List}
-use Rattle.chess.specs.Positions.{State}
+use Rattle.chess.specs.Squares.{IsOnBoard}
+use Rattle.chess.specs.Positions.{State, IsSound}
+use Rattle.chess.specs.Moves.{IsLegal}
+use Rattle.chess.specs.San.{IsSan, IsOnlyNamed}
 use Rattle.chess.specs.Fen.{SpellsPosition, ReadsFen, IsRefused}
 use Rattle.chess.specs.declared.fen.FenError.{FenError}
+use Rattle.chess.specs.declared.moves.Move.{Move}
 
 -- a text spells at most one position
 abbrev pub TextSpellsOnePosition : Type 0
@@ -13,3 +17,8 @@ abbrev pub TextIsReadOrRefused : Type 0
 TextIsReadOrRefused =
     ((x : List ℕ) (P : State) (error : FenError) → ReadsFen x P → IsRefused x error → ⊥)
     × ((x : List ℕ) (error other : FenError) → IsRefused x error → IsRefused x other → error ≡ other)
+
+-- in a sound position the standard text of a legal move names that move, and no other (were there no pawn to take en passant, the text of
+-- that move would be the text of a step)
+abbrev pub SanNamesItsMove : Type 0
+SanNamesItsMove = (P : State) (m : Move) (x : List ℕ) → IsSound P → IsLegal P m → IsOnBoard m.from → IsSan P m x → IsOnlyNamed P x m

@@ -3,7 +3,7 @@ ghost use Rattle.std.specs.Prelude.{◌≡◌, ◌↔◌, ◌+◌, ◌≤◌, �
 ghost use Rattle.arrayvec.specs.ArrayString.{array_string_len};
 ghost use Rattle.chess.specs.Placements.{man_at};
 ghost use Rattle.chess.specs.Moves.{IsLegal};
-ghost use Rattle.chess.specs.San.{IsSan, IsRival, IsDisambiguation, IsBody, IsMark, castling_text, is_capture, capture_text, pawn_text, promotion_text};
+ghost use Rattle.chess.specs.San.{IsSan, IsOnlyNamed, IsRival, IsDisambiguation, IsBody, IsMark, castling_text, is_capture, capture_text, pawn_text, promotion_text};
 ghost use Rattle.chess.specs.Sets.{HoldsExactly};
 ghost use Rattle.chess.specs.SanTextWords.{Appends, HasSquare, IsPieceText};
 
@@ -16,8 +16,20 @@ use crate::set::SquareSet;
 use crate::square::Square;
 use arrayvec::ArrayString;
 
-/// The text of a legal move in standard algebraic notation. No memory is needed.
+/// The text of a legal move in standard algebraic notation; it names that move and no other. No memory is needed.
 pub fn san<B: Board>(position: &Position<B>, m: Move) -> ArrayString<8>
+    requires { IsLegal position.now m }
+    ensures text { IsSan position.now m result.bytes }
+    ensures names { IsOnlyNamed position.now result.bytes m }
+{
+    // What is known of the position and of the square: a text names its move where these hold.
+    position.known();
+    let _ = m.from.file();
+    written(position, m)
+}
+
+/// The text of a legal move.
+fn written<B: Board>(position: &Position<B>, m: Move) -> ArrayString<8>
     requires { IsLegal position.now m }
     ensures { IsSan position.now m result.bytes }
 {

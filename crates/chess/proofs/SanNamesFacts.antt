@@ -1,0 +1,50 @@
+-- The standard text of a legal move names that move and no other.
+use Rattle.std.proofs.Common.{◌≡◌, ◌⊎◌, ℕ, true, inl, inr, ap, refl, sym, subst, ◌∙◌, Some, None, List, ◌++◌}
+use Rattle.std.specs.List.{list_all}
+use Rattle.chess.specs.Squares.{IsOnBoard}
+use Rattle.chess.specs.Positions.{State, IsSound}
+use Rattle.chess.specs.Moves.{after, IsLegal}
+use Rattle.chess.specs.Letters.{is_check_mark}
+use Rattle.chess.specs.San.{IsOnlyNamed, IsBody, IsMark, IsSan, pawn_text}
+use Rattle.chess.specs.San.IsMark.{mate, check, quiet}
+use Rattle.chess.specs.SanTextWords.{IsPieceText}
+use Rattle.chess.specs.declared.man.Kind.{Kind}
+use Rattle.chess.specs.declared.man.Kind.TheVariants.{King, Queen, Rook, Bishop, Knight, Pawn}
+use Rattle.chess.specs.declared.moves.Move.{Move}
+use Rattle.chess.proofs.SaidNamesFacts.{castling_named}
+use Rattle.chess.proofs.PieceNamesFacts.{piece_named}
+use Rattle.chess.proofs.PawnNamesFacts.{pawn_named}
+
+marks_are : (P : State) (mark : List ℕ) → IsMark P mark → list_all is_check_mark mark ≡ true
+marks_are P _ (mate in_check none) = refl
+marks_are P _ (check in_check some) = refl
+marks_are P _ (quiet calm) = refl
+
+cases_pawn : (kind : Kind) → (kind ≡ Pawn) ⊎ (kind ≡ Pawn → ⊥)
+cases_pawn King = inr (λ e. cc)
+cases_pawn Queen = inr (λ e. cc)
+cases_pawn Rook = inr (λ e. cc)
+cases_pawn Bishop = inr (λ e. cc)
+cases_pawn Knight = inr (λ e. cc)
+cases_pawn Pawn = inl refl
+
+piece_text : (P : State) (m : Move) (kind : Kind) (body : List ℕ) → (kind ≡ Pawn → ⊥) → IsBody P m None kind body → IsPieceText P m kind body
+piece_text P m King body piece is = is
+piece_text P m Queen body piece is = is
+piece_text P m Rook body piece is = is
+piece_text P m Bishop body piece is = is
+piece_text P m Knight body piece is = is
+piece_text P m Pawn body piece is = absurd (piece refl)
+
+pub san_names : (P : State) (m : Move) (x : List ℕ) → IsSound P → IsLegal P m → IsOnBoard m.from → IsSan P m x → IsOnlyNamed P x m
+san_names P m x sound legal on san =
+    let marks = marks_are (after P m) san.mark san.mark_is in
+    elim m.castle as (λ c. m.castle ≡ c → IsBody P m c san.man.kind san.body → IsOnlyNamed P x m) [
+      | Some wing ↦ λ castle is. castling_named P m x wing legal on castle (san.mark, marks, inl (san.text ∙ ap (λ z. z ++ san.mark) is))
+      | None ↦ λ castle is. subst (λ z. IsOnlyNamed P z m) (sym san.text) (elim (cases_pawn san.man.kind) [
+        | inl pawn ↦
+            let text : san.body ≡ pawn_text P m = subst (λ kind. IsBody P m None kind san.body) pawn is in
+            subst (λ z. IsOnlyNamed P (z ++ san.mark) m) (sym text) (pawn_named P m san.man san.mark sound legal on castle san.here pawn marks)
+        | inr piece ↦ piece_named P m san.man san.body san.mark legal on castle san.here piece (piece_text P m san.man.kind san.body piece is) marks
+      ])
+    ] refl san.body_is
