@@ -1,57 +1,240 @@
 #!/usr/bin/env python3
-"""Writes a file of games of about the wanted size, for timing: bench/make_games.py PLAIN|ANNOTATED MEGABYTES PATH.
+"""Writes a collection of games for timing: bench/make_games.py plain|annotated MEGABYTES PATH [SEED].
 
-The games are those of examples/, with a round of their own each; annotated ones have comments, glyphs and variations.
+A pool of games is played by random legal moves from the seed, with a small player of its own that shares nothing with the program; the
+collection takes games of the pool in random order, each under tags of its own. Annotated games have comments, glyphs and variations too.
+It prints how many games, plies and bytes it wrote, on one line: GAMES PLIES BYTES.
 """
+import random
 import sys
 
-PLAIN = """[Event "Casual game"]
-[Site "London ENG"]
-[Date "1851.06.21"]
-[Round "{n}"]
-[White "Anderssen, Adolf"]
-[Black "Kieseritzky, Lionel"]
-[Result "1-0"]
+POOL = 120
+LONGEST = 110
+FILES = "abcdefgh"
+STEPS = {
+    "N": (-21, -19, -12, -8, 8, 12, 19, 21),
+    "B": (-11, -9, 9, 11),
+    "R": (-10, -1, 1, 10),
+    "Q": (-11, -10, -9, -1, 1, 9, 10, 11),
+    "K": (-11, -10, -9, -1, 1, 9, 10, 11),
+}
+START = "RNBQKBNR"
 
-1. e4 e5 2. f4 exf4 3. Bc4 Qh4+ 4. Kf1 b5 5. Bxb5 Nf6 6. Nf3 Qh6 7. d3 Nh5
-8. Nh4 Qg5 9. Nf5 c6 10. g4 Nf6 11. Rg1 cxb5 12. h4 Qg6 13. h5 Qg5 14. Qf3 Ng8
-15. Bxf4 Qf6 16. Nc3 Bc5 17. Nd5 Qxb2 18. Bd6 Bxg1 19. e5 Qxa1+ 20. Ke2 Na6
-21. Nxg7+ Kd8 22. Qf6+ Nxf6 23. Be7# 1-0
 
-"""
+def square_name(square):
+    return FILES[square % 10 - 1] + str(square // 10 - 1)
 
-ANNOTATED = """[Event "Casual game"]
-[Site "Paris FRA"]
-[Date "1858.??.??"]
-[Round "{n}"]
-[White "Morphy, Paul"]
-[Black "Duke of Brunswick and Count Isouard"]
-[Result "1-0"]
-[Annotator "A \\"friendly\\" engine"]
 
-1. e4 {[%clk 0:03:00]} e5 $1 2. Nf3 d6 (2... Nc6 3. Bb5 {the Spanish} (3. Bc4 Bc5
-{the Italian}) 3... a6) 3. d4 Bg4?! ; Philidor's own move is f5
-4. dxe5 Bxf3 5. Qxf3 dxe5 6. Bc4 Nf6 7. Qb3! Qe7 8. Nc3 {better than winning the
-pawn at once} (8. Qxb7 Qb4+) 8... c6 9. Bg5 b5? 10. Nxb5! cxb5 11. Bxb5+ Nbd7
-12. O-O-O Rd8 13. Rxd7 Rxd7 14. Rd1 Qe6 15. Bxd7+ Nxd7 16. Qb8+!! {the point} Nxb8
-17. Rd8# 1-0
+class Position:
+    """A position on a board of 120 cells: rank r and file f stand at 10 * (r + 1) + f; upper case is White."""
 
-"""
+    def __init__(self):
+        self.board = ["#"] * 120
+        for rank in range(1, 9):
+            for file in range(1, 9):
+                self.board[10 * (rank + 1) + file] = "."
+        for file in range(1, 9):
+            self.board[20 + file] = START[file - 1]
+            self.board[30 + file] = "P"
+            self.board[80 + file] = "p"
+            self.board[90 + file] = START[file - 1].lower()
+        self.white = True
+        self.rights = set("KQkq")
+        self.passed = None
+
+    def is_own(self, man):
+        return man.isalpha() and man.isupper() == self.white
+
+    def is_enemy(self, man):
+        return man.isalpha() and man.isupper() != self.white
+
+    def is_attacked(self, square, by_white):
+        board = self.board
+        back = -10 if by_white else 10
+        pawn = "P" if by_white else "p"
+        if board[square + back - 1] == pawn or board[square + back + 1] == pawn:
+            return True
+        for kind in "NK":
+            man = kind if by_white else kind.lower()
+            if any(board[square + step] == man for step in STEPS[kind]):
+                return True
+        for kind in "BR":
+            men = (kind, "Q") if by_white else (kind.lower(), "q")
+            for step in STEPS[kind]:
+                at = square + step
+                while board[at] == ".":
+                    at += step
+                if board[at] in men:
+                    return True
+        return False
+
+    def king(self, white):
+        return self.board.index("K" if white else "k")
+
+    def in_check(self):
+        return self.is_attacked(self.king(self.white), not self.white)
+
+    def pseudo_legal(self):
+        for square in range(21, 99):
+            man = self.board[square]
+            if not self.is_own(man):
+                continue
+            kind = man.upper()
+            if kind == "P":
+                yield from self.pawn_moves(square)
+                continue
+            for step in STEPS[kind]:
+                at = square + step
+                while self.board[at] == "." or self.is_enemy(self.board[at]):
+                    yield (square, at, "")
+                    if kind in "NK" or self.board[at] != ".":
+                        break
+                    at += step
+        yield from self.castling_moves()
+
+    def pawn_moves(self, square):
+        ahead = 10 if self.white else -10
+        first, last = (3, 9) if self.white else (8, 2)
+        targets = []
+        if self.board[square + ahead] == ".":
+            targets.append(square + ahead)
+            if square // 10 == first and self.board[square + 2 * ahead] == ".":
+                targets.append(square + 2 * ahead)
+        for at in (square + ahead - 1, square + ahead + 1):
+            if self.is_enemy(self.board[at]) or at == self.passed:
+                targets.append(at)
+        for at in targets:
+            for kind in "QRBN" if at // 10 == last else ("",):
+                yield (square, at, kind)
+
+    def castling_moves(self):
+        home = 25 if self.white else 95
+        for right, step, empty in (("K", 1, (1, 2)), ("Q", -1, (-1, -2, -3))):
+            if (right if self.white else right.lower()) not in self.rights:
+                continue
+            if any(self.board[home + e] != "." for e in empty):
+                continue
+            if not any(self.is_attacked(home + k * step, not self.white) for k in (0, 1, 2)):
+                yield (home, home + 2 * step, "")
+
+    def play(self, move):
+        source, target, promotion = move
+        after = Position.__new__(Position)
+        after.board = board = self.board[:]
+        man = board[source]
+        board[source] = "."
+        if man in "Pp" and target == self.passed:
+            board[target + (-10 if self.white else 10)] = "."
+        board[target] = (promotion if self.white else promotion.lower()) or man
+        if man in "Kk" and abs(target - source) == 2:
+            corner = target + 1 if target > source else target - 2
+            board[(source + target) // 2] = board[corner]
+            board[corner] = "."
+        lost = {25: "KQ", 95: "kq", 21: "Q", 28: "K", 91: "q", 98: "k"}
+        after.rights = self.rights - set(lost.get(source, "")) - set(lost.get(target, ""))
+        after.passed = (source + target) // 2 if man in "Pp" and abs(target - source) == 20 else None
+        after.white = not self.white
+        return after
+
+    def legal(self):
+        for move in self.pseudo_legal():
+            after = self.play(move)
+            if not after.is_attacked(after.king(self.white), after.white):
+                yield move, after
+
+    def san(self, move, after, moves):
+        source, target, promotion = move
+        man = self.board[source].upper()
+        takes = self.board[target] != "." or (man == "P" and target == self.passed)
+        if man == "K" and abs(target - source) == 2:
+            text = "O-O" if target > source else "O-O-O"
+        elif man == "P":
+            text = (square_name(source)[0] + "x" if takes else "") + square_name(target)
+            text += "=" + promotion if promotion else ""
+        else:
+            rivals = [m[0] for m, _ in moves if m[1] == target and m[0] != source and self.board[m[0]] == self.board[source]]
+            name = square_name(source)
+            if not rivals:
+                name = ""
+            elif all(square_name(r)[0] != name[0] for r in rivals):
+                name = name[0]
+            elif all(square_name(r)[1] != name[1] for r in rivals):
+                name = name[1]
+            text = man + name + ("x" if takes else "") + square_name(target)
+        if after.in_check():
+            text += "+" if any(True for _ in after.legal()) else "#"
+        return text
+
+
+def played(chance):
+    """A random game: for each ply the SAN of its move and of another legal move, if there is one; and the result."""
+    position = Position()
+    line = []
+    while len(line) < LONGEST:
+        moves = list(position.legal())
+        if not moves:
+            break
+        move, after = chance.choice(moves)
+        other, beyond = chance.choice(moves)
+        line.append((position.san(move, after, moves), position.san(other, beyond, moves)))
+        position = after
+    mated = line and line[-1][0].endswith("#")
+    return line, ("0-1" if position.white else "1-0") if mated else "1/2-1/2"
+
+
+def wrapped(tokens):
+    lines, line = [], ""
+    for token in tokens:
+        if line and len(line) + 1 + len(token) > 79:
+            lines.append(line)
+            line = token
+        else:
+            line = line + " " + token if line else token
+    return "\n".join(lines + [line])
+
+
+def plain(line, result):
+    tokens = []
+    for ply, (san, _) in enumerate(line):
+        if ply % 2 == 0:
+            tokens.append(f"{ply // 2 + 1}.")
+        tokens.append(san)
+    return wrapped(tokens + [result])
+
+
+def annotated(chance, line, result):
+    tokens = []
+    for ply, (san, other) in enumerate(line):
+        number = f"{ply // 2 + 1}" + (". " if ply % 2 == 0 else "... ")
+        tokens.append(number + san)
+        if chance.random() < 0.1:
+            tokens.append(chance.choice(["$1", "$2", "$14", "$146"]))
+        tokens.append(f"{{[%eval {chance.randint(-99, 99) / 10}] [%clk 0:{chance.randint(0, 59):02}:{chance.randint(0, 59):02}]}}")
+        if chance.random() < 0.08:
+            tokens.append(f"({number}{other} {{worth a thought, but no more}} (  {number}{san} {{as in the game}} ) )")
+    return wrapped(tokens + [result])
 
 
 def main():
     kind, megabytes, path = sys.argv[1:4]
-    text = {"PLAIN": PLAIN, "ANNOTATED": ANNOTATED}[kind.upper()]
-    wanted = int(megabytes) * 1_000_000
-    written = 0
-    number = 0
-    with open(path, "w") as out:
+    chance = random.Random(int(sys.argv[4]) if len(sys.argv) > 4 else 1994)
+    pool = []
+    for _ in range(POOL):
+        line, result = played(chance)
+        text = plain(line, result) if kind == "plain" else annotated(chance, line, result)
+        pool.append((len(line), result, text))
+    wanted, games, plies, written = int(megabytes) * 1_000_000, 0, 0, 0
+    with open(path, "w", encoding="ascii", newline="\n") as out:
         while written < wanted:
-            number += 1
-            game = text.replace("{n}", str(number))
+            games += 1
+            length, result, text = chance.choice(pool)
+            plies += length
+            tags = [("Event", "Casual game"), ("Site", "?"), ("Date", "2026.11.22"), ("Round", str(games)), ("White", f"Player {chance.randint(1, 9999)}"),
+                    ("Black", f"Player {chance.randint(1, 9999)}"), ("Result", result), ("WhiteElo", str(chance.randint(1000, 2800)))]
+            game = "".join(f'[{name} "{value}"]\n' for name, value in tags) + "\n" + text + "\n\n"
             out.write(game)
             written += len(game)
-    print(f"{path}: {number} games, {written} bytes", file=sys.stderr)
+    print(games, plies, written)
 
 
 main()

@@ -140,25 +140,34 @@ impl Mailbox {
     fn runs(&self, way: Direction, from: Square, to: Square) -> bool
         ensures { IsTrue result ↔ IsOnRay (cells_men self.now.cells) way from to }
     {
-        for steps in 1u8..8 {
-            if way.ahead(from, steps) == Some(to) {
-                return self.is_clear(way, from, steps);
-            }
+        let files = distance(from.file(), to.file());
+        let ranks = distance(from.rank(), to.rank());
+        let steps = if files < ranks { ranks } else { files };
+        if steps == 0 || way.ahead(from, steps) != Some(to) {
+            return false;
         }
-        false
+        self.is_clear(way, from, steps)
     }
 
     /// Whether the square is on a straight ray.
     fn runs_straight(&self, from: Square, to: Square) -> bool
         ensures { IsTrue result ↔ ((way : Direction) × IsStraight way × IsOnRay (cells_men self.now.cells) way from to) }
     {
-        if from.file() != to.file() && from.rank() != to.rank() {
+        if from.file() == to.file() {
+            return if from.rank() < to.rank() {
+                self.runs(Direction::North, from, to)
+            } else {
+                self.runs(Direction::South, from, to)
+            };
+        }
+        if from.rank() != to.rank() {
             return false;
         }
-        self.runs(Direction::North, from, to)
-            || self.runs(Direction::South, from, to)
-            || self.runs(Direction::East, from, to)
-            || self.runs(Direction::West, from, to)
+        if from.file() < to.file() {
+            self.runs(Direction::East, from, to)
+        } else {
+            self.runs(Direction::West, from, to)
+        }
     }
 
     /// Whether the square is on a diagonal ray.
@@ -168,10 +177,12 @@ impl Mailbox {
         if distance(from.file(), to.file()) != distance(from.rank(), to.rank()) {
             return false;
         }
-        self.runs(Direction::NorthEast, from, to)
-            || self.runs(Direction::NorthWest, from, to)
-            || self.runs(Direction::SouthEast, from, to)
-            || self.runs(Direction::SouthWest, from, to)
+        match (from.file() < to.file(), from.rank() < to.rank()) {
+            (true, true) => self.runs(Direction::NorthEast, from, to),
+            (false, true) => self.runs(Direction::NorthWest, from, to),
+            (true, false) => self.runs(Direction::SouthEast, from, to),
+            (false, false) => self.runs(Direction::SouthWest, from, to),
+        }
     }
 
     /// Whether a man like this on the first square attacks the second.

@@ -1,10 +1,12 @@
 -- One block told, or a beginning of it.
-use Rattle.std.proofs.Common.{ℕ, List, Option, subst}
+use Rattle.std.proofs.Common.{ℕ, List, [], Option, refl, sym, subst}
+use Rattle.std.proofs.lemmas.List.{append-nil}
 use Rattle.std.specs.Io.KnownBytes.{Appends}
 use Rattle.pgn_text.proofs.MarkedPieces.{of_block_exist}
-use Rattle.pgn_extract.specs.Blockwise.{AreLinesOf, TellsBlock, BeginsBlock}
+use Rattle.pgn_extract.specs.Blockwise.{ReportsBlock, TellsBlock, BeginsBlock}
 use Rattle.pgn_extract.specs.Outcomes.{AppendsFront}
-use Rattle.pgn_extract.specs.declared.lines.Lines.{Lines}
+use Rattle.pgn_extract.specs.declared.lines.Report.{Report}
+use Rattle.pgn_extract.specs.declared.settings.Mode.{Mode}
 use Rattle.pgn_extract.proofs.Writing.{appends_none}
 
 -- nothing is a beginning
@@ -12,30 +14,49 @@ pub front_none : (old : Option (List ℕ)) (bytes : List ℕ) → AppendsFront o
 front_none old bytes = (0, appends_none old)
 
 -- a block of which nothing is told
-pub begins_none : (limit max_depth number offset : ℕ) (block : List ℕ) (out err : Option (List ℕ)) → BeginsBlock limit max_depth number offset block out out err err
-begins_none limit max_depth number offset block out err =
+pub begins_none : (mode : Mode) (limit max_depth number offset : ℕ) (block : List ℕ) (out err : Option (List ℕ))
+    → BeginsBlock mode limit max_depth number offset block out out err err
+begins_none mode limit max_depth number offset block out err =
     let own = of_block_exist limit max_depth offset block in
-    record { own = own.0; each = own.1; told = record { index = front_none out _; faults = front_none err _ } }
+    record {
+      own = own.0;
+      each = own.1;
+      told = record { before = []; behind = own.0; parted = refl; tolds = []; each = refl; output = front_none out _; faults = front_none err _ };
+    }
 
--- a block whose lines are written
-pub tells_lines : {lines : Lines} {limit max_depth number offset : ℕ} {block : List ℕ} → AreLinesOf lines limit max_depth number offset block
-    → (out out' err err' : Option (List ℕ)) → Appends out out' lines.index.items → Appends err err' lines.faults.items
-    → TellsBlock limit max_depth number offset block out out' err err' (record { games = lines.games; faulty = lines.faulty })
-tells_lines of out out' err err' index faults = record {
-  own = of.own;
-  each = of.each;
-  told = record { index = subst (Appends out out') of.told.index index; faults = subst (Appends err err') of.told.faults faults };
-  games = of.told.games;
-  faulty = of.told.faulty;
-  few = of.few;
-}
+module _ {mode : Mode} {report : Report} {limit max_depth number offset : ℕ} {block : List ℕ} (of : ReportsBlock mode report limit max_depth number offset block)
+    (out out' err err' : Option (List ℕ)) where
+  -- a block whose report is written
+  pub tells_report : Appends out out' report.output.items → Appends err err' report.faults.items
+      → TellsBlock mode limit max_depth number offset block out out' err err' (record { games = report.games; faulty = report.faulty })
+  tells_report output faults = record {
+    own = of.own;
+    each = of.each;
+    tolds = of.told.tolds;
+    told = record {
+      each = of.told.each;
+      output = subst (Appends out out') of.told.output output;
+      faults = subst (Appends err err') of.told.faults faults;
+    };
+    same = of.told.same;
+    games = of.told.games;
+    faulty = of.told.faulty;
+    few = of.few;
+  }
 
--- a block of whose lines a beginning is written
-pub begins_lines : {lines : Lines} {limit max_depth number offset : ℕ} {block : List ℕ} → AreLinesOf lines limit max_depth number offset block
-    → (out out' err err' : Option (List ℕ)) → AppendsFront out out' lines.index.items → AppendsFront err err' lines.faults.items
-    → BeginsBlock limit max_depth number offset block out out' err err'
-begins_lines of out out' err err' index faults = record {
-  own = of.own;
-  each = of.each;
-  told = record { index = subst (AppendsFront out out') of.told.index index; faults = subst (AppendsFront err err') of.told.faults faults };
-}
+  -- a block of whose report a beginning is written
+  pub begins_report : AppendsFront out out' report.output.items → AppendsFront err err' report.faults.items
+      → BeginsBlock mode limit max_depth number offset block out out' err err'
+  begins_report output faults = record {
+    own = of.own;
+    each = of.each;
+    told = record {
+      before = of.own;
+      behind = [];
+      parted = sym (append-nil of.own);
+      tolds = of.told.tolds;
+      each = of.told.each;
+      output = subst (AppendsFront out out') of.told.output output;
+      faults = subst (AppendsFront err err') of.told.faults faults;
+    };
+  }

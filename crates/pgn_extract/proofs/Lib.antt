@@ -2,9 +2,14 @@ pub mod Beginnings
 pub mod BlockTold
 pub mod BlocksGiven
 pub mod Dropping
+pub mod EntriesTold
+pub mod EntryLines
+pub mod ExactEntries
+pub mod GameTold
 pub mod Listed
+pub mod OneTold
+pub mod Resumed
 pub mod RunProgress
 pub mod Telling
 pub mod WholeRun
 pub mod Writing
-pub mod Resumed

@@ -6,24 +6,25 @@ use Rattle.pgn_text.specs.Left.{Left, ArePiecesLeft, TakesPiece}
 use Rattle.pgn_text.specs.Marks.{marked, within as in_limit}
 use Rattle.pgn_text.specs.Pieces as spec
 use Rattle.pgn_text.specs.declared.cut.Piece.{Piece}
-use Rattle.pgn_extract.specs.Blockwise.{AreLines, AreLinesOf, AddsPiece}
-use Rattle.pgn_extract.specs.declared.lines.Lines.{Lines}
-use Rattle.pgn_extract.proofs.Telling.{lines_more}
+use Rattle.pgn_extract.specs.Blockwise.{Reports, ReportsBlock, AddsPiece}
+use Rattle.pgn_extract.specs.declared.lines.Report.{Report}
+use Rattle.pgn_extract.specs.declared.settings.Mode.{Mode}
+use Rattle.pgn_extract.proofs.Telling.{reports_more}
 
 -- some pieces are given and told, and those that are left complete them
-pub record Listed (start now : Left) (lines : Lines) (number offset : ℕ) : Type 0 where
+pub record Listed (mode : Mode) (start now : Left) (report : Report) (number offset : ℕ) : Type 0 where
   pub done : List spec.Piece
   pub completes : (more : List spec.Piece) → ArePiecesLeft 64 now more → ArePiecesLeft 64 start (done ++ more)
-  pub told : AreLines lines number (map (marked offset) done)
+  pub told : Reports mode report number (map (marked offset) done)
   pub few : length done ≤ now.at
   pub within : now.at ≤ length now.block
   pub same : now.block ≡ start.block
   pub sound : now.failed ≡ false
 
 -- at the start none is
-pub listed_start : {start : Left} {lines : Lines} {number offset : ℕ} → start.failed ≡ false → start.at ≤ length start.block
-    → AreLines lines number [] → Listed start start lines number offset
-listed_start {start} sound inside none = record {
+pub listed_start : {mode : Mode} {start : Left} {report : Report} {number offset : ℕ} → start.failed ≡ false → start.at ≤ length start.block
+    → Reports mode report number [] → Listed mode start start report number offset
+listed_start {mode} {start} sound inside none = record {
   done = [];
   completes = λ more left. left;
   told = none;
@@ -33,21 +34,21 @@ listed_start {start} sound inside none = record {
   sound = sound;
 }
 
-module _ {start now : Left} {lines : Lines} {number offset : ℕ} (l : Listed start now lines number offset) where
+module _ {mode : Mode} {start now : Left} {report : Report} {number offset : ℕ} (l : Listed mode start now report number offset) where
   -- how many there are
-  pub listed_count : lines.games ≡ length l.done
+  pub listed_count : report.games ≡ length l.done
   listed_count = l.told.games ∙ length-map l.done (marked offset)
 
   -- one more piece
-  pub listed_more : {next : Left} {lines' : Lines} {here : ℕ} (piece : Piece) → TakesPiece 64 now next piece → here ≡ number + lines.games
-      → AddsPiece lines lines' here offset piece → Listed start next lines' number offset
-  listed_more {next} {lines'} {here} piece takes is adds = record {
+  pub listed_more : {next : Left} {report' : Report} {here : ℕ} (piece : Piece) → TakesPiece 64 now next piece → here ≡ number + report.games
+      → AddsPiece mode report report' here offset piece → Listed mode start next report' number offset
+  listed_more {next} {report'} {here} piece takes is adds = record {
     done = l.done ++ takes.shown ∷ [];
     completes = λ more left.
         subst (ArePiecesLeft 64 start) (sym (append_assoc l.done (takes.shown ∷ []) more)) (l.completes (takes.shown ∷ more) (takes.completes more left));
     told =
-        let more = lines_more lines lines' number here (map (marked offset) l.done) (marked offset takes.shown) l.told (is ∙ ap (λ n. number + n) l.told.games) (adds takes.shown takes.is) in
-        subst (AreLines lines' number) (sym (map_push (marked offset) l.done takes.shown)) more;
+        let more = reports_more mode report report' number here (map (marked offset) l.done) (marked offset takes.shown) l.told (is ∙ ap (λ n. number + n) l.told.games) (adds takes.shown takes.is) in
+        subst (Reports mode report' number) (sym (map_push (marked offset) l.done takes.shown)) more;
     few = let f = l.few in let g = takes.grows in omega (arith, length-append l.done (takes.shown ∷ []));
     within = takes.within;
     same = takes.same.0 ∙ l.same;
@@ -56,7 +57,7 @@ module _ {start now : Left} {lines : Lines} {number offset : ℕ} (l : Listed st
 
   -- all of them, where none is left
   pub listed_all : (block : List ℕ) → start ≡ record { block = block; file_start = offset == 0; at = 0; failed = false } → length block ≤ 1048576
-      → (now.failed ≡ true) ⊎ ArePiecesLeft 64 now [] → AreLinesOf lines 1048576 64 number offset block
+      → (now.failed ≡ true) ⊎ ArePiecesLeft 64 now [] → ReportsBlock mode report 1048576 64 number offset block
   listed_all block is fits end = record {
     own = map (marked offset) l.done;
     each = in_limit fits l.done (subst (λ (s : Left). ArePiecesLeft 64 s l.done) is whole) refl;

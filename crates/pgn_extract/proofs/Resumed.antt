@@ -1,54 +1,61 @@
--- A run that told the pieces of the rest told the lines of the whole whose number is at least that of the mark.
-use Rattle.std.proofs.Common.{◌≡◌, ℕ, ◌+◌, ◌<◌, ◌≤◌, Bool, true, false, List, [], ◌∷◌, ◌++◌, length, drop, refl, sym, ap, ◌∙◌, subst, arith, Option}
+-- A run that told the pieces of the rest told what is told of the whole from the mark on.
+use Rattle.std.proofs.Common.{◌≡◌, ℕ, ◌+◌, ◌≤◌, true, false, List, [], ◌∷◌, ◌++◌, length, drop, refl, sym, ap, ◌∙◌, subst, arith, Option}
 use Rattle.std.specs.Prelude.{nat_le, if◌then◌else◌, Some, None, Ok, Err, Result, IfOk, IfSome, OnOk}
 use Rattle.std.proofs.lemmas.Bool.Decides.{nat_tests}
-use Rattle.std.specs.Io.KnownBytes.{Appends}
 use Rattle.pgn_text.specs.Marks.{MarkedPiece, AreMarkedPieces}
 use Rattle.pgn_text.proofs.ResumedText.{resumed_pieces}
-use Rattle.pgn_extract.specs.Index.{index_line, fault_line, lines_from}
+use Rattle.pgn_game.specs.Laws.{GameHasOneReplay, GameHasOneFault, SoundGameHasNoFault}
 use Rattle.pgn_extract.specs.Outcomes.{Ends}
-use Rattle.pgn_extract.specs.Resuming.{lines_at_least, IsMarkAmong, Resumes}
+use Rattle.pgn_extract.specs.Resuming.{told_at_least, Resumes}
+use Rattle.pgn_extract.specs.Telling.{Told, AreTold}
 use Rattle.pgn_extract.specs.declared.outcome.Summary.{Summary}
+use Rattle.pgn_extract.specs.declared.settings.Mode.{Mode}
+use Rattle.pgn_extract.proofs.OneTold.{all_one_told}
 
 -- pieces that are all numbered high enough
-at_least_all : (line : ℕ → MarkedPiece → List ℕ) (least number : ℕ) (pieces : List MarkedPiece) → least ≤ number
-    → lines_at_least line least number pieces ≡ lines_from line number pieces
-at_least_all line least number [] low = refl
-at_least_all line least number (piece ∷ more) low =
+at_least_all : (least number : ℕ) (tolds : List Told) → least ≤ number → told_at_least least number tolds ≡ tolds
+at_least_all least number [] low = refl
+at_least_all least number (told ∷ more) low =
     let here : nat_le least number ≡ true = grind (arith, nat_tests) in
-    ap (λ b. (if b then line number piece else []) ++ lines_at_least line least (number + 1) more) here
-    ∙ ap (λ rest. line number piece ++ rest) (at_least_all line least (number + 1) more (omega arith))
+    ap (λ b. if b then told ∷ told_at_least least (number + 1) more else told_at_least least (number + 1) more) here
+    ∙ ap (λ rest. told ∷ rest) (at_least_all least (number + 1) more (omega arith))
 
--- the pieces before the mark have no line, those from it on have theirs
-at_least_from : (line : ℕ → MarkedPiece → List ℕ) (number : ℕ) (before behind : List MarkedPiece)
-    → lines_at_least line (length before + number) number (before ++ behind) ≡ lines_from line (length before + number) behind
-at_least_from line number [] behind =
-    let none : 0 + number ≡ number = omega arith in
-    at_least_all line (0 + number) number behind (omega arith) ∙ ap (λ n. lines_from line n behind) (sym none)
-at_least_from line number (piece ∷ before) behind =
+-- of the pieces before the mark nothing is kept, of those from it on all
+at_least_from : (mode : Mode) (number : ℕ) (before behind : List MarkedPiece) (tolds : List Told) → AreTold mode number (before ++ behind) tolds
+    → (later : List Told) × AreTold mode (length before + number) behind later × (told_at_least (length before + number) number tolds ≡ later)
+at_least_from mode number [] behind tolds all =
+    let none : number ≡ 0 + number = omega arith in
+    (tolds, subst (λ n. AreTold mode n behind tolds) none all, at_least_all (0 + number) number tolds (omega arith))
+at_least_from mode number (piece ∷ before) behind tolds (told, rest, parted, is, others) =
     let least = length (piece ∷ before) + number in
     let above : nat_le least number ≡ false = grind (arith, nat_tests) in
     let next : length before + (number + 1) ≡ least = omega arith in
-    ap (λ b. (if b then line number piece else []) ++ lines_at_least line least (number + 1) (before ++ behind)) above
-    ∙ ap (λ n. lines_at_least line n (number + 1) (before ++ behind)) (sym next)
-    ∙ at_least_from line (number + 1) before behind ∙ ap (λ n. lines_from line n behind) next
-
--- what a run told of the rest is what the whole has from the mark on
-pub resumes_of : (limit max_depth number offset : ℕ) (whole : List ℕ) (out out' err err' : Option (List ℕ)) (summary : Summary)
-    → Ends limit max_depth number offset whole out out' err err' summary → Resumes limit max_depth number offset whole out out' err err'
-resumes_of limit max_depth number offset whole out out' err err' summary ends pieces all mark =
-    let rest = mark.piece ∷ mark.behind in
-    let same : ends.pieces ≡ rest = resumed_pieces limit max_depth whole mark.before mark.piece mark.behind ends.pieces
-    (subst (AreMarkedPieces limit max_depth 0 whole) mark.parted all)
-    (subst (λ o. AreMarkedPieces limit max_depth o (drop o whole) ends.pieces) mark.placed ends.each) in
-    let lines : (line : ℕ → MarkedPiece → List ℕ) → lines_from line number ends.pieces ≡ lines_at_least line number 1 pieces = λ line.
-    ap (lines_from line number) same ∙ ap (λ n. lines_from line n rest) mark.numbered
-    ∙ sym (at_least_from line 1 mark.before rest)
-    ∙ ap (λ n. lines_at_least line n 1 (mark.before ++ rest)) (sym mark.numbered)
-    ∙ ap (lines_at_least line number 1) (sym mark.parted) in (
-      subst (Appends out out') (lines index_line) ends.told.index,
-      subst (Appends err err') (lines fault_line) ends.told.faults,
+    let from = at_least_from mode (number + 1) before behind rest others in (
+      from.0,
+      subst (λ n. AreTold mode n behind from.0) next from.1,
+      ap (told_at_least least number) parted
+          ∙ ap (λ b. if b then told ∷ told_at_least least (number + 1) rest else told_at_least least (number + 1) rest) above
+          ∙ ap (λ n. told_at_least n (number + 1) rest) (sym next) ∙ from.2,
     )
+
+module _ (one_replay : GameHasOneReplay) (one_fault : GameHasOneFault) (no_fault : SoundGameHasNoFault) where
+  -- what a run told of the rest is what the whole has from the mark on
+  pub resumes_of : (mode : Mode) (limit max_depth number offset : ℕ) (whole : List ℕ) (out out' err err' : Option (List ℕ)) (summary : Summary)
+      → Ends mode limit max_depth number offset whole out out' err err' summary → Resumes mode limit max_depth number offset whole out out' err err'
+  resumes_of mode limit max_depth number offset whole out out' err err' summary ends pieces all mark =
+      let rest = mark.piece ∷ mark.behind in
+      let same : ends.pieces ≡ rest = resumed_pieces limit max_depth whole mark.before mark.piece mark.behind ends.pieces
+      (subst (AreMarkedPieces limit max_depth 0 whole) mark.parted all)
+      (subst (λ o. AreMarkedPieces limit max_depth o (drop o whole) ends.pieces) mark.placed ends.each) in
+      let own : AreTold mode number rest ends.tolds = subst (λ p. AreTold mode number p ends.tolds) same ends.told.each in record {
+        tolds = ends.tolds;
+        told = record { each = own; output = ends.told.output; faults = ends.told.faults };
+        same = λ tolds told.
+            let from = at_least_from mode 1 mark.before rest tolds (subst (λ p. AreTold mode 1 p tolds) mark.parted told) in
+            all_one_told one_replay one_fault no_fault mode (length mark.before + 1) rest ends.tolds from.0
+            (subst (λ n. AreTold mode n rest ends.tolds) mark.numbered own) from.1
+            ∙ sym from.2 ∙ ap (λ n. told_at_least n 1 tolds) (sym mark.numbered);
+      }
 
 -- a fact of an answer and of known bytes gives one of the bytes alone
 pub on_ok_some : {A E : Type 0} (r : Result A E) (o : Option (List ℕ)) (P : A → List ℕ → Type 0) (Q : List ℕ → Type 0)

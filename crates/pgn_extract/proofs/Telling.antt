@@ -1,51 +1,72 @@
--- The lines of pieces in a row, piece by piece.
-use Rattle.std.proofs.Common.{◌≡◌, ℕ, ◌+◌, List, [], ◌∷◌, ◌++◌, length, sym, ap, ◌∙◌, arith, append_assoc, length-append}
+-- What is told of pieces in a row, piece by piece.
+use Rattle.std.proofs.Common.{◌≡◌, ℕ, ◌+◌, suc, List, [], ◌∷◌, ◌++◌, length, refl, sym, ap, ◌∙◌, subst, arith, append_assoc, length-append}
 use Rattle.std.specs.Prelude.{count_by, fold, if◌then◌else◌}
 use Rattle.std.proofs.lemmas.List.Sums.{fold_push, fold-append}
 use Rattle.std.proofs.lemmas.List.{append-nil}
 use Rattle.pgn_text.specs.Marks.{MarkedPiece}
-use Rattle.pgn_extract.specs.Index.{index, fault_lines, index_line, fault_line, lines_from, is_faulty}
-use Rattle.pgn_extract.specs.Blockwise.{AreLines, AddsMark}
-use Rattle.pgn_extract.specs.declared.lines.Lines.{Lines}
+use Rattle.pgn_extract.specs.Blockwise.{Reports, AddsMark}
+use Rattle.pgn_extract.specs.Telling.{Told, AreTold, output_of, fault_line_of, output_text, fault_lines, is_faulty}
+use Rattle.pgn_extract.specs.declared.lines.Report.{Report}
+use Rattle.pgn_extract.specs.declared.settings.Mode.{Mode}
 
--- the lines of pieces, and then of others
-pub lines_from-append : (line : ℕ → MarkedPiece → List ℕ) (number : ℕ) (xs ys : List MarkedPiece)
-    → lines_from line number (xs ++ ys) ≡ lines_from line number xs ++ lines_from line (number + length xs) ys
-lines_from-append line number [] ys = ap (λ n. lines_from line n ys) (omega arith)
-lines_from-append line number (x ∷ xs) ys =
-    let next : number + 1 + length xs ≡ number + length (x ∷ xs) = omega arith in
-    ap (λ t. line number x ++ t) (lines_from-append line (number + 1) xs ys ∙ ap (λ n. lines_from line (number + 1) xs ++ lines_from line n ys) next)
-    ∙ sym (append_assoc (line number x) (lines_from line (number + 1) xs) (lines_from line (number + length (x ∷ xs)) ys))
+-- what goes to the output of some, and then of others
+pub output_text-append : (xs ys : List Told) → output_text (xs ++ ys) ≡ output_text xs ++ output_text ys
+output_text-append [] ys = refl
+output_text-append (x ∷ xs) ys = ap (λ t. output_of x ++ t) (output_text-append xs ys) ∙ sym (append_assoc (output_of x) (output_text xs) (output_text ys))
 
--- the line of one more piece
-pub lines_from-push : (line : ℕ → MarkedPiece → List ℕ) (number : ℕ) (xs : List MarkedPiece) (x : MarkedPiece)
-    → lines_from line number (xs ++ x ∷ []) ≡ lines_from line number xs ++ line (number + length xs) x
-lines_from-push line number xs x =
-    lines_from-append line number xs (x ∷ []) ∙ ap (λ t. lines_from line number xs ++ t) (append-nil (line (number + length xs) x))
+-- what goes to standard error of some, and then of others
+pub fault_lines-append : (xs ys : List Told) → fault_lines (xs ++ ys) ≡ fault_lines xs ++ fault_lines ys
+fault_lines-append [] ys = refl
+fault_lines-append (x ∷ xs) ys =
+    ap (λ t. fault_line_of x ++ t) (fault_lines-append xs ys) ∙ sym (append_assoc (fault_line_of x) (fault_lines xs) (fault_lines ys))
+
+-- pieces are told, and others behind them
+pub told-append : (mode : Mode) (number : ℕ) (xs ys : List MarkedPiece) (first second : List Told) → AreTold mode number xs first
+    → AreTold mode (number + length xs) ys second → AreTold mode number (xs ++ ys) (first ++ second)
+told-append mode number [] ys first second none others =
+    let start : number + length {A = MarkedPiece} [] ≡ number = omega arith in
+    subst (λ t. AreTold mode number ys (t ++ second)) (sym none) (subst (λ n. AreTold mode n ys second) start others)
+told-append mode number (x ∷ xs) ys first second (own, rest, parted, here, more) others =
+    let next : number + length (x ∷ xs) ≡ number + 1 + length xs = omega arith in
+    (own, rest ++ second, ap (λ t. t ++ second) parted, here, told-append mode (number + 1) xs ys rest second more (subst (λ n. AreTold mode n ys second) next others))
 
 -- a count that begins at another number
-count_from : (a : ℕ) (xs : List MarkedPiece)
-    → fold (λ (n : ℕ) (x : MarkedPiece). n + (if is_faulty x then 1 else 0)) a xs ≡ a + count_by is_faulty xs
+count_from : (a : ℕ) (xs : List Told)
+    → fold (λ (n : ℕ) (x : Told). n + (if is_faulty x then 1 else 0)) a xs ≡ a + count_by is_faulty xs
 count_from a [] = omega arith
 count_from a (x ∷ xs) =
     let one = if is_faulty x then 1 else 0 in
-    let here : fold (λ (n : ℕ) (x : MarkedPiece). n + (if is_faulty x then 1 else 0)) (a + one) xs ≡ a + one + count_by is_faulty xs = count_from (a + one) xs in
-    let there : fold (λ (n : ℕ) (x : MarkedPiece). n + (if is_faulty x then 1 else 0)) (0 + one) xs ≡ 0 + one + count_by is_faulty xs = count_from (0 + one) xs in
+    let here : fold (λ (n : ℕ) (x : Told). n + (if is_faulty x then 1 else 0)) (a + one) xs ≡ a + one + count_by is_faulty xs = count_from (a + one) xs in
+    let there : fold (λ (n : ℕ) (x : Told). n + (if is_faulty x then 1 else 0)) (0 + one) xs ≡ 0 + one + count_by is_faulty xs = count_from (0 + one) xs in
     here ∙ sum a one (count_by is_faulty xs) ∙ ap (λ n. a + n) (sym there)
   where
     sum : (a b c : ℕ) → a + b + c ≡ a + (0 + b + c)
     sum a b c = omega arith
 
--- the faulty ones among pieces, and then others
-pub count_by-join : (xs ys : List MarkedPiece) → count_by is_faulty (xs ++ ys) ≡ count_by is_faulty xs + count_by is_faulty ys
-count_by-join xs ys = fold-append (λ (n : ℕ) (x : MarkedPiece). n + (if is_faulty x then 1 else 0)) 0 xs ys ∙ count_from (count_by is_faulty xs) ys
+-- the faulty ones among some, and then others
+pub count_by-join : (xs ys : List Told) → count_by is_faulty (xs ++ ys) ≡ count_by is_faulty xs + count_by is_faulty ys
+count_by-join xs ys = fold-append (λ (n : ℕ) (x : Told). n + (if is_faulty x then 1 else 0)) 0 xs ys ∙ count_from (count_by is_faulty xs) ys
+
+-- the last one joins nothing
+joined : (front one whole : List ℕ) → whole ≡ front ++ (one ++ []) → front ++ one ≡ whole
+joined front one whole e = ap (λ t. front ++ t) (sym (append-nil one)) ∙ sym e
+
+-- as many are told as there are pieces
+pub told-length : (mode : Mode) (number : ℕ) (pieces : List MarkedPiece) (tolds : List Told) → AreTold mode number pieces tolds → length tolds ≡ length pieces
+told-length mode number [] tolds none = ap length none
+told-length mode number (piece ∷ more) tolds (told, rest, parted, how, others) =
+    ap length parted ∙ ap (λ n. suc n) (told-length mode (number + 1) more rest others)
 
 -- one more piece
-pub lines_more : (old new : Lines) (number here : ℕ) (pieces : List MarkedPiece) (piece : MarkedPiece) → AreLines old number pieces
-    → here ≡ number + length pieces → AddsMark old new here piece → AreLines new number (pieces ++ piece ∷ [])
-lines_more old new number here pieces piece lines is adds = record {
-  index = adds.index ∙ ap (λ t. t ++ index_line here piece) lines.index ∙ ap (λ n. index number pieces ++ index_line n piece) is ∙ sym (lines_from-push index_line number pieces piece);
-  faults = adds.faults ∙ ap (λ t. t ++ fault_line here piece) lines.faults ∙ ap (λ n. fault_lines number pieces ++ fault_line n piece) is ∙ sym (lines_from-push fault_line number pieces piece);
-  games = adds.games ∙ ap (λ n. n + 1) lines.games ∙ omega (arith, length-append pieces (piece ∷ []));
-  faulty = adds.faulty ∙ ap (λ n. n + (if is_faulty piece then 1 else 0)) lines.faulty ∙ sym (fold_push (λ (n : ℕ) (x : MarkedPiece). n + (if is_faulty x then 1 else 0)) 0 pieces piece);
+pub reports_more : (mode : Mode) (old new : Report) (number here : ℕ) (pieces : List MarkedPiece) (piece : MarkedPiece) → Reports mode old number pieces
+    → here ≡ number + length pieces → AddsMark mode old new here piece → Reports mode new number (pieces ++ piece ∷ [])
+reports_more mode old new number here pieces piece reports is (told, how, adds) = record {
+  tolds = reports.tolds ++ told ∷ [];
+  each = told-append mode number pieces (piece ∷ []) reports.tolds (told ∷ []) reports.each
+      (subst (λ n. AreTold mode n (piece ∷ []) (told ∷ [])) is (told, [], refl, how, refl));
+  output = adds.output ∙ ap (λ t. t ++ output_of told) reports.output ∙ joined _ _ _ (output_text-append reports.tolds (told ∷ []));
+  faults = adds.faults ∙ ap (λ t. t ++ fault_line_of told) reports.faults ∙ joined _ _ _ (fault_lines-append reports.tolds (told ∷ []));
+  same = omega (arith, reports.same, length-append reports.tolds (told ∷ []), length-append pieces (piece ∷ []));
+  games = adds.games ∙ ap (λ n. n + 1) reports.games ∙ omega (arith, length-append pieces (piece ∷ []));
+  faulty = adds.faulty ∙ ap (λ n. n + (if is_faulty told then 1 else 0)) reports.faulty ∙ sym (fold_push (λ (n : ℕ) (x : Told). n + (if is_faulty x then 1 else 0)) 0 reports.tolds told);
 }

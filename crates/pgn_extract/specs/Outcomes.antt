@@ -1,54 +1,79 @@
 -- What stands on the output and on standard error once a run has ended.
-use Rattle.std.specs.Prelude.{◌≡◌, ℕ, ◌^◌, ◌<◌, List, length, take, drop, count_by, Option}
+use Rattle.std.specs.Prelude.{◌≡◌, ℕ, ◌^◌, ◌<◌, List, ◌++◌, length, take, drop, count_by, Option}
 use Rattle.std.specs.Io.KnownBytes.{Appends}
 use Rattle.pgn_text.specs.Complete.{AreCompletePieces}
 use Rattle.pgn_text.specs.Marks.{MarkedPiece, AreMarkedPieces}
-use Rattle.pgn_extract.specs.Index.{index, fault_lines, is_faulty}
+use Rattle.pgn_extract.specs.Index.{index}
+use Rattle.pgn_extract.specs.Listing.{Entry, AreEntries, listing}
+use Rattle.pgn_extract.specs.Telling.{Told, AreTold, output_text, fault_lines, is_faulty}
 use Rattle.pgn_extract.specs.declared.outcome.RunError.{RunError}
 use Rattle.pgn_extract.specs.declared.outcome.RunError.TheVariants.{Read, Write, OutOfMemory, InputTooLong}
 use Rattle.pgn_extract.specs.declared.outcome.Summary.{Summary}
+use Rattle.pgn_extract.specs.declared.settings.Mode.{Mode}
 
 -- known bytes grow by a beginning of the bytes
 abbrev pub AppendsFront : Option (List ℕ) → Option (List ℕ) → List ℕ → Type 0
 AppendsFront old new bytes = (size : ℕ) × Appends old new (take size bytes)
 
--- the output grew by the index of the pieces, and standard error by the lines of the faulty ones
-pub record Tells (out out' err err' : Option (List ℕ)) (number : ℕ) (pieces : List MarkedPiece) : Type 0 where
-  pub index : Appends out out' (index number pieces)
-  pub faults : Appends err err' (fault_lines number pieces)
+-- the pieces are told so in the mode, and the output and standard error grew by what is told
+pub record Tells (mode : Mode) (out out' err err' : Option (List ℕ)) (number : ℕ) (pieces : List MarkedPiece) (tolds : List Told) : Type 0 where
+  pub each : AreTold mode number pieces tolds
+  pub output : Appends out out' (output_text tolds)
+  pub faults : Appends err err' (fault_lines tolds)
 
--- each of the two grew by a beginning of that
-pub record Begins (out out' err err' : Option (List ℕ)) (number : ℕ) (pieces : List MarkedPiece) : Type 0 where
-  pub index : AppendsFront out out' (index number pieces)
-  pub faults : AppendsFront err err' (fault_lines number pieces)
+-- each of the two grew by a beginning of what is told of the first of the pieces, so by one of what is told of all
+pub record Begins (mode : Mode) (out out' err err' : Option (List ℕ)) (number : ℕ) (pieces : List MarkedPiece) : Type 0 where
+  pub before : List MarkedPiece
+  pub behind : List MarkedPiece
+  pub parted : pieces ≡ before ++ behind
+  pub tolds : List Told
+  pub each : AreTold mode number before tolds
+  pub output : AppendsFront out out' (output_text tolds)
+  pub faults : AppendsFront err err' (fault_lines tolds)
 
 -- a run over all of the bytes of the input after the first `offset` told their pieces, and counted them
-pub record Ends (limit max_depth number offset : ℕ) (whole : List ℕ) (out out' err err' : Option (List ℕ)) (summary : Summary) : Type 0 where
+pub record Ends (mode : Mode) (limit max_depth number offset : ℕ) (whole : List ℕ) (out out' err err' : Option (List ℕ)) (summary : Summary) : Type 0 where
   pub pieces : List MarkedPiece
   pub each : AreMarkedPieces limit max_depth offset (drop offset whole) pieces
-  pub told : Tells out out' err err' number pieces
+  pub tolds : List Told
+  pub told : Tells mode out out' err err' number pieces tolds
   pub games : summary.games ≡ length pieces
-  pub faulty : summary.faulty ≡ count_by is_faulty pieces
+  pub faulty : summary.faulty ≡ count_by is_faulty tolds
+
+-- such a run wrote exactly the index of the pieces
+pub record Indexes (limit max_depth number offset : ℕ) (whole : List ℕ) (out out' : Option (List ℕ)) : Type 0 where
+  pub pieces : List MarkedPiece
+  pub each : AreMarkedPieces limit max_depth offset (drop offset whole) pieces
+  pub indexed : Appends out out' (index number pieces)
+
+-- such a run wrote exactly the listing of the entries of the pieces
+pub record Lists (limit max_depth number offset : ℕ) (whole : List ℕ) (out out' : Option (List ℕ)) : Type 0 where
+  pub pieces : List MarkedPiece
+  pub each : AreMarkedPieces limit max_depth offset (drop offset whole) pieces
+  pub entries : List Entry
+  pub are : AreEntries number pieces entries
+  pub listed : Appends out out' (listing entries)
 
 -- the pieces of the complete blocks of some bytes are told, and nothing else
-pub record TellsComplete (limit max_depth number offset : ℕ) (bytes : List ℕ) (out out' err err' : Option (List ℕ)) : Type 0 where
+pub record TellsComplete (mode : Mode) (limit max_depth number offset : ℕ) (bytes : List ℕ) (out out' err err' : Option (List ℕ)) : Type 0 where
   pub pieces : List MarkedPiece
   pub each : AreCompletePieces limit max_depth offset bytes pieces
-  pub told : Tells out out' err err' number pieces
+  pub tolds : List Told
+  pub told : Tells mode out out' err err' number pieces tolds
 
 -- what is told is a beginning of what a run over all of the bytes would tell
-pub record BeginsAll (limit max_depth number offset : ℕ) (bytes : List ℕ) (out out' err err' : Option (List ℕ)) : Type 0 where
+pub record BeginsAll (mode : Mode) (limit max_depth number offset : ℕ) (bytes : List ℕ) (out out' err err' : Option (List ℕ)) : Type 0 where
   pub pieces : List MarkedPiece
   pub each : AreMarkedPieces limit max_depth offset bytes pieces
-  pub told : Begins out out' err err' number pieces
+  pub told : Begins mode out out' err err' number pieces
 
 -- what stands after an error of a run over the input `whole`, of which it read the first `moved` bytes
-abbrev pub Stands : ℕ → ℕ → ℕ → ℕ → List ℕ → ℕ → Option (List ℕ) → Option (List ℕ) → Option (List ℕ) → Option (List ℕ) → RunError → Type 0
-Stands limit max_depth number offset whole moved out out' err err' Read =
-    TellsComplete limit max_depth number offset (drop offset (take moved whole)) out out' err err'
-Stands limit max_depth number offset whole moved out out' err err' InputTooLong =
-    (2 ^ 62 < length whole) × TellsComplete limit max_depth number offset (drop offset (take (2 ^ 62) whole)) out out' err err'
-Stands limit max_depth number offset whole moved out out' err err' Write =
-    BeginsAll limit max_depth number offset (drop offset whole) out out' err err'
-Stands limit max_depth number offset whole moved out out' err err' OutOfMemory =
-    BeginsAll limit max_depth number offset (drop offset whole) out out' err err'
+abbrev pub Stands : Mode → ℕ → ℕ → ℕ → ℕ → List ℕ → ℕ → Option (List ℕ) → Option (List ℕ) → Option (List ℕ) → Option (List ℕ) → RunError → Type 0
+Stands mode limit max_depth number offset whole moved out out' err err' Read =
+    TellsComplete mode limit max_depth number offset (drop offset (take moved whole)) out out' err err'
+Stands mode limit max_depth number offset whole moved out out' err err' InputTooLong =
+    (2 ^ 62 < length whole) × TellsComplete mode limit max_depth number offset (drop offset (take (2 ^ 62) whole)) out out' err err'
+Stands mode limit max_depth number offset whole moved out out' err err' Write =
+    BeginsAll mode limit max_depth number offset (drop offset whole) out out' err err'
+Stands mode limit max_depth number offset whole moved out out' err err' OutOfMemory =
+    BeginsAll mode limit max_depth number offset (drop offset whole) out out' err err'

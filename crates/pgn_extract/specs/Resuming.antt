@@ -1,14 +1,15 @@
 -- A run begun at a mark of an earlier run tells exactly the rest.
 use Rattle.std.specs.Prelude.{◌≡◌, ℕ, ◌+◌, nat_le, if◌then◌else◌, List, [], ◌∷◌, ◌++◌, length, Option}
-use Rattle.std.specs.Io.KnownBytes.{Appends}
 use Rattle.pgn_text.specs.Marks.{MarkedPiece, AreMarkedPieces}
-use Rattle.pgn_extract.specs.Index.{index_line, fault_line}
+use Rattle.pgn_extract.specs.Outcomes.{Tells}
+use Rattle.pgn_extract.specs.Telling.{Told, AreTold}
+use Rattle.pgn_extract.specs.declared.settings.Mode.{Mode}
 
--- the lines of those pieces whose number is at least `least`, where the pieces are numbered from a number on
-abbrev pub lines_at_least : (ℕ → MarkedPiece → List ℕ) → ℕ → ℕ → List MarkedPiece → List ℕ
-lines_at_least line least number [] = []
-lines_at_least line least number (piece ∷ more) =
-    (if nat_le least number then line number piece else []) ++ lines_at_least line least (number + 1) more
+-- what is told of those pieces whose number is at least `least`, where the pieces are numbered from a number on
+abbrev pub told_at_least : ℕ → ℕ → List Told → List Told
+told_at_least least number [] = []
+told_at_least least number (told ∷ more) =
+    if nat_le least number then told ∷ told_at_least least (number + 1) more else told_at_least least (number + 1) more
 
 -- `number@offset` is the mark of one of the pieces, which are numbered from 1 on
 pub record IsMarkAmong (number offset : ℕ) (pieces : List MarkedPiece) : Type 0 where
@@ -19,9 +20,15 @@ pub record IsMarkAmong (number offset : ℕ) (pieces : List MarkedPiece) : Type 
   pub numbered : number ≡ length before + 1
   pub placed : offset ≡ piece.offset
 
--- where the run began at a mark of the whole input, it told exactly those lines of the whole input's index and of its fault lines
--- whose number is at least that of the mark
-abbrev pub Resumes : ℕ → ℕ → ℕ → ℕ → List ℕ → Option (List ℕ) → Option (List ℕ) → Option (List ℕ) → Option (List ℕ) → Type 0
-Resumes limit max_depth number offset whole out out' err err' =
-    (pieces : List MarkedPiece) → AreMarkedPieces limit max_depth 0 whole pieces → IsMarkAmong number offset pieces
-    → Appends out out' (lines_at_least index_line number 1 pieces) × Appends err err' (lines_at_least fault_line number 1 pieces)
+-- the run told exactly the pieces from the mark on, and just as a run over all pieces tells them
+pub record TellsRest (mode : Mode) (number : ℕ) (pieces rest : List MarkedPiece) (out out' err err' : Option (List ℕ)) : Type 0 where
+  pub tolds : List Told
+  pub told : Tells mode out out' err err' number rest tolds
+  pub same : (all : List Told) → AreTold mode 1 pieces all → tolds ≡ told_at_least number 1 all
+
+-- where the run began at a mark of the whole input, it wrote exactly what is told of those pieces of the whole input whose number is
+-- at least that of the mark
+abbrev pub Resumes : Mode → ℕ → ℕ → ℕ → ℕ → List ℕ → Option (List ℕ) → Option (List ℕ) → Option (List ℕ) → Option (List ℕ) → Type 0
+Resumes mode limit max_depth number offset whole out out' err err' =
+    (pieces : List MarkedPiece) → AreMarkedPieces limit max_depth 0 whole pieces → (mark : IsMarkAmong number offset pieces)
+    → TellsRest mode number pieces (mark.piece ∷ mark.behind) out out' err err'

@@ -7,6 +7,8 @@ use std::alloc::{AllocError, Global};
 pub struct Request<'a> {
     /// `--index` was given.
     pub index: bool,
+    /// `--list` was given.
+    pub list: bool,
     /// The text after `--from`.
     pub from: Option<&'a str>,
     /// The path of the input; without it standard input is read.
@@ -14,10 +16,13 @@ pub struct Request<'a> {
 }
 
 const ABOUT: &str = "Reads chess games in Portable Game Notation (PGN) and writes the index of the \
-    file: for each game its mark N@O, its number and the offset of its first byte.";
+    file: for each game its mark N@O, its number and the offset of its first byte; or the listing: \
+    for each position of a game's main line the mark and the ply.";
 
-const AFTER_HELP: &str = "A game that cannot be read is told on standard error.\n\
-    Status: 0 all games were read, 1 a game was faulty, 2 the words were refused or a file could \
+const AFTER_HELP: &str =
+    "A game that cannot be read, or in the listing cannot be replayed, is told on standard \
+    error.\n\
+    Status: 0 no game was faulty, 1 a game was faulty, 2 the words were refused or a file could \
     not be opened, 3 the run failed.";
 
 /// The command with its options.
@@ -26,6 +31,12 @@ fn make_command<'a>(alloc: Global) -> Result<Command<'a>, AllocError> {
         .long("index")
         .action(ArgAction::SetTrue)
         .help("Write the mark N@O of each readable game, a line each");
+    let list = Arg::new(alloc, "list")
+        .long("list")
+        .action(ArgAction::SetTrue)
+        .help(
+            "Write N@O P for each ply P of each game whose main line can be replayed, a line each",
+        );
     let from = Arg::new(alloc, "from").long("from").value_name("N@O").help(
         "Begin at the game with this mark, as an earlier run printed it",
     );
@@ -35,6 +46,7 @@ fn make_command<'a>(alloc: Global) -> Result<Command<'a>, AllocError> {
         .about(ABOUT)
         .after_help(AFTER_HELP)
         .arg(index)?
+        .arg(list)?
         .arg(from)?
         .arg(file)
 }
@@ -44,6 +56,7 @@ pub fn read_words<'a>(alloc: Global, words: &'a [String]) -> Result<Request<'a>,
     let matches = make_command(alloc)?.try_get_matches_from(words)?;
     Ok(Request {
         index: matches.get_flag("index"),
+        list: matches.get_flag("list"),
         from: matches.get_str("from"),
         file: matches.get_str("FILE"),
     })

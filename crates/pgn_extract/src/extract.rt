@@ -3,45 +3,46 @@ ghost use Rattle.std.specs.Prelude.{◌≡◌, ◌↔◌, ◌⊎◌, ℕ, ◌+�
 ghost use Rattle.std.specs.Io.KnownBytes.{Appends, Keeps};
 ghost use Rattle.pgn_text.specs.Windows.{Shows};
 ghost use Rattle.pgn_extract.specs.Blockwise.{IsShown, TellsBlock, BeginsBlock, EndsBlocks, BreaksOff};
-ghost use Rattle.pgn_extract.specs.Outcomes.{AppendsFront, Ends, Stands};
+ghost use Rattle.pgn_extract.specs.Outcomes.{AppendsFront, Ends, Indexes, Lists, Stands};
 ghost use Rattle.pgn_extract.specs.Resuming.{Resumes};
 
-use crate::lines::{Lines, lines_of};
+use crate::lines::{Report, report_of};
 use crate::outcome::{RunError, Summary, of_read};
 use crate::put::{finish, put};
-use crate::settings::Settings;
+use crate::settings::{Mode, Settings};
 use crate::skip::skip;
 use pgn_text::{Block, Blocks, Tally};
 use std::alloc::Global;
 use std::io::{Read, Write};
 
-/// Writes lines, those for the output first.
-fn put_lines<O: Write, E: Write>(
+/// Writes a report, its output first.
+fn put_report<O: Write, E: Write>(
     out: &mut Tally<O>,
     err: &mut Tally<E>,
-    lines: &Lines,
+    report: &Report,
 ) -> Result<(), RunError>
     requires sound { (out.old.faulted ≡ false) × (err.old.faulted ≡ false) }
-    ensures ok { OnOk result (Appends (O.contents out.old.inner) (O.contents out.new.inner) lines.now.index.items
-        × Appends (E.contents err.old.inner) (E.contents err.new.inner) lines.now.faults.items) }
-    ensures err { OnErr result (AppendsFront (O.contents out.old.inner) (O.contents out.new.inner) lines.now.index.items
-        × AppendsFront (E.contents err.old.inner) (E.contents err.new.inner) lines.now.faults.items) }
+    ensures ok { OnOk result (Appends (O.contents out.old.inner) (O.contents out.new.inner) report.now.output.items
+        × Appends (E.contents err.old.inner) (E.contents err.new.inner) report.now.faults.items) }
+    ensures err { OnErr result (AppendsFront (O.contents out.old.inner) (O.contents out.new.inner) report.now.output.items
+        × AppendsFront (E.contents err.old.inner) (E.contents err.new.inner) report.now.faults.items) }
     ensures only { IfErr result (λ error. error ≡ RunError.Write) }
     ensures fault { IsErrOf result RunError.Write
         ↔ ((out.new.faulted ≡ true) ⊎ (err.new.faulted ≡ true)) }
     ensures alone { (out.new.faulted ≡ true) × (err.new.faulted ≡ true) → ⊥ }
 {
-    match put(out, &lines.index) {
-        Ok(()) => put(err, &lines.faults),
+    match put(out, &report.output) {
+        Ok(()) => put(err, &report.faults),
         Err(error) => Err(error),
     }
 }
 
-/// Writes the lines of the pieces of one block.
+/// Writes what is told of the pieces of one block.
 fn put_block<O: Write, E: Write>(
     alloc: Global,
     out: &mut Tally<O>,
     err: &mut Tally<E>,
+    mode: Mode,
     number: u64,
     block: Block<'_>,
 ) -> Result<Summary, RunError>
@@ -50,11 +51,11 @@ fn put_block<O: Write, E: Write>(
     requires offset { block.offset ≤ 2 ^ 62 }
     requires size { IsShown 1048576 block.body }
     ensures ok { IfOk result (λ summary. (bytes : List ℕ) → Shows 1048576 block.entry.body bytes
-        → TellsBlock 1048576 64 number block.entry.offset bytes
+        → TellsBlock mode 1048576 64 number block.entry.offset bytes
         (O.contents out.old.inner) (O.contents out.new.inner)
         (E.contents err.old.inner) (E.contents err.new.inner) summary) }
     ensures err { OnErr result ((bytes : List ℕ) → Shows 1048576 block.entry.body bytes
-        → BeginsBlock 1048576 64 number block.entry.offset bytes
+        → BeginsBlock mode 1048576 64 number block.entry.offset bytes
         (O.contents out.old.inner) (O.contents out.new.inner)
         (E.contents err.old.inner) (E.contents err.new.inner)) }
     ensures only { IfErr result (λ error. (error ≡ RunError.Write) ⊎ (error ≡ RunError.OutOfMemory)) }
@@ -62,14 +63,14 @@ fn put_block<O: Write, E: Write>(
         ↔ ((out.new.faulted ≡ true) ⊎ (err.new.faulted ≡ true)) }
     ensures alone { (out.new.faulted ≡ true) × (err.new.faulted ≡ true) → ⊥ }
 {
-    let lines = match lines_of(alloc, number, block) {
-        Ok(lines) => lines,
+    let report = match report_of(alloc, mode, number, block) {
+        Ok(report) => report,
         Err(_) => return Err(RunError::OutOfMemory),
     };
-    match put_lines(out, err, &lines) {
+    match put_report(out, err, &report) {
         Ok(()) => Ok(Summary {
-            games: lines.games,
-            faulty: lines.faulty,
+            games: report.games,
+            faulty: report.faulty,
         }),
         Err(error) => Err(error),
     }
@@ -99,18 +100,19 @@ fn run_blocks<R: Read, O: Write, E: Write>(
     input: &mut Tally<R>,
     out: &mut Tally<O>,
     err: &mut Tally<E>,
+    mode: Mode,
     number: u64,
 ) -> Result<Summary, RunError>
     requires sound { (input.old.faulted ≡ false) × (out.old.faulted ≡ false)
         × (err.old.faulted ≡ false) }
     requires number { number ≤ 2 ^ 62 }
     requires offset { offset ≤ 2 ^ 62 }
-    ensures ok { IfOk result (EndsBlocks 1048576 64 number offset
+    ensures ok { IfOk result (EndsBlocks mode 1048576 64 number offset
         (R.remaining input.old.inner) (R.remaining input.new.inner) input.old.moved input.new.moved
         (O.contents out.old.inner) (O.contents out.new.inner)
         (E.contents err.old.inner) (E.contents err.new.inner)) }
     ensures flushed { OnOk result ((out.new.flushed ≡ true) × (err.new.flushed ≡ true)) }
-    ensures err { IfErr result (BreaksOff 1048576 64 number offset
+    ensures err { IfErr result (BreaksOff mode 1048576 64 number offset
         (R.remaining input.old.inner) (R.remaining input.new.inner) input.old.moved input.new.moved
         (O.contents out.old.inner) (O.contents out.new.inner)
         (E.contents err.old.inner) (E.contents err.new.inner)) }
@@ -124,7 +126,7 @@ fn run_blocks<R: Read, O: Write, E: Write>(
     let mut faulty = 0;
     loop {
         match blocks.next(input) {
-            Ok(Some(block)) => match put_block(alloc, out, err, number + games, block) {
+            Ok(Some(block)) => match put_block(alloc, out, err, mode, number + games, block) {
                 Ok(told) => {
                     games += told.games;
                     faulty += told.faulty;
@@ -157,20 +159,28 @@ pub fn run<R: Read, O: Write, E: Write>(
 
     // At `Ok` the whole input is told, and both writers are flushed.
     ensures ok { IfOk result (λ summary. IfSome (R.remaining input.old.inner) (λ whole.
-        Ends 1048576 64 settings.now.number settings.now.offset whole
+        Ends settings.now.mode 1048576 64 settings.now.number settings.now.offset whole
         (O.contents out.old.inner) (O.contents out.new.inner)
         (E.contents err.old.inner) (E.contents err.new.inner) summary)) }
     ensures flushed { OnOk result ((out.new.flushed ≡ true) × (err.new.flushed ≡ true)) }
 
+    // The output is then exactly the index, or the listing, of the pieces from the offset on.
+    ensures indexes { OnOk result (IfSome (R.remaining input.old.inner) (λ whole. settings.now.mode ≡ Mode.Index
+        → Indexes 1048576 64 settings.now.number settings.now.offset whole
+        (O.contents out.old.inner) (O.contents out.new.inner))) }
+    ensures lists { OnOk result (IfSome (R.remaining input.old.inner) (λ whole. settings.now.mode ≡ Mode.List
+        → Lists 1048576 64 settings.now.number settings.now.offset whole
+        (O.contents out.old.inner) (O.contents out.new.inner))) }
+
     // Begun at a mark of the whole input, the run tells exactly the rest of what a run over the whole tells.
     ensures resumes { OnOk result (IfSome (R.remaining input.old.inner) (λ whole.
-        Resumes 1048576 64 settings.now.number settings.now.offset whole
+        Resumes settings.now.mode 1048576 64 settings.now.number settings.now.offset whole
         (O.contents out.old.inner) (O.contents out.new.inner)
         (E.contents err.old.inner) (E.contents err.new.inner))) }
 
     // What stands after an error, and when each comes: at most one of the three has failed then.
     ensures err { IfErr result (λ error. IfSome (R.remaining input.old.inner) (λ whole.
-        Stands 1048576 64 settings.now.number settings.now.offset whole input.new.moved
+        Stands settings.now.mode 1048576 64 settings.now.number settings.now.offset whole input.new.moved
         (O.contents out.old.inner) (O.contents out.new.inner)
         (E.contents err.old.inner) (E.contents err.new.inner) error)) }
     ensures read_fault { IsErrOf result RunError.Read ↔ (input.new.faulted ≡ true) }
@@ -179,7 +189,15 @@ pub fn run<R: Read, O: Write, E: Write>(
     ensures alone { (out.new.faulted ≡ true) × (err.new.faulted ≡ true) → ⊥ }
 {
     match skip(input, settings.offset) {
-        Ok(()) => run_blocks(alloc, settings.offset, input, out, err, settings.number),
+        Ok(()) => run_blocks(
+            alloc,
+            settings.offset,
+            input,
+            out,
+            err,
+            settings.mode,
+            settings.number,
+        ),
         Err(error) => Err(error),
     }
 }

@@ -1,9 +1,10 @@
-//! `pgn-extract` as a library: `run` writes the index of a file of chess games, and `program` is the command-line tool over words and
-//! files that are handed in.
+//! `pgn-extract` as a library: `run` writes the index or the listing of a file of chess games, and `program` is the command-line tool
+//! over words and files that are handed in.
 #![tactic(auto)]
 
 mod command;
 mod extract;
+pub mod laws;
 mod lines;
 mod mark;
 mod messages;

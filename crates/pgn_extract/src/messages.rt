@@ -2,6 +2,8 @@
 
 pub const MODE_NOT_BUILT: &str = "pgn-extract: mode not built\n";
 
+pub const BOTH_MODES: &str = "pgn-extract: --list and --index exclude each other\n";
+
 pub const BAD_MARK: &str = "pgn-extract: bad mark\n";
 
 pub const CANNOT_OPEN_INPUT: &str = "pgn-extract: cannot open input\n";

@@ -5,6 +5,8 @@
 pub enum Mode {
     /// The mark of each readable game, on a line of its own.
     Index,
+    /// Each ply of each game whose main line can be replayed, on a line of its own.
+    List,
 }
 
 /// What a run writes, and where in the file it begins.

@@ -25,7 +25,7 @@ pub trait Files {
     fn standard(&mut self) -> Self::Input;
 }
 
-/// The status where all games were read.
+/// The status where no game was faulty.
 const SOUND: u8 = 0;
 /// The status where a game was faulty.
 const FAULTY: u8 = 1;
@@ -83,14 +83,15 @@ fn read_order<'a>(alloc: Global, words: &'a [String]) -> Result<Order<'a>, Refus
         Ok(request) => request,
         Err(error) => return Err(refused_words(alloc, &error)),
     };
-    if !request.index {
-        return Err(Refusal::Line(messages::MODE_NOT_BUILT));
-    }
+    let mode = match mode_of(&request) {
+        Ok(mode) => mode,
+        Err(line) => return Err(Refusal::Line(line)),
+    };
     let Some(mark) = mark_of(&request) else {
         return Err(Refusal::Line(messages::BAD_MARK));
     };
     let settings = Settings {
-        mode: Mode::Index,
+        mode,
         number: mark.number,
         offset: mark.offset,
     };
@@ -98,6 +99,16 @@ fn read_order<'a>(alloc: Global, words: &'a [String]) -> Result<Order<'a>, Refus
         settings,
         file: request.file,
     })
+}
+
+/// What the run writes, or the line that refuses it.
+fn mode_of(request: &Request<'_>) -> Result<Mode, &'static str> {
+    match (request.list, request.index) {
+        (true, true) => Err(messages::BOTH_MODES),
+        (true, false) => Ok(Mode::List),
+        (false, true) => Ok(Mode::Index),
+        (false, false) => Err(messages::MODE_NOT_BUILT),
+    }
 }
 
 /// The mark that the run begins at: that of `--from`, and `1@0` without it. `None` for a bad one.
@@ -199,7 +210,7 @@ fn tell<E: Write>(err: &mut Tally<E>, text: &str) {
 }
 
 /// Does what the words ask for, of which the first is the program's name, and answers the exit status:
-/// 0 where all games were read (or the help was asked for), 1 where a game was faulty, 2 where the
+/// 0 where no game was faulty (or the help was asked for), 1 where a game was faulty, 2 where the
 /// words were refused or a file could not be opened, 3 where the run failed.
 pub fn program<F: Files, O: Write, E: Write>(
     alloc: Global,

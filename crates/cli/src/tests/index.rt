@@ -1,15 +1,7 @@
-//! The index of worked files. Each row: the words behind `--index`, the input, the output, standard error, the status.
-use super::support::run_over;
+//! The index of worked files.
+use super::support::{Row, run_over};
 use std::alloc::Global;
 use std::test::Fail;
-
-struct Row {
-    words: &'static [&'static str],
-    text: &'static [u8],
-    out: &'static [u8],
-    err: &'static [u8],
-    status: u8,
-}
 
 const TWO_GAMES: &[u8] = b"[Event \"A\"]\n\n1. e4 *\n\n[Event \"B\"]\n\n1. d4 *\n";
 

@@ -186,6 +186,16 @@ pub struct Ending {
     pub err: Page,
 }
 
+/// The program's name, and these words behind it.
+pub fn words_behind_name(alloc: Global, words: &[&str]) -> Result<Vec<String>, AllocError> {
+    let mut list = Vec::new(alloc);
+    list.push(String::from_str(alloc, "pgn-extract")?)?;
+    for word in words {
+        list.push(String::from_str(alloc, word)?)?;
+    }
+    Ok(list)
+}
+
 /// Runs the program with these words behind its name.
 pub fn run_words(
     alloc: Global,
@@ -194,11 +204,7 @@ pub fn run_words(
     out: Page,
     err: Page,
 ) -> Result<Ending, AllocError> {
-    let mut list = Vec::new(alloc);
-    list.push(String::from_str(alloc, "pgn-extract")?)?;
-    for word in words {
-        list.push(String::from_str(alloc, word)?)?;
-    }
+    let list = words_behind_name(alloc, words)?;
     let mut out = Tally::new(out);
     let mut err = Tally::new(err);
     let status = program(alloc, list, shelf, &mut out, &mut err);
@@ -218,4 +224,13 @@ pub fn run_over(alloc: Global, words: &[&str], text: &[u8]) -> Result<Ending, Al
         Page::new(),
         Page::new(),
     )
+}
+
+/// A worked row: the words, the input, the output, standard error and the status.
+pub struct Row {
+    pub words: &'static [&'static str],
+    pub text: &'static [u8],
+    pub out: &'static [u8],
+    pub err: &'static [u8],
+    pub status: u8,
 }

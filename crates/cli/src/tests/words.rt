@@ -58,6 +58,14 @@ fn refusals_come_in_their_order(rt: HostRuntime) -> Result<(), Fail> {
     let end = run_over(rt.alloc(), &["--from", "0@0", "absent.pgn"], TWO_GAMES)?;
     assert_eq!(rt; end.status, 2);
     assert_eq!(rt; end.err.text(), b"pgn-extract: mode not built\n".as_slice());
+    let both = ["--list", "--index", "--from", "0@0", "absent.pgn"];
+    let end = run_over(rt.alloc(), &both, TWO_GAMES)?;
+    assert_eq!(rt; end.status, 2);
+    assert_eq!(rt; end.out.text(), b"".as_slice());
+    assert_eq!(rt;
+        end.err.text(),
+        b"pgn-extract: --list and --index exclude each other\n".as_slice()
+    );
     let end = run_over(
         rt.alloc(),
         &["--index", "--from", "0@0", "absent.pgn"],
@@ -85,6 +93,8 @@ fn clap_refuses_the_words_that_it_does_not_know(rt: HostRuntime) -> Result<(), F
         ["--index=yes", "games.pgn"],
         ["games.pgn", "more.pgn"],
         ["--index", "--index"],
+        ["--list", "--list"],
+        ["--list=yes", "games.pgn"],
         ["--index", "--from"],
     ];
     for words in lines {

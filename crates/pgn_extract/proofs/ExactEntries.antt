@@ -1,0 +1,170 @@
+-- The entries of pieces in a row: which they are, and their order.
+use Rattle.std.proofs.Common.{◌≡◌, ℕ, ◌+◌, ◌<◌, ◌≤◌, zero, suc, List, [], ◌∷◌, ◌++◌, length, Some, refl, sym, ap, ◌∙◌, subst, arith, inl, inr, ◌⊎◌}
+use Rattle.std.specs.List.{Contains, slice_get}
+use Rattle.std.proofs.lemmas.Bool.{cases_lt}
+use Rattle.std.proofs.lemmas.List.Elements.{Contains-append_left, Contains-append_right, Contains-append_cases}
+use Rattle.chess.specs.Positions.{State}
+use Rattle.pgn_text.specs.Marks.{PieceKind, ReadableGame, UnreadableRest, TooLongBlock, MarkedPiece}
+use Rattle.pgn_text.specs.Parts.{Part}
+use Rattle.pgn_text.specs.Games.{items_of, first_tag}
+use Rattle.pgn_game.specs.Laws.{GameHasOneReplay, SoundGameHasNoFault}
+use Rattle.pgn_game.specs.Replays.{Replay}
+use Rattle.pgn_game.specs.Starts.{fen_tag}
+use Rattle.pgn_extract.specs.Laws.{IsPlyOfGame, IsEarlier, Ascend}
+use Rattle.pgn_extract.specs.Listing.{Entry, entries_from, IsReplayOf, AreGameEntries, sound, faulty, ArePieceEntries, AreEntries}
+
+-- the entry of a game at a ply
+abbrev pub entry_at : ℕ → ℕ → ℕ → Entry
+entry_at number offset ply = record { number = number; offset = offset; ply = ply }
+
+-- nothing is among none
+none_within : (entry : Entry) → Contains [] entry → ⊥
+none_within entry (k, less, is) = omega arith
+
+-- the first of some, or one of the others
+first_or_other : (x : Entry) (xs : List Entry) (entry : Entry) → Contains (x ∷ xs) entry → (x ≡ entry) ⊎ Contains xs entry
+first_or_other x xs entry (zero, less, is) = inl is
+first_or_other x xs entry (suc k, less, is) = inr (k, omega arith, is)
+
+-- what an entry of a game's positions is
+pub record IsOfGame (number offset ply count : ℕ) (entry : Entry) : Type 0 where
+  pub is : entry ≡ entry_at number offset entry.ply
+  pub low : ply ≤ entry.ply
+  pub high : entry.ply < ply + count
+
+of_positions : (number offset ply : ℕ) (positions : List State) (entry : Entry) → Contains (entries_from number offset ply positions) entry
+    → IsOfGame number offset ply (length positions) entry
+of_positions number offset ply [] entry has = absurd (none_within entry has)
+of_positions number offset ply (position ∷ more) entry has =
+    elim (first_or_other (entry_at number offset ply) (entries_from number offset (ply + 1) more) entry has) [
+      | inl is ↦
+          let same : ply ≡ entry.ply = ap (λ (e : Entry). e.ply) is in
+          record { is = sym is ∙ ap (entry_at number offset) same; low = omega arith; high = omega arith }
+      | inr other ↦
+          let of = of_positions number offset (ply + 1) more entry other in
+          record { is = of.is; low = (let l = of.low in omega arith); high = (let h = of.high in omega arith) }
+    ]
+
+-- and each of them is there
+has_ply : (number offset ply : ℕ) (positions : List State) (at : ℕ) → ply ≤ at → at < ply + length positions
+    → Contains (entries_from number offset ply positions) (entry_at number offset at)
+has_ply number offset ply [] at low high = absurd (omega arith)
+has_ply number offset ply (position ∷ more) at low high =
+    elim (cases_lt ply at) [
+      | inl above ↦
+          let other = has_ply number offset (ply + 1) more at (omega arith) (omega arith) in
+          Contains-append_right (entry_at number offset ply ∷ []) (entries_from number offset (ply + 1) more) (entry_at number offset at) other
+      | inr below ↦ let same : ply ≡ at = omega arith in (0, omega arith, ap (entry_at number offset) same)
+    ]
+
+-- the entries of a piece are those of one game
+own_ply : (kind : PieceKind) (number offset : ℕ) (own : List Entry) → ArePieceEntries kind number offset own → (entry : Entry) → Contains own entry
+    → (parts : List Part) × (replay : Replay) × (kind ≡ ReadableGame parts) × IsReplayOf parts replay × IsOfGame number offset 0 (length replay.positions) entry
+own_ply (ReadableGame parts) number offset own (sound replay is these) entry has =
+    (parts, replay, refl, is, of_positions number offset 0 replay.positions entry (subst (λ e. Contains e entry) these has))
+own_ply (ReadableGame parts) number offset own (faulty fault is none) entry has = absurd (none_within entry (subst (λ e. Contains e entry) none has))
+own_ply UnreadableRest number offset own none entry has = absurd (none_within entry (subst (λ e. Contains e entry) none has))
+own_ply TooLongBlock number offset own none entry has = absurd (none_within entry (subst (λ e. Contains e entry) none has))
+
+-- and all of them, where it is sound
+own_has : (one_replay : GameHasOneReplay) (no_fault : SoundGameHasNoFault) (number offset : ℕ) (parts : List Part) (own : List Entry) → AreGameEntries number offset parts own
+    → (replay : Replay) → IsReplayOf parts replay → (ply : ℕ) → ply < length replay.positions → Contains own (entry_at number offset ply)
+own_has one_replay no_fault number offset parts own (sound first is these) replay also ply less =
+    let same : first ≡ replay = one_replay (first_tag fen_tag parts) (items_of parts) first replay is also in
+    let here : ply < length first.positions = subst (λ (r : Replay). ply < length r.positions) (sym same) less in
+    subst (λ e. Contains e (entry_at number offset ply)) (sym these) (has_ply number offset 0 first.positions ply (omega arith) (omega arith))
+own_has one_replay no_fault number offset parts own (faulty fault is none) replay also ply less =
+    absurd (no_fault (first_tag fen_tag parts) (items_of parts) replay fault also is)
+
+-- each entry is a ply of a sound game
+pub to_ply : (number : ℕ) (pieces : List MarkedPiece) (entries : List Entry) → AreEntries number pieces entries → (entry : Entry) → Contains entries entry
+    → IsPlyOfGame number pieces entry
+to_ply number [] entries none entry has = absurd (none_within entry (subst (λ e. Contains e entry) none has))
+to_ply number (piece ∷ more) entries (own, rest, parted, here, others) entry has =
+    elim (Contains-append_cases own rest entry (subst (λ e. Contains e entry) parted has)) [
+      | inl first ↦
+          let of = own_ply piece.kind number piece.offset own here entry first in
+          let place = of.4 in
+          let offset : entry.offset ≡ piece.offset = ap (λ (e : Entry). e.offset) place.is in
+          record {
+            place = 0;
+            parts = of.0;
+            replay = of.1;
+            game = ap (λ (p : MarkedPiece). Some p) (ap (λ k. record { offset = piece.offset; kind = k }) of.2 ∙ ap (λ n. record { offset = n; kind = ReadableGame of.0 }) (sym offset));
+            numbered = ap (λ (e : Entry). e.number) place.is ∙ omega arith;
+            is_replay = of.3;
+            within = (let h = place.high in omega arith);
+          }
+      | inr later ↦
+          let of = to_ply (number + 1) more rest others entry later in
+          record {
+            place = suc of.place;
+            parts = of.parts;
+            replay = of.replay;
+            game = of.game;
+            numbered = (let n = of.numbered in omega arith);
+            is_replay = of.is_replay;
+            within = of.within;
+          }
+    ]
+
+module _ (one_replay : GameHasOneReplay) (no_fault : SoundGameHasNoFault) where
+  -- and each of these is an entry
+  pub from_ply : (number : ℕ) (pieces : List MarkedPiece) (entries : List Entry) → AreEntries number pieces entries → (entry : Entry) → IsPlyOfGame number pieces entry
+      → Contains entries entry
+  from_ply number pieces entries are entry of = by_place number pieces entries are of.place of.game of.numbered
+    where
+      by_place : (number : ℕ) (pieces : List MarkedPiece) (entries : List Entry) → AreEntries number pieces entries
+          → (place : ℕ) → slice_get pieces place ≡ Some (record { offset = entry.offset; kind = ReadableGame of.parts }) → entry.number ≡ number + place → Contains entries entry
+      by_place number [] entries are place none numbered = absurd (cc)
+      by_place number (piece ∷ more) entries (own, rest, parted, here, others) zero game numbered =
+          let is : piece ≡ record { offset = entry.offset; kind = ReadableGame of.parts } = cc in
+          let same : number ≡ entry.number = omega arith in
+          let has = own_has one_replay no_fault number entry.offset of.parts own (subst (λ (p : MarkedPiece). ArePieceEntries p.kind number p.offset own) is here)
+          of.replay of.is_replay entry.ply of.within in
+          subst (λ e. Contains e entry) (sym parted)
+          (Contains-append_left own rest entry (subst (λ n. Contains own (entry_at n entry.offset entry.ply)) same has))
+      by_place number (piece ∷ more) entries (own, rest, parted, here, others) (suc place) game numbered =
+          subst (λ e. Contains e entry) (sym parted)
+          (Contains-append_right own rest entry (by_place (number + 1) more rest others place game (omega arith)))
+
+-- positions in a row have their entries in order
+ascend_positions : (number offset ply : ℕ) (positions : List State) → Ascend (entries_from number offset ply positions)
+ascend_positions number offset ply [] = tt
+ascend_positions number offset ply (position ∷ more) = (
+  λ later has.
+      let of = of_positions number offset (ply + 1) more later has in
+      inr (sym (ap (λ (e : Entry). e.number) of.is), (let l = of.low in omega arith)),
+  ascend_positions number offset (ply + 1) more,
+)
+
+-- some entries, and behind them later ones
+ascend-append : (xs ys : List Entry) → Ascend xs → Ascend ys → ((x y : Entry) → Contains xs x → Contains ys y → IsEarlier x y) → Ascend (xs ++ ys)
+ascend-append [] ys before behind cross = behind
+ascend-append (x ∷ xs) ys before behind cross = (
+  λ later has. elim (Contains-append_cases xs ys later has) [
+    | inl near ↦ before.0 later near
+    | inr far ↦ cross x later (0, omega arith, refl) far
+  ],
+  ascend-append xs ys before.1 behind (λ a b has other. cross a b (Contains-append_right (x ∷ []) xs a has) other),
+)
+
+-- the entries of a piece are in order
+ascend_own : (kind : PieceKind) (number offset : ℕ) (own : List Entry) → ArePieceEntries kind number offset own → Ascend own
+ascend_own (ReadableGame parts) number offset own (sound replay is these) = subst Ascend (sym these) (ascend_positions number offset 0 replay.positions)
+ascend_own (ReadableGame parts) number offset own (faulty fault is none) = subst Ascend (sym none) tt
+ascend_own UnreadableRest number offset own none = subst Ascend (sym none) tt
+ascend_own TooLongBlock number offset own none = subst Ascend (sym none) tt
+
+-- the entries of pieces are in order
+pub entries_ascend : (number : ℕ) (pieces : List MarkedPiece) (entries : List Entry) → AreEntries number pieces entries → Ascend entries
+entries_ascend number [] entries none = subst Ascend (sym none) tt
+entries_ascend number (piece ∷ more) entries (own, rest, parted, here, others) =
+    subst Ascend (sym parted)
+    (ascend-append own rest (ascend_own piece.kind number piece.offset own here) (entries_ascend (number + 1) more rest others)
+    (λ x y has other.
+    let first = own_ply piece.kind number piece.offset own here x has in
+    let second = to_ply (number + 1) more rest others y other in
+    let low : x.number ≡ number = ap (λ (e : Entry). e.number) first.4.is in
+    let high = second.numbered in
+    inl (omega arith)))

@@ -1,0 +1,122 @@
+-- One piece told: a game by the index, by the listing of its replay or by its fault, or bytes that are no game.
+use Rattle.std.proofs.Common.{◌≡◌, ℕ, ◌+◌, List, ◌++◌, Vec, Global, refl, sym, ap, ◌∙◌, subst, arith, codes}
+use Rattle.std.proofs.lemmas.List.{append-nil}
+use Rattle.std.specs.Prelude.{Option, if◌then◌else◌}
+use Rattle.pgn_text.specs.GameTexts.{GameText, tag_in}
+use Rattle.pgn_text.specs.Games.{Item, first_tag}
+use Rattle.pgn_text.specs.Left.{IsPiece}
+use Rattle.pgn_text.specs.Marks.{marked}
+use Rattle.pgn_text.specs.Pieces as spec
+use Rattle.pgn_text.specs.declared.cut.Piece.{Piece}
+use Rattle.pgn_text.specs.declared.cut.Piece.TheVariants as given
+use Rattle.pgn_game.specs.Faults.{Fault, IsFault}
+use Rattle.pgn_game.specs.Replays.{Replay, IsReplay}
+use Rattle.pgn_game.specs.Starts.{fen_tag}
+use Rattle.pgn_extract.specs.Blockwise.{AddsTold, AddsListed, AddsGame, AddsMark, AddsPiece}
+use Rattle.pgn_extract.specs.Index.{fault_text, mark_line}
+use Rattle.pgn_extract.specs.Listing.{listing, entries_from, cause_text, IsReplayOf, IsFaultOf}
+use Rattle.pgn_extract.specs.Telling.{SoundGame, FaultyGame, output_of, fault_line_of, is_faulty, IsGameTold}
+use Rattle.pgn_extract.specs.declared.lines.Report.{Report}
+use Rattle.pgn_extract.specs.declared.settings.Mode.{Mode}
+use Rattle.pgn_extract.specs.declared.settings.Mode.TheVariants as modes
+
+-- bytes go to the output, and nothing else changes
+pub record AddsOutput (old new : Report) (text : List ℕ) : Type 0 where
+  pub output : new.output.items ≡ old.output.items ++ text
+  pub faults : new.faults.items ≡ old.faults.items
+  pub games : new.games ≡ old.games
+  pub faulty : new.faulty ≡ old.faulty
+
+-- a line goes to standard error, and one more piece is counted as faulty
+pub record AddsFault (old new : Report) (line : List ℕ) (count : ℕ) : Type 0 where
+  pub output : new.output.items ≡ old.output.items
+  pub faults : new.faults.items ≡ old.faults.items ++ line
+  pub games : new.games ≡ old.games + count
+  pub faulty : new.faulty ≡ old.faulty + 1
+
+-- a sound game is told
+told_sound : (old new : Report) (text : List ℕ) → AddsOutput old new text → AddsTold old new (SoundGame text) 0
+told_sound old new text adds = record {
+  output = adds.output;
+  faults = adds.faults ∙ sym (append-nil old.faults.items);
+  games = adds.games ∙ omega arith;
+  faulty = adds.faulty ∙ omega arith;
+}
+
+-- a faulty one is told
+told_faulty : (old new : Report) (line : List ℕ) (count : ℕ) → AddsFault old new line count → AddsTold old new (FaultyGame line) count
+told_faulty old new line count adds = record {
+  output = adds.output ∙ sym (append-nil old.output.items);
+  faults = adds.faults;
+  games = adds.games;
+  faulty = adds.faulty;
+}
+
+-- by the listing, its replay
+pub listed_replay : {old new : Report} {number offset : ℕ} {game : GameText} (replay : Replay) → IsReplay (tag_in fen_tag game.tags) game.elements replay
+    → AddsOutput old new (listing (entries_from number offset 0 replay.positions)) → AddsListed old new number offset game
+listed_replay {old} {new} {number} {offset} {game} replay is adds at parts shows =
+    let text = listing (entries_from number offset 0 replay.positions) in
+    let of : IsReplayOf parts replay =
+    subst (λ (items : List Item). IsReplay (first_tag fen_tag parts) items replay) shows.elements
+    (subst (λ (tag : Option (List ℕ)). IsReplay tag game.elements replay) (shows.tags fen_tag) is) in
+    (SoundGame text, (replay, of, refl), told_sound old new text adds)
+
+-- or its fault
+pub listed_fault : {old new : Report} {number offset : ℕ} {game : GameText} (fault : Fault) → IsFault (tag_in fen_tag game.tags) game.elements fault
+    → AddsFault old new (fault_text number offset (cause_text fault)) 0 → AddsListed old new number offset game
+listed_fault {old} {new} {number} {offset} {game} fault is adds at parts shows =
+    let line = fault_text number offset (cause_text fault) in
+    let of : IsFaultOf parts fault =
+    subst (λ (items : List Item). IsFault (first_tag fen_tag parts) items fault) shows.elements
+    (subst (λ (tag : Option (List ℕ)). IsFault tag game.elements fault) (shows.tags fen_tag) is) in
+    (FaultyGame line, (fault, of, refl), told_faulty old new line 0 adds)
+
+-- by the index, its mark
+pub game_indexed : {old new : Report} (mode : Mode) (number offset : ℕ) (game : GameText) → mode ≡ modes.Index → AddsOutput old new (mark_line number offset)
+    → AddsGame mode old new number offset game
+game_indexed {old} {new} mode number offset game is adds at parts shows = (
+  SoundGame (mark_line number offset),
+  subst (λ m. IsGameTold m number offset parts (SoundGame (mark_line number offset))) (sym is) refl,
+  told_sound old new (mark_line number offset) adds,
+)
+
+-- by the listing, what that tells
+pub game_listed : {old new : Report} (mode : Mode) (number offset : ℕ) (game : GameText) → mode ≡ modes.List → AddsListed old new number offset game
+    → AddsGame mode old new number offset game
+game_listed mode number offset game is adds at parts shows =
+    let told = adds at parts shows in
+    (told.0, subst (λ m. IsGameTold m number offset parts told.0) (sym is) told.1, told.2)
+
+-- a piece that is a game is counted, and told
+pub piece_game : (mode : Mode) {old mid new : Report} (number offset here : ℕ) (piece : Piece) (game : GameText) → piece ≡ given.Game game → here ≡ offset + game.at
+    → AddsGame mode mid new number here game → mid.output ≡ old.output → mid.faults ≡ old.faults → mid.games ≡ old.games + 1 → mid.faulty ≡ old.faulty
+    → AddsPiece mode old new number offset piece
+piece_game mode {old} {mid} {new} number offset here piece game is_game place adds output faults games faulty shown is =
+    shows shown (subst (λ p. IsPiece p shown) is_game is)
+  where
+    shows : (shown : spec.Piece) → IsPiece (given.Game game) shown → AddsMark mode old new number (marked offset shown)
+    shows (spec.Unreadable at) is = absurd is
+    shows (spec.Game at parts) is =
+        let told = adds at parts is in
+        let t = told.2 in (
+          told.0,
+          subst (λ n. IsGameTold mode number n parts told.0) (place ∙ ap (λ n. offset + n) is.place) told.1,
+          record {
+            output = t.output ∙ ap (λ (v : Vec ℕ Global). v.items ++ output_of told.0) output;
+            faults = t.faults ∙ ap (λ (v : Vec ℕ Global). v.items ++ fault_line_of told.0) faults;
+            games = t.games ∙ omega (arith, games);
+            faulty = t.faulty ∙ ap (λ n. n + (if is_faulty told.0 then 1 else 0)) faulty;
+          },
+        )
+
+-- a piece that is no game is told, and counted
+pub piece_unreadable : (mode : Mode) {old new : Report} (number offset : ℕ) (piece : Piece) (place : ℕ) → piece ≡ given.Unreadable place
+    → AddsFault old new (fault_text number (offset + place) (codes "unreadable")) 1 → AddsPiece mode old new number offset piece
+piece_unreadable mode {old} {new} number offset piece place is_none adds shown is = shows shown (subst (λ p. IsPiece p shown) is_none is)
+  where
+    shows : (shown : spec.Piece) → IsPiece (given.Unreadable place) shown → AddsMark mode old new number (marked offset shown)
+    shows (spec.Game at parts) is = absurd is
+    shows (spec.Unreadable at) is =
+        let line = fault_text number (offset + place) (codes "unreadable") in
+        (FaultyGame line, ap (λ n. FaultyGame (fault_text number (offset + n) (codes "unreadable"))) is, told_faulty old new line 1 adds)
