@@ -30,6 +30,8 @@ const QUEENS: &[u8] = b"4k3/8/8/8/8/Q7/8/Q1Q1K3 w - - 0 1";
 
 const PAWN: &[u8] = b"4k3/P7/8/8/8/8/8/4K3 w - - 0 1";
 
+const ROOKS: &[u8] = b"r3k2r/8/8/8/8/8/8/R3K2R w KQkq - 0 1";
+
 const PINNED: &[u8] = b"4k3/8/8/8/1b6/2N5/8/4K1N1 w - - 0 1";
 
 const KNIGHTS: &[u8] = b"4k3/8/8/8/8/2N5/8/4K1N1 w - - 0 1";
@@ -57,6 +59,7 @@ fn texts_name_moves(rt: HostRuntime) -> Result<(), Fail> {
         plain(QUEENS, b"Qa1-b2#", b"a1", b"b2"),
         plain(QUEENS, b"Q3b2", b"a3", b"b2"),
         plain(QUEENS, b"Qcb2", b"c1", b"b2"),
+        plain(ROOKS, b"Rxa8", b"a1", b"a8"),
         plain(PINNED, b"Nge2", b"g1", b"e2"),
         plain(PINNED, b"Ne2", b"g1", b"e2"),
         Row {
