@@ -26,4 +26,5 @@ pub mod SaidNamesFacts
 pub mod PieceNamesFacts
 pub mod PawnNamesFacts
 pub mod SanNamesFacts
+pub mod SanOnce
 pub mod Examples

@@ -13,8 +13,8 @@ abbrev pub TextSpellsOnePosition : Type 0
 TextSpellsOnePosition = (x : List ℕ) (P Q : State) → SpellsPosition x P → SpellsPosition x Q → P ≡ Q
 
 -- no text is both read and refused, and none is refused for two reasons
-abbrev pub TextIsReadOrRefused : Type 0
-TextIsReadOrRefused =
+abbrev pub TextHasOneAnswer : Type 0
+TextHasOneAnswer =
     ((x : List ℕ) (P : State) (error : FenError) → ReadsFen x P → IsRefused x error → ⊥)
     × ((x : List ℕ) (error other : FenError) → IsRefused x error → IsRefused x other → error ≡ other)
 
@@ -22,3 +22,7 @@ TextIsReadOrRefused =
 -- that move would be the text of a step)
 abbrev pub SanNamesItsMove : Type 0
 SanNamesItsMove = (P : State) (m : Move) (x : List ℕ) → IsSound P → IsLegal P m → IsOnBoard m.from → IsSan P m x → IsOnlyNamed P x m
+
+-- a move has at most one standard text
+abbrev pub MoveHasOneText : Type 0
+MoveHasOneText = (P : State) (m : Move) (x y : List ℕ) → IsSan P m x → IsSan P m y → x ≡ y

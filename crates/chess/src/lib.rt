@@ -1,4 +1,4 @@
-//! Chess by the FIDE Laws: boards, positions, legal moves and FEN. No call takes memory.
+//! Chess by the FIDE Laws: boards, positions, legal moves, FEN and SAN. No call takes memory.
 #![tactic(auto)]
 
 pub mod board;

@@ -74,7 +74,7 @@ own_has one_replay no_fault number offset parts own (sound first is these) repla
     let here : ply < length first.positions = subst (λ (r : Replay). ply < length r.positions) (sym same) less in
     subst (λ e. Contains e (entry_at number offset ply)) (sym these) (has_ply number offset 0 first.positions ply (omega arith) (omega arith))
 own_has one_replay no_fault number offset parts own (faulty fault is none) replay also ply less =
-    absurd (no_fault (first_tag fen_tag parts) (items_of parts) replay fault also is)
+    absurd (no_fault (first_tag fen_tag parts) (items_of parts) fault (replay, also) is)
 
 -- each entry is a ply of a sound game
 pub to_ply : (number : ℕ) (pieces : List MarkedPiece) (entries : List Entry) → AreEntries number pieces entries → (entry : Entry) → Contains entries entry

@@ -18,8 +18,8 @@ module _ (one_replay : GameHasOneReplay) (one_fault : GameHasOneFault) (no_fault
   one_listed : (a b : Told) (number offset : ℕ) (parts : List Part) → IsListed a number offset parts → IsListed b number offset parts → a ≡ b
   one_listed (SoundGame x) (SoundGame y) number offset parts (first, is, text) (second, also, other) =
       ap SoundGame (text ∙ ap (λ (r : Replay). listing (entries_from number offset 0 r.positions)) (one_replay (first_tag fen_tag parts) (items_of parts) first second is also) ∙ sym other)
-  one_listed (SoundGame x) (FaultyGame y) number offset parts (first, is, text) (second, also, other) = absurd (no_fault (first_tag fen_tag parts) (items_of parts) first second is also)
-  one_listed (FaultyGame x) (SoundGame y) number offset parts (first, is, text) (second, also, other) = absurd (no_fault (first_tag fen_tag parts) (items_of parts) second first also is)
+  one_listed (SoundGame x) (FaultyGame y) number offset parts (first, is, text) (second, also, other) = absurd (no_fault (first_tag fen_tag parts) (items_of parts) second (first, is) also)
+  one_listed (FaultyGame x) (SoundGame y) number offset parts (first, is, text) (second, also, other) = absurd (no_fault (first_tag fen_tag parts) (items_of parts) first (second, also) is)
   one_listed (FaultyGame x) (FaultyGame y) number offset parts (first, is, text) (second, also, other) =
       ap FaultyGame (text ∙ ap (λ (f : Fault). fault_text number offset (cause_text f)) (one_fault (first_tag fen_tag parts) (items_of parts) first second is also) ∙ sym other)
 

@@ -48,7 +48,7 @@ IsListed (SoundGame text) number offset parts =
 IsListed (FaultyGame line) number offset parts =
     (fault : Fault) × IsFaultOf parts fault × (line ≡ fault_text number offset (cause_text fault))
 
--- a game that can be read is told so: in the index by its mark
+-- a game that can be read is told so: in the index by its mark, in the listing as above
 abbrev pub IsGameTold : Mode → ℕ → ℕ → List Part → Told → Type 0
 IsGameTold modes.Index number offset parts told = told ≡ SoundGame (mark_line number offset)
 IsGameTold modes.List number offset parts told = IsListed told number offset parts

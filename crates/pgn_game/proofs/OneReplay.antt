@@ -13,7 +13,7 @@ use Rattle.pgn_text.specs.Games.{Item}
 use Rattle.pgn_game.specs.MainLines.{main_words, IsMainLine}
 use Rattle.pgn_game.specs.Starts.{IsValueOf, IsStart, IsBadStart}
 use Rattle.pgn_game.specs.Faults.{Fault, BadStart, IllegalMove, AmbiguousMove, NamesSeveral, IsRefusedWord, IsMoveFault, IsFault}
-use Rattle.pgn_game.specs.Replays.{Replay, IsReplay}
+use Rattle.pgn_game.specs.Replays.{Replay, IsReplay, IsSoundGame}
 
 -- ---- the move at a place
 
@@ -135,7 +135,7 @@ line_or_fault now plies (word ∷ words) positions played fault (m, later, more,
     line_or_fault (after now m) (plies + 1) words later more fault rest
     (subst (λ k. IsMoveFault (after now k) (plies + 1) words fault) (one_move now word n m named2 named) met)
 
-pub replay_or_fault : (fen : Option (List ℕ)) (items : List Item) (replay : Replay) (fault : Fault) → IsReplay fen items replay → IsFault fen items fault → ⊥
+replay_or_fault : (fen : Option (List ℕ)) (items : List Item) (replay : Replay) (fault : Fault) → IsReplay fen items replay → IsFault fen items fault → ⊥
 replay_or_fault fen items replay fault is (inl (bad, told)) = start_or_bad fen is.start is.is_start bad
 replay_or_fault fen items replay fault is (inr (start, is_start, met)) =
     line_or_fault is.start 0 (main_words items 0) replay.positions replay.played fault is.line
@@ -154,3 +154,6 @@ one_replay fen items replay other is is2 =
     let same : (replay.positions ≡ other.positions) × (replay.played ≡ other.played) =
     one_line is.start (main_words items 0) replay.positions other.positions replay.played other.played is.line line2 in
     same_replay replay other same.0 same.1
+
+pub no_fault : (fen : Option (List ℕ)) (items : List Item) (fault : Fault) → IsSoundGame fen items → IsFault fen items fault → ⊥
+no_fault fen items fault (replay, is) met = replay_or_fault fen items replay fault is met

@@ -1,4 +1,4 @@
--- Replays are stored as lists of pairs of numbers, so that a type may have one as its value.
+-- Replays are stored as pairs of lists, so that a type may have one as its value.
 use Rattle.std.specs.Prelude.{◌≡◌, Bool, true, false, List, Option, refl}
 use Rattle.std.specs.Coded.{Coded, coded_bool, coded_list, coded_option, coded×, code_by}
 use Rattle.chess.specs.Squares.{Place, coded_place}

@@ -8,7 +8,7 @@ use Rattle.chess.specs.declared.moves.Move.{Move}
 use Rattle.pgn_text.specs.Games.{Item}
 use Rattle.pgn_game.specs.MainLines.{main_words}
 use Rattle.pgn_game.specs.Faults.{Fault, IsFault}
-use Rattle.pgn_game.specs.Replays.{Replay, IsReplay}
+use Rattle.pgn_game.specs.Replays.{Replay, IsReplay, IsSoundGame}
 
 -- each move of a main line is the only legal move that its word names in the position before it, and the position behind it is the one
 -- after that move
@@ -34,5 +34,4 @@ GameHasOneFault =
 -- no game is sound and faulty
 abbrev pub SoundGameHasNoFault : Type 0
 SoundGameHasNoFault =
-    (fen : Option (List ℕ)) (items : List Item) (replay : Replay) (fault : Fault)
-    → IsReplay fen items replay → IsFault fen items fault → ⊥
+    (fen : Option (List ℕ)) (items : List Item) (fault : Fault) → IsSoundGame fen items → IsFault fen items fault → ⊥

@@ -7,7 +7,7 @@ pub fn one_legal_move()
     ensures { EachMoveIsNamed }
 {}
 
-/// A game is sound or faulty and not both, with one replay or one fault.
+/// A game has at most one replay and at most one fault, and not both.
 pub fn one_answer()
     ensures replay { GameHasOneReplay }
     ensures fault { GameHasOneFault }

@@ -133,6 +133,24 @@ fn texts_are_refused(rt: HostRuntime) -> Result<(), Fail> {
 }
 
 #[test]
+fn other_texts_name_nothing_where_a_like_one_does(rt: HostRuntime) -> Result<(), Fail> {
+    let rows: [(&[u8], &[u8]); 4] = [
+        (PAWN, b"a8=K"),
+        (PAWN, b"a8=P"),
+        (ROOKS, b"O-O-O-O"),
+        (ROOKS, b"Kg1"),
+    ];
+    for (fen, text) in rows {
+        assert!(rt;
+            resolve(&read(fen)?, text) == Err(SanError::None),
+            "{:?}",
+            text
+        );
+    }
+    Ok(())
+}
+
+#[test]
 fn other_texts_name_nothing(rt: HostRuntime) -> Result<(), Fail> {
     let start: Position<Mailbox> = Position::start();
     let texts: [&[u8]; 11] = [
