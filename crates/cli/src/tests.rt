@@ -1,6 +1,11 @@
-//! The program over words and texts in memory: the worked rows, whose expected bytes stand in them.
+//! The public calls of every crate and the program over words and texts in memory: worked rows, whose expected values stand in them.
+//! They stand here, at the top, since a crate with tests is proved twice and this one is small.
+mod blocks;
 mod faults;
 mod index;
 mod listing;
+mod pieces;
+mod replays;
 mod support;
+mod tallies;
 mod words;

@@ -12,6 +12,3 @@ mod starting;
 pub use fault::GameFault;
 pub use replayed::{GamePosition, Replayed};
 pub use replayer::{Lines, replay};
-
-#[cfg(test)]
-mod tests;

@@ -331,6 +331,3 @@ fn find_end<R: Read>(
         }
     }
 }
-
-#[cfg(test)]
-mod tests;

@@ -25,8 +25,3 @@ pub use quoted::{is_contents, value};
 pub use reader::games;
 pub use tally::Tally;
 pub use unquoted::Value;
-
-#[cfg(test)]
-mod piecewise;
-#[cfg(test)]
-mod tests;

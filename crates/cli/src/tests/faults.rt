@@ -1,175 +1,208 @@
-//! Reads and writes that fail.
-use super::support::{Page, Pieces, Shelf, run_words};
-use pgn_extract::{Mode, RunError, Settings, Summary, run};
-use pgn_text::Tally;
+//! Reads and writes that fail, and readers that give few bytes at a time.
+ghost use Rattle.std.specs.Prelude.{◌≤◌, ◌^◌};
+
+use super::support::{
+    FAULT_BETWEEN, Fails, LOST_BRACE, Page, Pieces, Shelf, TWO_GAMES, Trial, run_words,
+};
+use pgn_extract::{Mode, Settings};
+use std::alloc::Global;
 use std::test::Fail;
 
-/// 43 bytes; the second event line begins at 22 and is whole at 30.
-const TWO_GAMES: &[u8] = b"[Event \"A\"]\n\n1. e4 *\n\n[Event \"B\"]\n\n1. d4 *\n";
-
-/// 46 bytes; the first game lacks its closing brace.
-const LOST_BRACE: &[u8] = b"[Event \"A\"]\n\n1. e4 {oops\n[Event \"B\"]\n\n1. d4 *\n";
-
-const ALL: Settings = Settings {
-    mode: Mode::Index,
-    number: 1,
-    offset: 0,
-};
-
-#[test]
-fn the_program_tells_a_read_fault(rt: HostRuntime) -> Result<(), Fail> {
-    for len in 0..=43usize {
-        assert!(rt; len <= TWO_GAMES.len());
-        let mut shelf = Shelf::failing(&TWO_GAMES[..len]);
-        let end = run_words(
-            rt.alloc(),
-            &["--index"],
-            &mut shelf,
-            Page::new(),
-            Page::new(),
-        )?;
-        let out = if len < 30 { b"".as_slice() } else { b"1@0\n" };
-        assert_eq!(rt; end.status, 3, "at {len}");
-        assert_eq!(rt; end.out.text(), out, "at {len}");
-        assert_eq!(rt;
-            end.err.text(),
-            b"pgn-extract: read failed\n".as_slice(),
-            "at {len}"
-        );
+/// A whole run in the mode.
+fn all(mode: Mode) -> Settings
+    ensures number { (1 ≤ result.number) × (result.number ≤ 2 ^ 62) }
+    ensures offset { result.offset ≤ 2 ^ 62 }
+{
+    Settings {
+        mode,
+        number: 1,
+        offset: 0,
     }
-    Ok(())
+}
+
+/// A run in the mode from the second game of the two on.
+fn rest(mode: Mode) -> Settings
+    ensures number { (1 ≤ result.number) × (result.number ≤ 2 ^ 62) }
+    ensures offset { result.offset ≤ 2 ^ 62 }
+{
+    Settings {
+        mode,
+        number: 2,
+        offset: 22,
+    }
+}
+
+/// The first bytes of the two games.
+fn front_of_two_games(len: usize) -> &'static [u8] {
+    TWO_GAMES.get(..len).unwrap_or(TWO_GAMES)
+}
+
+/// The modes, with what the first of the two games gives, and both.
+const MODES: [(Mode, &str, &[u8], &[u8]); 2] = [
+    (Mode::Index, "--index", b"1@0\n", b"1@0\n2@22\n"),
+    (
+        Mode::List,
+        "--list",
+        b"1@0 0\n1@0 1\n",
+        b"1@0 0\n1@0 1\n2@22 0\n2@22 1\n",
+    ),
+];
+
+/// Whether a run over the first bytes of the two games, with a read fault behind them, leaves what complete blocks give: the first game
+/// from the 30th byte on, for there the second event line is whole.
+fn leaves_complete_blocks(alloc: Global, mode: Mode, first: &[u8], len: usize) -> bool {
+    let wanted = if len < 30 { b"".as_slice() } else { first };
+    for piece in [1, 7, 8192usize] {
+        let reader = Pieces::failing(front_of_two_games(len), piece);
+        let trial = Trial::new(alloc, &all(mode), reader, Page::new(), Page::new());
+        if !trial.is_read_fault(wanted, b"") {
+            return false;
+        }
+    }
+    let reader = Pieces::failing(front_of_two_games(len), 8192);
+    Trial::new(alloc, &rest(mode), reader, Page::new(), Page::new()).is_read_fault(b"", b"")
 }
 
 #[test]
 fn a_read_fault_leaves_the_complete_blocks(rt: HostRuntime) -> Result<(), Fail> {
-    for piece in [1, 7, 8192usize] {
+    for (mode, _, first, _) in MODES {
         for len in 0..=43usize {
-            assert!(rt; len <= TWO_GAMES.len());
-            let mut input = Tally::new(Pieces::failing(&TWO_GAMES[..len], piece));
-            let mut out = Tally::new(Page::new());
-            let mut err = Tally::new(Page::new());
-            let answer = run(rt.alloc(), &mut input, &mut out, &mut err, &ALL);
-            assert_eq!(rt; answer, Err(RunError::Read), "at {len}");
-            assert!(rt; input.faulted() && !out.faulted() && !err.faulted());
-            let want = if len < 30 { b"".as_slice() } else { b"1@0\n" };
-            assert_eq!(rt; out.into_inner().text(), want, "at {len}");
-            assert_eq!(rt; err.into_inner().text(), b"".as_slice(), "at {len}");
+            assert!(rt;
+                leaves_complete_blocks(rt.alloc(), mode, first, len),
+                "{mode:?} at {len}"
+            );
         }
     }
     Ok(())
 }
 
 #[test]
-fn a_read_fault_in_a_resumed_run_leaves_nothing(rt: HostRuntime) -> Result<(), Fail> {
-    let rest = Settings {
-        mode: Mode::Index,
-        number: 2,
-        offset: 22,
-    };
-    for len in 0..=43usize {
-        assert!(rt; len <= TWO_GAMES.len());
-        let mut input = Tally::new(Pieces::failing(&TWO_GAMES[..len], 8192));
-        let mut out = Tally::new(Page::new());
-        let mut err = Tally::new(Page::new());
-        let answer = run(rt.alloc(), &mut input, &mut out, &mut err, &rest);
-        assert_eq!(rt; answer, Err(RunError::Read), "at {len}");
-        assert_eq!(rt; out.into_inner().text(), b"".as_slice(), "at {len}");
+fn the_program_reports_a_read_fault(rt: HostRuntime) -> Result<(), Fail> {
+    for (_, word, first, _) in MODES {
+        for len in 0..=43usize {
+            let wanted = if len < 30 { b"".as_slice() } else { first };
+            let mut shelf = Shelf::failing(front_of_two_games(len));
+            let end = run_words(rt.alloc(), &[word], &mut shelf, Page::new(), Page::new())?;
+            assert!(rt;
+                end.is(wanted, b"pgn-extract: read failed\n", 3),
+                "{word} at {len}"
+            );
+        }
     }
     Ok(())
 }
 
-#[test]
-fn a_write_fault_leaves_a_beginning(rt: HostRuntime) -> Result<(), Fail> {
-    let index = b"1@0\n2@22\n";
-    for room in 0..9usize {
-        for piece in 1..=3usize {
-            let mut input = Tally::new(Pieces::new(TWO_GAMES, 8192));
-            let mut out = Tally::new(Page::failing(room, piece));
-            let mut err = Tally::new(Page::new());
-            let answer = run(rt.alloc(), &mut input, &mut out, &mut err, &ALL);
-            assert_eq!(rt; answer, Err(RunError::Write), "at {room}");
-            assert!(rt; out.faulted() && !input.faulted() && !err.faulted());
-            assert_eq!(rt; out.into_inner().text(), &index[..room], "at {room}");
+/// Whether an output that takes `room` bytes in small pieces holds just the first of the whole text's bytes.
+fn leaves_a_front(alloc: Global, mode: Mode, whole: &[u8], room: usize) -> bool {
+    for piece in 1..=3usize {
+        let page = Page::failing(room, piece);
+        let reader = Pieces::new(TWO_GAMES, 8192);
+        let trial = Trial::new(alloc, &all(mode), reader, page, Page::new());
+        if !trial.is_output_fault(whole.get(..room).unwrap_or(b""), b"") {
+            return false;
         }
     }
-    let fault = b"pgn-extract: game 1@0: unreadable\n";
-    for room in 0..34usize {
-        let mut input = Tally::new(Pieces::new(LOST_BRACE, 8192));
-        let mut out = Tally::new(Page::new());
-        let mut err = Tally::new(Page::failing(room, 3));
-        let answer = run(rt.alloc(), &mut input, &mut out, &mut err, &ALL);
-        assert_eq!(rt; answer, Err(RunError::Write), "at {room}");
-        assert!(rt; err.faulted() && !input.faulted() && !out.faulted());
-        assert_eq!(rt; err.into_inner().text(), &fault[..room], "at {room}");
+    true
+}
+
+#[test]
+fn an_output_fault_leaves_a_front(rt: HostRuntime) -> Result<(), Fail> {
+    for (mode, _, _, whole) in MODES {
+        for room in 0..whole.len() {
+            assert!(rt;
+                leaves_a_front(rt.alloc(), mode, whole, room),
+                "{mode:?} at {room}"
+            );
+        }
+    }
+    Ok(())
+}
+
+/// Whether standard error that takes `room` bytes holds just the first bytes of the fault line, beside this output.
+fn leaves_a_front_of_a_fault(
+    alloc: Global,
+    mode: Mode,
+    text: &[u8],
+    line: &[u8],
+    room: usize,
+) -> bool {
+    let reader = Pieces::new(text, 8192);
+    let page = Page::failing(room, 3);
+    let trial = Trial::new(alloc, &all(mode), reader, Page::new(), page);
+    trial.is_error_output_fault(trial.out.text(), line.get(..room).unwrap_or(b""))
+}
+
+#[test]
+fn a_fault_of_standard_error_leaves_a_front(rt: HostRuntime) -> Result<(), Fail> {
+    let rows: [(Mode, &[u8], &[u8]); 2] = [
+        (
+            Mode::Index,
+            LOST_BRACE,
+            b"pgn-extract: game 1@0: unreadable\n",
+        ),
+        (
+            Mode::List,
+            FAULT_BETWEEN,
+            b"pgn-extract: game 2@8: illegal move Qxh8 at ply 1\n",
+        ),
+    ];
+    for (mode, text, line) in rows {
+        for room in 0..line.len() {
+            let holds = leaves_a_front_of_a_fault(rt.alloc(), mode, text, line, room);
+            assert!(rt; holds, "{mode:?} at {room}");
+        }
     }
     Ok(())
 }
 
 #[test]
 fn a_fault_of_the_last_flush_is_a_write_fault(rt: HostRuntime) -> Result<(), Fail> {
-    let mut input = Tally::new(Pieces::new(TWO_GAMES, 8192));
-    let mut out = Tally::new(Page::failing_flush());
-    let mut err = Tally::new(Page::new());
-    let answer = run(rt.alloc(), &mut input, &mut out, &mut err, &ALL);
-    assert_eq!(rt; answer, Err(RunError::Write));
-    assert_eq!(rt; out.into_inner().text(), b"1@0\n2@22\n".as_slice());
+    for (mode, _, _, whole) in MODES {
+        let page = Page::failing_flush(Fails::Always);
+        let reader = Pieces::new(TWO_GAMES, 8192);
+        let trial = Trial::new(rt.alloc(), &all(mode), reader, page, Page::new());
+        assert!(rt; trial.is_output_fault(whole, b""), "{mode:?}");
+    }
     Ok(())
 }
 
 #[test]
-fn the_program_tells_a_write_fault(rt: HostRuntime) -> Result<(), Fail> {
+fn the_program_reports_a_write_fault(rt: HostRuntime) -> Result<(), Fail> {
     let mut shelf = Shelf::new(TWO_GAMES);
-    let out = Page::failing(5, 2);
-    let end = run_words(rt.alloc(), &["--index"], &mut shelf, out, Page::new())?;
-    assert_eq!(rt; end.status, 3);
-    assert_eq!(rt; end.out.text(), b"1@0\n2".as_slice());
-    assert_eq!(rt; end.err.text(), b"pgn-extract: write failed\n".as_slice());
+    let page = Page::failing(5, 2);
+    let end = run_words(rt.alloc(), &["--index"], &mut shelf, page, Page::new())?;
+    assert!(rt; end.is(b"1@0\n2", b"pgn-extract: write failed\n", 3));
     Ok(())
 }
 
 #[test]
-fn the_summary_counts_games_and_faulty_ones(rt: HostRuntime) -> Result<(), Fail> {
+fn a_summary_counts_games_and_faulty_ones(rt: HostRuntime) -> Result<(), Fail> {
+    let unreadable = b"pgn-extract: game 1@0: unreadable\n";
+    let illegal = b"pgn-extract: game 2@8: illegal move Qxh8 at ply 1\n";
     for piece in [1, 7, 8, 8192usize] {
-        let mut input = Tally::new(Pieces::new(LOST_BRACE, piece));
-        let mut out = Tally::new(Page::new());
-        let mut err = Tally::new(Page::new());
-        let answer = run(rt.alloc(), &mut input, &mut out, &mut err, &ALL);
-        assert_eq!(rt;
-            answer,
-            Ok(Summary {
-                games: 2,
-                faulty: 1
-            }),
-            "at {piece}"
-        );
-        assert!(rt; out.flushed() && err.flushed());
-        assert_eq!(rt; input.moved(), 46);
-        assert_eq!(rt; out.into_inner().text(), b"2@25\n".as_slice());
+        let reader = Pieces::new(LOST_BRACE, piece);
+        let settings = all(Mode::Index);
+        let trial = Trial::new(rt.alloc(), &settings, reader, Page::new(), Page::new());
+        let holds = trial.moved == 46 && trial.is_whole(2, 1, b"2@25\n", unreadable);
+        assert!(rt; holds, "at {piece}");
+        let reader = Pieces::new(FAULT_BETWEEN, piece);
+        let settings = all(Mode::List);
+        let trial = Trial::new(rt.alloc(), &settings, reader, Page::new(), Page::new());
+        let listing = b"1@0 0\n1@0 1\n3@18 0\n3@18 1\n";
+        assert!(rt; trial.is_whole(3, 1, listing, illegal), "at {piece}");
     }
     Ok(())
 }
 
 #[test]
 fn the_pieces_that_a_reader_gives_change_nothing(rt: HostRuntime) -> Result<(), Fail> {
-    // 23 to 29 cut the second event line behind each of its first seven bytes.
-    for piece in [1, 7, 8, 23, 24, 25, 26, 27, 28, 29, 8192usize] {
-        let mut input = Tally::new(Pieces::new(TWO_GAMES, piece));
-        let mut out = Tally::new(Page::new());
-        let mut err = Tally::new(Page::new());
-        let answer = run(rt.alloc(), &mut input, &mut out, &mut err, &ALL);
-        assert_eq!(rt;
-            answer,
-            Ok(Summary {
-                games: 2,
-                faulty: 0
-            }),
-            "at {piece}"
-        );
-        assert_eq!(rt;
-            out.into_inner().text(),
-            b"1@0\n2@22\n".as_slice(),
-            "at {piece}"
-        );
+    for (mode, _, _, whole) in MODES {
+        // 23 to 29 cut the second event line behind each of its first seven bytes.
+        for piece in [1, 7, 8, 23, 24, 25, 26, 27, 28, 29, 8192usize] {
+            let reader = Pieces::new(TWO_GAMES, piece);
+            let trial = Trial::new(rt.alloc(), &all(mode), reader, Page::new(), Page::new());
+            assert!(rt; trial.is_whole(2, 0, whole, b""), "{mode:?} at {piece}");
+        }
     }
     Ok(())
 }

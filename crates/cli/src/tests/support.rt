@@ -1,18 +1,47 @@
-//! Readers, writers and files in memory, for the tests.
-ghost use Rattle.std.specs.Prelude.{◌≤◌};
+//! Readers, writers and files in memory, runs over them, and the texts that several tests read.
+ghost use Rattle.std.specs.Prelude.{◌≤◌, ◌^◌};
 
-use pgn_extract::{Files, program};
-use pgn_text::Tally;
+use pgn_extract::{Files, RunError, Settings, Summary, program, run};
+use pgn_text::{Piece, RawGame, Tally, games};
 use std::alloc::{AllocError, Global};
 use std::io;
 use std::io::{ErrorKind, Read, Write};
 
-/// A reader over a text that gives at most `piece` bytes a call, and fails instead of ending where `fails` is set.
+/// 43 bytes; the second event line begins at 22 and is whole at 30.
+pub const TWO_GAMES: &[u8] = b"[Event \"A\"]\n\n1. e4 *\n\n[Event \"B\"]\n\n1. d4 *\n";
+
+/// 46 bytes; the first game lacks its closing brace.
+pub const LOST_BRACE: &[u8] = b"[Event \"A\"]\n\n1. e4 {oops\n[Event \"B\"]\n\n1. d4 *\n";
+
+/// Three games; no queen takes on h8 at once.
+pub const FAULT_BETWEEN: &[u8] = b"1. e4 *\n1. Qxh8 *\n1. d4 *\n";
+
+/// How often a reader or writer fails once it has come to its fault.
+#[derive(Clone, Copy, Debug, PartialEq, Eq)]
+pub enum Fails {
+    Never,
+    Once,
+    Always,
+}
+
+impl Fails {
+    /// Whether it fails now; one that fails once works from then on.
+    fn is_now(&mut self) -> bool {
+        let fails = *self != Fails::Never;
+        if *self == Fails::Once {
+            *self = Fails::Never;
+        }
+        fails
+    }
+}
+
+/// A reader over a text that gives at most `piece` bytes a call, and fails once it has given `sound` bytes.
 #[derive(Drop)]
 pub struct Pieces<'a> {
     text: &'a [u8],
     piece: usize,
-    fails: bool,
+    sound: usize,
+    fails: Fails,
 }
 
 impl<'a> Pieces<'a> {
@@ -21,7 +50,8 @@ impl<'a> Pieces<'a> {
         Pieces {
             text,
             piece,
-            fails: false,
+            sound: usize::MAX,
+            fails: Fails::Never,
         }
     }
 
@@ -30,19 +60,36 @@ impl<'a> Pieces<'a> {
         Pieces {
             text,
             piece,
-            fails: true,
+            sound: text.len(),
+            fails: Fails::Always,
+        }
+    }
+
+    /// The text, with one fault behind its first `sound` bytes.
+    pub fn failing_once(text: &'a [u8], piece: usize, sound: usize) -> Self {
+        Pieces {
+            text,
+            piece,
+            sound,
+            fails: Fails::Once,
         }
     }
 }
 
 impl Read for Pieces<'_> {
     fn read(&mut self, buf: &mut [u8]) -> io::Result<usize> {
-        let count = self.text.len().min(buf.len()).min(self.piece);
-        if count == 0 && self.fails {
+        if self.sound == 0 && self.fails.is_now() {
             return Err(io::Error::from(ErrorKind::Other));
         }
+        let sound = if self.fails == Fails::Never {
+            usize::MAX
+        } else {
+            self.sound
+        };
+        let count = self.text.len().min(buf.len()).min(self.piece).min(sound);
         buf[..count].copy_from_slice(&self.text[..count]);
         self.text = &self.text[count..];
+        self.sound = self.sound.saturating_sub(count);
         Ok(count)
     }
 }
@@ -50,15 +97,15 @@ impl Read for Pieces<'_> {
 /// How many bytes a `Page` can hold.
 pub const PAGE: usize = 2048;
 
-/// A writer over a fixed array that takes at most `piece` bytes a call, fails once it holds `room` bytes, and
-/// fails each flush where `flush_fails` is set.
+/// A writer over a fixed array that takes at most `piece` bytes a call, and fails once it holds `room` bytes, or at a flush.
 #[derive(Drop)]
 pub struct Page {
     bytes: [u8; 2048],
     len: usize,
     room: usize,
     piece: usize,
-    flush_fails: bool,
+    fails: Fails,
+    flush_fails: Fails,
     ghost within: { len ≤ 2048 },
 }
 
@@ -70,30 +117,32 @@ impl Page {
             len: 0,
             room: PAGE,
             piece: PAGE,
-            flush_fails: false,
+            fails: Fails::Always,
+            flush_fails: Fails::Never,
         }
     }
 
     /// A page that takes `room` bytes, at most `piece` at a time, and then fails.
     pub fn failing(room: usize, piece: usize) -> Self {
-        Page {
-            bytes: [0; 2048],
-            len: 0,
-            room,
-            piece,
-            flush_fails: false,
-        }
+        let mut page = Page::new();
+        page.room = room;
+        page.piece = piece;
+        page
+    }
+
+    /// A page that fails once, when it holds `room` bytes.
+    pub fn failing_once(room: usize) -> Self {
+        let mut page = Page::new();
+        page.room = room;
+        page.fails = Fails::Once;
+        page
     }
 
     /// A page whose flushes fail.
-    pub fn failing_flush() -> Self {
-        Page {
-            bytes: [0; 2048],
-            len: 0,
-            room: PAGE,
-            piece: PAGE,
-            flush_fails: true,
-        }
+    pub fn failing_flush(fails: Fails) -> Self {
+        let mut page = Page::new();
+        page.flush_fails = fails;
+        page
     }
 
     /// What was written.
@@ -104,9 +153,14 @@ impl Page {
 
 impl Write for Page {
     fn write(&mut self, buf: &[u8]) -> io::Result<usize> {
-        let free = self.room.min(PAGE).saturating_sub(self.len);
+        let room = if self.fails == Fails::Never {
+            PAGE
+        } else {
+            self.room.min(PAGE)
+        };
+        let free = room.saturating_sub(self.len);
         let count = buf.len().min(free).min(self.piece);
-        if count == 0 && !buf.is_empty() {
+        if count == 0 && !buf.is_empty() && self.fails.is_now() {
             return Err(io::Error::from(ErrorKind::StorageFull));
         }
         let begin = self.len;
@@ -116,7 +170,7 @@ impl Write for Page {
     }
 
     fn flush(&mut self) -> io::Result<()> {
-        if self.flush_fails {
+        if self.flush_fails.is_now() {
             return Err(io::Error::from(ErrorKind::Other));
         }
         Ok(())
@@ -154,10 +208,10 @@ impl<'a> Shelf<'a> {
 
     fn reader(&mut self) -> Pieces<'a> {
         self.opened = self.opened.saturating_add(1);
-        Pieces {
-            text: self.text,
-            piece: self.piece,
-            fails: self.fails,
+        if self.fails {
+            Pieces::failing(self.text, self.piece)
+        } else {
+            Pieces::new(self.text, self.piece)
         }
     }
 }
@@ -184,6 +238,22 @@ pub struct Ending {
     pub status: u8,
     pub out: Page,
     pub err: Page,
+}
+
+impl Ending {
+    /// Whether the run wrote these bytes and ended with this status.
+    pub fn is(&self, out: &[u8], err: &[u8], status: u8) -> bool {
+        self.out.text() == out && self.err.text() == err && self.status == status
+    }
+}
+
+/// The first piece of a block at the beginning of a file, if it is a game.
+pub fn first_game<'a>(alloc: Global, block: &'a [u8]) -> Result<Option<RawGame<'a>>, AllocError> {
+    match games(alloc, block, true).next() {
+        Some(Ok(Piece::Game(game))) => Ok(Some(game)),
+        Some(Err(error)) => Err(error),
+        _ => Ok(None),
+    }
 }
 
 /// The program's name, and these words behind it.
@@ -227,10 +297,81 @@ pub fn run_over(alloc: Global, words: &[&str], text: &[u8]) -> Result<Ending, Al
 }
 
 /// A worked row: the words, the input, the output, standard error and the status.
-pub struct Row {
-    pub words: &'static [&'static str],
-    pub text: &'static [u8],
-    pub out: &'static [u8],
-    pub err: &'static [u8],
-    pub status: u8,
+pub type Row = (
+    &'static [&'static str],
+    &'static [u8],
+    &'static [u8],
+    &'static [u8],
+    u8,
+);
+
+/// Whether the program does what the row says.
+pub fn holds(alloc: Global, row: &Row) -> Result<bool, AllocError> {
+    let (words, text, out, err, status) = row;
+    Ok(run_over(alloc, words, text)?.is(out, err, *status))
+}
+
+/// What a run over memory came to: its answer, which of input, output and standard error have failed, and what the writers hold.
+#[derive(Drop)]
+pub struct Trial {
+    pub answer: Result<Summary, RunError>,
+    pub faulted: [bool; 3],
+    pub flushed: bool,
+    pub moved: u64,
+    pub out: Page,
+    pub err: Page,
+}
+
+impl Trial {
+    /// A run with these settings.
+    pub fn new(alloc: Global, settings: &Settings, reader: Pieces<'_>, out: Page, err: Page) -> Self
+        requires number { (1 ≤ settings.now.number) × (settings.now.number ≤ 2 ^ 62) }
+        requires offset { settings.now.offset ≤ 2 ^ 62 }
+    {
+        let mut input = Tally::new(reader);
+        let mut out = Tally::new(out);
+        let mut err = Tally::new(err);
+        let answer = run(alloc, &mut input, &mut out, &mut err, settings);
+        Trial {
+            answer,
+            faulted: [input.faulted(), out.faulted(), err.faulted()],
+            flushed: out.flushed() && err.flushed(),
+            moved: input.moved(),
+            out: out.into_inner(),
+            err: err.into_inner(),
+        }
+    }
+
+    /// Whether the run ended with a fault of the input, and the writers hold these bytes.
+    pub fn is_read_fault(&self, out: &[u8], err: &[u8]) -> bool {
+        self.answer == Err(RunError::Read)
+            && self.faulted == [true, false, false]
+            && self.holds(out, err)
+    }
+
+    /// Whether the run ended with a fault of the output, and the writers hold these bytes.
+    pub fn is_output_fault(&self, out: &[u8], err: &[u8]) -> bool {
+        self.answer == Err(RunError::Write)
+            && self.faulted == [false, true, false]
+            && self.holds(out, err)
+    }
+
+    /// Whether the run ended with a fault of standard error, and the writers hold these bytes.
+    pub fn is_error_output_fault(&self, out: &[u8], err: &[u8]) -> bool {
+        self.answer == Err(RunError::Write)
+            && self.faulted == [false, false, true]
+            && self.holds(out, err)
+    }
+
+    /// Whether the run ended well, with these counts and everything flushed, and the writers hold these bytes.
+    pub fn is_whole(&self, games: u64, faulty: u64, out: &[u8], err: &[u8]) -> bool {
+        self.answer == Ok(Summary { games, faulty })
+            && self.faulted == [false, false, false]
+            && self.flushed
+            && self.holds(out, err)
+    }
+
+    fn holds(&self, out: &[u8], err: &[u8]) -> bool {
+        self.out.text() == out && self.err.text() == err
+    }
 }

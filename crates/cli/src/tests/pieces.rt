@@ -1,11 +1,11 @@
-//! Blocks with the pieces that they must be cut into.
-
-use crate::{Element, Piece, RawGame, games, is_contents, value};
+//! Blocks with the pieces that they must be cut into, and what is read of a game.
+use super::support::first_game;
+use pgn_text::{Element, Piece, games, is_contents, value};
 use std::alloc::{AllocError, Global};
 use std::test::Fail;
 
-/// The kinds of the pieces and their places, as text: `game 0; unreadable 9; `.
-fn cut(alloc: Global, block: &[u8]) -> Result<String, Fail> {
+/// Whether the block has just these pieces, written as `game 0; unreadable 9; `.
+fn is_cut(alloc: Global, block: &[u8], pieces: &str) -> Result<bool, Fail> {
     let mut text = String::new(alloc);
     for piece in games(alloc, block, true) {
         match piece? {
@@ -18,16 +18,7 @@ fn cut(alloc: Global, block: &[u8]) -> Result<String, Fail> {
             }
         }
     }
-    Ok(text)
-}
-
-/// The first piece, if it is a game.
-fn first_game<'a>(alloc: Global, block: &'a [u8]) -> Result<Option<RawGame<'a>>, AllocError> {
-    match games(alloc, block, true).next() {
-        Some(Ok(Piece::Game(game))) => Ok(Some(game)),
-        Some(Err(error)) => Err(error),
-        _ => Ok(None),
-    }
+    Ok(text.as_str() == pieces)
 }
 
 /// The bytes of the three slices in a row.
@@ -44,7 +35,7 @@ fn games_of_bytes(alloc: Global, front: &[u8], back: &[u8]) -> Result<usize, Fai
     let mut count = 0usize;
     for byte in 0..=255u8 {
         let block = joined(alloc, front, &[byte], back)?;
-        if cut(alloc, block.as_slice())?.as_str() == "game 0; " {
+        if is_cut(alloc, block.as_slice(), "game 0; ")? {
             count = count.saturating_add(1);
         }
     }
@@ -110,30 +101,34 @@ fn blocks_are_cut(rt: HostRuntime) -> Result<(), Fail> {
         (b"1/2-1/2", "game 0; "),
     ];
     for (block, pieces) in rows {
-        let found = cut(rt.alloc(), block)?;
-        assert_eq!(rt; found.as_str(), pieces, "{block:?}");
+        assert!(rt; is_cut(rt.alloc(), block, pieces)?, "{block:?}");
     }
     Ok(())
 }
 
 #[test]
 fn bytes_have_their_classes(rt: HostRuntime) -> Result<(), Fail> {
-    let alloc = rt.alloc();
-    assert_eq!(rt; games_of_bytes(alloc, b"1. e4 ", b" *")?, 71);
-    assert_eq!(rt; cut(alloc, b"1. e4 * *")?.as_str(), "game 0; game 8; ");
-    assert_eq!(rt; games_of_bytes(alloc, b"1. e4 {", b"} *")?, 255);
-    assert_eq!(rt; games_of_bytes(alloc, b"[A \"", b"\"]\n*")?, 222);
-    assert_eq!(rt; games_of_bytes(alloc, b"[A", b" \"x\"]\n*")?, 69);
+    let rows: [(&[u8], &[u8], usize); 4] = [
+        (b"1. e4 ", b" *", 71),
+        (b"1. e4 {", b"} *", 255),
+        (b"[A \"", b"\"]\n*", 222),
+        (b"[A", b" \"x\"]\n*", 69),
+    ];
+    for (front, back, count) in rows {
+        let is_so = games_of_bytes(rt.alloc(), front, back)? == count;
+        assert!(rt; is_so, "{front:?} {back:?}");
+    }
+    assert!(rt; is_cut(rt.alloc(), b"1. e4 * *", "game 0; game 8; ")?);
     Ok(())
 }
 
 #[test]
 fn variations_nest_to_a_depth(rt: HostRuntime) -> Result<(), Fail> {
     let alloc = rt.alloc();
-    let deepest = nested(alloc, 64)?;
-    assert_eq!(rt; cut(alloc, deepest.as_slice())?.as_str(), "game 0; ");
-    let deeper = nested(alloc, 65)?;
-    assert_eq!(rt; cut(alloc, deeper.as_slice())?.as_str(), "unreadable 0; ");
+    for (depth, pieces) in [(64, "game 0; "), (65, "unreadable 0; ")] {
+        let block = nested(alloc, depth)?;
+        assert!(rt; is_cut(alloc, block.as_slice(), pieces)?, "{depth}");
+    }
     Ok(())
 }
 
@@ -141,13 +136,20 @@ fn variations_nest_to_a_depth(rt: HostRuntime) -> Result<(), Fail> {
 fn a_large_block_of_open_variations_is_unreadable(rt: HostRuntime) -> Result<(), Fail> {
     let alloc = rt.alloc();
     let block = vec![in alloc; b'('; 1_048_576]?;
-    assert_eq!(rt; cut(alloc, block.as_slice())?.as_str(), "unreadable 0; ");
+    assert!(rt; is_cut(alloc, block.as_slice(), "unreadable 0; ")?);
     Ok(())
+}
+
+/// Whether the block begins with a game that has these elements.
+fn has_elements(alloc: Global, block: &[u8], elements: &[Element<'_>]) -> Result<bool, AllocError> {
+    match first_game(alloc, block)? {
+        Some(game) => Ok(game.elements() == elements),
+        None => Ok(false),
+    }
 }
 
 #[test]
 fn elements_are_read_in_order(rt: HostRuntime) -> Result<(), Fail> {
-    let alloc = rt.alloc();
     let rows: [(&[u8], &[Element<'static>]); 4] = [
         (
             b"1. e4 $25e5 *",
@@ -187,38 +189,91 @@ fn elements_are_read_in_order(rt: HostRuntime) -> Result<(), Fail> {
         ),
     ];
     for (block, elements) in rows {
-        match first_game(alloc, block)? {
-            Some(game) => assert!(rt; game.elements() == elements, "{block:?}"),
-            None => panic!(rt; "no game: {block:?}"),
-        }
+        assert!(rt; has_elements(rt.alloc(), block, elements)?, "{block:?}");
     }
     Ok(())
 }
 
+/// Whether the block begins with a game whose tag of that name has these contents.
+fn has_tag(
+    alloc: Global,
+    block: &'static [u8],
+    name: &'static [u8],
+    contents: &[u8],
+) -> Result<bool, AllocError> {
+    let Some(game) = first_game(alloc, block)? else {
+        return Ok(false);
+    };
+    match game.tags().get(&name) {
+        Some(found) => Ok(*found == contents && is_contents(contents)),
+        None => Ok(false),
+    }
+}
+
 #[test]
-fn tags_and_results_are_read(rt: HostRuntime) -> Result<(), Fail> {
-    let alloc = rt.alloc();
-    let Some(game) = first_game(alloc, b" [A \"x\\\"y\"][B \"1\"]\n[ A\n \"z\" ]1. e4 ()*")? else {
-        panic!(rt; "no game");
-    };
-    assert_eq!(rt; game.at(), 1);
-    assert_eq!(rt; game.tags().len(), 2);
-    assert!(rt; game.result() == b"*".as_slice());
-    let name: &[u8] = b"A";
-    let Some(contents) = game.tags().get(&name).copied() else {
-        panic!(rt; "no tag");
-    };
-    assert!(rt; contents == b"x\\\"y".as_slice());
-    assert!(rt; is_contents(contents));
-    assert!(rt; !is_contents(b"x\\"));
+fn tags_are_read(rt: HostRuntime) -> Result<(), Fail> {
+    let block: &[u8] = b" [A \"x\\\"y\"][B \"1\"]\n[ A\n \"z\" ][b \"\"]1. e4 ()*";
+    let rows: [(&[u8], &[u8]); 3] = [(b"A", b"x\\\"y"), (b"B", b"1"), (b"b", b"")];
+    for (name, contents) in rows {
+        assert!(rt; has_tag(rt.alloc(), block, name, contents)?, "{name:?}");
+    }
     Ok(())
+}
+
+/// Whether the block begins with a game at this place, with so many tags and this result word.
+fn is_game(
+    alloc: Global,
+    block: &[u8],
+    at: usize,
+    tags: usize,
+    end: &[u8],
+) -> Result<bool, AllocError> {
+    match first_game(alloc, block)? {
+        Some(game) => Ok(game.at() == at && game.tags().len() == tags && game.result() == end),
+        None => Ok(false),
+    }
+}
+
+#[test]
+fn places_and_results_are_read(rt: HostRuntime) -> Result<(), Fail> {
+    let rows: [(&[u8], usize, usize, &[u8]); 3] = [
+        (
+            b" [A \"x\\\"y\"][B \"1\"]\n[ A\n \"z\" ]1. e4 ()*",
+            1,
+            2,
+            b"*",
+        ),
+        (b"{c}\n1. e4 1/2-1/2", 4, 0, b"1/2-1/2"),
+        (b"0-1 *", 0, 0, b"0-1"),
+    ];
+    for (block, at, tags, end) in rows {
+        assert!(rt; is_game(rt.alloc(), block, at, tags, end)?, "{block:?}");
+    }
+    Ok(())
+}
+
+/// Whether the bytes are the contents of a string with this value.
+fn has_value(alloc: Global, contents: &[u8], text: &[u8]) -> Result<bool, AllocError> {
+    if !is_contents(contents) {
+        return Ok(false);
+    }
+    let bytes: Vec<u8> = value(contents).collect(alloc)?;
+    Ok(bytes.as_slice() == text)
 }
 
 #[test]
 fn values_lose_backslashes(rt: HostRuntime) -> Result<(), Fail> {
-    let alloc = rt.alloc();
-    assert!(rt; is_contents(b"x\\\"y\\\\\\z"));
-    let bytes: Vec<u8> = value(b"x\\\"y\\\\\\z").collect(alloc)?;
-    assert!(rt; bytes.as_slice() == b"x\"y\\\\z".as_slice());
+    let rows: [(&[u8], &[u8]); 4] = [
+        (b"x\\\"y\\\\\\z", b"x\"y\\\\z"),
+        (b"", b""),
+        (b"\\n", b"\\n"),
+        (b"\xE9\t\\\\", b"\xE9\t\\"),
+    ];
+    for (contents, text) in rows {
+        assert!(rt; has_value(rt.alloc(), contents, text)?, "{contents:?}");
+    }
+    for other in [b"x\\".as_slice(), b"\"", b"\n", b"\x7F", b"\\\x11"] {
+        assert!(rt; !is_contents(other), "{other:?}");
+    }
     Ok(())
 }

@@ -1,19 +1,9 @@
 //! Games with the main line that they must be replayed to, or the fault that they must be refused for.
-
-use crate::{GameFault, Lines, replay};
+use super::support::first_game;
 use chess::{Move, Side, Square};
-use pgn_text::{Piece, RawGame, games};
+use pgn_game::{GameFault, Lines, Replayed, replay};
 use std::alloc::{AllocError, Global};
 use std::test::Fail;
-
-/// The first piece, if it is a game.
-fn first_game<'a>(alloc: Global, block: &'a [u8]) -> Result<Option<RawGame<'a>>, AllocError> {
-    match games(alloc, block, true).next() {
-        Some(Ok(Piece::Game(game))) => Ok(Some(game)),
-        Some(Err(error)) => Err(error),
-        _ => Ok(None),
-    }
-}
 
 /// Whether the move goes from the first square to the second, given by their files and ranks, and is no promotion and no castling.
 fn goes(m: &Move, from: (u8, u8), to: (u8, u8)) -> bool {
@@ -23,9 +13,19 @@ fn goes(m: &Move, from: (u8, u8), to: (u8, u8)) -> bool {
         && Square::new(to.0, to.1) == Some(m.to)
 }
 
+/// Whether the block begins with a game of so many plies.
+fn has_plies(alloc: Global, block: &[u8], plies: usize) -> Result<bool, AllocError> {
+    match first_game(alloc, block)? {
+        Some(game) => match replay(alloc, &game, Lines::Main) {
+            Ok(replayed) => Ok(replayed.plies() == plies),
+            Err(_) => Ok(false),
+        },
+        None => Ok(false),
+    }
+}
+
 #[test]
 fn sound_games_have_their_plies(rt: HostRuntime) -> Result<(), Fail> {
-    let alloc = rt.alloc();
     let rows: [(&[u8], usize); 9] = [
         (b"*", 0),
         (b"1. e4 e5 *", 2),
@@ -44,20 +44,24 @@ fn sound_games_have_their_plies(rt: HostRuntime) -> Result<(), Fail> {
         (b"[Event \"x\\\\\"]\n\n1. e4 *", 1),
     ];
     for (block, plies) in rows {
-        let Some(game) = first_game(alloc, block)? else {
-            panic!(rt; "no game: {block:?}");
-        };
-        match replay(alloc, &game, Lines::Main) {
-            Ok(replayed) => assert_eq!(rt; replayed.plies(), plies, "{block:?}"),
-            Err(fault) => panic!(rt; "{fault:?}: {block:?}"),
-        }
+        assert!(rt; has_plies(rt.alloc(), block, plies)?, "{block:?}");
     }
     Ok(())
 }
 
+/// Whether the block begins with a game that has this fault.
+fn has_fault(alloc: Global, block: &[u8], fault: &GameFault<'_>) -> Result<bool, AllocError> {
+    match first_game(alloc, block)? {
+        Some(game) => match replay(alloc, &game, Lines::Main) {
+            Ok(_) => Ok(false),
+            Err(found) => Ok(found == *fault),
+        },
+        None => Ok(false),
+    }
+}
+
 #[test]
 fn faulty_games_have_their_faults(rt: HostRuntime) -> Result<(), Fail> {
-    let alloc = rt.alloc();
     let rows: [(&[u8], GameFault<'static>); 10] = [
         (
             b"[FEN \"4k3/8/8/8/8/2N5/8/4K1N1 w - - 0 1\"]\n\n1. Ne2 *",
@@ -109,55 +113,65 @@ fn faulty_games_have_their_faults(rt: HostRuntime) -> Result<(), Fail> {
             },
         ),
     ];
-    for (block, fault) in rows {
-        let Some(game) = first_game(alloc, block)? else {
-            panic!(rt; "no game: {block:?}");
-        };
-        match replay(alloc, &game, Lines::Main) {
-            Ok(replayed) => panic!(rt; "{} plies: {block:?}", replayed.plies()),
-            Err(found) => assert_eq!(rt; found, fault, "{block:?}"),
-        }
+    for (block, fault) in &rows {
+        assert!(rt; has_fault(rt.alloc(), block, fault)?, "{block:?}");
+    }
+    Ok(())
+}
+
+/// Whether the ply is there, with this side to move and this fullmove number.
+fn is_at(replayed: &Replayed, ply: usize, side: Side, number: u32) -> bool {
+    ply <= replayed.plies()
+        && replayed.position(ply).side() == side
+        && replayed.position(ply).number() == number
+}
+
+/// Whether the move of the ply is there and goes from the first square to the second.
+fn is_played(replayed: &Replayed, ply: usize, from: (u8, u8), to: (u8, u8)) -> bool {
+    ply < replayed.plies() && goes(&replayed.played(ply), from, to)
+}
+
+/// Whether the positions and moves of `1. e4 e5` follow one another.
+fn follows_the_moves(replayed: &Replayed) -> bool {
+    replayed.plies() == 2
+        && is_at(replayed, 0, Side::White, 1)
+        && is_at(replayed, 1, Side::Black, 1)
+        && is_at(replayed, 2, Side::White, 2)
+        && is_played(replayed, 0, (5, 2), (5, 4))
+        && is_played(replayed, 1, (5, 7), (5, 5))
+}
+
+/// Whether `7... Kd7 8. e4` is played from the position of its FEN tag.
+fn starts_from_its_tag(replayed: &Replayed) -> bool {
+    replayed.plies() == 2
+        && is_at(replayed, 0, Side::Black, 7)
+        && is_at(replayed, 2, Side::Black, 8)
+        && is_played(replayed, 0, (5, 8), (4, 7))
+        && is_played(replayed, 1, (5, 2), (5, 4))
+}
+
+#[test]
+fn positions_follow_the_moves(rt: HostRuntime) -> Result<(), Fail> {
+    let block = b"1. e4 (1. d4 d5) e5 *";
+    let Some(game) = first_game(rt.alloc(), block)? else {
+        panic!(rt; "no game");
+    };
+    match replay(rt.alloc(), &game, Lines::Main) {
+        Ok(replayed) => assert!(rt; follows_the_moves(&replayed)),
+        Err(_) => panic!(rt; "not replayed"),
     }
     Ok(())
 }
 
 #[test]
-fn positions_follow_the_moves(rt: HostRuntime) -> Result<(), Fail> {
-    let alloc = rt.alloc();
-    let Some(game) = first_game(alloc, b"1. e4 (1. d4 d5) e5 *")? else {
-        panic!(rt; "no game");
-    };
-    let Ok(replayed) = replay(alloc, &game, Lines::Main) else {
-        panic!(rt; "not replayed");
-    };
-    assert_eq!(rt; replayed.plies(), 2);
-    assert_eq!(rt; replayed.position(0).side(), Side::White);
-    assert_eq!(rt; replayed.position(0).number(), 1);
-    assert_eq!(rt; replayed.position(1).side(), Side::Black);
-    assert_eq!(rt; replayed.position(1).number(), 1);
-    assert_eq!(rt; replayed.position(2).side(), Side::White);
-    assert_eq!(rt; replayed.position(2).number(), 2);
-    assert!(rt; goes(&replayed.played(0), (5, 2), (5, 4)));
-    assert!(rt; goes(&replayed.played(1), (5, 7), (5, 5)));
-    Ok(())
-}
-
-#[test]
 fn a_game_starts_from_its_fen_tag(rt: HostRuntime) -> Result<(), Fail> {
-    let alloc = rt.alloc();
-    let block: &[u8] =
-        b"[SetUp \"0\"]\n[FEN \"4k3/8/8/8/8/8/4P3/4K3 b - - 0 7\"]\n\n7... Kd7 8. e4 *";
-    let Some(game) = first_game(alloc, block)? else {
+    let block = b"[SetUp \"0\"]\n[FEN \"4k3/8/8/8/8/8/4P3/4K3 b - - 0 7\"]\n\n7... Kd7 8. e4 *";
+    let Some(game) = first_game(rt.alloc(), block)? else {
         panic!(rt; "no game");
     };
-    let Ok(replayed) = replay(alloc, &game, Lines::Main) else {
-        panic!(rt; "not replayed");
-    };
-    assert_eq!(rt; replayed.plies(), 2);
-    assert_eq!(rt; replayed.position(0).side(), Side::Black);
-    assert_eq!(rt; replayed.position(0).number(), 7);
-    assert_eq!(rt; replayed.position(2).number(), 8);
-    assert!(rt; goes(&replayed.played(0), (5, 8), (4, 7)));
-    assert!(rt; goes(&replayed.played(1), (5, 2), (5, 4)));
+    match replay(rt.alloc(), &game, Lines::Main) {
+        Ok(replayed) => assert!(rt; starts_from_its_tag(&replayed)),
+        Err(_) => panic!(rt; "not replayed"),
+    }
     Ok(())
 }

@@ -1,0 +1,135 @@
+//! The blocks of a reader.
+ghost use Rattle.std.specs.Prelude.{◌^◌, ◌≤◌};
+
+use super::support::{Pieces, TWO_GAMES};
+use pgn_text::{Block, Blocks, Body, Tally};
+use std::alloc::Global;
+use std::test::Fail;
+
+/// Whether the calls of `next`, up to the end and once more, answer this: each block as its offset and its length.
+fn is_answered(alloc: Global, reader: Pieces<'_>, offset: u64, wanted: &str) -> Result<bool, Fail>
+    requires { offset ≤ 2 ^ 62 }
+{
+    let mut blocks = Blocks::new(alloc, offset);
+    let mut input = Tally::new(reader);
+    let mut answers = String::new(alloc);
+    let mut is_over = false;
+    for _ in 0..u64::MAX {
+        let was_over = is_over;
+        match blocks.next(&mut input) {
+            Ok(
+                Some(
+                    Block {
+                        offset,
+                        body: Body::Bytes(bytes),
+                    },
+                ),
+            ) => {
+                let size = bytes.len();
+                write!(answers, "{offset}+{size} ")?;
+            }
+            Ok(
+                Some(
+                    Block {
+                        offset,
+                        body: Body::TooLong,
+                    },
+                ),
+            ) => write!(answers, "{offset}+long ")?,
+            Ok(None) => {
+                answers.push_str("end ")?;
+                is_over = true;
+            }
+            Err(error) => {
+                write!(answers, "{error:?} ")?;
+                is_over = true;
+            }
+        }
+        if was_over {
+            break;
+        }
+    }
+    Ok(answers.as_str() == wanted)
+}
+
+/// The largest offset.
+const END: u64 = 4_611_686_018_427_387_904;
+
+#[test]
+fn at_the_largest_offset(rt: HostRuntime) -> Result<(), Fail> {
+    let rows: [(&[u8], u64, &str); 3] = [
+        (b"", 0, "4611686018427387904+0 end end "),
+        (b"x", 0, "InputTooLong Failed "),
+        (b"x", 1, "4611686018427387903+1 end end "),
+    ];
+    for (text, before, wanted) in rows {
+        let offset = END.saturating_sub(before);
+        assert!(rt;
+            is_answered(rt.alloc(), Pieces::new(text, 8), offset, wanted)?,
+            "{wanted}"
+        );
+    }
+    Ok(())
+}
+
+#[test]
+fn however_the_reader_cuts(rt: HostRuntime) -> Result<(), Fail> {
+    // The second event line begins at 22, so 23 to 29 end behind each of its first seven bytes.
+    for size in [1, 2, 3, 7, 8, 23, 24, 25, 26, 27, 28, 29, 8192] {
+        let reader = Pieces::new(TWO_GAMES, size);
+        let wanted = "7+22 29+21 end end ";
+        assert!(rt;
+            is_answered(rt.alloc(), reader, 7, wanted)?,
+            "in pieces of {size}"
+        );
+    }
+    Ok(())
+}
+
+#[test]
+fn a_fault_comes_behind_the_complete_blocks(rt: HostRuntime) -> Result<(), Fail> {
+    let rows = [
+        (0, "Read Failed "),
+        (21, "Read Failed "),
+        (29, "Read Failed "),
+        (30, "0+22 Read Failed "),
+        (42, "0+22 Read Failed "),
+    ];
+    for (sound, wanted) in rows {
+        for size in [1, 5, 8192] {
+            let reader = Pieces::failing(TWO_GAMES.get(..sound).unwrap_or(b""), size);
+            assert!(rt;
+                is_answered(rt.alloc(), reader, 0, wanted)?,
+                "{sound} by {size}"
+            );
+            // A reader that would go on changes nothing: no call is tried again.
+            let reader = Pieces::failing_once(TWO_GAMES, size, sound);
+            assert!(rt;
+                is_answered(rt.alloc(), reader, 0, wanted)?,
+                "{sound} by {size}, once"
+            );
+        }
+    }
+    Ok(())
+}
+
+#[test]
+fn blocks_at_the_limit(rt: HostRuntime) -> Result<(), Fail> {
+    let rows: [(usize, &[u8], usize, &str); 3] = [
+        (1_048_576, b"", 8192, "3+1048576 end end "),
+        (1_048_577, b"", 8192, "3+long end end "),
+        (
+            1_048_575,
+            b"\n[Event \"A\"",
+            1000,
+            "3+1048576 1048579+10 end end ",
+        ),
+    ];
+    for (spaces, rest, size, wanted) in rows {
+        let mut text = vec![in rt.alloc(); b' '; spaces]?;
+        text.extend_from_slice(rest)?;
+        let reader = Pieces::new(text.as_slice(), size);
+        assert!(rt; is_answered(rt.alloc(), reader, 3, wanted)?, "{spaces}");
+    }
+    Ok(())
+}
