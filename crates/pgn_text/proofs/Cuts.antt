@@ -1,11 +1,11 @@
 -- A block cut into pieces: one piece more in front of those that are left.
-use Rattle.std.proofs.Common.{◌≡◌, ◌≢◌, ℕ, ◌≤◌, Bool, List, [], ◌∷◌, ◌++◌, length, take, drop, refl, sym, ap, ◌∙◌, subst, arith, length-drop}
+use Rattle.std.proofs.Common.{◌≡◌, ◌≢◌, ℕ, ◌≤◌, Bool, List, [], ◌∷◌, ◌++◌, length, take, drop, refl, sym, ap, ◌∙◌, subst, arith, append-nil, length-drop}
 use Rattle.std.proofs.lemmas.List.{length-take-le, drop_all}
 use Rattle.pgn_text.specs.Parts.{Part, spelled}
 use Rattle.pgn_text.specs.Games.{IsGame}
 use Rattle.pgn_text.specs.Pieces.{Piece, Game, Unreadable, ArePieces, IsLongestGap, NoGame}
 use Rattle.pgn_text.specs.Walk.{GapTo, LongestGapTo, GameTo}
-use Rattle.pgn_text.proofs.OneList.{no_bytes, game_has_byte}
+use Rattle.pgn_text.proofs.OneList.{no_bytes, game_has_byte, one_gap}
 
 -- lists that join to none have no element
 second_empty : (a b : List ℕ) → a ++ b ≡ [] → b ≡ []
@@ -36,19 +36,31 @@ piece_game max_depth f block at begin end parts gap game more are = (
   subst (λ xs. ArePieces max_depth f xs more (drop end block)) (game.passed ∙ ap (λ xs. xs ++ spelled parts) gap.to.passed) are,
 )
 
+-- before the block's end a byte is left
+byte_left : (block : List ℕ) (begin : ℕ) → begin ≤ length block → begin ≢ length block → drop begin block ≢ []
+byte_left block begin within not_end empty =
+    not_end (let no : length (drop begin block) ≡ 0 = ap length empty in omega (arith, length-drop begin block))
+
+-- behind a gap that ends before the block does, some piece is left
+pub piece_left : (max_depth : ℕ) (f : Bool) (block : List ℕ) (at begin : ℕ) → LongestGapTo f block at begin → begin ≢ length block
+    → (pieces : List Piece) → ArePieces max_depth f (take at block) pieces (drop at block) → pieces ≢ []
+piece_left max_depth f block at begin gap not_end pieces are none =
+    let here : ArePieces max_depth f (take at block) [] (drop at block) = subst (λ own. ArePieces max_depth f (take at block) own (drop at block)) none are in
+    byte_left block begin gap.to.within not_end
+        (one_gap f (take at block) gap.to.gap here.0 (drop begin block) [] (sym gap.to.parted ∙ here.1 ∙ sym (append-nil (spelled here.0))) gap.longest here.2).1
+
 -- bytes behind a gap that are no game
 pub piece_unreadable : (max_depth : ℕ) (f : Bool) (block : List ℕ) (at begin : ℕ) → LongestGapTo f block at begin → begin ≢ length block → NoGame max_depth f (take begin block) (drop begin block)
     → (more : List Piece) → ArePieces max_depth f (take (length block) block) more (drop (length block) block) → ArePieces max_depth f (take at block) (Unreadable begin ∷ more) (drop at block)
 piece_unreadable max_depth f block at begin gap not_end none more are =
     let within : begin ≤ length block = gap.to.within in
-    let has_byte : drop begin block ≢ [] = λ empty. not_end (let no : length (drop begin block) ≡ 0 = ap length empty in omega (arith, length-drop begin block)) in
     let empty : drop (length block) block ≡ [] = drop_all (length block) block (omega arith) in (
       gap.to.gap,
       drop begin block,
       gap.to.parted,
       gap.longest,
       place_behind f block at begin gap.to,
-      has_byte,
+      byte_left block begin within not_end,
       subst (λ xs. NoGame max_depth f xs (drop begin block)) gap.to.passed none,
       nothing_left max_depth f (take (length block) block) more (subst (ArePieces max_depth f (take (length block) block) more) empty are),
     )

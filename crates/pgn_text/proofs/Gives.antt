@@ -8,7 +8,7 @@ use Rattle.pgn_text.specs.GameTexts.{GameText, ShowsGame}
 use Rattle.pgn_text.specs.Walk.{LongestGapTo, GameTo}
 use Rattle.pgn_text.specs.Left.{Left, GivesPiece}
 use Rattle.pgn_text.specs.declared.cut.Piece.TheVariants.{Game, Unreadable}
-use Rattle.pgn_text.proofs.Cuts.{piece_game, piece_unreadable}
+use Rattle.pgn_text.proofs.Cuts.{piece_game, piece_unreadable, piece_left}
 use Rattle.pgn_text.proofs.Existence.{pieces_exist}
 
 -- what is left of the block behind the place
@@ -49,8 +49,10 @@ gives_unreadable max_depth f block at begin failed old is sound gap not_end none
       completes = piece_unreadable max_depth f block at begin gap not_end none;
     })
 
-pub gives_error : (max_depth : ℕ) (f : Bool) (block : List ℕ) (at : ℕ) (failed : Bool) (error : AllocError) (old : Left)
-    → left_at f block at failed ≡ old → failed ≡ false → GivesPiece max_depth old (Some (Err error)) (left_at f block (length block) true)
-gives_error max_depth f block at failed error old is sound =
+pub gives_error : (max_depth : ℕ) (f : Bool) (block : List ℕ) (at begin : ℕ) (failed : Bool) (error : AllocError) (old : Left)
+    → left_at f block at failed ≡ old → failed ≡ false → LongestGapTo f block at begin → begin ≢ length block
+    → GivesPiece max_depth old (Some (Err error)) (left_at f block (length block) true)
+gives_error max_depth f block at begin failed error old is sound gap not_end =
+    let pieces = pieces_exist max_depth f (take at block) (drop at block) in
     subst (λ o. GivesPiece max_depth o (Some (Err error)) (left_at f block (length block) true)) is
-    (sound, refl, pieces_exist max_depth f (take at block) (drop at block))
+    (sound, refl, (pieces.0, piece_left max_depth f block at begin gap not_end pieces.0 pieces.1, pieces.1))

@@ -1,5 +1,5 @@
 -- What contracts see of the iterator over a block's pieces, and what one call of its `next` does.
-use Rattle.std.specs.Prelude.{◌≡◌, ◌⊎◌, ℕ, ◌<◌, ◌≤◌, Bool, true, false, List, [], ◌∷◌, length, take, drop, Option, Some, None, Result, Ok, Err}
+use Rattle.std.specs.Prelude.{◌≡◌, ◌≢◌, ◌⊎◌, ℕ, ◌<◌, ◌≤◌, Bool, true, false, List, [], ◌∷◌, length, take, drop, Option, Some, None, Result, Ok, Err}
 use Rattle.std.specs.declared.alloc.AllocError.{AllocError}
 use Rattle.pgn_text.specs.GameTexts.{ShowsGame}
 use Rattle.pgn_text.specs.Pieces.{ArePieces}
@@ -42,9 +42,9 @@ pub record TakesPiece (max_depth : ℕ) (old new : Left) (piece : Piece) : Type 
   pub completes : (more : List spec.Piece) → ArePiecesLeft max_depth new more → ArePiecesLeft max_depth old (shown ∷ more)
 
 -- what a call of `next` did, by its answer. The end comes where no piece is left, and on each call after an error; an error comes only
--- where memory was refused, and the block has pieces that are not given then
+-- where memory was refused for a piece that is left: it and those behind it are not given
 abbrev pub GivesPiece : ℕ → Left → Option (Result Piece AllocError) → Left → Type 0
 GivesPiece max_depth old None new = ((old.failed ≡ true) ⊎ ArePiecesLeft max_depth old []) × (new ≡ old)
 GivesPiece max_depth old (Some (Ok piece)) new = TakesPiece max_depth old new piece
 GivesPiece max_depth old (Some (Err error)) new =
-    (old.failed ≡ false) × (new.failed ≡ true) × ((more : List spec.Piece) × ArePiecesLeft max_depth old more)
+    (old.failed ≡ false) × (new.failed ≡ true) × ((more : List spec.Piece) × (more ≢ []) × ArePiecesLeft max_depth old more)

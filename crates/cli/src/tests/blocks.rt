@@ -133,3 +133,24 @@ fn blocks_at_the_limit(rt: HostRuntime) -> Result<(), Fail> {
     }
     Ok(())
 }
+
+#[test]
+fn only_an_event_line_cuts(rt: HostRuntime) -> Result<(), Fail> {
+    let rows: [(&[u8], &str); 8] = [
+        (b"[Event \"A", "0+9 end end "),
+        (b"x\n[Event \"", "0+2 2+8 end end "),
+        (b"x\r[Event \"A", "0+11 end end "),
+        (b"x [Event \"A", "0+11 end end "),
+        (b"x\n[Event  \"A", "0+12 end end "),
+        (b"x\n[event \"A", "0+11 end end "),
+        (b"x\n[Event", "0+8 end end "),
+        (b"\n[Event \"\n[Event \"\n", "0+1 1+9 10+9 end end "),
+    ];
+    for (text, wanted) in rows {
+        assert!(rt;
+            is_answered(rt.alloc(), Pieces::new(text, 8192), 0, wanted)?,
+            "{text:?}"
+        );
+    }
+    Ok(())
+}

@@ -58,7 +58,7 @@ fn nested(alloc: Global, depth: usize) -> Result<Vec<u8>, AllocError> {
 
 #[test]
 fn blocks_are_cut(rt: HostRuntime) -> Result<(), Fail> {
-    let rows: [(&[u8], &str); 40] = [
+    let rows: [(&[u8], &str); 60] = [
         (b"", ""),
         (b" {x} ; y\n% z\n", ""),
         (b"% note\n; more\n{x} 1. e4 *", "game 18; "),
@@ -99,6 +99,26 @@ fn blocks_are_cut(rt: HostRuntime) -> Result<(), Fail> {
         (b"0-0-0-0 *", "unreadable 0; "),
         (b"1. +- *", "unreadable 0; "),
         (b"1/2-1/2", "game 0; "),
+        (b"1. e4 1/2 *", "unreadable 0; "),
+        (b"0-1 *", "game 0; game 4; "),
+        (b"1. e4 1/2-1/2 *", "game 0; game 14; "),
+        (b"1e4 *", "unreadable 0; "),
+        (b"_a *", "unreadable 0; "),
+        (b"a_b *", "game 0; "),
+        (b"--+ *", "unreadable 0; "),
+        (b"0-0-0= *", "unreadable 0; "),
+        (b"O-O= *", "game 0; "),
+        (b"[ \"x\"]\n*", "unreadable 0; "),
+        (b"[A{c} \"x\"]\n*", "unreadable 0; "),
+        (b"[A \"x\" y]\n*", "unreadable 0; "),
+        (b"$1 e4 [A \"x\"] *", "unreadable 0; "),
+        (b"1. e4 ) *", "unreadable 0; "),
+        (b"1. e4 (1. d4 *", "unreadable 0; "),
+        (b"1. e4 (1. d4 1-0) *", "unreadable 0; "),
+        (b"1. (e4) *", "unreadable 0; "),
+        (b"\t\n\x0B\x0C\r {a}*", "game 9; "),
+        (b"1. e4 ; no end", "unreadable 0; "),
+        (b"* ; no end", "game 0; "),
     ];
     for (block, pieces) in rows {
         assert!(rt; is_cut(rt.alloc(), block, pieces)?, "{block:?}");
@@ -150,7 +170,7 @@ fn has_elements(alloc: Global, block: &[u8], elements: &[Element<'_>]) -> Result
 
 #[test]
 fn elements_are_read_in_order(rt: HostRuntime) -> Result<(), Fail> {
-    let rows: [(&[u8], &[Element<'static>]); 4] = [
+    let rows: [(&[u8], &[Element<'static>]); 6] = [
         (
             b"1. e4 $25e5 *",
             &[
@@ -185,6 +205,36 @@ fn elements_are_read_in_order(rt: HostRuntime) -> Result<(), Fail> {
                 Element::Close,
                 Element::Move(b"Nc6"),
                 Element::Glyph(1),
+            ],
+        ),
+        (
+            b"a! b? c!! d?? e!? f?! *",
+            &[
+                Element::Move(b"a"),
+                Element::Glyph(1),
+                Element::Move(b"b"),
+                Element::Glyph(2),
+                Element::Move(b"c"),
+                Element::Glyph(3),
+                Element::Move(b"d"),
+                Element::Glyph(4),
+                Element::Move(b"e"),
+                Element::Glyph(5),
+                Element::Move(b"f"),
+                Element::Glyph(6),
+            ],
+        ),
+        (
+            b"a8=Q+ Nb:d7# e2-e4 x/y_1 0-0+ -- $255 {} *",
+            &[
+                Element::Move(b"a8=Q+"),
+                Element::Move(b"Nb:d7#"),
+                Element::Move(b"e2-e4"),
+                Element::Move(b"x/y_1"),
+                Element::Move(b"0-0+"),
+                Element::Move(b"--"),
+                Element::Glyph(255),
+                Element::Comment(b""),
             ],
         ),
     ];

@@ -106,6 +106,7 @@ pub struct Page {
     piece: usize,
     fails: Fails,
     flush_fails: Fails,
+    flushed: usize,
     ghost within: { len ≤ 2048 },
 }
 
@@ -119,6 +120,7 @@ impl Page {
             piece: PAGE,
             fails: Fails::Always,
             flush_fails: Fails::Never,
+            flushed: 0,
         }
     }
 
@@ -149,6 +151,11 @@ impl Page {
     pub fn text(&self) -> &[u8] {
         &self.bytes[..self.len]
     }
+
+    /// Whether all that was written was flushed behind it.
+    pub fn is_flushed(&self) -> bool {
+        self.flushed == self.len
+    }
 }
 
 impl Write for Page {
@@ -173,11 +180,12 @@ impl Write for Page {
         if self.flush_fails.is_now() {
             return Err(io::Error::from(ErrorKind::Other));
         }
+        self.flushed = self.len;
         Ok(())
     }
 }
 
-/// One file, `games.pgn`, and the same text on standard input. It counts what was opened.
+/// One file, `games.pgn`, and the same text on standard input. It counts what was opened. Opening `huge.pgn` runs out of memory.
 #[derive(Drop)]
 pub struct Shelf<'a> {
     text: &'a [u8],
@@ -220,10 +228,10 @@ impl<'a> Files for Shelf<'a> {
     type Input = Pieces<'a>;
 
     fn open(&mut self, path: &str) -> Result<Option<Pieces<'a>>, AllocError> {
-        if path == "games.pgn" {
-            Ok(Some(self.reader()))
-        } else {
-            Ok(None)
+        match path {
+            "games.pgn" => Ok(Some(self.reader())),
+            "huge.pgn" => Err(AllocError),
+            _ => Ok(None),
         }
     }
 
@@ -241,9 +249,13 @@ pub struct Ending {
 }
 
 impl Ending {
-    /// Whether the run wrote these bytes and ended with this status.
+    /// Whether the run wrote these bytes, flushed them and ended with this status.
     pub fn is(&self, out: &[u8], err: &[u8], status: u8) -> bool {
-        self.out.text() == out && self.err.text() == err && self.status == status
+        self.out.text() == out
+            && self.err.text() == err
+            && self.status == status
+            && self.out.is_flushed()
+            && self.err.is_flushed()
     }
 }
 

@@ -5,7 +5,7 @@ use std::alloc::{AllocError, Global};
 use std::test::Fail;
 
 /// Words that are accepted, and refusals in their order.
-const ROWS: [Row; 11] = [
+const ROWS: [Row; 12] = [
     (&["--index", "games.pgn"], TWO_GAMES, b"1@0\n2@22\n", b"", 0),
     (&["--index"], TWO_GAMES, b"1@0\n2@22\n", b"", 0),
     (&["--index", "--from=01@00"], b"1. e4 *", b"1@0\n", b"", 0),
@@ -68,6 +68,13 @@ const ROWS: [Row; 11] = [
         b"",
         b"pgn-extract: cannot open input\n",
         2,
+    ),
+    (
+        &["--index", "huge.pgn"],
+        TWO_GAMES,
+        b"",
+        b"pgn-extract: out of memory\n",
+        3,
     ),
 ];
 
@@ -156,5 +163,17 @@ fn help_goes_to_standard_output(rt: HostRuntime) -> Result<(), Fail> {
         && memmem::find(end.out.text(), usage).is_some()
         && shelf.opened == 0;
     assert!(rt; is_help);
+    Ok(())
+}
+
+#[test]
+fn a_help_that_cannot_be_written_is_a_write_fault(rt: HostRuntime) -> Result<(), Fail> {
+    let mut shelf = Shelf::new(TWO_GAMES);
+    let page = Page::failing(5, 2);
+    let end = run_words(rt.alloc(), &["--help"], &mut shelf, page, Page::new())?;
+    let is_fault = end.status == 3
+        && end.out.text().len() == 5
+        && end.err.text() == b"pgn-extract: write failed\n".as_slice();
+    assert!(rt; is_fault);
     Ok(())
 }

@@ -16,5 +16,5 @@ returns-in-Ok-None-clause-steps c =
 
 pub returns-in-Err-clause-steps : goal.returns-in-Err-clause-steps
 returns-in-Err-clause-steps c =
-    gives_error MAX_DEPTH c.self.inside.file_start c.self.inside.block.now c.self.inside.at c.self.inside.failed c.in-Err.error
-    c.args.self.now c.self.view_is c.if-self.false
+    gives_error MAX_DEPTH c.self.inside.file_start c.self.inside.block.now c.self.inside.at c.gap_end-begin.result c.self.inside.failed c.in-Err.error
+    c.args.self.now c.self.view_is c.if-self.false c.gap_end-begin.ensures c.if-begin-self.false
