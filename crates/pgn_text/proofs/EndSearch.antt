@@ -11,7 +11,7 @@ use Rattle.pgn_text.specs.Windows.{FailsAfter}
 use Rattle.pgn_text.specs.declared.blocks.ReadError.{ReadError}
 use Rattle.pgn_text.specs.declared.blocks.ReadError.TheVariants.{Read, OutOfMemory, InputTooLong, Failed}
 use Rattle.pgn_text.proofs.BlockCuts.{cut_stays, no_cut_join, first_block_at_end}
-use Rattle.pgn_text.proofs.Joined.{reads_join, reads_none}
+use Rattle.pgn_text.proofs.Joined.{reads_join}
 
 -- the search has passed over all places from behind `at` to `from`, in the bytes held at the start and those read since
 pub record Searched (start held : List ℕ) (at place from : ℕ) (left now : Option (List ℕ)) (moved count : ℕ) (faulted : Bool) : Type 0 where
@@ -23,20 +23,6 @@ pub record Searched (start held : List ℕ) (at place from : ℕ) (left now : Op
   pub none : NoCutBefore held (at + 1) from
   pub is_held : IsHeld held at place
   pub sound : faulted ≡ false
-
--- at the start nothing is passed over
-pub search_start : {start : List ℕ} {at place : ℕ} {left : Option (List ℕ)} {moved : ℕ} {faulted : Bool} → IsHeld start at place → faulted ≡ false
-    → Searched start start at place (at + 1) left left moved moved faulted
-search_start {start} {at} {place} {left} {moved} held sound = record {
-  read = [];
-  reads = reads_none left moved;
-  joined = sym (append-nil start);
-  behind = omega arith;
-  within = let h = held.within in omega arith;
-  none = λ j low high. absurd (omega arith);
-  is_held = held;
-  sound = sound;
-}
 
 module _ {start held : List ℕ} {at place from : ℕ} {left now : Option (List ℕ)} {moved count : ℕ} {faulted : Bool}
     (s : Searched start held at place from left now moved count faulted) where

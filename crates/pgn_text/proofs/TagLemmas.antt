@@ -47,16 +47,6 @@ kept_new m n name wanted contents updates absent =
         ap (λ o. option_or o (Some contents.now)) (sym none)
     go false is = sym (option_or-none (tag_at m wanted))
 
--- a tag whose name the map has
-pub kept_old : (m : BTreeMap (Bor (List ℕ)) (Bor (List ℕ))) (name wanted contents : List ℕ)
-    → is_some (get_by (λ k. slice_cmp nat_cmp name k.now) m) ≡ true
-    → tag_at m wanted ≡ option_or (tag_at m wanted) (if bytes_eq name wanted then Some contents else None)
-kept_old m name wanted contents present = go (bytes_eq name wanted) refl
-  where
-    go : (v : Bool) → bytes_eq name wanted ≡ v → tag_at m wanted ≡ option_or (tag_at m wanted) (if v then Some contents else None)
-    go true is = subst (λ w. tag_at m w ≡ option_or (tag_at m w) (Some contents)) (bytes_eq-same name wanted is) (some_value (get_by (λ k. slice_cmp nat_cmp name k.now) m) (Some contents) present)
-    go false is = sym (option_or-none (tag_at m wanted))
-
 -- a word names no tag
 named-word : (wanted word : List ℕ) → named_kept wanted (kept_word word) ≡ None
 named-word wanted word =
