@@ -28,3 +28,9 @@ pub mod PawnNamesFacts
 pub mod SanNamesFacts
 pub mod SanOnce
 pub mod Examples
+pub mod Settled
+pub mod Searches
+pub mod LegalSettled
+pub mod NamedSettled
+pub mod RanksSettled
+pub mod FenSettled
