@@ -31,6 +31,7 @@ pub mod Examples
 pub mod Settled
 pub mod Searches
 pub mod LegalSettled
+pub mod OnBoard
 pub mod NamedSettled
 pub mod RanksSettled
 pub mod FenSettled

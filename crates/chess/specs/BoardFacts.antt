@@ -8,10 +8,6 @@ use Rattle.chess.specs.Sets.{Places, is_in, no_places}
 use Rattle.chess.specs.declared.direction.Direction.{Direction}
 use Rattle.chess.specs.declared.direction.Direction.TheVariants.{North, South, East, West, NorthEast, NorthWest, SouthEast, SouthWest}
 
--- one square is so many steps ahead
-one_place : (s t : Place) → s.file ≡ t.file → s.rank ≡ t.rank → s ≡ t
-one_place s t e f = λ i. record { file = e i; rank = f i }
-
 -- a square is so many steps ahead for one number of steps only
 pub one_count : (way : Direction) (j k : ℕ) (s t : Place) → IsAhead way j s t → IsAhead way k s t → j ≡ k
 one_count North j k s t a b = let a1 = a.1 in let b1 = b.1 in omega arith

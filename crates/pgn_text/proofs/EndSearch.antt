@@ -64,20 +64,6 @@ module _ {start held : List ℕ} {at place from : ℕ} {left now : Option (List 
         within = let e = ap length kept in let r = s.is_held.room in omega arith;
       }
 
-  -- there is no byte behind the largest offset
-  pub end_at_limit : {left' : Option (List ℕ)} {moved' : ℕ} (seen : List ℕ) → seen ≡ held → NoCutBefore seen from (length seen)
-      → FindsMore now left' count moved' false → FindsEnd start held at place left left' moved moved' None
-  end_at_limit {left'} {moved'} seen same none more =
-      let nothing : more.read ≡ [] = (more.end refl).0 in
-      record {
-        read = s.read ++ more.read;
-        reads = reads_join left now left' moved count moved' s.read more.read s.reads more.reads;
-        joined = s.joined ∙ ap (λ t. start ++ t) (sym (append-nil s.read) ∙ ap (λ t. s.read ++ t) (sym nothing));
-        found = none_held seen same none;
-        last = λ _. (more.end refl).1;
-        within = s.is_held.room;
-      }
-
   -- the bytes read so far, behind those that were ahead
   so_far : take at start ++ (drop at start ++ s.read) ≡ held
   so_far = sym (append_assoc (take at start) (drop at start) s.read) ∙ ap (λ t. t ++ s.read) (take-append-drop at start) ∙ sym s.joined

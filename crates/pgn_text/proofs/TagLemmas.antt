@@ -27,10 +27,6 @@ no_value : (o : Option (Bor (List ℕ))) → is_some o ≡ false → option_map 
 no_value None is = refl
 no_value (Some x) is = absurd (cc)
 
-some_value : (o : Option (Bor (List ℕ))) (p : Option (List ℕ)) → is_some o ≡ true → option_map (λ contents. contents.now) o ≡ option_or (option_map (λ contents. contents.now) o) p
-some_value None p is = absurd (cc)
-some_value (Some x) p is = refl
-
 -- a tag that the map has not yet
 pub kept_new : (m n : BTreeMap (Bor (List ℕ)) (Bor (List ℕ))) (name wanted : List ℕ) (contents : Bor (List ℕ))
     → UpdatesBy (λ x y. slice_cmp nat_cmp x.now y.now) (λ k. slice_cmp nat_cmp name k.now) m n (Some contents)
