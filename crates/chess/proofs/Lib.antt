@@ -28,3 +28,10 @@ pub mod PawnNamesFacts
 pub mod SanNamesFacts
 pub mod SanOnce
 pub mod Examples
+pub mod Settled
+pub mod Searches
+pub mod LegalSettled
+pub mod OnBoard
+pub mod NamedSettled
+pub mod RanksSettled
+pub mod FenSettled

@@ -2,7 +2,7 @@
 use Rattle.std.proofs.Common.{◌≡◌, ◌↔◌, ◌≤◌, ◌+◌, ◌&&◌, ◌||◌, ◌⊎◌, ℕ, Bool, true, false, not, inl, inr, ap, refl, sym, subst, ◌∙◌, arith, Some, None, IsTrue}
 use Rattle.chess.specs.Squares.{Place, IsOnBoard, index_of, square_at, same_square}
 use Rattle.chess.specs.SetFacts.{square_at-index_of, index_of-below, is_in-empty}
-use Rattle.chess.specs.Sets.{Places, is_in, no_places, IsTakenFirst, HoldsExactly}
+use Rattle.chess.specs.Sets.{Places, is_in, no_places, IsTakenFirst}
 use Rattle.chess.specs.MoveWords.{HasEach, IsLeft, IsSifted}
 use Rattle.chess.proofs.PlaceFacts.{cases_place, same_square-same, same_square-then, true_not_false}
 
@@ -112,21 +112,3 @@ sifted_more fact n old new found more t test so_far taken tested put = record {
   ];
   low = λ s on here. later n old new t s so_far.low taken on here;
 }
-
-pub sifted_none : (fact : Place → Type 0) (n : ℕ) (old new found : Places) → IsSifted fact n old found → IsTakenFirst old new None → HoldsExactly fact found
-sifted_none fact n old new found so_far none s on = (
-  so_far.sound s on,
-  (λ holds. elim (so_far.each s on holds) [
-    | inl here ↦ here
-    | inr left ↦ absurd (true_not_false (is_in old s) left (none s on))
-  ]),
-)
-
-pub sifted_end : (fact : Place → Type 0) (n : ℕ) (left found : Places) → IsSifted fact n left found → 64 ≤ n → HoldsExactly fact found
-sifted_end fact n left found so_far far s on = (
-  so_far.sound s on,
-  (λ holds. elim (so_far.each s on holds) [
-    | inl here ↦ here
-    | inr in_left ↦ let at = so_far.low s on in_left in let near = index_of-below s on in absurd (omega arith)
-  ]),
-)

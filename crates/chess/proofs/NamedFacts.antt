@@ -92,11 +92,6 @@ fits_said P said s on here fits = (
   },
 )
 
-pub said_none : (P : State) (said : Said) (squares : Places) → IsSquaresOf P.men (man_said P said) squares → HasNone (Fits P said) squares
-    → (m : Move) → IsMoveSaid P said m → ⊥
-said_none P said squares are none m named =
-    none m.from named.1 ((are m.from named.1).1 (said_man P said m named)) (said_fits P said m named)
-
 pub said_only : (P : State) (said : Said) (squares rest : Places) (s : Place) → IsSquaresOf P.men (man_said P said) squares
     → IsNext (Fits P said) squares rest s → HasNone (Fits P said) rest
     → IsMoveSaid P said (move_from said s) × ((n : Move) → IsMoveSaid P said n → n ≡ move_from said s)

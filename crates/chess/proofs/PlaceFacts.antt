@@ -1,5 +1,5 @@
 -- Facts about squares, sides and men, by cases.
-use Rattle.std.proofs.Common.{◌≡◌, ◌↔◌, ◌&&◌, ◌⊎◌, ℕ, Bool, true, false, inl, inr, ap, refl, sym, ◌∙◌, arith, Option, Some, None, IsTrue}
+use Rattle.std.proofs.Common.{◌≡◌, ◌&&◌, ◌⊎◌, ℕ, Bool, true, false, inl, inr, ap, refl, sym, ◌∙◌, arith, Option, Some, None}
 use Rattle.std.specs.Prelude.{◌==◌}
 use Rattle.std.proofs.lemmas.Bool.{cases_eq}
 use Rattle.std.proofs.lemmas.Bool.Decides.{nat_tests}
@@ -37,15 +37,6 @@ same_square-same s t e = numbers_same s.file s.rank t.file t.rank (ap (λ (u : P
 pub same_square-then : (s t : Place) → same_square s t ≡ true → s ≡ t
 same_square-then s t e = place_of s t (numbers_file s.file s.rank t.file t.rank e) (numbers_rank s.file s.rank t.file t.rank e)
 
--- a test that is true exactly where the squares are one
-pub is_same_square : (s t : Place) (b : Bool) → IsTrue b ↔ (s ≡ t) → b ≡ same_square s t
-is_same_square s t true h = sym (same_square-same s t (h.0 refl))
-is_same_square s t false h =
-    elim (same_square s t) as (λ b. same_square s t ≡ b → false ≡ b) [
-      | true ↦ λ e. h.1 (same_square-then s t e)
-      | false ↦ λ e. refl
-    ] refl
-
 -- sides
 pub opposite-opposite : (side : Side) → opposite (opposite side) ≡ side
 opposite-opposite White = refl
@@ -56,10 +47,6 @@ cases_side White White = inl refl
 cases_side White Black = inr refl
 cases_side Black White = inr refl
 cases_side Black Black = inl refl
-
-pub not_opposite : (side : Side) → side ≡ opposite side → ⊥
-not_opposite White e = cc
-not_opposite Black e = cc
 
 -- men that are one agree in side and kind
 pub same_side : (a b : Man) → Some a ≡ Some b → a.side ≡ b.side

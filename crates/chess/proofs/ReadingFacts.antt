@@ -1,11 +1,8 @@
 -- The bytes of a move text, from its end, where it is known what the text says.
-use Rattle.std.proofs.Common.{◌≡◌, ◌+◌, ℕ, true, false, ap, refl, arith, Option, Some, None, IfSome, List, [], ◌∷◌, ◌++◌}
+use Rattle.std.proofs.Common.{◌≡◌, ℕ, true, false, ap, refl, Option, Some, None, IfSome, List, [], ◌∷◌, ◌++◌}
 use Rattle.std.specs.Prelude.{if◌then◌else◌}
-use Rattle.std.proofs.lemmas.Bool.Decides.{nat_tests}
-use Rattle.chess.specs.San.{IsFileOrRank}
 use Rattle.chess.specs.SanWords.{is_of, last_of, before_last}
 use Rattle.chess.specs.declared.move_text.ByteClass.{ByteClass}
-use Rattle.chess.specs.declared.move_text.ByteClass.TheVariants.{Digit, FileLetter, Equals}
 
 -- the text from its end does not begin with a byte of the class
 abbrev pub BeginsOtherwise : ByteClass → List ℕ → Type 0
@@ -39,10 +36,3 @@ pub begins_given : (class : ByteClass) (o : Option ℕ) (z : List ℕ) → IfSom
     → BeginsOtherwise class (given o ++ z)
 begins_given class (Some b) z is other = is
 begins_given class None z is other = other
-
--- the bytes of files and ranks
-pub digit_byte : (n : ℕ) → IsFileOrRank n → (is_of Digit (48 + n) ≡ true) × (is_of FileLetter (48 + n) ≡ false) × (is_of Equals (48 + n) ≡ false)
-digit_byte n h = let low = h.0 in let high = h.1 in (grind (arith, nat_tests), grind (arith, nat_tests), grind (arith, nat_tests))
-
-pub file_byte : (n : ℕ) → IsFileOrRank n → (is_of FileLetter (96 + n) ≡ true) × (is_of Digit (96 + n) ≡ false)
-file_byte n h = let low = h.0 in let high = h.1 in (grind (arith, nat_tests), grind (arith, nat_tests))

@@ -3,24 +3,10 @@ use Rattle.std.proofs.Common.{◌≡◌, ◌↔◌, ◌<◌, ◌≤◌, ◌+◌,
 use Rattle.std.proofs.lemmas.Bool.{cases_eq}
 use Rattle.chess.specs.Squares.{Place, IsOnBoard, square_at, index_of, IsAhead, same_square}
 use Rattle.chess.specs.SquareFacts.{index_of-square_at}
-use Rattle.chess.specs.SetFacts.{square_at-index_of, index_of-below, on_board-square_at, same_squares, other_squares, is_in-empty}
-use Rattle.chess.specs.Sets.{Places, is_in, HoldsExactly, no_places}
+use Rattle.chess.specs.SetFacts.{square_at-index_of, on_board-square_at, same_squares, other_squares, is_in-empty}
+use Rattle.chess.specs.Sets.{Places, is_in, no_places}
 use Rattle.chess.specs.declared.direction.Direction.{Direction}
 use Rattle.chess.specs.declared.direction.Direction.TheVariants.{North, South, East, West, NorthEast, NorthWest, SouthEast, SouthWest}
-
--- one square is so many steps ahead
-one_place : (s t : Place) → s.file ≡ t.file → s.rank ≡ t.rank → s ≡ t
-one_place s t e f = λ i. record { file = e i; rank = f i }
-
-pub one_ahead : (way : Direction) (k : ℕ) (s t u : Place) → IsAhead way k s t → IsAhead way k s u → t ≡ u
-one_ahead North k s t u a b = let a0 = a.0 in let a1 = a.1 in let b0 = b.0 in let b1 = b.1 in one_place t u (omega arith) (omega arith)
-one_ahead South k s t u a b = let a0 = a.0 in let a1 = a.1 in let b0 = b.0 in let b1 = b.1 in one_place t u (omega arith) (omega arith)
-one_ahead East k s t u a b = let a0 = a.0 in let a1 = a.1 in let b0 = b.0 in let b1 = b.1 in one_place t u (omega arith) (omega arith)
-one_ahead West k s t u a b = let a0 = a.0 in let a1 = a.1 in let b0 = b.0 in let b1 = b.1 in one_place t u (omega arith) (omega arith)
-one_ahead NorthEast k s t u a b = let a0 = a.0 in let a1 = a.1 in let b0 = b.0 in let b1 = b.1 in one_place t u (omega arith) (omega arith)
-one_ahead NorthWest k s t u a b = let a0 = a.0 in let a1 = a.1 in let b0 = b.0 in let b1 = b.1 in one_place t u (omega arith) (omega arith)
-one_ahead SouthEast k s t u a b = let a0 = a.0 in let a1 = a.1 in let b0 = b.0 in let b1 = b.1 in one_place t u (omega arith) (omega arith)
-one_ahead SouthWest k s t u a b = let a0 = a.0 in let a1 = a.1 in let b0 = b.0 in let b1 = b.1 in one_place t u (omega arith) (omega arith)
 
 -- a square is so many steps ahead for one number of steps only
 pub one_count : (way : Direction) (j k : ℕ) (s t : Place) → IsAhead way j s t → IsAhead way k s t → j ≡ k
@@ -32,17 +18,6 @@ one_count NorthEast j k s t a b = let a1 = a.0 in let b1 = b.0 in omega arith
 one_count NorthWest j k s t a b = let a1 = a.0 in let b1 = b.0 in omega arith
 one_count SouthEast j k s t a b = let a1 = a.0 in let b1 = b.0 in omega arith
 one_count SouthWest j k s t a b = let a1 = a.0 in let b1 = b.0 in omega arith
-
--- from a square of the board one of the board is at most seven steps ahead
-pub near_ahead : (way : Direction) (k : ℕ) (s t : Place) → IsOnBoard s → IsOnBoard t → IsAhead way k s t → k < 8
-near_ahead North k s t p q a = let a1 = a.1 in let l = p.rank_low in let h = q.rank_high in omega arith
-near_ahead South k s t p q a = let a1 = a.1 in let l = q.rank_low in let h = p.rank_high in omega arith
-near_ahead East k s t p q a = let a1 = a.0 in let l = p.file_low in let h = q.file_high in omega arith
-near_ahead West k s t p q a = let a1 = a.0 in let l = q.file_low in let h = p.file_high in omega arith
-near_ahead NorthEast k s t p q a = let a1 = a.0 in let l = p.file_low in let h = q.file_high in omega arith
-near_ahead NorthWest k s t p q a = let a1 = a.0 in let l = q.file_low in let h = p.file_high in omega arith
-near_ahead SouthEast k s t p q a = let a1 = a.0 in let l = p.file_low in let h = q.file_high in omega arith
-near_ahead SouthWest k s t p q a = let a1 = a.0 in let l = q.file_low in let h = p.file_high in omega arith
 
 -- ---- loops over the 64 squares that gather those with a fact
 
@@ -117,9 +92,6 @@ gathered_step fact n old new t false h so_far here test put =
     gathered_same fact (n + 1) old new
     (gathered_skip fact n old h so_far (λ f. let no : false ≡ true = test.1 (subst fact (sym here) f) in absurd (true_not_false (sym no)))) put
 
-pub gathered_all : (fact : Place → Type 0) (set : Places) → IsGathered fact 64 set → HoldsExactly fact set
-gathered_all fact set all s on_board = all.there s on_board (index_of-below s on_board)
-
 pub gathered_none : (fact : Place → Type 0) (set : Places) → set ≡ no_places → IsGathered fact 0 set
 gathered_none fact set e = record {
   there = λ s on_board less. absurd (omega arith);
@@ -129,9 +101,3 @@ gathered_none fact set e = record {
 -- no square of 64 has the fact
 abbrev pub IsNoneYet : (Place → Type 0) → ℕ → Type 0
 IsNoneYet fact n = (s : Place) → IsOnBoard s → index_of s < n → fact s → ⊥
-
-pub none_yet_more : (fact : Place → Type 0) (n : ℕ) → IsNoneYet fact n → (fact (square_at n) → ⊥) → IsNoneYet fact (n + 1)
-none_yet_more fact n before fails s on_board less holds = elim (cases_eq (index_of s) n) [
-  | inl same ↦ fails (subst fact (the_square s n on_board same) holds)
-  | inr other ↦ before s on_board (omega arith) holds
-]

@@ -1,9 +1,12 @@
 -- What holds of every text in FEN and of the text of every move, whatever writes and reads it.
-use Rattle.std.specs.Prelude.{◌≡◌, ℕ, List}
-use Rattle.chess.specs.Squares.{IsOnBoard}
+use Rattle.std.specs.Prelude.{◌≡◌, ◌≢◌, ◌⊎◌, ℕ, List, Some}
+use Rattle.chess.specs.Squares.{Place, IsOnBoard}
+use Rattle.chess.specs.Placements.{Placement, man_at}
+use Rattle.chess.specs.Start.{usual}
+use Rattle.chess.specs.declared.man.Man.{Man}
 use Rattle.chess.specs.Positions.{State, IsSound}
-use Rattle.chess.specs.Moves.{IsLegal}
-use Rattle.chess.specs.San.{IsSan, IsOnlyNamed}
+use Rattle.chess.specs.Moves.{IsLegal, after}
+use Rattle.chess.specs.San.{IsSan, IsNamed, IsOnlyNamed}
 use Rattle.chess.specs.Fen.{SpellsPosition, ReadsFen, IsRefused}
 use Rattle.chess.specs.declared.fen.FenError.{FenError}
 use Rattle.chess.specs.declared.moves.Move.{Move}
@@ -26,3 +29,33 @@ SanNamesItsMove = (P : State) (m : Move) (x : List ℕ) → IsSound P → IsLega
 -- a move has at most one standard text
 abbrev pub MoveHasOneText : Type 0
 MoveHasOneText = (P : State) (m : Move) (x y : List ℕ) → IsSan P m x → IsSan P m y → x ≡ y
+
+-- men stand on the board alone
+abbrev pub AreOnBoard : Placement → Type 0
+AreOnBoard p = (s : Place) (man : Man) → man_at p s ≡ Some man → IsOnBoard s
+
+-- a text names one legal move alone, or none, or several
+abbrev pub NamesOneNoneOrSeveral : State → List ℕ → Type 0
+NamesOneNoneOrSeveral P x =
+    ((m : Move) × IsOnlyNamed P x m)
+    ⊎ (((m : Move) → IsNamed P x m → ⊥) ⊎ ((m n : Move) × IsNamed P x m × IsNamed P x n × (m ≢ n)))
+
+-- each text does so, in each position whose men stand on the board
+abbrev pub EachTextNamesOneNoneOrSeveral : Type 0
+EachTextNamesOneNoneOrSeveral = (P : State) (x : List ℕ) → AreOnBoard P.men → NamesOneNoneOrSeveral P x
+
+-- they stand there in the position in which games usually begin
+abbrev pub UsualMenAreOnBoard : Type 0
+UsualMenAreOnBoard = AreOnBoard usual.men
+
+-- in each position that a text in FEN spells
+abbrev pub SpelledMenAreOnBoard : Type 0
+SpelledMenAreOnBoard = (x : List ℕ) (P : State) → SpellsPosition x P → AreOnBoard P.men
+
+-- and after each legal move in such a position
+abbrev pub MenStayOnBoard : Type 0
+MenStayOnBoard = (P : State) (m : Move) → AreOnBoard P.men → IsLegal P m → AreOnBoard (after P m).men
+
+-- each text is read as a position in FEN, or refused
+abbrev pub EachTextIsReadOrRefused : Type 0
+EachTextIsReadOrRefused = (x : List ℕ) → ((P : State) × ReadsFen x P) ⊎ ((error : FenError) × IsRefused x error)

@@ -4,7 +4,8 @@ use Rattle.std.specs.Io.KnownBytes.{Appends, Keeps}
 use Rattle.std.proofs.lemmas.List.{take_all}
 use Rattle.std.proofs.Math.Seq.{take-append-add}
 use Rattle.pgn_text.specs.Marks.{MarkedPiece}
-use Rattle.pgn_extract.specs.Outcomes.{AppendsFront, Tells, Begins}
+use Rattle.pgn_extract.specs.Blockwise.{Begins}
+use Rattle.pgn_extract.specs.Outcomes.{AppendsFront, Tells}
 use Rattle.pgn_extract.specs.Telling.{Told}
 use Rattle.pgn_extract.specs.declared.settings.Mode.{Mode}
 use Rattle.pgn_extract.proofs.Telling.{output_text-append, fault_lines-append, told-append}

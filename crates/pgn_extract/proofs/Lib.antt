@@ -1,4 +1,5 @@
 pub mod Beginnings
+pub mod BegunAll
 pub mod BlockTold
 pub mod BlocksGiven
 pub mod Dropping
@@ -6,10 +7,13 @@ pub mod EntriesTold
 pub mod EntryLines
 pub mod ExactEntries
 pub mod GameTold
+pub mod JoinedParts
 pub mod Listed
+pub mod OneReport
 pub mod OneTold
 pub mod Resumed
 pub mod RunProgress
+pub mod SomeReport
 pub mod Telling
 pub mod WholeRun
 pub mod Writing

@@ -21,24 +21,7 @@ pub record Listed (mode : Mode) (start now : Left) (report : Report) (number off
   pub same : now.block ≡ start.block
   pub sound : now.failed ≡ false
 
--- at the start none is
-pub listed_start : {mode : Mode} {start : Left} {report : Report} {number offset : ℕ} → start.failed ≡ false → start.at ≤ length start.block
-    → Reports mode report number [] → Listed mode start start report number offset
-listed_start {mode} {start} sound inside none = record {
-  done = [];
-  completes = λ more left. left;
-  told = none;
-  few = omega arith;
-  within = inside;
-  same = refl;
-  sound = sound;
-}
-
 module _ {mode : Mode} {start now : Left} {report : Report} {number offset : ℕ} (l : Listed mode start now report number offset) where
-  -- how many there are
-  pub listed_count : report.games ≡ length l.done
-  listed_count = l.told.games ∙ length-map l.done (marked offset)
-
   -- one more piece
   pub listed_more : {next : Left} {report' : Report} {here : ℕ} (piece : Piece) → TakesPiece 64 now next piece → here ≡ number + report.games
       → AddsPiece mode report report' here offset piece → Listed mode start next report' number offset

@@ -12,8 +12,8 @@ use Rattle.pgn_text.specs.declared.blocks.ReadError.{ReadError}
 use Rattle.pgn_text.specs.declared.blocks.ReadError.TheVariants as cause
 use Rattle.pgn_text.proofs.Joined.{reads_join, reads_none}
 use Rattle.pgn_text.proofs.OneBlocks.{empty_first}
-use Rattle.pgn_extract.specs.Blockwise.{TellsBlock, BeginsBlock, EndsBlocks, BreaksOff, StandsOver, run_error_of}
-use Rattle.pgn_extract.specs.Outcomes.{Tells, Begins, BeginsAll}
+use Rattle.pgn_extract.specs.Blockwise.{TellsBlock, Begins, BeginsBlock, EndsBlocks, BeginsFirst, BreaksOff, StandsOver, run_error_of}
+use Rattle.pgn_extract.specs.Outcomes.{Tells}
 use Rattle.pgn_extract.specs.declared.outcome.RunError.{RunError}
 use Rattle.pgn_extract.specs.declared.outcome.RunError.TheVariants.{Write, OutOfMemory}
 use Rattle.pgn_extract.specs.Telling.{Told, is_faulty}
@@ -143,7 +143,7 @@ module _ {mode : Mode} {limit max_depth number offset : ℕ} {now : Window} {fir
         size = let w = cut.within in let q = given.place in omega (arith, length-append (p.bytes ++ block) next.ahead);
         stands =
             let begun = known first left' moved count' ((p.bytes ++ block) ++ next.ahead)
-            (λ whole. BeginsAll mode limit max_depth number offset whole out out'' err err'') reads
+            (λ whole. BeginsFirst mode limit max_depth number offset whole out out'' err err'') reads
             (λ rest end.
             let others = goes_on given rest (λ ended. ((cut.last ended).0, end (cut.last ended).1)) in
             record {
@@ -190,16 +190,16 @@ module _ {mode : Mode} {limit max_depth number offset : ℕ} {now : Window} {fir
         stands = subst (StandsOver mode limit max_depth number offset first p.bytes out out'' err err'') (sym is) (begun first (p.last ended).1);
       }
     where
-      all : BeginsAll mode limit max_depth number offset p.bytes out out'' err err''
+      all : BeginsFirst mode limit max_depth number offset p.bytes out out'' err err''
       all = record {
         pieces = p.pieces ++ [];
         each = subst (AreMarkedPieces limit max_depth offset p.bytes) (sym (append-nil p.pieces)) (all_given p.given ended (p.last ended).0);
         told = begins_told (tells_kept p.told out_kept err_kept) [];
       }
 
-      begun : (f : Option (List ℕ)) → IfSome f (λ whole. whole ≡ p.bytes) → IfSome f (λ whole. BeginsAll mode limit max_depth number offset whole out out'' err err'')
+      begun : (f : Option (List ℕ)) → IfSome f (λ whole. whole ≡ p.bytes) → IfSome f (λ whole. BeginsFirst mode limit max_depth number offset whole out out'' err err'')
       begun None is = tt
-      begun (Some whole) is = subst (λ w. BeginsAll mode limit max_depth number offset w out out'' err err'') (sym is) all
+      begun (Some whole) is = subst (λ w. BeginsFirst mode limit max_depth number offset w out out'' err err'') (sym is) all
 
   -- the next block could not be read
   pub read_breaks : {left' : Option (List ℕ)} {count' : ℕ} (read : List ℕ) (error : ReadError) → Reads left left' count count' read
@@ -228,7 +228,7 @@ module _ {mode : Mode} {limit max_depth number offset : ℕ} {now : Window} {fir
         read = p.bytes ++ (now.ahead ++ read);
         reads = all;
         size = fits (2 ^ 62 + 1) (omega arith);
-        stands = known first left' moved count' (p.bytes ++ (now.ahead ++ read)) (λ whole. BeginsAll mode limit max_depth number offset whole out out' err err') all
+        stands = known first left' moved count' (p.bytes ++ (now.ahead ++ read)) (λ whole. BeginsFirst mode limit max_depth number offset whole out out' err err') all
             (λ rest end.
             let others = goes_on p.given (read ++ rest) (λ ended. absurd (both_ways now.ended (going cause.OutOfMemory l o) ended)) in
             let shape : p.bytes ++ (now.ahead ++ (read ++ rest)) ≡ (p.bytes ++ (now.ahead ++ read)) ++ rest =

@@ -1,5 +1,5 @@
 -- What is told of pieces in a row, piece by piece.
-use Rattle.std.proofs.Common.{◌≡◌, ℕ, ◌+◌, suc, List, [], ◌∷◌, ◌++◌, length, refl, sym, ap, ◌∙◌, subst, arith, append_assoc, length-append}
+use Rattle.std.proofs.Common.{◌≡◌, ℕ, ◌+◌, List, [], ◌∷◌, ◌++◌, length, refl, sym, ap, ◌∙◌, subst, arith, append_assoc, length-append}
 use Rattle.std.specs.Prelude.{count_by, fold, if◌then◌else◌}
 use Rattle.std.proofs.lemmas.List.Sums.{fold_push, fold-append}
 use Rattle.std.proofs.lemmas.List.{append-nil}
@@ -50,12 +50,6 @@ count_by-join xs ys = fold-append (λ (n : ℕ) (x : Told). n + (if is_faulty x 
 -- the last one joins nothing
 joined : (front one whole : List ℕ) → whole ≡ front ++ (one ++ []) → front ++ one ≡ whole
 joined front one whole e = ap (λ t. front ++ t) (sym (append-nil one)) ∙ sym e
-
--- as many are told as there are pieces
-pub told-length : (mode : Mode) (number : ℕ) (pieces : List MarkedPiece) (tolds : List Told) → AreTold mode number pieces tolds → length tolds ≡ length pieces
-told-length mode number [] tolds none = ap length none
-told-length mode number (piece ∷ more) tolds (told, rest, parted, how, others) =
-    ap length parted ∙ ap (λ n. suc n) (told-length mode (number + 1) more rest others)
 
 -- one more piece
 pub reports_more : (mode : Mode) (old new : Report) (number here : ℕ) (pieces : List MarkedPiece) (piece : MarkedPiece) → Reports mode old number pieces

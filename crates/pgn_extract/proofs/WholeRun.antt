@@ -5,12 +5,13 @@ use Rattle.std.proofs.lemmas.Bool.{cases_lt}
 use Rattle.std.proofs.lemmas.List.{append-nil, append_cancel_left, drop_all, drop_at, take_at}
 use Rattle.pgn_text.specs.Complete.{AreCompletePieces}
 use Rattle.pgn_text.specs.Marks.{AreMarkedPieces}
-use Rattle.pgn_extract.specs.Blockwise.{Drops, DropsSome, EndsBlocks, BreaksOff, StandsOver}
+use Rattle.pgn_extract.specs.Blockwise.{Drops, DropsSome, EndsBlocks, BeginsFirst, BreaksOff, StandsOver}
 use Rattle.pgn_extract.specs.Outcomes.{Ends, Stands, TellsComplete, BeginsAll}
 use Rattle.pgn_extract.specs.declared.outcome.RunError.{RunError}
 use Rattle.pgn_extract.specs.declared.outcome.RunError.TheVariants.{Read, Write, OutOfMemory, InputTooLong}
 use Rattle.pgn_extract.specs.declared.outcome.Summary.{Summary}
 use Rattle.pgn_extract.specs.declared.settings.Mode.{Mode}
+use Rattle.pgn_extract.proofs.BegunAll.{begun_all}
 use Rattle.pgn_extract.proofs.Writing.{appends_none}
 
 -- behind the bytes dropped stand the others, also where there were too few to be dropped
@@ -55,6 +56,9 @@ module _ (mode : Mode) (limit max_depth number offset : ℕ) where
   ends_whole None mid last d e = tt
   ends_whole (Some whole) None last d e = absurd d.reads.bytes
   ends_whole (Some whole) (Some rest) last d e = record {
+    size =
+        let dropped = d.within in let read = e.size in
+        omega (arith, ap length d.reads.bytes, length-append d.dropped rest, ap length e.all);
     pieces = e.pieces;
     each = subst (λ t. AreMarkedPieces limit max_depth offset t e.pieces) (sym kept) e.each;
     tolds = e.tolds;
@@ -115,11 +119,17 @@ module _ (mode : Mode) (limit max_depth number offset : ℕ) where
           ap (λ t. drop offset (take moved' t)) shape ∙ ap (drop offset) (take_at (d.dropped ++ b.read) after moved' size)
           ∙ drop_is offset d.dropped b.read d.within none_read
 
+      begun : BeginsFirst mode limit max_depth number offset rest out out' err err'
+          → BeginsAll mode limit max_depth number offset (drop offset whole) out out' err err'
+      begun s =
+          begun_all mode limit max_depth number offset (drop offset whole) out out' err err'
+          (subst (λ t. BeginsFirst mode limit max_depth number offset t out out' err err') (sym kept) s)
+
       by_kind : (e : RunError) → StandsOver mode limit max_depth number offset (Some rest) b.read out out' err err' e
           → Stands mode limit max_depth number offset whole moved' out out' err err' e
       by_kind Read s = subst (λ t. TellsComplete mode limit max_depth number offset t out out' err err') (sym read_part) s
-      by_kind Write s = subst (λ t. BeginsAll mode limit max_depth number offset t out out' err err') (sym kept) s
-      by_kind OutOfMemory s = subst (λ t. BeginsAll mode limit max_depth number offset t out out' err err') (sym kept) s
+      by_kind Write s = begun s
+      by_kind OutOfMemory s = begun s
       by_kind InputTooLong s =
           elim (cases_lt (length d.dropped) offset) [
             | inl less ↦ absurd (some_byte s.kept s.byte (sym s.parted ∙ none_read less))

@@ -3,9 +3,8 @@ use Rattle.std.proofs.Common.{◌≡◌, ℕ, ◌+◌, ◌-◌, ◌≤◌, Bool,
 use Rattle.std.specs.Io.KnownBytes.{Appends, Keeps}
 use Rattle.std.specs.Prelude.{◌||◌, ◌&&◌}
 use Rattle.std.proofs.lemmas.Bool.{or_from, and_left}
-use Rattle.std.proofs.lemmas.List.{append-nil, take_all, take_rest}
+use Rattle.std.proofs.lemmas.List.{append-nil, take_rest}
 use Rattle.std.proofs.Math.Seq.{take-add}
-use Rattle.pgn_extract.specs.Outcomes.{AppendsFront}
 
 -- nothing is added
 pub appends_none : (old : Option (List ℕ)) → Appends old old []
@@ -39,15 +38,6 @@ pub writing_more : {bytes : List ℕ} {at : ℕ} {old now : Option (List ℕ)} {
 writing_more {bytes} {at} {old} {now} w new count more =
     subst (Appends old new) (ap (λ t. take at bytes ++ take count t) (take_rest bytes at) ∙ sym (take-add at count bytes))
     (appends_join old now new (take at bytes) (take count (take (length bytes - at) (drop at bytes))) w.written more)
-
--- all of them
-pub writing_all : {bytes : List ℕ} {at : ℕ} {old now : Option (List ℕ)} {faulted : Bool} → Writing bytes at old now faulted → length bytes ≤ at → Appends old now bytes
-writing_all {bytes} {at} {old} {now} w long = subst (Appends old now) (take_all at bytes long) w.written
-
--- a beginning, where the last write added nothing
-pub writing_front : {bytes : List ℕ} {at : ℕ} {old now : Option (List ℕ)} {faulted : Bool} → Writing bytes at old now faulted
-    → (new : Option (List ℕ)) → Keeps now new → AppendsFront old new bytes
-writing_front {bytes} {at} {old} {now} w new kept = (at, appends_kept old now new (take at bytes) w.written kept)
 
 -- a sound writer that took some bytes is sound
 pub still_sound : (was none some : Bool) → was ≡ false → none ≡ false → (was || (none && some)) ≡ false

@@ -12,7 +12,7 @@ use Rattle.pgn_text.specs.declared.blocks.Body.{Body}
 use Rattle.pgn_text.specs.declared.blocks.Body.TheVariants.{Bytes, TooLong}
 use Rattle.pgn_text.specs.declared.blocks.ReadError.{ReadError}
 use Rattle.pgn_text.specs.declared.blocks.ReadError.TheVariants as cause
-use Rattle.pgn_extract.specs.Outcomes.{Tells, Begins, TellsComplete, BeginsAll}
+use Rattle.pgn_extract.specs.Outcomes.{AppendsFront, Tells, TellsComplete}
 use Rattle.pgn_extract.specs.Telling.{Told, IsListed, IsGameTold, IsTold, AreTold, output_of, fault_line_of, output_text, fault_lines, is_faulty}
 use Rattle.pgn_extract.specs.declared.lines.Report.{Report}
 use Rattle.pgn_extract.specs.declared.outcome.RunError.{RunError}
@@ -83,6 +83,16 @@ pub record TellsBlock (mode : Mode) (limit max_depth number offset : ℕ) (block
   pub faulty : summary.faulty ≡ count_by is_faulty tolds
   pub few : length own ≤ length block
 
+-- each of the two grew by a beginning of what is told of the first of the pieces
+pub record Begins (mode : Mode) (out out' err err' : Option (List ℕ)) (number : ℕ) (pieces : List MarkedPiece) : Type 0 where
+  pub before : List MarkedPiece
+  pub behind : List MarkedPiece
+  pub parted : pieces ≡ before ++ behind
+  pub tolds : List Told
+  pub each : AreTold mode number before tolds
+  pub output : AppendsFront out out' (output_text tolds)
+  pub faults : AppendsFront err err' (fault_lines tolds)
+
 -- what is told is a beginning of what is to be told of the block's pieces
 pub record BeginsBlock (mode : Mode) (limit max_depth number offset : ℕ) (block : List ℕ) (out out' err err' : Option (List ℕ)) : Type 0 where
   pub own : List MarkedPiece
@@ -123,6 +133,12 @@ pub record TellsUpToEnd (mode : Mode) (limit max_depth number offset : ℕ) (rea
   pub full : offset + length kept ≡ 2 ^ 62
   pub told : TellsComplete mode limit max_depth number offset kept out out' err err'
 
+-- the same of all pieces of the bytes
+pub record BeginsFirst (mode : Mode) (limit max_depth number offset : ℕ) (bytes : List ℕ) (out out' err err' : Option (List ℕ)) : Type 0 where
+  pub pieces : List MarkedPiece
+  pub each : AreMarkedPieces limit max_depth offset bytes pieces
+  pub told : Begins mode out out' err err' number pieces
+
 -- what stands after an error, of the bytes read and those that were left
 abbrev pub StandsOver : Mode → ℕ → ℕ → ℕ → ℕ → Option (List ℕ) → List ℕ → Option (List ℕ) → Option (List ℕ) → Option (List ℕ) → Option (List ℕ) → RunError → Type 0
 StandsOver mode limit max_depth number offset left read out out' err err' Read =
@@ -130,9 +146,9 @@ StandsOver mode limit max_depth number offset left read out out' err err' Read =
 StandsOver mode limit max_depth number offset left read out out' err err' InputTooLong =
     TellsUpToEnd mode limit max_depth number offset read out out' err err'
 StandsOver mode limit max_depth number offset left read out out' err err' Write =
-    IfSome left (λ whole. BeginsAll mode limit max_depth number offset whole out out' err err')
+    IfSome left (λ whole. BeginsFirst mode limit max_depth number offset whole out out' err err')
 StandsOver mode limit max_depth number offset left read out out' err err' OutOfMemory =
-    IfSome left (λ whole. BeginsAll mode limit max_depth number offset whole out out' err err')
+    IfSome left (λ whole. BeginsFirst mode limit max_depth number offset whole out out' err err')
 
 -- the blocks were read and told in part, and then something failed
 pub record BreaksOff (mode : Mode) (limit max_depth number offset : ℕ) (left left' : Option (List ℕ)) (moved moved' : ℕ) (out out' err err' : Option (List ℕ)) (error : RunError) : Type 0 where

@@ -1,10 +1,13 @@
--- What holds of the entries of every text.
-use Rattle.std.specs.Prelude.{◌≡◌, ◌↔◌, ◌⊎◌, ℕ, ◌+◌, ◌<◌, List, [], ◌∷◌, length, Some}
+-- What holds of the entries of every text, of its marks, and of what is reported of it.
+use Rattle.std.specs.Prelude.{◌≡◌, ◌↔◌, ◌⊎◌, ℕ, ◌+◌, ◌-◌, ◌<◌, List, [], ◌∷◌, ◌++◌, length, take, drop, count_by, Some}
 use Rattle.std.specs.List.{Contains, slice_get}
-use Rattle.pgn_text.specs.Marks.{ReadableGame, MarkedPiece}
+use Rattle.pgn_text.specs.Marks.{ReadableGame, MarkedPiece, AreMarkedPieces}
 use Rattle.pgn_text.specs.Parts.{Part}
 use Rattle.pgn_game.specs.Replays.{Replay}
 use Rattle.pgn_extract.specs.Listing.{Entry, IsReplayOf, AreEntries}
+use Rattle.pgn_extract.specs.Resuming.{IsMarkAmong}
+use Rattle.pgn_extract.specs.Telling.{Told, AreTold, output_text, fault_lines, is_faulty}
+use Rattle.pgn_extract.specs.declared.settings.Mode.{Mode}
 
 -- the entry names a sound game, by its place among the pieces and the offset of its first byte, and a ply of its main line
 pub record IsPlyOfGame (number : ℕ) (pieces : List MarkedPiece) (entry : Entry) : Type 0 where
@@ -34,3 +37,45 @@ Ascend (entry ∷ more) = ((later : Entry) → Contains more later → IsEarlier
 -- the entries of pieces stand in the order of their games and plies
 abbrev pub EntriesAscend : Type 0
 EntriesAscend = (number : ℕ) (pieces : List MarkedPiece) (entries : List Entry) → AreEntries number pieces entries → Ascend entries
+
+-- each piece of a text has a mark, which is one of them: its number, counted from 1, and its offset
+abbrev pub EachPieceHasAMark : Type 0
+EachPieceHasAMark =
+    (before : List MarkedPiece) (piece : MarkedPiece) (behind : List MarkedPiece)
+    → IsMarkAmong (length before + 1) piece.offset (before ++ piece ∷ behind)
+
+-- the pieces of each text are reported in one way in each mode, and only one
+abbrev pub TextHasOneReport : Type 0
+TextHasOneReport =
+    (mode : Mode) (limit max_depth number offset : ℕ) (text : List ℕ) (pieces : List MarkedPiece)
+    → AreMarkedPieces limit max_depth offset text pieces
+    → (reported : List Told) × AreTold mode number pieces reported
+    × ((others : List Told) → AreTold mode number pieces others → others ≡ reported)
+
+-- the text that begins at the offset has these pieces, which are numbered from a number on and reported so
+pub record IsTextReported (mode : Mode) (limit max_depth number offset : ℕ) (text : List ℕ) (pieces : List MarkedPiece)
+    (reported : List Told) : Type 0 where
+  pub each : AreMarkedPieces limit max_depth offset text pieces
+  pub told : AreTold mode number pieces reported
+
+-- two parts of a text have its pieces, one part those before the cut and the other those behind, and what is reported of them, one behind
+-- the other, is what is reported of the whole: on the output and on standard error, and counted
+pub record AreJoined (before behind first second : List MarkedPiece) (all front rest : List Told) : Type 0 where
+  pub same_before : first ≡ before
+  pub same_behind : second ≡ behind
+  pub reported : all ≡ front ++ rest
+  pub output : output_text all ≡ output_text front ++ output_text rest
+  pub faults : fault_lines all ≡ fault_lines front ++ fault_lines rest
+  pub faulty : count_by is_faulty all ≡ count_by is_faulty front + count_by is_faulty rest
+
+-- a text may be cut at any of its pieces, and each part reported alone: the second with the offset of that piece, and its pieces numbered on
+-- from those of the first
+abbrev pub PartsJoin : Type 0
+PartsJoin =
+    (mode : Mode) (limit max_depth number offset : ℕ) (text : List ℕ)
+    (before : List MarkedPiece) (piece : MarkedPiece) (behind : List MarkedPiece) (all : List Told)
+    → IsTextReported mode limit max_depth number offset text (before ++ piece ∷ behind) all
+    → (first second : List MarkedPiece) (front rest : List Told)
+    → IsTextReported mode limit max_depth number offset (take (piece.offset - offset) text) first front
+    → IsTextReported mode limit max_depth (number + length first) piece.offset (drop (piece.offset - offset) text) second rest
+    → AreJoined before (piece ∷ behind) first second all front rest

@@ -1,5 +1,5 @@
 -- What stands on the output and on standard error once a run has ended.
-use Rattle.std.specs.Prelude.{◌≡◌, ℕ, ◌^◌, ◌<◌, List, ◌++◌, length, take, drop, count_by, Option}
+use Rattle.std.specs.Prelude.{◌≡◌, ℕ, ◌^◌, ◌<◌, ◌≤◌, List, length, take, drop, count_by, Option}
 use Rattle.std.specs.Io.KnownBytes.{Appends}
 use Rattle.pgn_text.specs.Complete.{AreCompletePieces}
 use Rattle.pgn_text.specs.Marks.{MarkedPiece, AreMarkedPieces}
@@ -21,18 +21,10 @@ pub record Tells (mode : Mode) (out out' err err' : Option (List ℕ)) (number :
   pub output : Appends out out' (output_text tolds)
   pub faults : Appends err err' (fault_lines tolds)
 
--- each of the two grew by a beginning of what is told of the first of the pieces, so by one of what is told of all
-pub record Begins (mode : Mode) (out out' err err' : Option (List ℕ)) (number : ℕ) (pieces : List MarkedPiece) : Type 0 where
-  pub before : List MarkedPiece
-  pub behind : List MarkedPiece
-  pub parted : pieces ≡ before ++ behind
-  pub tolds : List Told
-  pub each : AreTold mode number before tolds
-  pub output : AppendsFront out out' (output_text tolds)
-  pub faults : AppendsFront err err' (fault_lines tolds)
-
--- a run over all of the bytes of the input after the first `offset` told their pieces, and counted them
+-- a run over all of the bytes of the input after the first `offset` told their pieces, and counted them; the input is no longer than the
+-- largest offset
 pub record Ends (mode : Mode) (limit max_depth number offset : ℕ) (whole : List ℕ) (out out' err err' : Option (List ℕ)) (summary : Summary) : Type 0 where
+  pub size : length whole ≤ 2 ^ 62
   pub pieces : List MarkedPiece
   pub each : AreMarkedPieces limit max_depth offset (drop offset whole) pieces
   pub tolds : List Told
@@ -61,11 +53,14 @@ pub record TellsComplete (mode : Mode) (limit max_depth number offset : ℕ) (by
   pub tolds : List Told
   pub told : Tells mode out out' err err' number pieces tolds
 
--- what is told is a beginning of what a run over all of the bytes would tell
+-- each of the two grew by a beginning of what is reported of all pieces of the bytes
 pub record BeginsAll (mode : Mode) (limit max_depth number offset : ℕ) (bytes : List ℕ) (out out' err err' : Option (List ℕ)) : Type 0 where
   pub pieces : List MarkedPiece
   pub each : AreMarkedPieces limit max_depth offset bytes pieces
-  pub told : Begins mode out out' err err' number pieces
+  pub tolds : List Told
+  pub told : AreTold mode number pieces tolds
+  pub output : AppendsFront out out' (output_text tolds)
+  pub faults : AppendsFront err err' (fault_lines tolds)
 
 -- what stands after an error of a run over the input `whole`, of which it read the first `moved` bytes
 abbrev pub Stands : Mode → ℕ → ℕ → ℕ → ℕ → List ℕ → ℕ → Option (List ℕ) → Option (List ℕ) → Option (List ℕ) → Option (List ℕ) → RunError → Type 0

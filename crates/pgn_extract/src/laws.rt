@@ -1,9 +1,25 @@
-//! What holds of the entries of every text, whatever lists them. Each law is the contract of a function that does nothing.
+//! What holds of every text, whatever lists or reports it. Each law is the contract of a function that does nothing.
 
-ghost use Rattle.pgn_extract.specs.Laws.{EntriesAreExact, EntriesAscend};
+ghost use Rattle.pgn_extract.specs.Laws.{EntriesAreExact, EntriesAscend, EachPieceHasAMark, TextHasOneReport, PartsJoin};
 
 /// The entries of a text are exactly its sound games' plies, and each is listed once, in the order of the games and their plies.
 pub fn exact_entries()
     ensures exact { EntriesAreExact }
     ensures ascend { EntriesAscend }
+{}
+
+/// Each piece of a text has a mark, which is one of the marks at which a run can begin.
+pub fn marks()
+    ensures { EachPieceHasAMark }
+{}
+
+/// The pieces of each text are reported in one way in each mode, and only one.
+pub fn one_report()
+    ensures { TextHasOneReport }
+{}
+
+/// What is reported of a text is what is reported of its parts, one behind the other, where it is cut at one of its pieces. The text begins
+/// at any offset and its pieces are numbered from any number, so it may be cut again.
+pub fn parts()
+    ensures { PartsJoin }
 {}

@@ -1,3 +1,4 @@
 pub mod OneReplay
 pub mod Tags
 pub mod WalkFacts
+pub mod AnAnswer

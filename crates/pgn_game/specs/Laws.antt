@@ -1,11 +1,12 @@
 -- What holds of every game, whatever replays it.
-use Rattle.std.specs.Prelude.{◌≡◌, ℕ, ◌+◌, List, Option, Some}
+use Rattle.std.specs.Prelude.{◌≡◌, ◌⊎◌, ℕ, ◌+◌, List, Option, Some, IfSome}
 use Rattle.std.specs.List.{slice_get}
 use Rattle.chess.specs.Positions.{State}
 use Rattle.chess.specs.Moves.{after}
 use Rattle.chess.specs.San.{IsOnlyNamed}
 use Rattle.chess.specs.declared.moves.Move.{Move}
 use Rattle.pgn_text.specs.Games.{Item}
+use Rattle.pgn_text.specs.Strings.{IsContents}
 use Rattle.pgn_game.specs.MainLines.{main_words}
 use Rattle.pgn_game.specs.Faults.{Fault, IsFault}
 use Rattle.pgn_game.specs.Replays.{Replay, IsReplay, IsSoundGame}
@@ -35,3 +36,9 @@ GameHasOneFault =
 abbrev pub SoundGameHasNoFault : Type 0
 SoundGameHasNoFault =
     (fen : Option (List ℕ)) (items : List Item) (fault : Fault) → IsSoundGame fen items → IsFault fen items fault → ⊥
+
+-- a game has a replay or a fault, where its FEN tag has the contents of a string
+abbrev pub GameHasAnAnswer : Type 0
+GameHasAnAnswer =
+    (fen : Option (List ℕ)) (items : List Item) → IfSome fen IsContents
+    → ((replay : Replay) × IsReplay fen items replay) ⊎ ((fault : Fault) × IsFault fen items fault)

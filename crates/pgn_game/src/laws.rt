@@ -1,6 +1,6 @@
 //! What holds of every game, whatever replays it. Each law is the contract of a function that does nothing.
 
-ghost use Rattle.pgn_game.specs.Laws.{EachMoveIsNamed, GameHasOneReplay, GameHasOneFault, SoundGameHasNoFault};
+ghost use Rattle.pgn_game.specs.Laws.{EachMoveIsNamed, GameHasOneReplay, GameHasOneFault, SoundGameHasNoFault, GameHasAnAnswer};
 
 /// Each move of a main line is the only legal move that its word names in the position before it.
 pub fn one_legal_move()
@@ -12,4 +12,10 @@ pub fn one_answer()
     ensures replay { GameHasOneReplay }
     ensures fault { GameHasOneFault }
     ensures not_both { SoundGameHasNoFault }
+{}
+
+/// A game has a replay or a fault, where its FEN tag holds the contents of a string, as the tag of each game of a text does. Of no other
+/// contents is there a value that could be read or refused.
+pub fn an_answer()
+    ensures { GameHasAnAnswer }
 {}

@@ -11,7 +11,7 @@ use Rattle.pgn_text.specs.Windows.{FailsAfter}
 use Rattle.pgn_text.specs.declared.blocks.ReadError.{ReadError}
 use Rattle.pgn_text.specs.declared.blocks.ReadError.TheVariants.{Read, OutOfMemory, InputTooLong, Failed}
 use Rattle.pgn_text.proofs.BlockCuts.{cut_stays, no_cut_join, first_block_at_end}
-use Rattle.pgn_text.proofs.Joined.{reads_join, reads_none}
+use Rattle.pgn_text.proofs.Joined.{reads_join}
 
 -- the search has passed over all places from behind `at` to `from`, in the bytes held at the start and those read since
 pub record Searched (start held : List ℕ) (at place from : ℕ) (left now : Option (List ℕ)) (moved count : ℕ) (faulted : Bool) : Type 0 where
@@ -23,20 +23,6 @@ pub record Searched (start held : List ℕ) (at place from : ℕ) (left now : Op
   pub none : NoCutBefore held (at + 1) from
   pub is_held : IsHeld held at place
   pub sound : faulted ≡ false
-
--- at the start nothing is passed over
-pub search_start : {start : List ℕ} {at place : ℕ} {left : Option (List ℕ)} {moved : ℕ} {faulted : Bool} → IsHeld start at place → faulted ≡ false
-    → Searched start start at place (at + 1) left left moved moved faulted
-search_start {start} {at} {place} {left} {moved} held sound = record {
-  read = [];
-  reads = reads_none left moved;
-  joined = sym (append-nil start);
-  behind = omega arith;
-  within = let h = held.within in omega arith;
-  none = λ j low high. absurd (omega arith);
-  is_held = held;
-  sound = sound;
-}
 
 module _ {start held : List ℕ} {at place from : ℕ} {left now : Option (List ℕ)} {moved count : ℕ} {faulted : Bool}
     (s : Searched start held at place from left now moved count faulted) where
@@ -76,20 +62,6 @@ module _ {start held : List ℕ} {at place from : ℕ} {left now : Option (List 
         found = λ j low high. ap (λ t. is_cut t j) kept ∙ none_held seen same none j low (let e = ap length kept in omega arith);
         last = λ _. more.end refl;
         within = let e = ap length kept in let r = s.is_held.room in omega arith;
-      }
-
-  -- there is no byte behind the largest offset
-  pub end_at_limit : {left' : Option (List ℕ)} {moved' : ℕ} (seen : List ℕ) → seen ≡ held → NoCutBefore seen from (length seen)
-      → FindsMore now left' count moved' false → FindsEnd start held at place left left' moved moved' None
-  end_at_limit {left'} {moved'} seen same none more =
-      let nothing : more.read ≡ [] = (more.end refl).0 in
-      record {
-        read = s.read ++ more.read;
-        reads = reads_join left now left' moved count moved' s.read more.read s.reads more.reads;
-        joined = s.joined ∙ ap (λ t. start ++ t) (sym (append-nil s.read) ∙ ap (λ t. s.read ++ t) (sym nothing));
-        found = none_held seen same none;
-        last = λ _. (more.end refl).1;
-        within = s.is_held.room;
       }
 
   -- the bytes read so far, behind those that were ahead

@@ -47,17 +47,6 @@ all_push (x ∷ xs) p all is =
     let parts : (is_gap_part x ≡ true) × (list_all is_gap_part xs ≡ true) = and_parts _ _ all in
     and_from _ _ parts.0 (all_push xs p parts.1 is)
 
--- before any part
-pub gap_start : (f : Bool) (block : List ℕ) (begin : ℕ) → begin ≤ length block → GapTo f block begin begin
-gap_start f block begin within = record {
-  gap = [];
-  is_gap = record { stand = tt; only = refl };
-  parted = refl;
-  passed = sym (append-nil (take begin block));
-  forward = omega arith;
-  within = within;
-}
-
 -- behind one more part
 pub gap_more : (f : Bool) (block : List ℕ) (begin at end : ℕ) → GapTo f block begin at → GapPartAt f block at end → GapTo f block begin end
 gap_more f block begin at end to more =

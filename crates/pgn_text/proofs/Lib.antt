@@ -6,8 +6,8 @@ pub mod CutOff
 pub mod Cuts
 pub mod EndSearch
 pub mod Existence
-pub mod FewPieces
 pub mod FoundLemmas
+pub mod FrontText
 pub mod Fronts
 pub mod GameLeads
 pub mod Gaps
@@ -15,6 +15,7 @@ pub mod Gives
 pub mod Halfway
 pub mod Joined
 pub mod KeptLemmas
+pub mod LineFronts
 pub mod Lines
 pub mod MarkedPieces
 pub mod OldMarks
@@ -28,6 +29,7 @@ pub mod ResumedText
 pub mod Resumption
 pub mod Rows
 pub mod Runs
+pub mod ShorterText
 pub mod Spliced
 pub mod TagLemmas
 pub mod TagStrings

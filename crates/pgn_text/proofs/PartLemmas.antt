@@ -1,5 +1,5 @@
 -- The part at the front of a text is the one that may stand there, and no other.
-use Rattle.std.proofs.Common.{◌≡◌, ◌≢◌, ℕ, Bool, true, false, List, [], ◌∷◌, ◌++◌, refl, sym, ap, ◌∙◌, append_assoc}
+use Rattle.std.proofs.Common.{◌≡◌, ◌≢◌, ℕ, true, false, List, [], ◌∷◌, ◌++◌, refl, sym, ap, ◌∙◌, append_assoc}
 use Rattle.std.specs.Prelude.{Option, Some, None, option_map, IsTrue, ◌==◌, ◌&&◌, not, flat_map}
 use Rattle.std.specs.Option.{option_or}
 use Rattle.std.specs.List.{list_all}
@@ -38,10 +38,6 @@ signs-read (Escaped b ∷ signs) after all =
 
 contents-read : (contents after : List ℕ) → IsContents contents → contents_front false (contents ++ (34 ∷ after)) ≡ Some (contents, 34 ∷ after)
 contents-read contents after (signs, spells, all) = rw spells (signs-read signs after all)
-
--- white space, a quote and a bracket are behind a run that they end
-quote_stops : (test : ℕ → Bool) (b : ℕ) (after : List ℕ) → test b ≡ false → IsTrue (stops test (b ∷ after))
-quote_stops test b after fails = not_from_false _ fails
 
 -- white space that more white space, and then a byte that is no name byte, follow
 white_stops-name : (second after : List ℕ) → IsTrue (list_all is_white second) → IsTrue (stops is_name_byte (second ++ (34 ∷ after)))

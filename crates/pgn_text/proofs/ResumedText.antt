@@ -18,7 +18,7 @@ no_more : {X : Type 0} (a b : List X) → a ++ b ≡ [] → b ≡ []
 no_more [] b e = e
 no_more (x ∷ a) b e = cc
 
-not_nil : {X : Type 0} (a : List X) (x : X) (b : List X) → a ++ x ∷ b ≡ [] → ⊥
+pub not_nil : {X : Type 0} (a : List X) (x : X) (b : List X) → a ++ x ∷ b ≡ [] → ⊥
 not_nil [] x b e = cc
 not_nil (y ∷ a) x b e = cc
 
@@ -56,7 +56,7 @@ blocks_rest x y (next ∷ more) text some h = (
 -- ---- one piece of a block
 
 -- the place of a piece in its block
-abbrev place_of_piece : Piece → ℕ
+abbrev pub place_of_piece : Piece → ℕ
 place_of_piece (Game at parts) = at
 place_of_piece (Unreadable at) = at
 
@@ -168,7 +168,7 @@ pieces_from max_depth file_start before (Unreadable at ∷ earlier) piece later 
 -- ---- one block
 
 -- a list mapped, cut round one element
-map_cut : {X Y : Type 0} (f : X → Y) (xs : List X) (a : List Y) (b : Y) (c : List Y) → map f xs ≡ a ++ b ∷ c
+pub map_cut : {X Y : Type 0} (f : X → Y) (xs : List X) (a : List Y) (b : Y) (c : List Y) → map f xs ≡ a ++ b ∷ c
     → (front : List X) × (x : X) × (back : List X) × (xs ≡ front ++ x ∷ back) × (map f front ≡ a) × (f x ≡ b) ×
     (map f back ≡ c)
 map_cut f [] a b c e = absurd (not_nil a b c (sym e))
@@ -225,7 +225,7 @@ resumed_within limit max_depth offset block earlier piece later pieces (b ∷ bs
           (sym marks ∙ ap (λ (m : ℕ). map (marked m) (map (moved_back n) pieces)) (sym place));
     }
 
-offset_of_marked : (offset : ℕ) (piece : Piece) → (marked offset piece).offset ≡ offset + place_of_piece piece
+pub offset_of_marked : (offset : ℕ) (piece : Piece) → (marked offset piece).offset ≡ offset + place_of_piece piece
 offset_of_marked offset (Game at parts) = refl
 offset_of_marked offset (Unreadable at) = refl
 

@@ -27,10 +27,6 @@ no_value : (o : Option (Bor (List ℕ))) → is_some o ≡ false → option_map 
 no_value None is = refl
 no_value (Some x) is = absurd (cc)
 
-some_value : (o : Option (Bor (List ℕ))) (p : Option (List ℕ)) → is_some o ≡ true → option_map (λ contents. contents.now) o ≡ option_or (option_map (λ contents. contents.now) o) p
-some_value None p is = absurd (cc)
-some_value (Some x) p is = refl
-
 -- a tag that the map has not yet
 pub kept_new : (m n : BTreeMap (Bor (List ℕ)) (Bor (List ℕ))) (name wanted : List ℕ) (contents : Bor (List ℕ))
     → UpdatesBy (λ x y. slice_cmp nat_cmp x.now y.now) (λ k. slice_cmp nat_cmp name k.now) m n (Some contents)
@@ -45,16 +41,6 @@ kept_new m n name wanted contents updates absent =
     go true is =
         let none : tag_at m wanted ≡ None = subst (λ w. tag_at m w ≡ None) (bytes_eq-same name wanted is) (no_value (get_by (λ k. slice_cmp nat_cmp name k.now) m) absent) in
         ap (λ o. option_or o (Some contents.now)) (sym none)
-    go false is = sym (option_or-none (tag_at m wanted))
-
--- a tag whose name the map has
-pub kept_old : (m : BTreeMap (Bor (List ℕ)) (Bor (List ℕ))) (name wanted contents : List ℕ)
-    → is_some (get_by (λ k. slice_cmp nat_cmp name k.now) m) ≡ true
-    → tag_at m wanted ≡ option_or (tag_at m wanted) (if bytes_eq name wanted then Some contents else None)
-kept_old m name wanted contents present = go (bytes_eq name wanted) refl
-  where
-    go : (v : Bool) → bytes_eq name wanted ≡ v → tag_at m wanted ≡ option_or (tag_at m wanted) (if v then Some contents else None)
-    go true is = subst (λ w. tag_at m w ≡ option_or (tag_at m w) (Some contents)) (bytes_eq-same name wanted is) (some_value (get_by (λ k. slice_cmp nat_cmp name k.now) m) (Some contents) present)
     go false is = sym (option_or-none (tag_at m wanted))
 
 -- a word names no tag

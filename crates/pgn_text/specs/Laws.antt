@@ -1,6 +1,6 @@
--- What holds of every text, whatever reads it: it has one reading, a reading can begin again at any of its pieces, and larger limits
--- change nothing where all was readable.
-use Rattle.std.specs.Prelude.{◌≡◌, ℕ, ◌≤◌, Bool, List, [], ◌++◌, IsTrue}
+-- What holds of every text, whatever reads it: it has one reading, a reading can begin again at any of its pieces and end before any,
+-- and larger limits change nothing where all was readable.
+use Rattle.std.specs.Prelude.{◌≡◌, ℕ, ◌-◌, ◌≤◌, Bool, List, [], ◌∷◌, ◌++◌, take, IsTrue}
 use Rattle.std.specs.List.{list_all}
 use Rattle.pgn_text.specs.Parts.{Part, spelled}
 use Rattle.pgn_text.specs.Games.{IsGame}
@@ -40,6 +40,13 @@ TextHasOneList =
 -- a reading can begin again at any piece of a text
 abbrev pub ResumesAnywhere : Type 0
 ResumesAnywhere = (limit max_depth : ℕ) → ResumesAt limit max_depth
+
+-- the text in front of a piece has exactly the pieces before that one, as if no more bytes followed; the text begins at any offset
+abbrev pub FrontHasThePiecesBefore : Type 0
+FrontHasThePiecesBefore =
+    (limit max_depth offset : ℕ) (text : List ℕ) (before : List MarkedPiece) (piece : MarkedPiece) (behind : List MarkedPiece)
+    → AreMarkedPieces limit max_depth offset text (before ++ piece ∷ behind)
+    → AreMarkedPieces limit max_depth offset (take (piece.offset - offset) text) before
 
 -- a block whose pieces are all games under some limits has the same pieces under larger ones
 abbrev pub BlockKeepsPieces : Type 0

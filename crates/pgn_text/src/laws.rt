@@ -1,6 +1,6 @@
 //! What holds of every text, whatever reads it. Each law is the contract of a function that does nothing.
 
-ghost use Rattle.pgn_text.specs.Laws.{AtMostOneGame, TextHasOneParting, BlockHasOneList, TextHasOneList, ResumesAnywhere, BlockKeepsPieces, TextKeepsPieces};
+ghost use Rattle.pgn_text.specs.Laws.{AtMostOneGame, TextHasOneParting, BlockHasOneList, TextHasOneList, ResumesAnywhere, FrontHasThePiecesBefore, BlockKeepsPieces, TextKeepsPieces};
 
 /// A text has one reading: one parting into blocks, one list of pieces in each block, and so one list of pieces with their offsets;
 /// and at any place of a block at most one game begins.
@@ -14,6 +14,11 @@ pub fn one_reading()
 /// A reading that begins again at a piece of a text gives that piece and those behind it, with the same offsets.
 pub fn resumption()
     ensures { ResumesAnywhere }
+{}
+
+/// The text in front of a piece has exactly the pieces before that one, so that a text can be read in parts that are cut at its pieces.
+pub fn fronts()
+    ensures { FrontHasThePiecesBefore }
 {}
 
 /// A block or a text whose pieces are all games keeps its pieces, and so its marks, under larger limits.

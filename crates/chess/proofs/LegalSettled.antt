@@ -1,0 +1,287 @@
+-- Whether a move is legal is settled, where men stand on the board alone.
+use Rattle.std.proofs.Common.{◌≡◌, ℕ, suc, ◌+◌, ◌<◌, ◌≤◌, Option, Some, None, refl, sym, ap, ◌∙◌, subst, inl, inr, arith}
+use Rattle.std.proofs.lemmas.Bool.{cases_eq}
+use Rattle.chess.specs.Squares.{Place, IsOnBoard, IsStraight, IsAhead}
+use Rattle.chess.specs.Placements.{Placement, man_at, with_man, opposite, IsHeld, IsEmpty}
+use Rattle.chess.specs.Attacks.{IsClearFor, IsOnRay, IsForward, Reaches, IsAttacked}
+use Rattle.chess.specs.Positions.{State, king_of, rook_of, home_rank, pawn_rank, has_right, king_from, king_to, rook_from, rook_to, IsCheck}
+use Rattle.chess.specs.Moves.{IsDoubleStep, IsPawnMove, IsPromotion, Promotes, IsBetween, Castles, IsKingMove, Goes, IsPseudoLegal, taken, arriving, with_rook, men_after, IsUnbarred, IsLegal}
+use Rattle.chess.specs.CellFacts.{man_at-same, man_at-other, on_board_or_not}
+use Rattle.chess.specs.declared.direction.Direction.{Direction}
+use Rattle.chess.specs.declared.direction.Direction.TheVariants.{North, South, East, West, NorthEast, NorthWest, SouthEast, SouthWest}
+use Rattle.chess.specs.declared.man.Man.{Man}
+use Rattle.chess.specs.declared.man.Side.{Side}
+use Rattle.chess.specs.declared.man.Side.TheVariants.{White, Black}
+use Rattle.chess.specs.declared.man.Kind.{Kind}
+use Rattle.chess.specs.declared.man.Kind.TheVariants.{King, Queen, Rook, Bishop, Knight, Pawn}
+use Rattle.chess.specs.declared.man.Wing.{Wing}
+use Rattle.chess.specs.declared.man.Wing.TheVariants.{KingSide, QueenSide}
+use Rattle.chess.specs.declared.moves.Move.{Move}
+use Rattle.chess.specs.Laws.{AreOnBoard}
+use Rattle.chess.proofs.PlaceFacts.{cases_place}
+use Rattle.chess.proofs.Settled.{Settled, settled_like, settled_not, settled_both, settled_three, settled_either, settled_le, settled_true, settled_below, settled_held, cases_option}
+use Rattle.chess.proofs.Searches.{search_square, search_way, cases_kind, cases_side, cases_man, cases_wing}
+
+pub settled_man_at : (p : Placement) (s : Place) (o : Option Man) → Settled (man_at p s ≡ o)
+settled_man_at p s o = cases_option cases_man (man_at p s) o
+
+settled_empty : (p : Placement) (s : Place) → Settled (IsEmpty p s)
+settled_empty p s = settled_man_at p s None
+
+settled_held_by : (p : Placement) (side : Side) (s : Place) → Settled (IsHeld p side s)
+settled_held_by p side s = settled_held (man_at p s) (λ man. man.side ≡ side) (λ man. cases_side man.side side)
+
+-- ---- attacks
+
+settled_ahead : (way : Direction) (k : ℕ) (s t : Place) → Settled (IsAhead way k s t)
+settled_ahead North k s t = settled_both (cases_eq t.file s.file) (cases_eq t.rank (s.rank + k))
+settled_ahead South k s t = settled_both (cases_eq t.file s.file) (cases_eq (t.rank + k) s.rank)
+settled_ahead East k s t = settled_both (cases_eq t.file (s.file + k)) (cases_eq t.rank s.rank)
+settled_ahead West k s t = settled_both (cases_eq (t.file + k) s.file) (cases_eq t.rank s.rank)
+settled_ahead NorthEast k s t = settled_both (cases_eq t.file (s.file + k)) (cases_eq t.rank (s.rank + k))
+settled_ahead NorthWest k s t = settled_both (cases_eq (t.file + k) s.file) (cases_eq t.rank (s.rank + k))
+settled_ahead SouthEast k s t = settled_both (cases_eq t.file (s.file + k)) (cases_eq (t.rank + k) s.rank)
+settled_ahead SouthWest k s t = settled_both (cases_eq (t.file + k) s.file) (cases_eq (t.rank + k) s.rank)
+
+abbrev most_steps : Place → Place → ℕ
+most_steps s t = suc (s.file + s.rank + t.file + t.rank)
+
+few_steps : (way : Direction) (k : ℕ) (s t : Place) → IsAhead way k s t → k < most_steps s t
+few_steps North k s t a = let h = a.1 in omega arith
+few_steps South k s t a = let h = a.1 in omega arith
+few_steps East k s t a = let h = a.0 in omega arith
+few_steps West k s t a = let h = a.0 in omega arith
+few_steps NorthEast k s t a = let h = a.0 in omega arith
+few_steps NorthWest k s t a = let h = a.0 in omega arith
+few_steps SouthEast k s t a = let h = a.0 in omega arith
+few_steps SouthWest k s t a = let h = a.0 in omega arith
+
+abbrev IsManAt : Placement → Direction → Place → Place → ℕ → Type 0
+IsManAt p way s u j = (1 ≤ j) × IsAhead way j s u × (IsEmpty p u → ⊥)
+
+abbrev IsManBefore : Placement → Direction → Place → ℕ → Place → Type 0
+IsManBefore p way s steps u = (j : ℕ) × (j < steps) × IsManAt p way s u j
+
+settled_before : (p : Placement) (way : Direction) (s : Place) (steps : ℕ) (u : Place) → Settled (IsManBefore p way s steps u)
+settled_before p way s steps u =
+    settled_below steps (IsManAt p way s u) (λ j less. settled_three (settled_le 1 j) (settled_ahead way j s u) (settled_not (settled_empty p u)))
+
+settled_clear : (p : Placement) (way : Direction) (s : Place) (steps : ℕ) → Settled (IsClearFor p way s steps)
+settled_clear p way s steps = elim (search_square (IsManBefore p way s steps) (λ u. settled_before p way s steps u)) [
+  | inl found ↦ inr (λ clear. found.2.2.2 (clear found.2.0 found.0 found.1 found.2.2.0 found.2.1 found.2.2.1))
+  | inr none ↦ inl (λ j u on low less ahead. elim (settled_empty p u) [
+    | inl empty ↦ empty
+    | inr full ↦ absurd (none (u, on, (j, less, (low, ahead, full))))
+  ])
+]
+
+settled_ray : (p : Placement) (way : Direction) (s t : Place) → Settled (IsOnRay p way s t)
+settled_ray p way s t =
+    settled_like (λ h. record { steps = h.0; far = h.2.0; ahead = h.2.1; clear = h.2.2 })
+    (λ r. (r.steps, few_steps way r.steps s t r.ahead, (r.far, r.ahead, r.clear)))
+    (settled_below (most_steps s t) (λ k. (1 ≤ k) × IsAhead way k s t × IsClearFor p way s k)
+    (λ k less. settled_three (settled_le 1 k) (settled_ahead way k s t) (settled_clear p way s k)))
+
+settled_straight : (way : Direction) → Settled (IsStraight way)
+settled_straight North = inl tt
+settled_straight South = inl tt
+settled_straight East = inl tt
+settled_straight West = inl tt
+settled_straight NorthEast = inr (λ h. h)
+settled_straight NorthWest = inr (λ h. h)
+settled_straight SouthEast = inr (λ h. h)
+settled_straight SouthWest = inr (λ h. h)
+
+-- a step of a pawn
+pub settled_forward : (side : Side) (a b : ℕ) → Settled (IsForward side a b)
+settled_forward White a b = cases_eq b (a + 1)
+settled_forward Black a b = cases_eq a (b + 1)
+
+pub forward_low : (side : Side) (a b : ℕ) → IsForward side a b → b < a + 2
+forward_low White a b e = omega arith
+forward_low Black a b e = omega arith
+
+pub settled_reaches : (p : Placement) (side : Side) (kind : Kind) (s t : Place) → Settled (Reaches p side kind s t)
+settled_reaches p side King s t = settled_three (settled_le _ 1) (settled_le _ 1) (settled_le 1 _)
+settled_reaches p side Queen s t = search_way (λ way. IsOnRay p way s t) (λ way. settled_ray p way s t)
+settled_reaches p side Rook s t =
+    settled_like (λ h. (h.0, h.1.0, h.1.1)) (λ h. (h.0, (h.1, h.2)))
+    (search_way (λ way. IsStraight way × IsOnRay p way s t) (λ way. settled_both (settled_straight way) (settled_ray p way s t)))
+settled_reaches p side Bishop s t =
+    settled_like (λ h. (h.0, h.1.0, h.1.1)) (λ h. (h.0, (h.1, h.2)))
+    (search_way (λ way. (¬ IsStraight way) × IsOnRay p way s t)
+    (λ way. settled_both (settled_not (settled_straight way)) (settled_ray p way s t)))
+settled_reaches p side Knight s t =
+    settled_either (settled_both (cases_eq _ 1) (cases_eq _ 2)) (settled_both (cases_eq _ 2) (cases_eq _ 1))
+settled_reaches p side Pawn s t = settled_both (cases_eq _ 1) (settled_forward side s.rank t.rank)
+
+settled_attacked : (p : Placement) (side : Side) (t : Place) → Settled (IsAttacked p side t)
+settled_attacked p side t =
+    settled_like (λ h. record { from = h.0; on_board = h.1; man = h.2.0; here = h.2.1; own = h.2.2.0; reaches = h.2.2.1 })
+    (λ r. (r.from, r.on_board, (r.man, r.here, (r.own, r.reaches))))
+    (search_square (λ s. (man : Man) × (man_at p s ≡ Some man) × ((man.side ≡ side) × Reaches p side man.kind s t))
+    (λ s. settled_held (man_at p s) (λ man. (man.side ≡ side) × Reaches p side man.kind s t)
+    (λ man. settled_both (cases_side man.side side) (settled_reaches p side man.kind s t))))
+
+pub settled_check : (p : Placement) (side : Side) → AreOnBoard p → Settled (IsCheck p side)
+settled_check p side on_board =
+    settled_like (λ h. (h.0, h.2.0, h.2.1)) (λ h. (h.0, on_board h.0 (king_of side) h.1, (h.1, h.2)))
+    (search_square (λ s. (man_at p s ≡ Some (king_of side)) × IsAttacked p (opposite side) s)
+    (λ s. settled_both (settled_man_at p s (Some (king_of side))) (settled_attacked p (opposite side) s)))
+
+-- ---- moves
+
+on_board_with : (p : Placement) (s : Place) (man : Option Man) → AreOnBoard p → ((m : Man) → man ≡ Some m → IsOnBoard s)
+    → AreOnBoard (with_man p s man)
+on_board_with p s man on_board put t found here = elim (cases_place t s) [
+  | inl same ↦ subst IsOnBoard (sym same) (put found (sym (man_at-same p s man) ∙ ap (man_at (with_man p s man)) (sym same) ∙ here))
+  | inr apart ↦ on_board t found (sym (man_at-other p s t man apart) ∙ here)
+]
+
+on_board_none : (p : Placement) (s : Place) → AreOnBoard p → AreOnBoard (with_man p s None)
+on_board_none p s on_board = on_board_with p s None on_board (λ m e. absurd (cc))
+
+rook_on_board : (side : Side) (wing : Wing) → IsOnBoard (rook_to side wing)
+rook_on_board White KingSide = record { file_low = omega arith; file_high = omega arith; rank_low = omega arith; rank_high = omega arith }
+rook_on_board White QueenSide = record { file_low = omega arith; file_high = omega arith; rank_low = omega arith; rank_high = omega arith }
+rook_on_board Black KingSide = record { file_low = omega arith; file_high = omega arith; rank_low = omega arith; rank_high = omega arith }
+rook_on_board Black QueenSide = record { file_low = omega arith; file_high = omega arith; rank_low = omega arith; rank_high = omega arith }
+
+on_board_rook : (side : Side) (castle : Option Wing) (p : Placement) → AreOnBoard p → AreOnBoard (with_rook side castle p)
+on_board_rook side None p on_board = on_board
+on_board_rook side (Some wing) p on_board =
+    on_board_with (with_man p (rook_from side wing) None) (rook_to side wing) (Some (rook_of side))
+    (on_board_none p (rook_from side wing) on_board) (λ m e. rook_on_board side wing)
+
+-- men stay on the board
+pub on_board_after : (P : State) (m : Move) → AreOnBoard P.men → IsOnBoard m.to → AreOnBoard (men_after P m)
+on_board_after P m on_board to =
+    on_board_rook P.turn m.castle (with_man (with_man (with_man P.men (taken P m) None) m.from None) m.to (arriving P m.promote m.from))
+    (on_board_with (with_man (with_man P.men (taken P m) None) m.from None) m.to (arriving P m.promote m.from)
+    (on_board_none (with_man P.men (taken P m) None) m.from (on_board_none P.men (taken P m) on_board)) (λ man e. to))
+
+-- the square that a double step passes over, by its rank
+abbrev IsPassed : State → Place → Place → ℕ → Type 0
+IsPassed P s t k = IsForward P.turn s.rank k × IsForward P.turn k t.rank × IsEmpty P.men (record { file = s.file; rank = k })
+
+settled_passed : (P : State) (s t : Place) (k : ℕ) → Settled (IsPassed P s t k)
+settled_passed P s t k =
+    settled_three (settled_forward P.turn s.rank k) (settled_forward P.turn k t.rank)
+    (settled_empty P.men (record { file = s.file; rank = k }))
+
+settled_double : (P : State) (s t : Place) → Settled (IsDoubleStep P s t)
+settled_double P s t =
+    settled_like (λ h. (h.0, h.1, h.2.0, h.2.1)) (λ h. (h.0, h.1, (h.2, h.3)))
+    (settled_three (cases_eq t.file s.file) (cases_eq s.rank (pawn_rank P.turn)) (settled_both over (settled_empty P.men t)))
+  where
+    over : Settled ((u : Place) × (u.file ≡ s.file) × IsForward P.turn s.rank u.rank × IsForward P.turn u.rank t.rank × IsEmpty P.men u)
+    over =
+        settled_like (λ h. (record { file = s.file; rank = h.0 }, refl, h.2.0, h.2.1, h.2.2)) (λ h. (
+          h.0.rank,
+          forward_low P.turn s.rank h.0.rank h.2,
+          (h.2, h.3, subst (IsEmpty P.men) (λ i. record { file = h.1 i; rank = h.0.rank }) h.4),
+        ))
+        (settled_below (s.rank + 2) (IsPassed P s t) (λ k less. settled_passed P s t k))
+
+settled_promotion : (promote : Option Kind) → Settled (IsPromotion promote)
+settled_promotion promote =
+    settled_either (same Queen) (settled_either (same Rook) (settled_either (same Bishop) (same Knight)))
+  where
+    same : (kind : Kind) → Settled (promote ≡ Some kind)
+    same kind = cases_option cases_kind promote (Some kind)
+
+settled_promotes : (side : Side) (t : Place) (promote : Option Kind) → Settled (Promotes side t promote)
+settled_promotes side t promote =
+    settled_either (settled_both (cases_eq t.rank (home_rank (opposite side))) (settled_promotion promote))
+    (settled_both (settled_not (cases_eq t.rank (home_rank (opposite side)))) (cases_option cases_kind promote None))
+
+settled_pawn_move : (P : State) (s t : Place) → Settled (IsPawnMove P s t)
+settled_pawn_move P s t =
+    settled_either (settled_three (cases_eq t.file s.file) (settled_forward P.turn s.rank t.rank) (settled_empty P.men t))
+    (settled_either (settled_double P s t)
+    (settled_both (settled_reaches P.men P.turn Pawn s t)
+    (settled_either (settled_held_by P.men (opposite P.turn) t) (cases_option cases_place P.en_passant (Some t)))))
+
+settled_between : (wing : Wing) (file : ℕ) → Settled (IsBetween wing file)
+settled_between KingSide file = settled_both (settled_le 6 file) (settled_le file 7)
+settled_between QueenSide file = settled_both (settled_le 2 file) (settled_le file 4)
+
+between_low : (wing : Wing) (file : ℕ) → IsBetween wing file → file < 8
+between_low KingSide file h = let a = h.1 in omega arith
+between_low QueenSide file h = let a = h.1 in omega arith
+
+abbrev IsFullAt : State → Wing → ℕ → Type 0
+IsFullAt P wing file = IsBetween wing file × (IsEmpty P.men (record { file = file; rank = home_rank P.turn }) → ⊥)
+
+settled_full_at : (P : State) (wing : Wing) (file : ℕ) → Settled (IsFullAt P wing file)
+settled_full_at P wing file =
+    settled_both (settled_between wing file) (settled_not (settled_empty P.men (record { file = file; rank = home_rank P.turn })))
+
+settled_all_empty : (P : State) (wing : Wing)
+    → Settled ((s : Place) → s.rank ≡ home_rank P.turn → IsBetween wing s.file → IsEmpty P.men s)
+settled_all_empty P wing = elim (settled_below 8 (IsFullAt P wing) (λ k less. settled_full_at P wing k)) [
+  | inl found ↦ inr (λ all. found.2.1 (all (record { file = found.0; rank = home_rank P.turn }) refl found.2.0))
+  | inr none ↦ inl (λ s rank between. elim (settled_empty P.men s) [
+    | inl empty ↦ empty
+    | inr full ↦
+        let here = λ (e : IsEmpty P.men (record { file = s.file; rank = home_rank P.turn })).
+        full (subst (IsEmpty P.men) (λ i. record { file = s.file; rank = sym rank i }) e) in
+        absurd (none (s.file, between_low wing s.file between, (between, here)))
+  ])
+]
+
+settled_castles : (P : State) (wing : Wing) (m : Move) → Settled (Castles P wing m)
+settled_castles P wing m =
+    settled_like (λ h. record { from = h.0; to = h.1; right = h.2.0; empty = h.2.1 }) (λ r. (r.from, r.to, (r.right, r.empty)))
+    (settled_three (cases_place m.from (king_from P.turn)) (cases_place m.to (king_to P.turn wing))
+    (settled_both (settled_true (has_right P.rights P.turn wing)) (settled_all_empty P wing)))
+
+settled_king_move : (P : State) (m : Move) (castle : Option Wing) → Settled (IsKingMove P m castle)
+settled_king_move P m None = settled_reaches P.men P.turn King m.from m.to
+settled_king_move P m (Some wing) = settled_castles P wing m
+
+settled_goes : (P : State) (m : Move) (kind : Kind) → Settled (Goes P m kind)
+settled_goes P m kind = go kind
+  where
+    no_castling : Settled (m.castle ≡ None)
+    no_castling = cases_option cases_wing m.castle None
+
+    no_promotion : Settled (m.promote ≡ None)
+    no_promotion = cases_option cases_kind m.promote None
+
+    reaches : (other : Kind) → Settled (Reaches P.men P.turn other m.from m.to)
+    reaches other = settled_reaches P.men P.turn other m.from m.to
+
+    go : (other : Kind) → Settled (Goes P m other)
+    go Pawn = settled_three no_castling (settled_pawn_move P m.from m.to) (settled_promotes P.turn m.to m.promote)
+    go King = settled_both no_promotion (settled_king_move P m m.castle)
+    go Queen = settled_three no_castling no_promotion (reaches Queen)
+    go Rook = settled_three no_castling no_promotion (reaches Rook)
+    go Bishop = settled_three no_castling no_promotion (reaches Bishop)
+    go Knight = settled_three no_castling no_promotion (reaches Knight)
+
+settled_pseudo_legal : (P : State) (m : Move) → Settled (IsPseudoLegal P m)
+settled_pseudo_legal P m =
+    settled_like (λ h. record { on_board = h.0; man = h.2.0; here = h.2.1; own = h.2.2.0; free = h.1; goes = h.2.2.1 })
+    (λ r. (r.on_board, r.free, (r.man, r.here, (r.own, r.goes))))
+    (settled_three (on_board_or_not m.to) (settled_not (settled_held_by P.men P.turn m.to))
+    (settled_held (man_at P.men m.from) (λ man. (man.side ≡ P.turn) × Goes P m man.kind)
+    (λ man. settled_both (cases_side man.side P.turn) (settled_goes P m man.kind))))
+
+settled_unbarred : (P : State) (castle : Option Wing) → Settled (IsUnbarred P castle)
+settled_unbarred P None = inl tt
+settled_unbarred P (Some wing) =
+    settled_not (settled_either (attacked (king_from P.turn))
+    (settled_either (attacked (rook_to P.turn wing)) (attacked (king_to P.turn wing))))
+  where
+    attacked : (s : Place) → Settled (IsAttacked P.men (opposite P.turn) s)
+    attacked s = settled_attacked P.men (opposite P.turn) s
+
+pub settled_legal : (P : State) (m : Move) → AreOnBoard P.men → Settled (IsLegal P m)
+settled_legal P m on_board = go (settled_pseudo_legal P m)
+  where
+    go : Settled (IsPseudoLegal P m) → Settled (IsLegal P m)
+    go (inr none) = inr (λ l. none l.pseudo_legal)
+    go (inl rules) =
+        settled_like (λ h. record { pseudo_legal = rules; safe = h.0; unbarred = h.1 }) (λ l. (l.safe, l.unbarred))
+        (settled_both (settled_not (settled_check (men_after P m) P.turn (on_board_after P m on_board rules.on_board))) (settled_unbarred P m.castle))

@@ -1,0 +1,33 @@
+-- What is reported of a text is what is reported of its parts, where it is cut at a piece.
+use Rattle.std.proofs.Common.{◌≡◌, ◌+◌, ◌-◌, ◌∷◌, ◌++◌, length, take, drop, ap, ◌∙◌, subst}
+use Rattle.std.specs.Prelude.{count_by}
+use Rattle.pgn_text.proofs.FrontText.{front_of_text}
+use Rattle.pgn_text.proofs.MarkedPieces.{one_marked_pieces}
+use Rattle.pgn_text.proofs.ResumedText.{resumes}
+use Rattle.pgn_extract.specs.Laws.{PartsJoin}
+use Rattle.pgn_extract.specs.Telling.{AreTold, output_text, fault_lines, is_faulty}
+use Rattle.pgn_extract.proofs.OneReport.{same_report}
+use Rattle.pgn_extract.proofs.Telling.{output_text-append, fault_lines-append, told-append, count_by-join}
+
+pub parts_join : PartsJoin
+parts_join mode limit max_depth number offset text before piece behind all whole first second front rest one two =
+    let size = piece.offset - offset in
+    let same_before : first ≡ before =
+    one_marked_pieces limit max_depth offset (take size text) first before one.each
+    (front_of_text limit max_depth offset text before piece behind whole.each) in
+    let same_behind : second ≡ piece ∷ behind =
+    one_marked_pieces limit max_depth piece.offset (drop size text) second (piece ∷ behind) two.each
+    (resumes limit max_depth offset text before piece behind whole.each) in
+    let told_behind = subst (λ p. AreTold mode (number + length first) p rest) same_behind two.told in
+    let both =
+    told-append mode number before (piece ∷ behind) front rest (subst (λ p. AreTold mode number p front) same_before one.told)
+    (subst (λ p. AreTold mode (number + length p) (piece ∷ behind) rest) same_before told_behind) in
+    let joined : all ≡ front ++ rest =
+    same_report mode number (before ++ piece ∷ behind) all (front ++ rest) whole.told both in record {
+      same_before = same_before;
+      same_behind = same_behind;
+      reported = joined;
+      output = ap output_text joined ∙ output_text-append front rest;
+      faults = ap fault_lines joined ∙ fault_lines-append front rest;
+      faulty = ap (count_by is_faulty) joined ∙ count_by-join front rest;
+    }
