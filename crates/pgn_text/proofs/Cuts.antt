@@ -47,7 +47,7 @@ pub piece_left : (max_depth : ℕ) (f : Bool) (block : List ℕ) (at begin : ℕ
 piece_left max_depth f block at begin gap not_end pieces are none =
     let here : ArePieces max_depth f (take at block) [] (drop at block) = subst (λ own. ArePieces max_depth f (take at block) own (drop at block)) none are in
     byte_left block begin gap.to.within not_end
-        (one_gap f (take at block) gap.to.gap here.0 (drop begin block) [] (sym gap.to.parted ∙ here.1 ∙ sym (append-nil (spelled here.0))) gap.longest here.2).1
+    (one_gap f (take at block) gap.to.gap here.0 (drop begin block) [] (sym gap.to.parted ∙ here.1 ∙ sym (append-nil (spelled here.0))) gap.longest here.2).1
 
 -- bytes behind a gap that are no game
 pub piece_unreadable : (max_depth : ℕ) (f : Bool) (block : List ℕ) (at begin : ℕ) → LongestGapTo f block at begin → begin ≢ length block → NoGame max_depth f (take begin block) (drop begin block)
