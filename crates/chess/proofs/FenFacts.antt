@@ -1,6 +1,6 @@
 -- What is right and what is wrong with a position that a text spells.
 use Rattle.std.proofs.Common.{◌≡◌, ◌↔◌, ℕ, List, Bool, true, false, inl, inr, sym, refl, subst, Option, Some, None, IfSome, IsTrue}
-use Rattle.chess.specs.Squares.{Place, IsOnBoard}
+use Rattle.chess.specs.Squares.{Place}
 use Rattle.chess.specs.Placements.{opposite}
 use Rattle.chess.specs.Attacks.{IsAttacked}
 use Rattle.chess.specs.Positions.{State, IsOnlyKing, IsKept, FitsEnPassant}
@@ -12,17 +12,15 @@ use Rattle.chess.proofs.PlaceFacts.{opposite-opposite}
 
 -- the square of each side's king
 pub record HasKings (P : State) (white black : Place) : Type 0 where
-  pub white_on : IsOnBoard white
   pub white_only : IsOnlyKing P.men White white
-  pub black_on : IsOnBoard black
   pub black_only : IsOnlyKing P.men Black black
 
-each_king : (P : State) (white black : Place) → HasKings P white black → (side : Side) → (s : Place) × IsOnBoard s × IsOnlyKing P.men side s
-each_king P white black kings White = (white, kings.white_on, kings.white_only)
-each_king P white black kings Black = (black, kings.black_on, kings.black_only)
+each_king : (P : State) (white black : Place) → HasKings P white black → (side : Side) → (s : Place) × IsOnlyKing P.men side s
+each_king P white black kings White = (white, kings.white_only)
+each_king P white black kings Black = (black, kings.black_only)
 
 pub right_kings : (P : State) (white black : Place) → HasKings P white black → HasWrongKings P → ⊥
-right_kings P white black kings wrong = let king = each_king P white black kings wrong.0 in wrong.1 king.0 king.2
+right_kings P white black kings wrong = let king = each_king P white black kings wrong.0 in wrong.1 king.0 king.1
 
 -- an answer that is no
 denied : (b : Bool) → b ≡ false → IsTrue b → ⊥
@@ -65,6 +63,7 @@ pub spelled_kept : (x : List ℕ) (P : State) (white black : Place) → SpellsPo
     → IsKept P white black
 spelled_kept x P white black spelled kings pawns quiet = record {
   sound = record {
+    on_board = spelled.men.on_board;
     king = each_king P white black kings;
     pawns = λ side s here. ((λ e. pawns (side, s, here, inl e)), (λ e. pawns (side, s, here, inr e)));
     quiet = quiet;

@@ -13,12 +13,16 @@ use Rattle.chess.specs.declared.man.Man.{Man}
 use Rattle.chess.specs.declared.moves.Move.{Move}
 use Rattle.chess.proofs.LoopFacts.{sifted_start, sifted_more, left_start, left_more}
 
+-- a rival stands on the board
+rival_on : (P : State) (m : Move) (s : Place) → IsRival P m s → IsOnBoard s
+rival_on P m s rival = rival.goes.2.pseudo_legal.from
+
 -- a rival on a square that has the fact is a square of the set of rivals that has it
 pub rival_of_square : (P : State) (m : Move) (set : Places) (fact : Place → Type 0) → HoldsExactly (IsRival P m) set → HasSquare set fact → HasRival P m fact
 rival_of_square P m set fact rivals found = (found.0, (rivals found.0 found.1).0 found.2, found.3)
 
 pub square_of_rival : (P : State) (m : Move) (set : Places) (fact : Place → Type 0) → HoldsExactly (IsRival P m) set → HasRival P m fact → HasSquare set fact
-square_of_rival P m set fact rivals found = (found.0, found.1.on_board, (rivals found.0 found.1.on_board).1 found.1, found.2)
+square_of_rival P m set fact rivals found = (found.0, rival_on P m found.0 found.1, (rivals found.0 (rival_on P m found.0 found.1)).1 found.1, found.2)
 
 -- ---- the loop over the men that are alike
 
@@ -42,7 +46,7 @@ rivals_more P m man n old new found more t test so_far taken tested put = record
 pub alone_is_told : (P : State) (m : Move) (set : Places) (old : List ℕ) → HoldsExactly (IsRival P m) set
     → (((s : Place) × IsOnBoard s × (is_in set s ≡ true)) → ⊥) → Appends (IsDisambiguation P m) old old
 alone_is_told P m set old rivals none =
-    ([], alone (λ rival. none (rival.0, rival.1.on_board, (rivals rival.0 rival.1.on_board).1 rival.1)), sym (append-nil old))
+    ([], alone (λ rival. none (rival.0, rival_on P m rival.0 rival.1, (rivals rival.0 (rival_on P m rival.0 rival.1)).1 rival.1)), sym (append-nil old))
 
 pub file_is_told : (P : State) (m : Move) (set : Places) (old new : List ℕ) (file : ℕ) → HoldsExactly (IsRival P m) set
     → ((s : Place) × IsOnBoard s × (is_in set s ≡ true)) → (HasSquare set (λ s. s.file ≡ m.from.file) → ⊥) → file ≡ m.from.file

@@ -1,6 +1,5 @@
 -- What holds of every text in FEN and of the text of every move, whatever writes and reads it.
 use Rattle.std.specs.Prelude.{◌≡◌, ℕ, List}
-use Rattle.chess.specs.Squares.{IsOnBoard}
 use Rattle.chess.specs.Positions.{State, IsSound}
 use Rattle.chess.specs.Moves.{IsLegal}
 use Rattle.chess.specs.San.{IsSan, IsOnlyNamed}
@@ -21,7 +20,7 @@ TextHasOneAnswer =
 -- in a sound position the standard text of a legal move names that move, and no other (were there no pawn to take en passant, the text of
 -- that move would be the text of a step)
 abbrev pub SanNamesItsMove : Type 0
-SanNamesItsMove = (P : State) (m : Move) (x : List ℕ) → IsSound P → IsLegal P m → IsOnBoard m.from → IsSan P m x → IsOnlyNamed P x m
+SanNamesItsMove = (P : State) (m : Move) (x : List ℕ) → IsSound P → IsLegal P m → IsSan P m x → IsOnlyNamed P x m
 
 -- a move has at most one standard text
 abbrev pub MoveHasOneText : Type 0

@@ -99,7 +99,6 @@ pub record Agrees (P : State) (said : Said) (m : Move) : Type 0 where
 -- the text names the move, which is legal
 pub record IsNamed (P : State) (x : List ℕ) (m : Move) : Type 0 where
   pub legal : IsLegal P m
-  pub on_board : IsOnBoard m.from
   pub by : ((wing : Wing) × IsCastlingText wing x × (m.castle ≡ Some wing)) ⊎ ((said : Said) × Spells x said × Agrees P said m)
 
 -- the text names this move and no other
@@ -109,7 +108,6 @@ pub record IsOnlyNamed (P : State) (x : List ℕ) (m : Move) : Type 0 where
 
 -- another man of the same kind and side that has a legal move to the same square (so a pinned man does not count)
 pub record IsRival (P : State) (m : Move) (s : Place) : Type 0 where
-  pub on_board : IsOnBoard s
   pub other : s ≢ m.from
   pub alike : man_at P.men s ≡ man_at P.men m.from
   pub goes : CanGo P s m.to

@@ -155,7 +155,6 @@ impl<B: Board> Position<B> {
         ensures { IsOnlyKing (men_after self.now m.now) side result }
     {
         self.known();
-        let _ = m.from.file(); // a square is on the board
         let king = self.king(side);
         if king.is(m.from) { m.to } else { king }
     }
@@ -166,7 +165,6 @@ impl<B: Board> Position<B> {
         ensures { result ≡ after self.now m }
     {
         self.known();
-        let _ = m.from.file(); // a square is on the board
         Position {
             board: self.board_after(&m),
             turn: self.turn_after(),

@@ -25,7 +25,7 @@ returns-then-has_edge_pawn g c =
     let white = c.in-Some-only_king in
     let black = c.in-Some-only_king-2 in
     let kings : HasKings P white.white_king black.black_king =
-    record { white_on = white.ensures.0; white_only = white.ensures.1; black_on = black.ensures.0; black_only = black.ensures.1 } in (
+    record { white_only = white.ensures; black_only = black.ensures } in (
       P,
       c.in-Some.ensures,
       right_kings P white.white_king black.black_king kings,
@@ -47,7 +47,7 @@ returns-then-attacked g c =
     let black = c.in-Some-only_king-2 in
     let king = c.match-draft.king in
     let kings : HasKings P white.white_king black.black_king =
-    record { white_on = white.ensures.0; white_only = white.ensures.1; black_on = black.ensures.0; black_only = black.ensures.1 } in
+    record { white_only = white.ensures; black_only = black.ensures } in
     let enemy : IsOnlyKing P.men (opposite P.turn) king = elim c.match-draft.branch [
       | in-White w ↦ enemy_white P white.white_king black.black_king king kings w.in-White.is w.king-is
       | in-Black w ↦ enemy_black P white.white_king black.black_king king kings w.in-Black.is w.king-is
@@ -74,7 +74,7 @@ invariant_of-result g c =
     let black = c.in-Some-only_king-2 in
     let king = c.match-draft.king in
     let kings : HasKings P white.white_king black.black_king =
-    record { white_on = white.ensures.0; white_only = white.ensures.1; black_on = black.ensures.0; black_only = black.ensures.1 } in
+    record { white_only = white.ensures; black_only = black.ensures } in
     let enemy : IsOnlyKing P.men (opposite P.turn) king = elim c.match-draft.branch [
       | in-White w ↦ enemy_white P white.white_king black.black_king king kings w.in-White.is w.king-is
       | in-Black w ↦ enemy_black P white.white_king black.black_king king kings w.in-Black.is w.king-is
