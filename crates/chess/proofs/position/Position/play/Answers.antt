@@ -31,3 +31,6 @@ invariant_of-result g c =
       white = c.king_after.ensures;
       black = c.king_after-2.ensures;
     })
+
+pub returns-clause-sound : goal.returns-clause-sound
+returns-clause-sound g c = (invariant_of-result g c).sound
