@@ -4,6 +4,8 @@ pub mod AfterFacts
 pub mod KingFacts
 pub mod SoundFacts
 pub mod WayFacts
+pub mod SetBits
+pub mod BoardFacts
 pub mod LoopFacts
 pub mod StartFacts
 pub mod FieldFacts

@@ -27,10 +27,10 @@ and_not_true : (a : Bool) → (a && not true) ≡ false
 and_not_true true = refl
 and_not_true false = refl
 
-gone : (old new : Places) (t s : Place) → IsTakenFirst old new (Some t) → IsOnBoard s → is_in new s ≡ true → s ≡ t → ⊥
-gone old new t s taken on here e =
+gone : (old new : Places) (t s : Place) → IsTakenFirst old new (Some t) → is_in new s ≡ true → s ≡ t → ⊥
+gone old new t s taken here e =
     true_not_false (is_in new s) here
-    (taken.3 s on ∙ ap (λ b. is_in old s && not b) (same_square-same s t e) ∙ and_not_true (is_in old s))
+    (taken.3 s ∙ ap (λ b. is_in old s && not b) (same_square-same s t e) ∙ and_not_true (is_in old s))
 
 pub next_found : (fact : Place → Type 0) (n : ℕ) (squares old new : Places) (t : Place)
     → IsLeft (λ s. is_in squares s ≡ true) (λ s. (is_in squares s ≡ true) × fact s) n old → IsTakenFirst old new (Some t) → fact t → IsNext fact squares new t
@@ -42,7 +42,7 @@ next_found fact n squares old new t left taken fits =
       here = left.within t taken.0 taken.1;
       fits = fits;
       each = λ s on here holds apart. more.each s on (here, holds, apart);
-      within = λ s on here. (more.within s on here, (λ e. gone old new t s taken on here e));
+      within = λ s on here. (more.within s on here, (λ e. gone old new t s taken here e));
     }
 
 -- ---- the man and the move that are spoken of
@@ -98,19 +98,19 @@ pub said_none : (P : State) (said : Said) (squares : Places) → IsSquaresOf P.m
     → (m : Move) → IsMoveSaid P said m → ⊥
 said_none P said squares are none m named =
     let on = said_on P said m named in
-    none m.from on ((are m.from on).1 (said_man P said m named)) (said_fits P said m named)
+    none m.from on ((are m.from).1 (on, said_man P said m named)) (said_fits P said m named)
 
 pub said_only : (P : State) (said : Said) (squares rest : Places) (s : Place) → IsSquaresOf P.men (man_said P said) squares
     → IsNext (Fits P said) squares rest s → HasNone (Fits P said) rest
     → IsMoveSaid P said (move_from said s) × ((n : Move) → IsMoveSaid P said n → n ≡ move_from said s)
 said_only P said squares rest s are next none = (
-  fits_said P said s ((are s next.on_board).0 next.here) next.fits,
+  fits_said P said s ((are s).0 next.here).1 next.fits,
   (λ n named. elim (cases_place n.from s) [
     | inl same ↦ sym (said_move P said n named.1) ∙ ap (move_from said) same
     | inr other ↦
         let fits = said_fits P said n named in
         let on = said_on P said n named in
-        absurd (none n.from on (next.each n.from on ((are n.from on).1 (said_man P said n named)) fits other) fits)
+        absurd (none n.from on (next.each n.from on ((are n.from).1 (on, said_man P said n named)) fits other) fits)
   ]),
 )
 
@@ -121,8 +121,8 @@ said_several P said squares rest more s t are next second =
     let before = next.within t second.on_board second.here in (
       move_from said s,
       move_from said t,
-      fits_said P said s ((are s next.on_board).0 next.here) next.fits,
-      fits_said P said t ((are t second.on_board).0 before.0) second.fits,
+      fits_said P said s ((are s).0 next.here).1 next.fits,
+      fits_said P said t ((are t).0 before.0).1 second.fits,
       (λ e. before.1 (sym (ap (λ (m : Move). m.from) e))),
     )
 
