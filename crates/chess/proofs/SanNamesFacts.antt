@@ -15,8 +15,8 @@ use Rattle.chess.proofs.PieceNamesFacts.{piece_named}
 use Rattle.chess.proofs.PawnNamesFacts.{pawn_named}
 
 marks_are : (P : State) (mark : List ℕ) → IsMark P mark → list_all is_check_mark mark ≡ true
-marks_are P _ (mate in_check none) = refl
-marks_are P _ (check in_check some) = refl
+marks_are P _ (mate mated) = refl
+marks_are P _ (check in_check other) = refl
 marks_are P _ (quiet calm) = refl
 
 cases_pawn : (kind : Kind) → (kind ≡ Pawn) ⊎ (kind ≡ Pawn → ⊥)

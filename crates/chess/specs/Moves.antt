@@ -173,7 +173,7 @@ CanGo P s t = (promote : Option Kind) × (castle : Option Wing) × IsLegal P (re
 abbrev pub HasMove : State → Type 0
 HasMove P = (s t : Place) × CanGo P s t
 
--- checkmate and stalemate (Laws 1.4.1, 5.2.1)
+-- checkmate: the side to move is in check and has no legal move (Laws 1.4.1); stalemate: it is not in check and has none (Laws 5.2.1)
 abbrev pub IsMate : State → Type 0
 IsMate P = IsCheck P.men P.turn × (¬ HasMove P)
 

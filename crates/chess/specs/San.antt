@@ -4,7 +4,7 @@ use Rattle.std.specs.List.{list_all}
 use Rattle.chess.specs.Squares.{Place, IsOnBoard}
 use Rattle.chess.specs.Placements.{man_at}
 use Rattle.chess.specs.Positions.{State, IsCheck}
-use Rattle.chess.specs.Moves.{taken, after, IsLegal, CanGo, HasMove}
+use Rattle.chess.specs.Moves.{taken, after, IsLegal, CanGo, IsMate}
 use Rattle.chess.specs.Letters.{kind_letter, file_letter, rank_digit, square_text, is_check_mark, is_sign}
 use Rattle.chess.specs.declared.man.Man.{Man}
 use Rattle.chess.specs.declared.man.Kind.{Kind}
@@ -146,10 +146,10 @@ IsBody P m None Rook x = (origin : List ℕ) × IsDisambiguation P m origin × (
 IsBody P m None Bishop x = (origin : List ℕ) × IsDisambiguation P m origin × (x ≡ kind_letter Bishop ∷ (origin ++ (capture_text P m ++ square_text m.to)))
 IsBody P m None Knight x = (origin : List ℕ) × IsDisambiguation P m origin × (x ≡ kind_letter Knight ∷ (origin ++ (capture_text P m ++ square_text m.to)))
 
--- the mark behind a move, of the position after it: # for mate, + for check, else none (PGN 8.2.3.5)
+-- the mark behind a move, of the position after it: # for mate, + for a check that is no mate, else none, also for stalemate (PGN 8.2.3.5)
 pub data IsMark (P : State) : List ℕ → Type 0 where
-  mate : IsCheck P.men P.turn → ¬ HasMove P → IsMark P (35 ∷ [])
-  check : IsCheck P.men P.turn → HasMove P → IsMark P (43 ∷ [])
+  mate : IsMate P → IsMark P (35 ∷ [])
+  check : IsCheck P.men P.turn → ¬ IsMate P → IsMark P (43 ∷ [])
   quiet : ¬ IsCheck P.men P.turn → IsMark P []
 
 -- the standard text of a legal move
