@@ -15,6 +15,9 @@ pub mod CountFacts
 pub mod FenFacts
 pub mod FenOnce
 pub mod FenTextFacts
+pub mod FenOneText
+pub mod SoundRead
+pub mod FenReadBack
 pub mod ReadingFacts
 pub mod CastlingTextFacts
 pub mod TextParts

@@ -1,9 +1,10 @@
 -- What holds of every text in FEN and of the text of every move, whatever writes and reads it.
-use Rattle.std.specs.Prelude.{◌≡◌, ℕ, List}
+use Rattle.std.specs.Prelude.{◌≡◌, ◌↔◌, ◌≤◌, ℕ, List}
 use Rattle.chess.specs.Positions.{State, IsSound}
-use Rattle.chess.specs.Moves.{IsLegal}
+use Rattle.chess.specs.Moves.{IsLegal, after}
+use Rattle.chess.specs.Start.{usual}
 use Rattle.chess.specs.San.{IsSan, IsOnlyNamed}
-use Rattle.chess.specs.Fen.{SpellsPosition, ReadsFen, IsRefused}
+use Rattle.chess.specs.Fen.{SpellsPosition, ReadsFen, IsRefused, IsFen}
 use Rattle.chess.specs.declared.fen.FenError.{FenError}
 use Rattle.chess.specs.declared.moves.Move.{Move}
 
@@ -16,6 +17,25 @@ abbrev pub TextHasOneAnswer : Type 0
 TextHasOneAnswer =
     ((x : List ℕ) (P : State) (error : FenError) → ReadsFen x P → IsRefused x error → ⊥)
     × ((x : List ℕ) (error other : FenError) → IsRefused x error → IsRefused x other → error ≡ other)
+
+-- a text that spells a position is read as it exactly where the position is sound
+abbrev pub SoundPositionsAreRead : Type 0
+SoundPositionsAreRead = (x : List ℕ) (P : State) → SpellsPosition x P → IsSound P ↔ ReadsFen x P
+
+-- the text of a sound position is read back as that position, where its two counts have seven digits at most
+abbrev pub FenIsReadBack : Type 0
+FenIsReadBack = (P : State) (x : List ℕ) → IsSound P → P.halfmove_clock ≤ 9999999 → P.fullmove_number ≤ 9999999 → IsFen P x → ReadsFen x P
+
+-- a position has at most one text
+abbrev pub PositionHasOneText : Type 0
+PositionHasOneText = (P : State) (x y : List ℕ) → IsFen P x → IsFen P y → x ≡ y
+
+-- the usual position is sound, and so is each position after a legal move from a sound one
+abbrev pub UsualPositionIsSound : Type 0
+UsualPositionIsSound = IsSound usual
+
+abbrev pub MovesKeepPositionsSound : Type 0
+MovesKeepPositionsSound = (P : State) (m : Move) → IsSound P → IsLegal P m → IsSound (after P m)
 
 -- in a sound position the standard text of a legal move names that move, and no other (were there no pawn to take en passant, the text of
 -- that move would be the text of a step)

@@ -1,11 +1,25 @@
 //! What holds of every text and position, whatever reads it. Each law is the contract of a function that does nothing.
 
-ghost use Rattle.chess.specs.Laws.{TextSpellsOnePosition, TextHasOneAnswer, SanNamesItsMove, MoveHasOneText};
+ghost use Rattle.chess.specs.Laws.{TextSpellsOnePosition, TextHasOneAnswer, SoundPositionsAreRead, FenIsReadBack, PositionHasOneText, UsualPositionIsSound, MovesKeepPositionsSound, SanNamesItsMove, MoveHasOneText};
 
 /// A text spells at most one position in FEN, and none that is refused.
 pub fn one_position()
     ensures one { TextSpellsOnePosition }
     ensures apart { TextHasOneAnswer }
+{}
+
+/// A position has at most one text in FEN: the one that `fen` writes. Of a sound position it is read back, so that `from_fen` answers
+/// the position that `fen` has written; and a text is read exactly where the position that it spells is sound.
+pub fn fen_is_read_back()
+    ensures one { PositionHasOneText }
+    ensures back { FenIsReadBack }
+    ensures sound { SoundPositionsAreRead }
+{}
+
+/// The usual position is sound, and each position after a legal move from a sound one.
+pub fn positions_are_sound()
+    ensures usual { UsualPositionIsSound }
+    ensures after { MovesKeepPositionsSound }
 {}
 
 /// The text of a legal move in standard algebraic notation names that move and no other, so that `resolve` reads what `san` writes.
