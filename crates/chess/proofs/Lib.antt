@@ -8,6 +8,7 @@ pub mod SetBits
 pub mod BoardFacts
 pub mod LoopFacts
 pub mod StartFacts
+pub mod UsualFacts
 pub mod FieldFacts
 pub mod RestFacts
 pub mod RankFacts

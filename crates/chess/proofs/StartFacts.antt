@@ -23,10 +23,10 @@ use Rattle.chess.specs.declared.man.Wing.TheVariants.{KingSide, QueenSide}
 use Rattle.chess.proofs.PlaceFacts.{some_not_none, same_kind}
 
 -- who stands on a square of the board
-usual_at : (s : Place) → IsOnBoard s → man_at usual_men s ≡ usual_man s
+pub usual_at : (s : Place) → IsOnBoard s → man_at usual_men s ≡ usual_man s
 usual_at s on = man_at-men_of (λ n. usual_man (square_at n)) s on ∙ ap usual_man (square_at-index_of s on)
 
-usual_on : (s : Place) (man : Man) → man_at usual_men s ≡ Some man → IsOnBoard s
+pub usual_on : (s : Place) (man : Man) → man_at usual_men s ≡ Some man → IsOnBoard s
 usual_on s man here = on_board-men_of (λ n. usual_man (square_at n)) s man here
 
 -- ---- kings, by tables over the 64 squares

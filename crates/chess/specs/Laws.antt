@@ -2,7 +2,7 @@
 use Rattle.std.specs.Prelude.{◌≡◌, ◌↔◌, ◌≤◌, ℕ, List}
 use Rattle.chess.specs.Positions.{State, IsSound}
 use Rattle.chess.specs.Moves.{IsLegal, after}
-use Rattle.chess.specs.Start.{usual}
+use Rattle.chess.specs.Start.{usual, IsUsual}
 use Rattle.chess.specs.San.{IsSan, IsOnlyNamed}
 use Rattle.chess.specs.Fen.{SpellsPosition, ReadsFen, IsRefused, IsFen}
 use Rattle.chess.specs.declared.fen.FenError.{FenError}
@@ -29,6 +29,10 @@ FenIsReadBack = (P : State) (x : List ℕ) → IsSound P → P.halfmove_clock �
 -- a position has at most one text
 abbrev pub PositionHasOneText : Type 0
 PositionHasOneText = (P : State) (x y : List ℕ) → IsFen P x → IsFen P y → x ≡ y
+
+-- the position that is made square by square is the usual one, and there is no other
+abbrev pub UsualPositionIsOne : Type 0
+UsualPositionIsOne = IsUsual usual × ((P : State) → IsUsual P → P ≡ usual)
 
 -- the usual position is sound, and so is each position after a legal move from a sound one
 abbrev pub UsualPositionIsSound : Type 0

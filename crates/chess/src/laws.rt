@@ -1,6 +1,6 @@
 //! What holds of every text and position, whatever reads it. Each law is the contract of a function that does nothing.
 
-ghost use Rattle.chess.specs.Laws.{TextSpellsOnePosition, TextHasOneAnswer, SoundPositionsAreRead, FenIsReadBack, PositionHasOneText, UsualPositionIsSound, MovesKeepPositionsSound, SanNamesItsMove, MoveHasOneText};
+ghost use Rattle.chess.specs.Laws.{TextSpellsOnePosition, TextHasOneAnswer, SoundPositionsAreRead, FenIsReadBack, PositionHasOneText, UsualPositionIsOne, UsualPositionIsSound, MovesKeepPositionsSound, SanNamesItsMove, MoveHasOneText};
 
 /// A text spells at most one position in FEN, and none that is refused.
 pub fn one_position()
@@ -14,6 +14,11 @@ pub fn fen_is_read_back()
     ensures one { PositionHasOneText }
     ensures back { FenIsReadBack }
     ensures sound { SoundPositionsAreRead }
+{}
+
+/// The usual position has its men where the Laws put them, and no other position is usual.
+pub fn one_usual_position()
+    ensures { UsualPositionIsOne }
 {}
 
 /// The usual position is sound, and each position after a legal move from a sound one.
