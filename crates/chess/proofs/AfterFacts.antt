@@ -1,13 +1,15 @@
 -- Who stands where after a move.
-use Rattle.std.proofs.Common.{◌≡◌, ◌⊎◌, inl, inr, ap, refl, sym, ◌∙◌, Option, Some, None}
-use Rattle.chess.specs.Squares.{Place}
-use Rattle.chess.specs.Placements.{Placement, man_at, with_man, IsEmpty}
+use Rattle.std.proofs.Common.{◌≡◌, ◌⊎◌, inl, inr, ap, refl, sym, subst, ◌∙◌, arith, Option, Some, None}
+use Rattle.chess.specs.Squares.{Place, IsOnBoard}
+use Rattle.chess.specs.Placements.{Placement, man_at, with_man, AreOnBoard, IsEmpty}
 use Rattle.chess.specs.Positions.{State, rook_of, rook_from, rook_to}
 use Rattle.chess.specs.Moves.{arriving, taken, with_rook, men_after}
 use Rattle.chess.specs.CellFacts.{man_at-same, man_at-other}
 use Rattle.chess.specs.declared.man.Man.{Man}
 use Rattle.chess.specs.declared.man.Side.{Side}
+use Rattle.chess.specs.declared.man.Side.TheVariants.{White, Black}
 use Rattle.chess.specs.declared.man.Wing.{Wing}
+use Rattle.chess.specs.declared.man.Wing.TheVariants.{KingSide, QueenSide}
 use Rattle.chess.specs.declared.moves.Move.{Move}
 use Rattle.chess.proofs.PlaceFacts.{cases_place, some_not_none}
 
@@ -98,3 +100,36 @@ has_come P m s man here = elim (come_rook P.turn m.castle (men_moved P m) s man 
   | inl rook ↦ inr (inl rook)
   | inr other ↦ elim (come_moved P m s man other) [ inl came ↦ inl came | inr stayed ↦ inr (inr stayed) ]
 ]
+
+-- ---- men stand on the board alone
+
+with_on_board : (p : Placement) (s : Place) (man : Option Man) → AreOnBoard p → IsOnBoard s → AreOnBoard (with_man p s man)
+with_on_board p s man men on t found here = elim (cases_place t s) [
+  | inl same ↦ subst IsOnBoard (sym same) on
+  | inr apart ↦ men t found (sym (man_at-other p s t man apart) ∙ here)
+]
+
+without_on_board : (p : Placement) (s : Place) → AreOnBoard p → AreOnBoard (with_man p s None)
+without_on_board p s men t found here = elim (cases_place t s) [
+  | inl same ↦ absurd (some_not_none _ found (ap (man_at (with_man p s None)) same ∙ man_at-same p s None) here)
+  | inr apart ↦ men t found (sym (man_at-other p s t None apart) ∙ here)
+]
+
+rook_on_board : (side : Side) (wing : Wing) → IsOnBoard (rook_to side wing)
+rook_on_board White KingSide = record { file_low = omega arith; file_high = omega arith; rank_low = omega arith; rank_high = omega arith }
+rook_on_board White QueenSide = record { file_low = omega arith; file_high = omega arith; rank_low = omega arith; rank_high = omega arith }
+rook_on_board Black KingSide = record { file_low = omega arith; file_high = omega arith; rank_low = omega arith; rank_high = omega arith }
+rook_on_board Black QueenSide = record { file_low = omega arith; file_high = omega arith; rank_low = omega arith; rank_high = omega arith }
+
+castled_on_board : (side : Side) (castle : Option Wing) (p : Placement) → AreOnBoard p → AreOnBoard (with_rook side castle p)
+castled_on_board side None p men = men
+castled_on_board side (Some wing) p men =
+    with_on_board (with_man p (rook_from side wing) None) (rook_to side wing) (Some (rook_of side)) (without_on_board p (rook_from side wing) men)
+    (rook_on_board side wing)
+
+pub after_on_board : (P : State) (m : Move) → AreOnBoard P.men → IsOnBoard m.to → AreOnBoard (men_after P m)
+after_on_board P m men to =
+    let cleared = with_man P.men (taken P m) None in
+    castled_on_board P.turn m.castle (men_moved P m)
+    (with_on_board (with_man cleared m.from None) m.to (arriving P m.promote m.from)
+    (without_on_board cleared m.from (without_on_board P.men (taken P m) men)) to)

@@ -3,8 +3,10 @@ use Rattle.std.proofs.Common.{◌≡◌, ℕ, ◌≤◌, true, false, [], ◌∷
 use Rattle.chess.specs.Squares.{IsAhead}
 use Rattle.chess.specs.Placements.{Placement, man_at}
 use Rattle.chess.specs.Attacks.{Reaches, IsOnRay}
-use Rattle.chess.specs.Positions.{king_from, king_to, rook_from, rook_to}
-use Rattle.chess.specs.San.{Spells}
+use Rattle.chess.specs.Positions.{State, king_from, king_to, rook_from, rook_to, IsCheck}
+use Rattle.chess.specs.Moves.{HasMove, IsStalemate}
+use Rattle.chess.specs.San.{Spells, IsMark}
+use Rattle.chess.specs.San.IsMark.{mate, check, quiet}
 use Rattle.chess.specs.Fen.{fields_of, parted_at, is_shortest, number_from}
 use Rattle.chess.specs.declared.man.Man.{Man}
 use Rattle.chess.specs.declared.man.Side.TheVariants.{White, Black}
@@ -115,3 +117,21 @@ shortest_rank = refl
 
 a_count : number_from 0 (codes "0012") ≡ 12
 a_count = refl
+
+-- ---- mate and stalemate
+
+-- mate is a check without a move, stalemate is neither a check nor a mate; the mark of mate is #, of another check +, and stalemate has none
+mate_marked : (P : State) → IsCheck P.men P.turn → ¬ HasMove P → IsMark P (codes "#")
+mate_marked P in_check none = mate (in_check, none)
+
+check_marked : (P : State) → IsCheck P.men P.turn → HasMove P → IsMark P (codes "+")
+check_marked P in_check some = check in_check (λ mated. mated.1 some)
+
+stalemate_unmarked : (P : State) → IsStalemate P → IsMark P []
+stalemate_unmarked P stale = quiet stale.0
+
+stalemate_has_no_move : (P : State) → IsStalemate P → HasMove P → ⊥
+stalemate_has_no_move P stale some = stale.1 some
+
+stalemate_is : (P : State) → ¬ IsCheck P.men P.turn → ¬ HasMove P → IsStalemate P
+stalemate_is P calm none = (calm, none)

@@ -1,28 +1,28 @@
 -- What is right and what is wrong with a position that a text spells.
-use Rattle.std.proofs.Common.{◌≡◌, ◌↔◌, ℕ, List, Bool, true, false, inl, inr, sym, refl, subst, Option, Some, None, IfSome, IsTrue}
-use Rattle.chess.specs.Squares.{Place, IsOnBoard}
-use Rattle.chess.specs.Placements.{opposite}
+use Rattle.std.proofs.Common.{◌≡◌, ◌↔◌, ℕ, List, Bool, true, false, inl, inr, sym, refl, subst, ◌∙◌, Option, Some, None, IfSome, IsTrue, is_some}
+use Rattle.chess.specs.Squares.{Place}
+use Rattle.chess.specs.Placements.{Placement, AreOnBoard, opposite}
 use Rattle.chess.specs.Attacks.{IsAttacked}
-use Rattle.chess.specs.Positions.{State, IsOnlyKing, IsKept, FitsEnPassant}
+use Rattle.chess.specs.Positions.{State, king_of, IsOnlyKing, IsKept, FitsEnPassant}
 use Rattle.chess.specs.Fen.{SpellsPosition, HasWrongKings, HasWrongPawns, HasWrongCheck}
 use Rattle.chess.specs.FenWords.{IsEdgePawn}
+use Rattle.chess.specs.Sets.{Places, is_in, IsSquaresOf, IsTakenFirst}
 use Rattle.chess.specs.declared.man.Side.{Side}
 use Rattle.chess.specs.declared.man.Side.TheVariants.{White, Black}
-use Rattle.chess.proofs.PlaceFacts.{opposite-opposite}
+use Rattle.chess.proofs.PlaceFacts.{cases_place, opposite-opposite, true_not_false}
+use Rattle.chess.proofs.LoopFacts.{not_in, still_left, taken_none}
 
 -- the square of each side's king
 pub record HasKings (P : State) (white black : Place) : Type 0 where
-  pub white_on : IsOnBoard white
   pub white_only : IsOnlyKing P.men White white
-  pub black_on : IsOnBoard black
   pub black_only : IsOnlyKing P.men Black black
 
-each_king : (P : State) (white black : Place) → HasKings P white black → (side : Side) → (s : Place) × IsOnBoard s × IsOnlyKing P.men side s
-each_king P white black kings White = (white, kings.white_on, kings.white_only)
-each_king P white black kings Black = (black, kings.black_on, kings.black_only)
+each_king : (P : State) (white black : Place) → HasKings P white black → (side : Side) → (s : Place) × IsOnlyKing P.men side s
+each_king P white black kings White = (white, kings.white_only)
+each_king P white black kings Black = (black, kings.black_only)
 
 pub right_kings : (P : State) (white black : Place) → HasKings P white black → HasWrongKings P → ⊥
-right_kings P white black kings wrong = let king = each_king P white black kings wrong.0 in wrong.1 king.0 king.2
+right_kings P white black kings wrong = let king = each_king P white black kings wrong.0 in wrong.1 king.0 king.1
 
 -- an answer that is no
 denied : (b : Bool) → b ≡ false → IsTrue b → ⊥
@@ -65,6 +65,7 @@ pub spelled_kept : (x : List ℕ) (P : State) (white black : Place) → SpellsPo
     → IsKept P white black
 spelled_kept x P white black spelled kings pawns quiet = record {
   sound = record {
+    on_board = spelled.men.on_board;
     king = each_king P white black kings;
     pawns = λ side s here. ((λ e. pawns (side, s, here, inl e)), (λ e. pawns (side, s, here, inr e)));
     quiet = quiet;
@@ -73,4 +74,28 @@ spelled_kept x P white black spelled kings pawns quiet = record {
   };
   white = kings.white_only;
   black = kings.black_only;
+}
+
+-- ---- the only king, by the squares on which the side's kings stand
+
+pub no_king : (p : Placement) (side : Side) (kings rest : Places) (o : Option Place) → AreOnBoard p → IsSquaresOf p (king_of side) kings
+    → IsTakenFirst kings rest o → o ≡ None → (s : Place) → IsOnlyKing p side s → ⊥
+no_king p side kings rest o men are taken none s king =
+    true_not_false (is_in kings s) ((are s).1 (men s (king_of side) king.here, king.here)) (not_in kings s (taken_none kings rest o taken none))
+
+none_found : (o : Option Place) (b : Bool) → b ≡ is_some o → b ≡ false → o ≡ None
+none_found None b e f = refl
+none_found (Some s) b e f = let clash : true ≡ false = sym e ∙ f in absurd (cc)
+
+pub one_king : (p : Placement) (side : Side) (kings rest more : Places) (t : Place) (o : Option Place) (b : Bool) → AreOnBoard p
+    → IsSquaresOf p (king_of side) kings → IsTakenFirst kings rest (Some t) → IsTakenFirst rest more o → b ≡ is_some o → b ≡ false
+    → IsOnlyKing p side t
+one_king p side kings rest more t o b men are taken next asked none = record {
+  here = ((are t).0 taken.1).1;
+  only = λ s here. elim (cases_place s t) [
+    | inl same ↦ same
+    | inr other ↦
+        let left = still_left kings rest t s taken ((are s).1 (men s (king_of side) here, here)) other in
+        absurd (true_not_false (is_in rest s) left (not_in rest s (taken_none rest more o next (none_found o b asked none))))
+  ];
 }

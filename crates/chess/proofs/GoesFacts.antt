@@ -1,6 +1,5 @@
 -- What follows from how a man goes.
 use Rattle.std.proofs.Common.{◌≡◌, ◌⊎◌, inl, inr, ap, refl, sym, subst, ◌∙◌, arith, Option, Some, None}
-use Rattle.chess.specs.Squares.{IsOnBoard}
 use Rattle.chess.specs.Placements.{man_at, opposite, IsEmpty}
 use Rattle.chess.specs.Attacks.{Reaches, IsAttacked}
 use Rattle.chess.specs.Positions.{State, king_of, IsSound}
@@ -16,7 +15,6 @@ use Rattle.chess.proofs.PlaceFacts.{opposite-opposite, some_not_none, same_side,
 -- a pseudo-legal move in a sound position
 pub record IsTried (P : State) (m : Move) : Type 0 where
   pub sound : IsSound P
-  pub from : IsOnBoard m.from
   pub rules : IsPseudoLegal P m
 
 -- only a king castles
@@ -70,7 +68,7 @@ no_king_taken P m x king =
         m.to,
         king,
         subst (λ side. IsAttacked P.men side m.to) (sym (opposite-opposite P.turn))
-            (record { from = m.from; on_board = x.from; man = man; here = x.rules.here; own = x.rules.own; reaches = hits }),
+            (record { from = m.from; man = man; here = x.rules.here; own = x.rules.own; reaches = hits }),
       )
     ]
 

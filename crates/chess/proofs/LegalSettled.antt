@@ -1,12 +1,12 @@
 -- Whether a move is legal is settled, where men stand on the board alone.
-use Rattle.std.proofs.Common.{◌≡◌, ℕ, suc, ◌+◌, ◌<◌, ◌≤◌, Option, Some, None, refl, sym, ap, ◌∙◌, subst, inl, inr, arith}
+use Rattle.std.proofs.Common.{◌≡◌, ℕ, suc, ◌+◌, ◌<◌, ◌≤◌, Option, Some, None, refl, sym, subst, inl, inr, arith}
 use Rattle.std.proofs.lemmas.Bool.{cases_eq}
-use Rattle.chess.specs.Squares.{Place, IsOnBoard, IsStraight, IsAhead}
-use Rattle.chess.specs.Placements.{Placement, man_at, with_man, opposite, IsHeld, IsEmpty}
+use Rattle.chess.specs.Squares.{Place, IsStraight, IsAhead}
+use Rattle.chess.specs.Placements.{Placement, man_at, AreOnBoard, opposite, IsHeld, IsEmpty}
 use Rattle.chess.specs.Attacks.{IsClearFor, IsOnRay, IsForward, Reaches, IsAttacked}
-use Rattle.chess.specs.Positions.{State, king_of, rook_of, home_rank, pawn_rank, has_right, king_from, king_to, rook_from, rook_to, IsCheck}
-use Rattle.chess.specs.Moves.{IsDoubleStep, IsPawnMove, IsPromotion, Promotes, IsBetween, Castles, IsKingMove, Goes, IsPseudoLegal, taken, arriving, with_rook, men_after, IsUnbarred, IsLegal}
-use Rattle.chess.specs.CellFacts.{man_at-same, man_at-other, on_board_or_not}
+use Rattle.chess.specs.Positions.{State, king_of, home_rank, pawn_rank, has_right, king_from, king_to, rook_to, IsCheck}
+use Rattle.chess.specs.Moves.{IsDoubleStep, IsPawnMove, IsPromotion, Promotes, IsBetween, Castles, IsKingMove, Goes, IsPseudoLegal, men_after, IsUnbarred, IsLegal}
+use Rattle.chess.specs.CellFacts.{on_board_or_not}
 use Rattle.chess.specs.declared.direction.Direction.{Direction}
 use Rattle.chess.specs.declared.direction.Direction.TheVariants.{North, South, East, West, NorthEast, NorthWest, SouthEast, SouthWest}
 use Rattle.chess.specs.declared.man.Man.{Man}
@@ -17,7 +17,7 @@ use Rattle.chess.specs.declared.man.Kind.TheVariants.{King, Queen, Rook, Bishop,
 use Rattle.chess.specs.declared.man.Wing.{Wing}
 use Rattle.chess.specs.declared.man.Wing.TheVariants.{KingSide, QueenSide}
 use Rattle.chess.specs.declared.moves.Move.{Move}
-use Rattle.chess.specs.Laws.{AreOnBoard}
+use Rattle.chess.proofs.AfterFacts.{after_on_board}
 use Rattle.chess.proofs.PlaceFacts.{cases_place}
 use Rattle.chess.proofs.Settled.{Settled, settled_like, settled_not, settled_both, settled_three, settled_either, settled_le, settled_true, settled_below, settled_held, cases_option}
 use Rattle.chess.proofs.Searches.{search_square, search_way, cases_kind, cases_side, cases_man, cases_wing}
@@ -115,10 +115,10 @@ settled_reaches p side Knight s t =
     settled_either (settled_both (cases_eq _ 1) (cases_eq _ 2)) (settled_both (cases_eq _ 2) (cases_eq _ 1))
 settled_reaches p side Pawn s t = settled_both (cases_eq _ 1) (settled_forward side s.rank t.rank)
 
-settled_attacked : (p : Placement) (side : Side) (t : Place) → Settled (IsAttacked p side t)
-settled_attacked p side t =
-    settled_like (λ h. record { from = h.0; on_board = h.1; man = h.2.0; here = h.2.1; own = h.2.2.0; reaches = h.2.2.1 })
-    (λ r. (r.from, r.on_board, (r.man, r.here, (r.own, r.reaches))))
+settled_attacked : (p : Placement) (side : Side) (t : Place) → AreOnBoard p → Settled (IsAttacked p side t)
+settled_attacked p side t on_board =
+    settled_like (λ h. record { from = h.0; man = h.2.0; here = h.2.1; own = h.2.2.0; reaches = h.2.2.1 })
+    (λ r. (r.from, on_board r.from r.man r.here, (r.man, r.here, (r.own, r.reaches))))
     (search_square (λ s. (man : Man) × (man_at p s ≡ Some man) × ((man.side ≡ side) × Reaches p side man.kind s t))
     (λ s. settled_held (man_at p s) (λ man. (man.side ≡ side) × Reaches p side man.kind s t)
     (λ man. settled_both (cases_side man.side side) (settled_reaches p side man.kind s t))))
@@ -127,38 +127,9 @@ pub settled_check : (p : Placement) (side : Side) → AreOnBoard p → Settled (
 settled_check p side on_board =
     settled_like (λ h. (h.0, h.2.0, h.2.1)) (λ h. (h.0, on_board h.0 (king_of side) h.1, (h.1, h.2)))
     (search_square (λ s. (man_at p s ≡ Some (king_of side)) × IsAttacked p (opposite side) s)
-    (λ s. settled_both (settled_man_at p s (Some (king_of side))) (settled_attacked p (opposite side) s)))
+    (λ s. settled_both (settled_man_at p s (Some (king_of side))) (settled_attacked p (opposite side) s on_board)))
 
 -- ---- moves
-
-on_board_with : (p : Placement) (s : Place) (man : Option Man) → AreOnBoard p → ((m : Man) → man ≡ Some m → IsOnBoard s)
-    → AreOnBoard (with_man p s man)
-on_board_with p s man on_board put t found here = elim (cases_place t s) [
-  | inl same ↦ subst IsOnBoard (sym same) (put found (sym (man_at-same p s man) ∙ ap (man_at (with_man p s man)) (sym same) ∙ here))
-  | inr apart ↦ on_board t found (sym (man_at-other p s t man apart) ∙ here)
-]
-
-on_board_none : (p : Placement) (s : Place) → AreOnBoard p → AreOnBoard (with_man p s None)
-on_board_none p s on_board = on_board_with p s None on_board (λ m e. absurd (cc))
-
-rook_on_board : (side : Side) (wing : Wing) → IsOnBoard (rook_to side wing)
-rook_on_board White KingSide = record { file_low = omega arith; file_high = omega arith; rank_low = omega arith; rank_high = omega arith }
-rook_on_board White QueenSide = record { file_low = omega arith; file_high = omega arith; rank_low = omega arith; rank_high = omega arith }
-rook_on_board Black KingSide = record { file_low = omega arith; file_high = omega arith; rank_low = omega arith; rank_high = omega arith }
-rook_on_board Black QueenSide = record { file_low = omega arith; file_high = omega arith; rank_low = omega arith; rank_high = omega arith }
-
-on_board_rook : (side : Side) (castle : Option Wing) (p : Placement) → AreOnBoard p → AreOnBoard (with_rook side castle p)
-on_board_rook side None p on_board = on_board
-on_board_rook side (Some wing) p on_board =
-    on_board_with (with_man p (rook_from side wing) None) (rook_to side wing) (Some (rook_of side))
-    (on_board_none p (rook_from side wing) on_board) (λ m e. rook_on_board side wing)
-
--- men stay on the board
-pub on_board_after : (P : State) (m : Move) → AreOnBoard P.men → IsOnBoard m.to → AreOnBoard (men_after P m)
-on_board_after P m on_board to =
-    on_board_rook P.turn m.castle (with_man (with_man (with_man P.men (taken P m) None) m.from None) m.to (arriving P m.promote m.from))
-    (on_board_with (with_man (with_man P.men (taken P m) None) m.from None) m.to (arriving P m.promote m.from)
-    (on_board_none (with_man P.men (taken P m) None) m.from (on_board_none P.men (taken P m) on_board)) (λ man e. to))
 
 -- the square that a double step passes over, by its rank
 abbrev IsPassed : State → Place → Place → ℕ → Type 0
@@ -262,20 +233,21 @@ settled_goes P m kind = go kind
 
 settled_pseudo_legal : (P : State) (m : Move) → Settled (IsPseudoLegal P m)
 settled_pseudo_legal P m =
-    settled_like (λ h. record { on_board = h.0; man = h.2.0; here = h.2.1; own = h.2.2.0; free = h.1; goes = h.2.2.1 })
-    (λ r. (r.on_board, r.free, (r.man, r.here, (r.own, r.goes))))
-    (settled_three (on_board_or_not m.to) (settled_not (settled_held_by P.men P.turn m.to))
+    settled_like
+    (λ h. record { from = h.0.0; to = h.0.1; man = h.1.0; here = h.1.1; own = h.1.2.0; free = h.0.2; goes = h.1.2.1 })
+    (λ r. ((r.from, r.to, r.free), (r.man, r.here, (r.own, r.goes))))
+    (settled_both (settled_three (on_board_or_not m.from) (on_board_or_not m.to) (settled_not (settled_held_by P.men P.turn m.to)))
     (settled_held (man_at P.men m.from) (λ man. (man.side ≡ P.turn) × Goes P m man.kind)
     (λ man. settled_both (cases_side man.side P.turn) (settled_goes P m man.kind))))
 
-settled_unbarred : (P : State) (castle : Option Wing) → Settled (IsUnbarred P castle)
-settled_unbarred P None = inl tt
-settled_unbarred P (Some wing) =
+settled_unbarred : (P : State) (castle : Option Wing) → AreOnBoard P.men → Settled (IsUnbarred P castle)
+settled_unbarred P None on_board = inl tt
+settled_unbarred P (Some wing) on_board =
     settled_not (settled_either (attacked (king_from P.turn))
     (settled_either (attacked (rook_to P.turn wing)) (attacked (king_to P.turn wing))))
   where
     attacked : (s : Place) → Settled (IsAttacked P.men (opposite P.turn) s)
-    attacked s = settled_attacked P.men (opposite P.turn) s
+    attacked s = settled_attacked P.men (opposite P.turn) s on_board
 
 pub settled_legal : (P : State) (m : Move) → AreOnBoard P.men → Settled (IsLegal P m)
 settled_legal P m on_board = go (settled_pseudo_legal P m)
@@ -284,4 +256,4 @@ settled_legal P m on_board = go (settled_pseudo_legal P m)
     go (inr none) = inr (λ l. none l.pseudo_legal)
     go (inl rules) =
         settled_like (λ h. record { pseudo_legal = rules; safe = h.0; unbarred = h.1 }) (λ l. (l.safe, l.unbarred))
-        (settled_both (settled_not (settled_check (men_after P m) P.turn (on_board_after P m on_board rules.on_board))) (settled_unbarred P m.castle))
+        (settled_both (settled_not (settled_check (men_after P m) P.turn (after_on_board P m on_board rules.to))) (settled_unbarred P m.castle on_board))

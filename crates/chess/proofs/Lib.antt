@@ -4,8 +4,11 @@ pub mod AfterFacts
 pub mod KingFacts
 pub mod SoundFacts
 pub mod WayFacts
+pub mod SetBits
+pub mod BoardFacts
 pub mod LoopFacts
 pub mod StartFacts
+pub mod UsualFacts
 pub mod FieldFacts
 pub mod RestFacts
 pub mod RankFacts
@@ -13,6 +16,9 @@ pub mod CountFacts
 pub mod FenFacts
 pub mod FenOnce
 pub mod FenTextFacts
+pub mod FenOneText
+pub mod SoundRead
+pub mod FenReadBack
 pub mod ReadingFacts
 pub mod CastlingTextFacts
 pub mod TextParts

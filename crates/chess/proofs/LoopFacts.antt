@@ -1,10 +1,14 @@
 -- Loops over the squares of a set, first to last.
-use Rattle.std.proofs.Common.{◌≡◌, ◌↔◌, ◌≤◌, ◌+◌, ◌&&◌, ◌||◌, ◌⊎◌, ℕ, Bool, true, false, not, inl, inr, ap, refl, sym, subst, ◌∙◌, arith, Some, None, IsTrue}
+use Rattle.std.proofs.Common.{◌≡◌, ◌↔◌, ◌≤◌, ◌+◌, ◌&&◌, ◌||◌, ◌⊎◌, ℕ, Bool, true, false, not, inl, inr, ap, refl, sym, subst, ◌∙◌, arith, Option, Some, None, IsTrue}
 use Rattle.chess.specs.Squares.{Place, IsOnBoard, index_of, square_at, same_square}
 use Rattle.chess.specs.SetFacts.{square_at-index_of, index_of-below, is_in-empty}
-use Rattle.chess.specs.Sets.{Places, is_in, no_places, IsTakenFirst}
+use Rattle.chess.specs.Sets.{Places, is_in, no_places, IsTakenFirst, HoldsExactly}
 use Rattle.chess.specs.MoveWords.{HasEach, IsLeft, IsSifted}
 use Rattle.chess.proofs.PlaceFacts.{cases_place, same_square-same, same_square-then, true_not_false}
+
+-- no square is in the empty set
+pub not_in : (set : Places) (s : Place) → set ≡ no_places → is_in set s ≡ false
+not_in set s none = ap (λ p. is_in p s) none ∙ is_in-empty s
 
 pub left_start : (range fact : Place → Type 0) (set : Places) → HasEach fact set → ((s : Place) → IsOnBoard s → is_in set s ≡ true → range s)
     → IsLeft range fact 0 set
@@ -12,7 +16,7 @@ left_start range fact set each within = record { each = each; within = within; l
 
 pub left_none : (range fact : Place → Type 0) (n : ℕ) (old new : Places) → IsLeft range fact n old → IsTakenFirst old new None
     → (s : Place) → IsOnBoard s → fact s → ⊥
-left_none range fact n old new left none s on holds = true_not_false (is_in old s) (left.each s on holds) (none s on)
+left_none range fact n old new left none s on holds = true_not_false (is_in old s) (left.each s on holds) (not_in old s none.0)
 
 pub left_end : (range fact : Place → Type 0) (n : ℕ) (set : Places) → IsLeft range fact n set → 64 ≤ n → (s : Place) → IsOnBoard s → fact s → ⊥
 left_end range fact n set left far s on holds =
@@ -41,13 +45,13 @@ not_back : (b : Bool) → not b ≡ true → b ≡ true → ⊥
 not_back true e f = let clash : false ≡ true = e in cc
 not_back false e f = let clash : false ≡ true = f in cc
 
-still_left : (old new : Places) (t s : Place) → IsTakenFirst old new (Some t) → IsOnBoard s → is_in old s ≡ true → (s ≡ t → ⊥) → is_in new s ≡ true
-still_left old new t s taken on here other =
-    taken.3 s on ∙ and_both (is_in old s) (not (same_square s t)) here (not_of (same_square s t) (λ e. other (same_square-then s t e)))
+pub still_left : (old new : Places) (t s : Place) → IsTakenFirst old new (Some t) → is_in old s ≡ true → (s ≡ t → ⊥) → is_in new s ≡ true
+still_left old new t s taken here other =
+    taken.3 s ∙ and_both (is_in old s) (not (same_square s t)) here (not_of (same_square s t) (λ e. other (same_square-then s t e)))
 
-was_left : (old new : Places) (t s : Place) → IsTakenFirst old new (Some t) → IsOnBoard s → is_in new s ≡ true → (is_in old s ≡ true) × (s ≡ t → ⊥)
-was_left old new t s taken on here =
-    let both = sym (taken.3 s on) ∙ here in (
+was_left : (old new : Places) (t s : Place) → IsTakenFirst old new (Some t) → is_in new s ≡ true → (is_in old s ≡ true) × (s ≡ t → ⊥)
+was_left old new t s taken here =
+    let both = sym (taken.3 s) ∙ here in (
       and_first (is_in old s) (not (same_square s t)) both,
       (λ e. not_back (same_square s t) (and_second (is_in old s) (not (same_square s t)) both) (same_square-same s t e)),
     )
@@ -55,8 +59,8 @@ was_left old new t s taken on here =
 later : (n : ℕ) (old new : Places) (t s : Place) → ((u : Place) → IsOnBoard u → is_in old u ≡ true → n ≤ index_of u) → IsTakenFirst old new (Some t)
     → IsOnBoard s → is_in new s ≡ true → n + 1 ≤ index_of s
 later n old new t s low taken on here =
-    let before = was_left old new t s taken on here in
-    let first = taken.2 s on before.0 in
+    let before = was_left old new t s taken here in
+    let first = taken.2 s before.0 in
     let above = low t taken.0 taken.1 in
     let apart : index_of s ≡ index_of t → ⊥ =
     λ e. before.1 (sym (square_at-index_of s on) ∙ ap square_at e ∙ square_at-index_of t taken.0) in
@@ -65,8 +69,8 @@ later n old new t s low taken on here =
 pub left_more : (range fact : Place → Type 0) (n : ℕ) (old new : Places) (t : Place) → IsLeft range fact n old → IsTakenFirst old new (Some t)
     → (fact t → ⊥) → IsLeft range fact (n + 1) new
 left_more range fact n old new t left taken fails = record {
-  each = λ s on holds. still_left old new t s taken on (left.each s on holds) (λ e. fails (subst fact e holds));
-  within = λ s on here. left.within s on (was_left old new t s taken on here).0;
+  each = λ s on holds. still_left old new t s taken (left.each s on holds) (λ e. fails (subst fact e holds));
+  within = λ s on here. left.within s on (was_left old new t s taken here).0;
   low = λ s on here. later n old new t s left.low taken on here;
 }
 
@@ -74,7 +78,7 @@ left_more range fact n old new t left taken fails = record {
 
 pub sifted_start : (fact : Place → Type 0) (set found : Places) → HasEach fact set → found ≡ no_places → IsSifted fact 0 set found
 sifted_start fact set found each none = record {
-  sound = λ s on here. absurd (true_not_false (is_in found s) here (ap (λ p. is_in p s) none ∙ is_in-empty s));
+  sound = λ s here. absurd (true_not_false (is_in found s) here (not_in found s none));
   each = λ s on holds. inr (each s on holds);
   low = λ s on here. omega arith;
 }
@@ -94,21 +98,37 @@ or_first false c e = let f : false ≡ true = e in cc
 
 pub sifted_more : (fact : Place → Type 0) (n : ℕ) (old new found more : Places) (t : Place) (test : Bool) → IsSifted fact n old found
     → IsTakenFirst old new (Some t) → IsTrue test ↔ fact t
-    → ((s : Place) → IsOnBoard s → is_in more s ≡ ((test && same_square t s) || is_in found s)) → IsSifted fact (n + 1) new more
+    → ((s : Place) → is_in more s ≡ ((test && same_square t s) || is_in found s)) → IsSifted fact (n + 1) new more
 sifted_more fact n old new found more t test so_far taken tested put = record {
-  sound = λ s on here. elim (or_cases test (same_square t s) (is_in found s) (sym (put s on) ∙ here)) [
-    | inl added ↦ subst fact (same_square-then t s added.1) (tested.0 added.0)
-    | inr before ↦ so_far.sound s on before
+  sound = λ s here. elim (or_cases test (same_square t s) (is_in found s) (sym (put s) ∙ here)) [
+    | inl added ↦
+        let same = same_square-then t s added.1 in
+        (subst IsOnBoard same taken.0, subst fact same (tested.0 added.0))
+    | inr before ↦ so_far.sound s before
   ];
   each = λ s on holds. elim (cases_place s t) [
     | inl same ↦
         let passes = tested.1 (subst fact same holds) in
-        inl (put s on ∙ or_first (test && same_square t s) (is_in found s)
+        inl (put s ∙ or_first (test && same_square t s) (is_in found s)
         (and_both test (same_square t s) passes (same_square-same t s (sym same))))
     | inr other ↦ elim (so_far.each s on holds) [
-      | inl in_found ↦ inl (put s on ∙ or_second (test && same_square t s) (is_in found s) in_found)
-      | inr in_old ↦ inr (still_left old new t s taken on in_old other)
+      | inl in_found ↦ inl (put s ∙ or_second (test && same_square t s) (is_in found s) in_found)
+      | inr in_old ↦ inr (still_left old new t s taken in_old other)
     ]
   ];
   low = λ s on here. later n old new t s so_far.low taken on here;
 }
+
+pub sifted_none : (fact : Place → Type 0) (n : ℕ) (old new found : Places) → IsSifted fact n old found → IsTakenFirst old new None → HoldsExactly fact found
+sifted_none fact n old new found so_far none s = (
+  so_far.sound s,
+  (λ holds. elim (so_far.each s holds.0 holds.1) [
+    | inl here ↦ here
+    | inr left ↦ absurd (true_not_false (is_in old s) left (not_in old s none.0))
+  ]),
+)
+
+-- where none is taken out there was none
+pub taken_none : (old new : Places) (o : Option Place) → IsTakenFirst old new o → o ≡ None → old ≡ no_places
+taken_none old new None taken e = taken.0
+taken_none old new (Some t) taken e = absurd (cc)

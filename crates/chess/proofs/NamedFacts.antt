@@ -27,10 +27,10 @@ and_not_true : (a : Bool) → (a && not true) ≡ false
 and_not_true true = refl
 and_not_true false = refl
 
-gone : (old new : Places) (t s : Place) → IsTakenFirst old new (Some t) → IsOnBoard s → is_in new s ≡ true → s ≡ t → ⊥
-gone old new t s taken on here e =
+gone : (old new : Places) (t s : Place) → IsTakenFirst old new (Some t) → is_in new s ≡ true → s ≡ t → ⊥
+gone old new t s taken here e =
     true_not_false (is_in new s) here
-    (taken.3 s on ∙ ap (λ b. is_in old s && not b) (same_square-same s t e) ∙ and_not_true (is_in old s))
+    (taken.3 s ∙ ap (λ b. is_in old s && not b) (same_square-same s t e) ∙ and_not_true (is_in old s))
 
 pub next_found : (fact : Place → Type 0) (n : ℕ) (squares old new : Places) (t : Place)
     → IsLeft (λ s. is_in squares s ≡ true) (λ s. (is_in squares s ≡ true) × fact s) n old → IsTakenFirst old new (Some t) → fact t → IsNext fact squares new t
@@ -42,7 +42,7 @@ next_found fact n squares old new t left taken fits =
       here = left.within t taken.0 taken.1;
       fits = fits;
       each = λ s on here holds apart. more.each s on (here, holds, apart);
-      within = λ s on here. (more.within s on here, (λ e. gone old new t s taken on here e));
+      within = λ s on here. (more.within s on here, (λ e. gone old new t s taken here e));
     }
 
 -- ---- the man and the move that are spoken of
@@ -61,24 +61,26 @@ said_move P said m agrees = λ i. record {
 
 said_fits : (P : State) (said : Said) (m : Move) → IsMoveSaid P said m → Fits P said m.from
 said_fits P said m named =
-    let agrees = named.2 in record {
+    let agrees = named.1 in record {
       file = agrees.file;
       rank = agrees.rank;
       stays = λ pawn none. agrees.stays (agrees.kind ∙ pawn) none ∙ ap (λ (s : Place). s.file) agrees.target;
       legal = subst (IsLegal P) (sym (said_move P said m agrees)) named.0;
     }
 
+said_on : (P : State) (said : Said) (m : Move) → IsMoveSaid P said m → IsOnBoard m.from
+said_on P said m named = named.0.pseudo_legal.from
+
 pub said_man : (P : State) (said : Said) (m : Move) → IsMoveSaid P said m → man_at P.men m.from ≡ Some (man_said P said)
 said_man P said m named =
-    let agrees = named.2 in
+    let agrees = named.1 in
     let rules = named.0.pseudo_legal in
     let side : agrees.man.side ≡ P.turn = same_side agrees.man rules.man (sym agrees.here ∙ rules.here) ∙ rules.own in
     agrees.here ∙ ap (λ (man : Man). Some man) (man_of agrees.man (man_said P said) side agrees.kind)
 
-fits_said : (P : State) (said : Said) (s : Place) → IsOnBoard s → man_at P.men s ≡ Some (man_said P said) → Fits P said s → IsMoveSaid P said (move_from said s)
-fits_said P said s on here fits = (
+fits_said : (P : State) (said : Said) (s : Place) → man_at P.men s ≡ Some (man_said P said) → Fits P said s → IsMoveSaid P said (move_from said s)
+fits_said P said s here fits = (
   fits.legal,
-  on,
   record {
     not_castling = refl;
     man = man_said P said;
@@ -96,12 +98,13 @@ pub said_only : (P : State) (said : Said) (squares rest : Places) (s : Place) �
     → IsNext (Fits P said) squares rest s → HasNone (Fits P said) rest
     → IsMoveSaid P said (move_from said s) × ((n : Move) → IsMoveSaid P said n → n ≡ move_from said s)
 said_only P said squares rest s are next none = (
-  fits_said P said s next.on_board ((are s next.on_board).0 next.here) next.fits,
+  fits_said P said s ((are s).0 next.here).1 next.fits,
   (λ n named. elim (cases_place n.from s) [
-    | inl same ↦ sym (said_move P said n named.2) ∙ ap (move_from said) same
+    | inl same ↦ sym (said_move P said n named.1) ∙ ap (move_from said) same
     | inr other ↦
         let fits = said_fits P said n named in
-        absurd (none n.from named.1 (next.each n.from named.1 ((are n.from named.1).1 (said_man P said n named)) fits other) fits)
+        let on = said_on P said n named in
+        absurd (none n.from on (next.each n.from on ((are n.from).1 (on, said_man P said n named)) fits other) fits)
   ]),
 )
 
@@ -112,8 +115,8 @@ said_several P said squares rest more s t are next second =
     let before = next.within t second.on_board second.here in (
       move_from said s,
       move_from said t,
-      fits_said P said s next.on_board ((are s next.on_board).0 next.here) next.fits,
-      fits_said P said t second.on_board ((are t second.on_board).0 before.0) second.fits,
+      fits_said P said s ((are s).0 next.here).1 next.fits,
+      fits_said P said t ((are t).0 before.0).1 second.fits,
       (λ e. before.1 (sym (ap (λ (m : Move). m.from) e))),
     )
 
@@ -122,10 +125,10 @@ said_several P said squares rest more s t are next second =
 pub castling_only : (P : State) (wing : Wing) (n : Move) → IsCastlingOn P wing n → n ≡ castling_on P.turn wing
 castling_only P wing n named =
     let rules = named.0.pseudo_legal in
-    let goes = goes_castle P n rules.man.kind rules.goes wing named.2 in
+    let goes = goes_castle P n rules.man.kind rules.goes wing named.1 in
     let castles : Castles P wing n = goes.1 in
     let plain : n.promote ≡ None = (subst (Goes P n) goes.0 rules.goes).0 in
-    λ i. record { from = castles.from i; to = castles.to i; promote = plain i; castle = named.2 i }
+    λ i. record { from = castles.from i; to = castles.to i; promote = plain i; castle = named.1 i }
 
 -- ---- answers
 
@@ -226,10 +229,9 @@ pub named_castling : (P : State) (x : List ℕ) (wing : Wing) (read : Option Win
 named_castling P x wing read result texts is answer =
     let castles = (texts wing).1 is in
     same_answer (IsCastlingOn P wing) (IsNamed P x) result
-    (λ m holds. record { legal = holds.0; on_board = holds.1; by = inl (wing, castles, holds.2) })
+    (λ m holds. record { legal = holds.0; by = inl (wing, castles, holds.1) })
     (λ m named. (
       named.legal,
-      named.on_board,
       elim named.by [
         | inl by ↦ by.2 ∙ ap (λ (w : Wing). Some w) (some_wing by.0 wing (sym ((texts by.0).0 by.1) ∙ is))
         | inr by ↦ absurd (not_both x wing by.0 castles by.1)
@@ -251,10 +253,9 @@ pub named_said : (P : State) (x : List ℕ) (read : Option Wing) (said : Option 
     → IsAnswer (IsMoveSaid P own) result → IsAnswer (IsNamed P x) result
 named_said P x read said own result texts is spelled found answer =
     same_answer (IsMoveSaid P own) (IsNamed P x) result
-    (λ m holds. record { legal = holds.0; on_board = holds.1; by = inr (own, (spelled own).1 found, holds.2) })
+    (λ m holds. record { legal = holds.0; by = inr (own, (spelled own).1 found, holds.1) })
     (λ m named. (
       named.legal,
-      named.on_board,
       elim named.by [
         | inl by ↦ absurd (no_wing x read texts is by.0 by.1)
         | inr by ↦ subst (λ s. Agrees P s m) (some_said by.0 own (sym ((spelled by.0).0 by.1) ∙ found)) by.2

@@ -4,11 +4,11 @@ use Rattle.std.specs.List.{list_all}
 use Rattle.std.proofs.lemmas.Bool.{cases_eq}
 use Rattle.std.proofs.lemmas.Bool.Decides.{nat_tests}
 use Rattle.chess.specs.Squares.{Place, IsOnBoard}
-use Rattle.chess.specs.Placements.{man_at}
+use Rattle.chess.specs.Placements.{man_at, AreOnBoard}
 use Rattle.chess.specs.Positions.{State}
 use Rattle.chess.specs.Letters.{is_check_mark, is_sign, square_text}
 use Rattle.chess.specs.San.{Said, letter_text, file_text, rank_text, promotion_text, IsFileOrRank, IsPromotionKind, Spells, castling_text, castling_with_zeros, IsCastlingText, kind_said, Agrees, IsNamed}
-use Rattle.chess.specs.Laws.{AreOnBoard, NamesOneNoneOrSeveral, EachTextNamesOneNoneOrSeveral}
+use Rattle.chess.specs.Laws.{NamesOneNoneOrSeveral, EachTextNamesOneNoneOrSeveral}
 use Rattle.chess.specs.CellFacts.{on_board_or_not}
 use Rattle.chess.specs.declared.man.Man.{Man}
 use Rattle.chess.specs.declared.man.Kind.{Kind}
@@ -222,9 +222,8 @@ settled_castling_named x m =
 
 settled_named : (P : State) (x : List ℕ) (m : Move) → AreOnBoard P.men → Settled (IsNamed P x m)
 settled_named P x m on_board =
-    settled_like (λ h. record { legal = h.0; on_board = h.1; by = h.2 }) (λ r. (r.legal, r.on_board, r.by))
-    (settled_three (settled_legal P m on_board) (on_board_or_not m.from)
-    (settled_either (settled_castling_named x m) (settled_said P x m)))
+    settled_like (λ h. record { legal = h.0; by = h.1 }) (λ r. (r.legal, r.by))
+    (settled_both (settled_legal P m on_board) (settled_either (settled_castling_named x m) (settled_said P x m)))
 
 -- ---- a search through all moves
 
@@ -250,7 +249,7 @@ search_named P x F named each =
     settled_like (λ h. (move_of h.0, h.2)) (λ h.
     let is = named h.0 h.1 in (
       (h.0.from, (h.0.to, (h.0.promote, h.0.castle))),
-      (is.on_board, (is.legal.pseudo_legal.on_board, (tt, tt))),
+      (is.legal.pseudo_legal.from, (is.legal.pseudo_legal.to, (tt, tt))),
       h.1,
     ))
     (search_moves (λ t. F (move_of t)) (λ t. each (move_of t)))

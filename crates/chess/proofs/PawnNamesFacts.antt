@@ -79,12 +79,12 @@ pawn_only : (P : State) (capture : Bool) (m n : Move) → is_capture P m ≡ cap
 pawn_only P true m n is says others =
     let goes = pawn_goes P m _ says.0 (said_man P (pawn_said true m) m says) refl in
     let go = pawn_goes P n _ others.0 (said_man P (pawn_said true m) n others) refl in
-    same_capture P m n goes go others.2.target others.2.file (capture_leaves P m goes is)
+    same_capture P m n goes go others.1.target others.1.file (capture_leaves P m goes is)
 pawn_only P false m n is says others =
     let here = said_man P (pawn_said false m) m says in
     let there = said_man P (pawn_said false m) n others in
-    same_step P m n _ here there (pawn_goes P m _ says.0 here refl) (pawn_goes P n _ others.0 there refl) others.2.target (says.2.stays says.2.kind refl)
-    (others.2.stays others.2.kind refl)
+    same_step P m n _ here there (pawn_goes P m _ says.0 here refl) (pawn_goes P n _ others.0 there refl) others.1.target (says.1.stays says.1.kind refl)
+    (others.1.stays others.1.kind refl)
 
 -- the file that is given is the pawn's, and where none is given the pawn stays on its file
 gives_file : (capture : Bool) (m : Move) → IfSome (pawn_file capture m) (λ n. m.from.file ≡ n)
@@ -95,9 +95,9 @@ gives_none : (capture : Bool) (m : Move) → pawn_file capture m ≡ None → ca
 gives_none true m e = absurd (cc)
 gives_none false m e = refl
 
-pub pawn_named : (P : State) (m : Move) (man : Man) (mark : List ℕ) → IsSound P → IsLegal P m → IsOnBoard m.from → m.castle ≡ None
+pub pawn_named : (P : State) (m : Move) (man : Man) (mark : List ℕ) → IsSound P → IsLegal P m → m.castle ≡ None
     → man_at P.men m.from ≡ Some man → man.kind ≡ Pawn → list_all is_check_mark mark ≡ true → IsOnlyNamed P (pawn_text P m ++ mark) m
-pawn_named P m man mark sound legal on castle here pawn marks =
+pawn_named P m man mark sound legal castle here pawn marks =
     let capture = is_capture P m in
     let rules = legal.pseudo_legal in
     let own : man_at P.men m.from ≡ Some (pawn_of P.turn) =
@@ -112,8 +112,8 @@ pawn_named P m man mark sound legal on castle here pawn marks =
       file = gives_file capture m;
       rank = tt;
       promote = refl;
-      stays = λ of_pawn none. step_stays P m (record { sound = sound; from = on; rules = rules }) own goes (gives_none capture m none);
+      stays = λ of_pawn none. step_stays P m (record { sound = sound; rules = rules }) own goes (gives_none capture m none);
     } in
-    said_named P m (pawn_text P m ++ mark) (pawn_said capture m) legal on
-    (pawn_spelled capture m mark on rules.on_board (promotes_kind P m legal) marks) agrees
-    (λ n named. pawn_only P capture m n refl (legal, on, agrees) named)
+    said_named P m (pawn_text P m ++ mark) (pawn_said capture m) legal
+    (pawn_spelled capture m mark rules.from rules.to (promotes_kind P m legal) marks) agrees
+    (λ n named. pawn_only P capture m n refl (legal, agrees) named)

@@ -59,15 +59,14 @@ piece_only P m n piece file rank own says others = elim (cases_place n.from m.fr
   | inr other ↦
       let said = piece_said m piece file rank in
       let rival : IsRival P m n.from = record {
-        on_board = others.1;
         other = other;
         alike = said_man P said n others ∙ sym (said_man P said m says);
         goes = (
           n.promote,
           n.castle,
-          subst (λ t. IsLegal P (record { from = n.from; to = t; promote = n.promote; castle = n.castle })) others.2.target others.0,
+          subst (λ t. IsLegal P (record { from = n.from; to = t; promote = n.promote; castle = n.castle })) others.1.target others.0,
         );
-      } in absurd (own.apart n.from rival others.2.file others.2.rank)
+      } in absurd (own.apart n.from rival others.1.file others.1.rank)
 ]
 
 -- only a pawn becomes anything
@@ -79,9 +78,9 @@ plain_piece P m man legal here no_pawn =
       | inr pawn ↦ absurd (no_pawn (same_kind man rules.man (sym here ∙ rules.here) ∙ pawn.0))
     ]
 
-pub piece_named : (P : State) (m : Move) (man : Man) (body mark : List ℕ) → IsLegal P m → IsOnBoard m.from → m.castle ≡ None → man_at P.men m.from ≡ Some man
+pub piece_named : (P : State) (m : Move) (man : Man) (body mark : List ℕ) → IsLegal P m → m.castle ≡ None → man_at P.men m.from ≡ Some man
     → (man.kind ≡ Pawn → ⊥) → IsPieceText P m man.kind body → list_all is_check_mark mark ≡ true → IsOnlyNamed P (body ++ mark) m
-piece_named P m man body mark legal on castle here no_pawn text marks =
+piece_named P m man body mark legal castle here no_pawn text marks =
     let own = told P m text.0 text.1 in
     let said = piece_said m man.kind own.0 own.1 in
     let agrees : Agrees P said m = record {
@@ -95,8 +94,8 @@ piece_named P m man body mark legal on castle here no_pawn text marks =
       promote = plain_piece P m man legal here no_pawn;
       stays = λ pawn none. absurd (no_pawn pawn);
     } in
-    let spelled = piece_spelled P m man.kind own.0 own.1 mark on legal.pseudo_legal.on_board own.2 marks in
+    let spelled = piece_spelled P m man.kind own.0 own.1 mark legal.pseudo_legal.from legal.pseudo_legal.to own.2 marks in
     let whole : body ≡ kind_letter man.kind ∷ ((file_text own.0 ++ rank_text own.1) ++ (capture_text P m ++ square_text m.to)) =
     text.2 ∙ ap (λ origin. kind_letter man.kind ∷ (origin ++ (capture_text P m ++ square_text m.to))) own.3 in
-    said_named P m (body ++ mark) said legal on (subst (λ z. Spells (z ++ mark) said) (sym whole) spelled) agrees
-    (λ n named. piece_only P m n man.kind own.0 own.1 own.2 (legal, on, agrees) named)
+    said_named P m (body ++ mark) said legal (subst (λ z. Spells (z ++ mark) said) (sym whole) spelled) agrees
+    (λ n named. piece_only P m n man.kind own.0 own.1 own.2 (legal, agrees) named)

@@ -1,6 +1,5 @@
 -- A text names a move alone: castling does, and what is said does where each move that agrees leaves one square.
 use Rattle.std.proofs.Common.{◌≡◌, ℕ, inl, inr, ap, sym, subst, ◌∙◌, Some, List}
-use Rattle.chess.specs.Squares.{IsOnBoard}
 use Rattle.chess.specs.Positions.{State}
 use Rattle.chess.specs.Moves.{IsLegal}
 use Rattle.chess.specs.San.{Said, Spells, IsCastlingText, Agrees, IsOnlyNamed}
@@ -12,14 +11,14 @@ use Rattle.chess.proofs.SaidOnceFacts.{one_wing, one_said}
 
 -- ---- castling
 
-pub castling_named : (P : State) (m : Move) (x : List ℕ) (wing : Wing) → IsLegal P m → IsOnBoard m.from → m.castle ≡ Some wing → IsCastlingText wing x
+pub castling_named : (P : State) (m : Move) (x : List ℕ) (wing : Wing) → IsLegal P m → m.castle ≡ Some wing → IsCastlingText wing x
     → IsOnlyNamed P x m
-castling_named P m x wing legal on castle text = record {
-  named = record { legal = legal; on_board = on; by = inl (wing, text, castle) };
+castling_named P m x wing legal castle text = record {
+  named = record { legal = legal; by = inl (wing, text, castle) };
   only = λ n named. elim named.by [
     | inl by ↦
         let own : n.castle ≡ Some wing = by.2 ∙ ap (λ (w : Wing). Some w) (one_wing x by.0 wing by.1 text) in
-        castling_only P wing n (named.legal, named.on_board, own) ∙ sym (castling_only P wing m (legal, on, castle))
+        castling_only P wing n (named.legal, own) ∙ sym (castling_only P wing m (legal, castle))
     | inr by ↦ absurd (not_both x wing by.0 text by.1)
   ];
 }
@@ -27,15 +26,15 @@ castling_named P m x wing legal on castle text = record {
 -- ---- a move that is said
 
 -- a legal move that agrees with what is said is the only one, where each that agrees leaves the same square
-pub said_named : (P : State) (m : Move) (x : List ℕ) (said : Said) → IsLegal P m → IsOnBoard m.from → Spells x said → Agrees P said m
+pub said_named : (P : State) (m : Move) (x : List ℕ) (said : Said) → IsLegal P m → Spells x said → Agrees P said m
     → ((n : Move) → IsMoveSaid P said n → n.from ≡ m.from) → IsOnlyNamed P x m
-said_named P m x said legal on spells agrees one = record {
-  named = record { legal = legal; on_board = on; by = inr (said, spells, agrees) };
+said_named P m x said legal spells agrees one = record {
+  named = record { legal = legal; by = inr (said, spells, agrees) };
   only = λ n named. elim named.by [
     | inl by ↦ absurd (not_both x by.0 said by.1 spells)
     | inr by ↦
         let own = subst (λ t. Agrees P t n) (one_said x by.0 said by.1 spells) by.2 in
-        let from = one n (named.legal, named.on_board, own) in
+        let from = one n (named.legal, own) in
         let to = own.target ∙ sym agrees.target in
         let promote = own.promote ∙ sym agrees.promote in
         let castle = own.not_castling ∙ sym agrees.not_castling in

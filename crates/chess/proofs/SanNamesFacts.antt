@@ -1,7 +1,6 @@
 -- The standard text of a legal move names that move and no other.
 use Rattle.std.proofs.Common.{◌≡◌, ◌⊎◌, ℕ, true, inl, inr, ap, refl, sym, subst, ◌∙◌, Some, None, List, ◌++◌}
 use Rattle.std.specs.List.{list_all}
-use Rattle.chess.specs.Squares.{IsOnBoard}
 use Rattle.chess.specs.Positions.{State, IsSound}
 use Rattle.chess.specs.Moves.{after, IsLegal}
 use Rattle.chess.specs.Letters.{is_check_mark}
@@ -16,8 +15,8 @@ use Rattle.chess.proofs.PieceNamesFacts.{piece_named}
 use Rattle.chess.proofs.PawnNamesFacts.{pawn_named}
 
 marks_are : (P : State) (mark : List ℕ) → IsMark P mark → list_all is_check_mark mark ≡ true
-marks_are P _ (mate in_check none) = refl
-marks_are P _ (check in_check some) = refl
+marks_are P _ (mate mated) = refl
+marks_are P _ (check in_check other) = refl
 marks_are P _ (quiet calm) = refl
 
 cases_pawn : (kind : Kind) → (kind ≡ Pawn) ⊎ (kind ≡ Pawn → ⊥)
@@ -36,15 +35,15 @@ piece_text P m Bishop body piece is = is
 piece_text P m Knight body piece is = is
 piece_text P m Pawn body piece is = absurd (piece refl)
 
-pub san_names : (P : State) (m : Move) (x : List ℕ) → IsSound P → IsLegal P m → IsOnBoard m.from → IsSan P m x → IsOnlyNamed P x m
-san_names P m x sound legal on san =
+pub san_names : (P : State) (m : Move) (x : List ℕ) → IsSound P → IsLegal P m → IsSan P m x → IsOnlyNamed P x m
+san_names P m x sound legal san =
     let marks = marks_are (after P m) san.mark san.mark_is in
     elim m.castle as (λ c. m.castle ≡ c → IsBody P m c san.man.kind san.body → IsOnlyNamed P x m) [
-      | Some wing ↦ λ castle is. castling_named P m x wing legal on castle (san.mark, marks, inl (san.text ∙ ap (λ z. z ++ san.mark) is))
+      | Some wing ↦ λ castle is. castling_named P m x wing legal castle (san.mark, marks, inl (san.text ∙ ap (λ z. z ++ san.mark) is))
       | None ↦ λ castle is. subst (λ z. IsOnlyNamed P z m) (sym san.text) (elim (cases_pawn san.man.kind) [
         | inl pawn ↦
             let text : san.body ≡ pawn_text P m = subst (λ kind. IsBody P m None kind san.body) pawn is in
-            subst (λ z. IsOnlyNamed P (z ++ san.mark) m) (sym text) (pawn_named P m san.man san.mark sound legal on castle san.here pawn marks)
-        | inr piece ↦ piece_named P m san.man san.body san.mark legal on castle san.here piece (piece_text P m san.man.kind san.body piece is) marks
+            subst (λ z. IsOnlyNamed P (z ++ san.mark) m) (sym text) (pawn_named P m san.man san.mark sound legal castle san.here pawn marks)
+        | inr piece ↦ piece_named P m san.man san.body san.mark legal castle san.here piece (piece_text P m san.man.kind san.body piece is) marks
       ])
     ] refl san.body_is

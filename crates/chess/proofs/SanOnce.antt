@@ -31,14 +31,14 @@ one_origin P m _ _ (by_both file rank) (by_rank also other) = absurd (other rank
 one_origin P m _ _ (by_both file rank) (by_both also too) = refl
 
 one_mark : (P : State) (x y : List ℕ) → IsMark P x → IsMark P y → x ≡ y
-one_mark P _ _ (mate in_check none) (mate also other) = refl
-one_mark P _ _ (mate in_check none) (check also some) = absurd (none some)
-one_mark P _ _ (mate in_check none) (quiet calm) = absurd (calm in_check)
-one_mark P _ _ (check in_check some) (mate also none) = absurd (none some)
-one_mark P _ _ (check in_check some) (check also other) = refl
-one_mark P _ _ (check in_check some) (quiet calm) = absurd (calm in_check)
-one_mark P _ _ (quiet calm) (mate in_check none) = absurd (calm in_check)
-one_mark P _ _ (quiet calm) (check in_check some) = absurd (calm in_check)
+one_mark P _ _ (mate mated) (mate also) = refl
+one_mark P _ _ (mate mated) (check also other) = absurd (other mated)
+one_mark P _ _ (mate mated) (quiet calm) = absurd (calm mated.0)
+one_mark P _ _ (check in_check other) (mate mated) = absurd (other mated)
+one_mark P _ _ (check in_check other) (check also too) = refl
+one_mark P _ _ (check in_check other) (quiet calm) = absurd (calm in_check)
+one_mark P _ _ (quiet calm) (mate mated) = absurd (calm mated.0)
+one_mark P _ _ (quiet calm) (check in_check other) = absurd (calm in_check)
 one_mark P _ _ (quiet calm) (quiet also) = refl
 
 one_piece : (P : State) (m : Move) (letter : ℕ) (x y : List ℕ)

@@ -13,25 +13,29 @@ use Rattle.chess.specs.declared.man.Man.{Man}
 use Rattle.chess.specs.declared.moves.Move.{Move}
 use Rattle.chess.proofs.LoopFacts.{sifted_start, sifted_more, left_start, left_more}
 
+-- a rival stands on the board
+rival_on : (P : State) (m : Move) (s : Place) → IsRival P m s → IsOnBoard s
+rival_on P m s rival = rival.goes.2.pseudo_legal.from
+
 -- a rival on a square that has the fact is a square of the set of rivals that has it
 pub rival_of_square : (P : State) (m : Move) (set : Places) (fact : Place → Type 0) → HoldsExactly (IsRival P m) set → HasSquare set fact → HasRival P m fact
-rival_of_square P m set fact rivals found = (found.0, (rivals found.0 found.1).0 found.2, found.3)
+rival_of_square P m set fact rivals found = (found.0, ((rivals found.0).0 found.2).1, found.3)
 
 pub square_of_rival : (P : State) (m : Move) (set : Places) (fact : Place → Type 0) → HoldsExactly (IsRival P m) set → HasRival P m fact → HasSquare set fact
-square_of_rival P m set fact rivals found = (found.0, found.1.on_board, (rivals found.0 found.1.on_board).1 found.1, found.2)
+square_of_rival P m set fact rivals found = let on = rival_on P m found.0 found.1 in (found.0, on, (rivals found.0).1 (on, found.1), found.2)
 
 -- ---- the loop over the men that are alike
 
 pub rivals_start : (P : State) (m : Move) (man : Man) (squares found : Places) → man_at P.men m.from ≡ Some man → IsSquaresOf P.men man squares
     → found ≡ no_places → AreRivalsSifted P m man 0 squares found
 rivals_start P m man squares found here alike none = record {
-  sifted = sifted_start (IsRival P m) squares found (λ s on rival. (alike s on).1 (rival.alike ∙ here)) none;
-  alike = left_start (λ s. man_at P.men s ≡ Some man) (λ s. ⊥) squares (λ s on clash. absurd clash) (λ s on in_set. (alike s on).0 in_set);
+  sifted = sifted_start (IsRival P m) squares found (λ s on rival. (alike s).1 (on, rival.alike ∙ here)) none;
+  alike = left_start (λ s. man_at P.men s ≡ Some man) (λ s. ⊥) squares (λ s on clash. absurd clash) (λ s on in_set. ((alike s).0 in_set).1);
 }
 
 pub rivals_more : (P : State) (m : Move) (man : Man) (n : ℕ) (old new found more : Places) (t : Place) (test : Bool)
     → AreRivalsSifted P m man n old found → IsTakenFirst old new (Some t) → IsTrue test ↔ IsRival P m t
-    → ((s : Place) → IsOnBoard s → is_in more s ≡ ((test && same_square t s) || is_in found s)) → AreRivalsSifted P m man (n + 1) new more
+    → ((s : Place) → is_in more s ≡ ((test && same_square t s) || is_in found s)) → AreRivalsSifted P m man (n + 1) new more
 rivals_more P m man n old new found more t test so_far taken tested put = record {
   sifted = sifted_more (IsRival P m) n old new found more t test so_far.sifted taken tested put;
   alike = left_more (λ s. man_at P.men s ≡ Some man) (λ s. ⊥) n old new t so_far.alike taken (λ clash. clash);
@@ -42,14 +46,14 @@ rivals_more P m man n old new found more t test so_far taken tested put = record
 pub alone_is_told : (P : State) (m : Move) (set : Places) (old : List ℕ) → HoldsExactly (IsRival P m) set
     → (((s : Place) × IsOnBoard s × (is_in set s ≡ true)) → ⊥) → Appends (IsDisambiguation P m) old old
 alone_is_told P m set old rivals none =
-    ([], alone (λ rival. none (rival.0, rival.1.on_board, (rivals rival.0 rival.1.on_board).1 rival.1)), sym (append-nil old))
+    ([], alone (λ rival. let on = rival_on P m rival.0 rival.1 in none (rival.0, on, (rivals rival.0).1 (on, rival.1))), sym (append-nil old))
 
 pub file_is_told : (P : State) (m : Move) (set : Places) (old new : List ℕ) (file : ℕ) → HoldsExactly (IsRival P m) set
     → ((s : Place) × IsOnBoard s × (is_in set s ≡ true)) → (HasSquare set (λ s. s.file ≡ m.from.file) → ⊥) → file ≡ m.from.file
     → new ≡ old ++ file_letter file ∷ [] → Appends (IsDisambiguation P m) old new
 file_is_told P m set old new file rivals some none is_file written = (
   file_letter m.from.file ∷ [],
-  by_file (some.0, (rivals some.0 some.1).0 some.2, tt) (λ rival. none (square_of_rival P m set (λ s. s.file ≡ m.from.file) rivals rival)),
+  by_file (some.0, ((rivals some.0).0 some.2).1, tt) (λ rival. none (square_of_rival P m set (λ s. s.file ≡ m.from.file) rivals rival)),
   written ∙ ap (λ n. old ++ file_letter n ∷ []) is_file,
 )
 

@@ -2,7 +2,7 @@
 use Rattle.std.proofs.Common.{◌≡◌, ◌≢◌, ◌≤◌, ◌+◌, ◌/◌, ◌&&◌, ◌⊎◌, ℕ, Bool, true, false, not, inl, inr, ap, refl, sym, subst, ◌∙◌, arith, Option, Some, None, IfSome, if◌then◌else◌}
 use Rattle.std.specs.Prelude.{◌==◌}
 use Rattle.std.proofs.lemmas.Bool.Decides.{nat_tests}
-use Rattle.chess.specs.Squares.{Place, IsOnBoard, same_square, gap}
+use Rattle.chess.specs.Squares.{Place, same_square, gap}
 use Rattle.chess.specs.Placements.{man_at, opposite, IsEmpty}
 use Rattle.chess.specs.Attacks.{IsForward}
 use Rattle.chess.specs.Positions.{State, king_of, rook_of, pawn_of, home_rank, pawn_rank, passed_rank, has_right, king_from, rook_from, IsCheck, IsOnlyKing, IsSound, FitsEnPassant}
@@ -18,7 +18,7 @@ use Rattle.chess.specs.declared.man.CastlingRights.{CastlingRights}
 use Rattle.chess.specs.declared.moves.Move.{Move}
 use Rattle.chess.proofs.PlaceFacts.{place_of, cases_place, same_square-same, cases_side, opposite-opposite, same_kind, some_not_none, man_of}
 use Rattle.chess.proofs.GoesFacts.{IsTried, goes_castle, has_arrived}
-use Rattle.chess.proofs.AfterFacts.{IsNoRook, IsApart, after_apart, after_to, after_from, has_come}
+use Rattle.chess.proofs.AfterFacts.{IsNoRook, IsApart, after_apart, after_to, after_from, has_come, after_on_board}
 use Rattle.chess.proofs.KingFacts.{pawn_kind, taken_cases, rook_to-empty, king_apart, king_stays, king_moves, no_rook_to, and_left, and_right}
 
 -- ---- pawns
@@ -75,7 +75,7 @@ pawns_after P m x side s here = elim (has_come P m s (pawn_of side) here) [
   | inl came ↦
       let arrived = arrived_pawn P m x side came.1 in
       let goes = arrived.1 in
-      let low = x.from.rank_low in let high = x.from.rank_high in
+      let low = x.rules.from.rank_low in let high = x.rules.from.rank_high in
       let at_to = edges P.turn m.to.rank
       (not_home P.turn m.from.rank m.to.rank low high (advance P m.from m.to goes.1))
       (not_last P.turn m.to m.promote goes.2 arrived.0) in
@@ -235,8 +235,8 @@ passed_fits P m x pawn u file to_file empty ranks =
     } in
     record {
       on_board = record {
-        file_low = subst (λ n. 1 ≤ n) (sym file) x.from.file_low;
-        file_high = subst (λ n. n ≤ 8) (sym file) x.from.file_high;
+        file_low = subst (λ n. 1 ≤ n) (sym file) x.rules.from.file_low;
+        file_high = subst (λ n. n ≤ 8) (sym file) x.rules.from.file_high;
         rank_low = ranks.low;
         rank_high = ranks.high;
       };
@@ -282,16 +282,17 @@ en_passant_sound P m x =
 
 -- ---- all together
 
-king_sound : (P : State) (m : Move) → IsTried P m → (side : Side) → (s : Place) × IsOnBoard s × IsOnlyKing (men_after P m) side s
+king_sound : (P : State) (m : Move) → IsTried P m → (side : Side) → (s : Place) × IsOnlyKing (men_after P m) side s
 king_sound P m x side =
     let king = x.sound.king side in
     elim (cases_place king.0 m.from) [
-      | inl moves ↦ (m.to, x.rules.on_board, king_moves P m x side king.0 king.2 moves)
-      | inr stays ↦ (king.0, king.1, king_stays P m x side king.0 king.2 stays)
+      | inl moves ↦ (m.to, king_moves P m x side king.0 king.1 moves)
+      | inr stays ↦ (king.0, king_stays P m x side king.0 king.1 stays)
     ]
 
 pub after_sound : (P : State) (m : Move) → IsTried P m → (IsCheck (men_after P m) P.turn → ⊥) → IsSound (after P m)
 after_sound P m x safe = record {
+  on_board = after_on_board P m x.sound.on_board x.rules.to;
   king = king_sound P m x;
   pawns = pawns_after P m x;
   quiet = λ check. safe (subst (IsCheck (men_after P m)) (opposite-opposite P.turn) check);

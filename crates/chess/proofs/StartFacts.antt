@@ -23,10 +23,10 @@ use Rattle.chess.specs.declared.man.Wing.TheVariants.{KingSide, QueenSide}
 use Rattle.chess.proofs.PlaceFacts.{some_not_none, same_kind}
 
 -- who stands on a square of the board
-usual_at : (s : Place) → IsOnBoard s → man_at usual_men s ≡ usual_man s
+pub usual_at : (s : Place) → IsOnBoard s → man_at usual_men s ≡ usual_man s
 usual_at s on = man_at-men_of (λ n. usual_man (square_at n)) s on ∙ ap usual_man (square_at-index_of s on)
 
-usual_on : (s : Place) (man : Man) → man_at usual_men s ≡ Some man → IsOnBoard s
+pub usual_on : (s : Place) (man : Man) → man_at usual_men s ≡ Some man → IsOnBoard s
 usual_on s man here = on_board-men_of (λ n. usual_man (square_at n)) s man here
 
 -- ---- kings, by tables over the 64 squares
@@ -106,9 +106,9 @@ black_king = record {
       (λ h. place_by is_black_king (λ n. n == 60) black_kings t (king_of Black) h refl) here;
 }
 
-usual_king : (side : Side) → (s : Place) × IsOnBoard s × IsOnlyKing usual_men side s
-usual_king White = (king_from White, e1, white_king)
-usual_king Black = (king_from Black, e8, black_king)
+usual_king : (side : Side) → (s : Place) × IsOnlyKing usual_men side s
+usual_king White = (king_from White, white_king)
+usual_king Black = (king_from Black, black_king)
 
 -- ---- pawns
 
@@ -204,6 +204,7 @@ usual_homes Black QueenSide = (black_king.here, usual_at (rook_from Black QueenS
 pub usual_kept : IsKept usual (king_from White) (king_from Black)
 usual_kept = record {
   sound = record {
+    on_board = usual_on;
     king = usual_king;
     pawns = usual_pawns;
     quiet = usual_quiet;

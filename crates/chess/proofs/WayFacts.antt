@@ -20,8 +20,9 @@ mover P s t h =
 -- some man of the side to move has a legal move
 pub moving : (P : State) (h : HasMove P) → (other : Kind) × CanMove P other
 moving P h =
-    let go = h.4 in
-    (go.2.pseudo_legal.man.kind, (h.0, h.2, mover P h.0 h.1 go, (h.1, h.3, go)))
+    let go = h.2 in
+    let rules = go.2.pseudo_legal in
+    (rules.man.kind, (h.0, rules.from, mover P h.0 h.1 go, (h.1, rules.to, go)))
 
 pub no_move : (P : State) → (CanMove P Pawn → ⊥) → (CanMove P Knight → ⊥) → (CanMove P Bishop → ⊥) → (CanMove P Rook → ⊥) → (CanMove P Queen → ⊥)
     → (CanMove P King → ⊥) → HasMove P → ⊥
@@ -63,7 +64,7 @@ no_goal P s side on turn none t there goal =
 
 -- a legal move of a man of some kind is a legal move
 pub found_move : (P : State) (other : Kind) → CanMove P other → HasMove P
-found_move P other h = (h.0, h.3.0, h.1, h.3.1, h.3.2)
+found_move P other h = (h.0, h.3.0, h.3.2)
 
 -- a pawn becomes a queen, a rook, a bishop or a knight
 abbrev pub CanBecome : State → Place → Place → Kind → Type 0

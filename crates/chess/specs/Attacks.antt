@@ -56,7 +56,6 @@ pub record IsInReach (p : Placement) (s t : Place) : Type 0 where
 -- some man of the side attacks t (Laws 3.1.2)
 pub record IsAttacked (p : Placement) (side : Side) (t : Place) : Type 0 where
   pub from : Place
-  pub on_board : IsOnBoard from
   pub man : Man
   pub here : man_at p from ≡ Some man
   pub own : man.side ≡ side

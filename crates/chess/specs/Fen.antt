@@ -2,7 +2,7 @@
 use Rattle.std.specs.Prelude.{◌≡◌, ◌≢◌, ◌⊎◌, ◌↔◌, ℕ, ◌+◌, ◌-◌, ◌*◌, ◌≤◌, Bool, true, false, not, ◌&&◌, ◌||◌, ◌==◌, nat_le, if◌then◌else◌, List, [], ◌∷◌, ◌++◌, length, replicate, codes, decimal, Option, Some, None, IsTrue}
 use Rattle.std.specs.List.{list_all}
 use Rattle.chess.specs.Squares.{Place, IsOnBoard}
-use Rattle.chess.specs.Placements.{Placement, man_at, opposite}
+use Rattle.chess.specs.Placements.{Placement, man_at, AreOnBoard, opposite}
 use Rattle.chess.specs.Positions.{State, king_of, rook_of, pawn_of, has_right, king_from, rook_from, IsCheck, IsOnlyKing, FitsEnPassant}
 use Rattle.chess.specs.Letters.{man_letter, square_text}
 use Rattle.chess.specs.declared.man.Man.{Man}
@@ -62,7 +62,7 @@ SpellRanks p n (x ∷ more) = (1 ≤ n) × SpellsRank x (row p n) × SpellRanks 
 -- the text of the men: eight ranks from rank 8 down, with / between; and men stand on the board alone
 pub record SpellsMen (x : List ℕ) (p : Placement) : Type 0 where
   pub ranks : SpellRanks p 8 (parted_at 47 x)
-  pub on_board : (s : Place) (man : Man) → man_at p s ≡ Some man → IsOnBoard s
+  pub on_board : AreOnBoard p
 
 -- w or b (PGN 16.1.3.2)
 abbrev pub side_text : Side → List ℕ

@@ -1,13 +1,11 @@
 -- What holds of every text in FEN and of the text of every move, whatever writes and reads it.
-use Rattle.std.specs.Prelude.{◌≡◌, ◌≢◌, ◌⊎◌, ℕ, List, Some}
-use Rattle.chess.specs.Squares.{Place, IsOnBoard}
-use Rattle.chess.specs.Placements.{Placement, man_at}
-use Rattle.chess.specs.Start.{usual}
-use Rattle.chess.specs.declared.man.Man.{Man}
+use Rattle.std.specs.Prelude.{◌≡◌, ◌≢◌, ◌⊎◌, ◌↔◌, ◌≤◌, ℕ, List}
+use Rattle.chess.specs.Placements.{AreOnBoard}
 use Rattle.chess.specs.Positions.{State, IsSound}
 use Rattle.chess.specs.Moves.{IsLegal, after}
+use Rattle.chess.specs.Start.{usual, IsUsual}
 use Rattle.chess.specs.San.{IsSan, IsNamed, IsOnlyNamed}
-use Rattle.chess.specs.Fen.{SpellsPosition, ReadsFen, IsRefused}
+use Rattle.chess.specs.Fen.{SpellsPosition, ReadsFen, IsRefused, IsFen}
 use Rattle.chess.specs.declared.fen.FenError.{FenError}
 use Rattle.chess.specs.declared.moves.Move.{Move}
 
@@ -21,18 +19,37 @@ TextHasOneAnswer =
     ((x : List ℕ) (P : State) (error : FenError) → ReadsFen x P → IsRefused x error → ⊥)
     × ((x : List ℕ) (error other : FenError) → IsRefused x error → IsRefused x other → error ≡ other)
 
+-- a text that spells a position is read as it exactly where the position is sound
+abbrev pub SoundPositionsAreRead : Type 0
+SoundPositionsAreRead = (x : List ℕ) (P : State) → SpellsPosition x P → IsSound P ↔ ReadsFen x P
+
+-- the text of a sound position is read back as that position, where its two counts have seven digits at most
+abbrev pub FenIsReadBack : Type 0
+FenIsReadBack = (P : State) (x : List ℕ) → IsSound P → P.halfmove_clock ≤ 9999999 → P.fullmove_number ≤ 9999999 → IsFen P x → ReadsFen x P
+
+-- a position has at most one text
+abbrev pub PositionHasOneText : Type 0
+PositionHasOneText = (P : State) (x y : List ℕ) → IsFen P x → IsFen P y → x ≡ y
+
+-- the position that is made square by square is the usual one, and there is no other
+abbrev pub UsualPositionIsOne : Type 0
+UsualPositionIsOne = IsUsual usual × ((P : State) → IsUsual P → P ≡ usual)
+
+-- the usual position is sound, and so is each position after a legal move from a sound one
+abbrev pub UsualPositionIsSound : Type 0
+UsualPositionIsSound = IsSound usual
+
+abbrev pub MovesKeepPositionsSound : Type 0
+MovesKeepPositionsSound = (P : State) (m : Move) → IsSound P → IsLegal P m → IsSound (after P m)
+
 -- in a sound position the standard text of a legal move names that move, and no other (were there no pawn to take en passant, the text of
 -- that move would be the text of a step)
 abbrev pub SanNamesItsMove : Type 0
-SanNamesItsMove = (P : State) (m : Move) (x : List ℕ) → IsSound P → IsLegal P m → IsOnBoard m.from → IsSan P m x → IsOnlyNamed P x m
+SanNamesItsMove = (P : State) (m : Move) (x : List ℕ) → IsSound P → IsLegal P m → IsSan P m x → IsOnlyNamed P x m
 
 -- a move has at most one standard text
 abbrev pub MoveHasOneText : Type 0
 MoveHasOneText = (P : State) (m : Move) (x y : List ℕ) → IsSan P m x → IsSan P m y → x ≡ y
-
--- men stand on the board alone
-abbrev pub AreOnBoard : Placement → Type 0
-AreOnBoard p = (s : Place) (man : Man) → man_at p s ≡ Some man → IsOnBoard s
 
 -- a text names one legal move alone, or none, or several
 abbrev pub NamesOneNoneOrSeveral : State → List ℕ → Type 0
@@ -44,15 +61,11 @@ NamesOneNoneOrSeveral P x =
 abbrev pub EachTextNamesOneNoneOrSeveral : Type 0
 EachTextNamesOneNoneOrSeveral = (P : State) (x : List ℕ) → AreOnBoard P.men → NamesOneNoneOrSeveral P x
 
--- they stand there in the position in which games usually begin
-abbrev pub UsualMenAreOnBoard : Type 0
-UsualMenAreOnBoard = AreOnBoard usual.men
-
--- in each position that a text in FEN spells
+-- they stand there in each position that a text in FEN spells, sound or not
 abbrev pub SpelledMenAreOnBoard : Type 0
 SpelledMenAreOnBoard = (x : List ℕ) (P : State) → SpellsPosition x P → AreOnBoard P.men
 
--- and after each legal move in such a position
+-- and after each legal move in a position in which they do
 abbrev pub MenStayOnBoard : Type 0
 MenStayOnBoard = (P : State) (m : Move) → AreOnBoard P.men → IsLegal P m → AreOnBoard (after P m).men
 

@@ -16,7 +16,6 @@ pub mod Start
 pub mod Codes
 pub mod Cells
 pub mod CellFacts
-pub mod BoardFacts
 pub mod Runs
 pub mod FenWords
 pub mod FenTextWords

@@ -57,7 +57,7 @@ pub record IsLeft (range fact : Place → Type 0) (n : ℕ) (left : Places) : Ty
 
 -- the squares with the fact are those found and some of those left, none before the nth
 pub record IsSifted (fact : Place → Type 0) (n : ℕ) (left found : Places) : Type 0 where
-  pub sound : (s : Place) → IsOnBoard s → is_in found s ≡ true → fact s
+  pub sound : (s : Place) → is_in found s ≡ true → IsOnBoard s × fact s
   pub each : (s : Place) → IsOnBoard s → fact s → (is_in found s ≡ true) ⊎ (is_in left s ≡ true)
   pub low : (s : Place) → IsOnBoard s → is_in left s ≡ true → n ≤ index_of s
 

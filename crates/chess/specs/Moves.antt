@@ -64,10 +64,11 @@ Goes P m Rook = (m.castle ≡ None) × (m.promote ≡ None) × Reaches P.men P.t
 Goes P m Bishop = (m.castle ≡ None) × (m.promote ≡ None) × Reaches P.men P.turn Bishop m.from m.to
 Goes P m Knight = (m.castle ≡ None) × (m.promote ≡ None) × Reaches P.men P.turn Knight m.from m.to
 
--- a pseudo-legal move: a man of the side to move goes as it may, and not to a square of its own side; whether its king is then attacked
--- is not asked (Laws 3.1)
+-- a pseudo-legal move: a man of the side to move goes as it may from a square of the board to another, and not to a square of its own side;
+-- whether its king is then attacked is not asked (Laws 3.1)
 pub record IsPseudoLegal (P : State) (m : Move) : Type 0 where
-  pub on_board : IsOnBoard m.to
+  pub from : IsOnBoard m.from
+  pub to : IsOnBoard m.to
   pub man : Man
   pub here : man_at P.men m.from ≡ Some man
   pub own : man.side ≡ P.turn
@@ -170,9 +171,9 @@ abbrev pub CanGo : State → Place → Place → Type 0
 CanGo P s t = (promote : Option Kind) × (castle : Option Wing) × IsLegal P (record { from = s; to = t; promote = promote; castle = castle })
 
 abbrev pub HasMove : State → Type 0
-HasMove P = (s t : Place) × IsOnBoard s × IsOnBoard t × CanGo P s t
+HasMove P = (s t : Place) × CanGo P s t
 
--- checkmate and stalemate (Laws 1.4.1, 5.2.1)
+-- checkmate: the side to move is in check and has no legal move (Laws 1.4.1); stalemate: it is not in check and has none (Laws 5.2.1)
 abbrev pub IsMate : State → Type 0
 IsMate P = IsCheck P.men P.turn × (¬ HasMove P)
 

@@ -1,7 +1,7 @@
 -- Which man stands on which square: a map from squares to men (Laws 2.3).
 use Rattle.std.specs.Prelude.{◌≡◌, Option, Some, None}
 use Rattle.std.specs.FinMap.{FinMap, get, insert, remove, empty}
-use Rattle.chess.specs.Squares.{Place, place_cmp}
+use Rattle.chess.specs.Squares.{Place, IsOnBoard, place_cmp}
 use Rattle.chess.specs.declared.man.Man.{Man}
 use Rattle.chess.specs.declared.man.Side.{Side}
 use Rattle.chess.specs.declared.man.Side.TheVariants.{White, Black}
@@ -22,6 +22,10 @@ man_at p s = get p s
 abbrev pub with_man : Placement → Place → Option Man → Placement
 with_man p s None = remove p s
 with_man p s (Some man) = insert p s man
+
+-- men stand on the board alone (Laws 2.3)
+abbrev pub AreOnBoard : Placement → Type 0
+AreOnBoard p = (s : Place) (man : Man) → man_at p s ≡ Some man → IsOnBoard s
 
 -- the other side
 abbrev pub opposite : Side → Side

@@ -1,7 +1,7 @@
 -- A position: men, the side to move, castling rights, the en passant square, and two counts (Laws 3; PGN 16.1.3).
 use Rattle.std.specs.Prelude.{◌≡◌, ◌≢◌, ℕ, Bool, true, Option, Some, IfSome}
 use Rattle.chess.specs.Squares.{Place, IsOnBoard}
-use Rattle.chess.specs.Placements.{Placement, man_at, opposite, IsEmpty}
+use Rattle.chess.specs.Placements.{Placement, man_at, AreOnBoard, opposite, IsEmpty}
 use Rattle.chess.specs.Attacks.{IsAttacked, IsForward}
 use Rattle.chess.specs.declared.man.Man.{Man}
 use Rattle.chess.specs.declared.man.Side.{Side}
@@ -102,8 +102,10 @@ pub record FitsEnPassant (p : Placement) (turn : Side) (s : Place) : Type 0 wher
 
 -- the facts that each position of the program keeps
 pub record IsSound (P : State) : Type 0 where
+  -- men stand on the board alone (Laws 2.3)
+  pub on_board : AreOnBoard P.men
   -- one king a side
-  pub king : (side : Side) → (s : Place) × IsOnBoard s × IsOnlyKing P.men side s
+  pub king : (side : Side) → (s : Place) × IsOnlyKing P.men side s
   -- no pawn on the first or the last rank (Laws 3.7)
   pub pawns : (side : Side) (s : Place) → man_at P.men s ≡ Some (pawn_of side) → (s.rank ≢ 1) × (s.rank ≢ 8)
   -- the side not to move is not in check (Laws 3.9.2)

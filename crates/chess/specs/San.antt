@@ -4,7 +4,7 @@ use Rattle.std.specs.List.{list_all}
 use Rattle.chess.specs.Squares.{Place, IsOnBoard}
 use Rattle.chess.specs.Placements.{man_at}
 use Rattle.chess.specs.Positions.{State, IsCheck}
-use Rattle.chess.specs.Moves.{taken, after, IsLegal, CanGo, HasMove}
+use Rattle.chess.specs.Moves.{taken, after, IsLegal, CanGo, IsMate}
 use Rattle.chess.specs.Letters.{kind_letter, file_letter, rank_digit, square_text, is_check_mark, is_sign}
 use Rattle.chess.specs.declared.man.Man.{Man}
 use Rattle.chess.specs.declared.man.Kind.{Kind}
@@ -99,7 +99,6 @@ pub record Agrees (P : State) (said : Said) (m : Move) : Type 0 where
 -- the text names the move, which is legal
 pub record IsNamed (P : State) (x : List ℕ) (m : Move) : Type 0 where
   pub legal : IsLegal P m
-  pub on_board : IsOnBoard m.from
   pub by : ((wing : Wing) × IsCastlingText wing x × (m.castle ≡ Some wing)) ⊎ ((said : Said) × Spells x said × Agrees P said m)
 
 -- the text names this move and no other
@@ -109,7 +108,6 @@ pub record IsOnlyNamed (P : State) (x : List ℕ) (m : Move) : Type 0 where
 
 -- another man of the same kind and side that has a legal move to the same square (so a pinned man does not count)
 pub record IsRival (P : State) (m : Move) (s : Place) : Type 0 where
-  pub on_board : IsOnBoard s
   pub other : s ≢ m.from
   pub alike : man_at P.men s ≡ man_at P.men m.from
   pub goes : CanGo P s m.to
@@ -148,10 +146,10 @@ IsBody P m None Rook x = (origin : List ℕ) × IsDisambiguation P m origin × (
 IsBody P m None Bishop x = (origin : List ℕ) × IsDisambiguation P m origin × (x ≡ kind_letter Bishop ∷ (origin ++ (capture_text P m ++ square_text m.to)))
 IsBody P m None Knight x = (origin : List ℕ) × IsDisambiguation P m origin × (x ≡ kind_letter Knight ∷ (origin ++ (capture_text P m ++ square_text m.to)))
 
--- the mark behind a move, of the position after it: # for mate, + for check, else none (PGN 8.2.3.5)
+-- the mark behind a move, of the position after it: # for mate, + for a check that is no mate, else none, also for stalemate (PGN 8.2.3.5)
 pub data IsMark (P : State) : List ℕ → Type 0 where
-  mate : IsCheck P.men P.turn → ¬ HasMove P → IsMark P (35 ∷ [])
-  check : IsCheck P.men P.turn → HasMove P → IsMark P (43 ∷ [])
+  mate : IsMate P → IsMark P (35 ∷ [])
+  check : IsCheck P.men P.turn → ¬ IsMate P → IsMark P (43 ∷ [])
   quiet : ¬ IsCheck P.men P.turn → IsMark P []
 
 -- the standard text of a legal move

@@ -118,7 +118,7 @@ HasNone fact old = (s : Place) → IsOnBoard s → is_in old s ≡ true → fact
 
 -- a legal move that castles on the wing; one that agrees with what is said
 abbrev pub IsCastlingOn : State → Wing → Move → Type 0
-IsCastlingOn P wing m = IsLegal P m × IsOnBoard m.from × (m.castle ≡ Some wing)
+IsCastlingOn P wing m = IsLegal P m × (m.castle ≡ Some wing)
 
 abbrev pub IsMoveSaid : State → Said → Move → Type 0
-IsMoveSaid P said m = IsLegal P m × IsOnBoard m.from × Agrees P said m
+IsMoveSaid P said m = IsLegal P m × Agrees P said m

@@ -1,5 +1,5 @@
 -- Facts about sets of squares and their words of 64 bits.
-use Rattle.std.proofs.Common.{◌≡◌, ◌<◌, ◌≤◌, ◌+◌, ◌*◌, ◌^◌, ◌%◌, ◌/◌, ◌||◌, ◌&&◌, bit_and, bit_or, w64, ℕ, zero, suc, Bool, true, false, not, inl, inr, ap, refl, sym, ◌∙◌, arith, if◌then◌else◌}
+use Rattle.std.proofs.Common.{◌≡◌, ◌<◌, ◌≤◌, ◌+◌, ◌*◌, ◌^◌, ◌%◌, ◌/◌, ◌||◌, ◌&&◌, bit_and, bit_or, w64, ℕ, zero, suc, Bool, true, false, not, inl, inr, ap, refl, sym, subst, ◌∙◌, arith, if◌then◌else◌}
 use Rattle.std.specs.Prelude.{◌==◌}
 use Rattle.std.specs.Ordering.{eq_by_cmp, is_eq}
 use Rattle.std.specs.Cmp.{tied_itself, Equal-is}
@@ -111,6 +111,23 @@ in_first test (suc n) h s on_board near =
 -- a square of the board is among those that pass the test if it passes
 pub is_in-places_of : (test : ℕ → Bool) (s : Place) → IsOnBoard s → is_in (places_of test) s ≡ test (index_of s)
 is_in-places_of test s on_board = in_first test 64 (omega arith) s on_board (index_of-below s on_board)
+
+-- a square among them is one of the board
+in_first-on : (test : ℕ → Bool) (n : ℕ) → n ≤ 64 → (s : Place) → is_in (first_places test n) s ≡ true → IsOnBoard s
+unfolding first_places
+in_first-on test zero h s here = let clash : true ≡ false = sym here ∙ is_in-empty s in absurd (cc)
+in_first-on test (suc n) h s here =
+    elim (test n) as (λ b. is_in (if b then insert (first_places test n) (square_at n) else first_places test n) s ≡ true → IsOnBoard s) [
+      | true ↦ λ e. elim (eq_by_cmp place_cmp s (square_at n)) as (λ b. eq_by_cmp place_cmp s (square_at n) ≡ b → IsOnBoard s) [
+        | true ↦ λ same. subst IsOnBoard (sym (tied s (square_at n) true same refl)) (on_board-square_at n (omega arith))
+        | false ↦ λ other. in_first-on test n (omega arith) s
+            (sym (is_in-insert (first_places test n) (square_at n) s ∙ ap (λ b. b || is_in (first_places test n) s) other) ∙ e)
+      ] refl
+      | false ↦ λ e. in_first-on test n (omega arith) s e
+    ] here
+
+pub on_board-places_of : (test : ℕ → Bool) (s : Place) → is_in (places_of test) s ≡ true → IsOnBoard s
+on_board-places_of test s here = in_first-on test 64 (omega arith) s here
 
 -- ---- words of 64 bits
 

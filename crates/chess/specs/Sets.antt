@@ -1,5 +1,5 @@
 -- Sets of squares.
-use Rattle.std.specs.Prelude.{◌≡◌, ◌≤◌, ◌↔◌, ◌==◌, ◌&&◌, ℕ, zero, suc, Bool, true, false, not, if◌then◌else◌, Option, Some, None}
+use Rattle.std.specs.Prelude.{◌≡◌, ◌≤◌, ◌↔◌, ◌==◌, ◌&&◌, ℕ, zero, suc, Bool, true, not, if◌then◌else◌, Option, Some, None}
 use Rattle.std.specs.Coded.{Coded}
 use Rattle.std.specs.Int.{bit_at}
 use Rattle.std.specs.FinSet.{FinSet, empty, insert, contains, len, code}
@@ -19,9 +19,9 @@ no_places = empty
 abbrev pub is_in : Places → Place → Bool
 is_in set s = contains set s
 
--- the set is that of the squares which have the fact
+-- the set is that of the squares of the board which have the fact
 abbrev pub HoldsExactly : (Place → Type 0) → Places → Type 0
-HoldsExactly fact set = (s : Place) → IsOnBoard s → (is_in set s ≡ true) ↔ fact s
+HoldsExactly fact set = (s : Place) → (is_in set s ≡ true) ↔ (IsOnBoard s × fact s)
 
 -- the squares that the man on s attacks; the empty set where there is none
 abbrev pub IsReachOf : Placement → Place → Places → Type 0
@@ -48,12 +48,12 @@ has_bit word n = bit_at word n == 1
 abbrev pub size_of : Places → ℕ
 size_of set = len set
 
--- the first square of a set in the order a1, b1 to h1, a2 and so on was taken out, if there was one
+-- the first square of a set in the order a1, b1 to h1, a2 and so on was taken out; or there was none, and the set is as it was
 abbrev pub IsTakenFirst : Places → Places → Option Place → Type 0
-IsTakenFirst old new None = (s : Place) → IsOnBoard s → is_in old s ≡ false
+IsTakenFirst old new None = (old ≡ no_places) × (new ≡ old)
 IsTakenFirst old new (Some t) = IsOnBoard t × (is_in old t ≡ true)
-    × ((s : Place) → IsOnBoard s → is_in old s ≡ true → index_of t ≤ index_of s)
-    × ((s : Place) → IsOnBoard s → is_in new s ≡ (is_in old s && not (same_square s t)))
+    × ((s : Place) → is_in old s ≡ true → index_of t ≤ index_of s)
+    × ((s : Place) → is_in new s ≡ (is_in old s && not (same_square s t)))
 
 -- a set is stored as its squares in order
 abbrev pub coded_places : Coded Places

@@ -1,10 +1,12 @@
 -- The position in which games usually begin (Laws 2.3).
-use Rattle.std.specs.Prelude.{ℕ, true, ◌==◌, ◌||◌, if◌then◌else◌, Option, Some, None}
+use Rattle.std.specs.Prelude.{◌≡◌, ◌≤◌, ℕ, true, ◌==◌, ◌||◌, if◌then◌else◌, Option, Some, None}
 use Rattle.chess.specs.Squares.{Place, square_at}
-use Rattle.chess.specs.Placements.{Placement}
+use Rattle.chess.specs.Placements.{Placement, man_at, AreOnBoard, IsEmpty}
 use Rattle.chess.specs.Cells.{men_of}
-use Rattle.chess.specs.Positions.{State, pawn_of}
+use Rattle.chess.specs.Positions.{State, pawn_of, home_rank, pawn_rank, has_right}
 use Rattle.chess.specs.declared.man.Man.{Man}
+use Rattle.chess.specs.declared.man.Side.{Side}
+use Rattle.chess.specs.declared.man.Wing.{Wing}
 use Rattle.chess.specs.declared.man.Side.TheVariants.{White, Black}
 use Rattle.chess.specs.declared.man.Kind.{Kind}
 use Rattle.chess.specs.declared.man.Kind.TheVariants.{King, Queen, Rook, Bishop, Knight}
@@ -17,6 +19,27 @@ usual_piece file =
     if (file == 3) || (file == 6) then Bishop else
     if file == 4 then Queen else King
 
+-- the men stand as games usually begin
+pub record IsUsualMen (p : Placement) : Type 0 where
+  pub on_board : AreOnBoard p
+  -- each side's pieces stand on its home rank
+  pub pieces : (side : Side) (file : ℕ) → 1 ≤ file → file ≤ 8
+      → man_at p (record { file = file; rank = home_rank side }) ≡ Some (record { side = side; kind = usual_piece file })
+  -- and its pawns before them
+  pub pawns : (side : Side) (file : ℕ) → 1 ≤ file → file ≤ 8 → man_at p (record { file = file; rank = pawn_rank side }) ≡ Some (pawn_of side)
+  -- the four ranks between are empty
+  pub empty : (s : Place) → 3 ≤ s.rank → s.rank ≤ 6 → IsEmpty p s
+
+-- the position in which games usually begin: White is to move, all may castle, and nothing was played
+pub record IsUsual (P : State) : Type 0 where
+  pub men : IsUsualMen P.men
+  pub turn : P.turn ≡ White
+  pub rights : (side : Side) (wing : Wing) → has_right P.rights side wing ≡ true
+  pub en_passant : P.en_passant ≡ None
+  pub halfmove_clock : P.halfmove_clock ≡ 0
+  pub fullmove_number : P.fullmove_number ≡ 1
+
+-- that position, as it is made square by square; it is the only one that is usual (a law says so)
 -- White's pieces on rank 1 with the pawns before them on rank 2, and Black's on ranks 8 and 7
 abbrev pub usual_man : Place → Option Man
 usual_man s =
@@ -28,7 +51,6 @@ usual_man s =
 abbrev pub usual_men : Placement
 usual_men = men_of (λ n. usual_man (square_at n))
 
--- White is to move, all may castle, and nothing was played
 abbrev pub usual : State
 usual = record {
   men = usual_men;

@@ -1,10 +1,8 @@
 //! What a board is: a map from squares to men.
-ghost use Rattle.std.specs.Prelude.{◌≡◌, ◌↔◌, IsTrue, Some};
-ghost use Rattle.chess.specs.Squares.{Place, IsOnBoard};
-ghost use Rattle.chess.specs.Placements.{Placement, no_men, man_at, with_man};
+ghost use Rattle.std.specs.Prelude.{◌≡◌, ◌↔◌, IsTrue};
+ghost use Rattle.chess.specs.Placements.{Placement, no_men, man_at, with_man, AreOnBoard};
 ghost use Rattle.chess.specs.Attacks.{IsAttacked};
 ghost use Rattle.chess.specs.Sets.{IsReachOf, IsSquaresOf};
-ghost use Rattle.chess.specs.declared.man.Man.{Man};
 
 use crate::man::{Man, Side};
 use crate::set::SquareSet;
@@ -39,5 +37,5 @@ pub trait Board: Copy {
     fn squares_of(&self, man: Man) -> SquareSet
         ensures { IsSquaresOf (men self.now) man result };
 
-    ghost on_board: { (b : Self) (s : Place) (man : Man) → man_at (men b) s ≡ Some man → IsOnBoard s };
+    ghost on_board: { (b : Self) → AreOnBoard (men b) };
 }

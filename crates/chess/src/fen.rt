@@ -1,6 +1,6 @@
 //! Positions in Forsyth-Edwards notation.
-ghost use Rattle.std.specs.Prelude.{◌≡◌, ◌∷◌, List, ℕ, MatchOption, MatchResult};
-ghost use Rattle.chess.specs.Positions.{State};
+ghost use Rattle.std.specs.Prelude.{◌≡◌, ◌∷◌, List, ℕ, IfOk, MatchOption, MatchResult};
+ghost use Rattle.chess.specs.Positions.{State, IsSound};
 ghost use Rattle.chess.specs.Fen.{fields_of, SpellsPosition, ReadsFen, IsRefused};
 
 use crate::board::Board;
@@ -115,7 +115,8 @@ impl<B: Board> Position<B> {
     /// The position that the text spells (PGN 16.1). A right whose king or rook is not at home is dropped, and an en passant square
     /// that does not fit. The clock and the number may be missing.
     pub fn from_fen(text: &[u8]) -> Result<Self, FenError>
-        ensures { MatchResult result (λ p. ReadsFen text.now p) (λ e. IsRefused text.now e) }
+        ensures answer { MatchResult result (λ p. ReadsFen text.now p) (λ e. IsRefused text.now e) }
+        ensures sound { IfOk result IsSound }
     {
         let Some(draft) = read_draft::<B>(text) else {
             return Err(FenError::Syntax);

@@ -100,7 +100,7 @@ pub(crate) fn kept_en_passant<B: Board>(
 
 /// The square of the side's king, if it has one king and no other.
 pub(crate) fn only_king<B: Board>(board: &B, side: Side) -> Option<Square>
-    ensures { MatchOption result ((s : Place) → IsOnlyKing (B.men board.now) side s → ⊥) (λ s. IsOnBoard s × IsOnlyKing (B.men board.now) side s) }
+    ensures { MatchOption result ((s : Place) → IsOnlyKing (B.men board.now) side s → ⊥) (IsOnlyKing (B.men board.now) side) }
 {
     let mut kings = board.squares_of(Man {
         side,

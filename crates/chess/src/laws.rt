@@ -1,11 +1,30 @@
 //! What holds of every text and position, whatever reads it. Each law is the contract of a function that does nothing.
 
-ghost use Rattle.chess.specs.Laws.{TextSpellsOnePosition, TextHasOneAnswer, SanNamesItsMove, MoveHasOneText, EachTextNamesOneNoneOrSeveral, UsualMenAreOnBoard, SpelledMenAreOnBoard, MenStayOnBoard, EachTextIsReadOrRefused};
+ghost use Rattle.chess.specs.Laws.{TextSpellsOnePosition, TextHasOneAnswer, SoundPositionsAreRead, FenIsReadBack, PositionHasOneText, UsualPositionIsOne, UsualPositionIsSound, MovesKeepPositionsSound, SanNamesItsMove, MoveHasOneText, EachTextNamesOneNoneOrSeveral, SpelledMenAreOnBoard, MenStayOnBoard, EachTextIsReadOrRefused};
 
 /// A text spells at most one position in FEN, and none that is refused.
 pub fn one_position()
     ensures one { TextSpellsOnePosition }
     ensures apart { TextHasOneAnswer }
+{}
+
+/// A position has at most one text in FEN: the one that `fen` writes. Of a sound position it is read back, so that `from_fen` answers
+/// the position that `fen` has written; and a text is read exactly where the position that it spells is sound.
+pub fn fen_is_read_back()
+    ensures one { PositionHasOneText }
+    ensures back { FenIsReadBack }
+    ensures sound { SoundPositionsAreRead }
+{}
+
+/// The usual position has its men where the Laws put them, and no other position is usual.
+pub fn one_usual_position()
+    ensures { UsualPositionIsOne }
+{}
+
+/// The usual position is sound, and each position after a legal move from a sound one.
+pub fn positions_are_sound()
+    ensures usual { UsualPositionIsSound }
+    ensures after { MovesKeepPositionsSound }
 {}
 
 /// The text of a legal move in standard algebraic notation names that move and no other, so that `resolve` reads what `san` writes.
@@ -18,11 +37,10 @@ pub fn one_text()
     ensures { MoveHasOneText }
 {}
 
-/// Each text names one legal move alone, or none, or several, in each position whose men stand on the board alone, as they do in each position
-/// that a game comes to: the usual one, those that FEN spells, and those after legal moves. And each text is read as FEN, or refused.
+/// Each text names one legal move alone, or none, or several, in each position whose men stand on the board alone, as they do in each sound
+/// position, in each that FEN spells, and after each legal move in such a position. And each text is read as FEN, or refused.
 pub fn an_answer()
     ensures word { EachTextNamesOneNoneOrSeveral }
-    ensures usual { UsualMenAreOnBoard }
     ensures spelled { SpelledMenAreOnBoard }
     ensures after { MenStayOnBoard }
     ensures fen { EachTextIsReadOrRefused }

@@ -1,7 +1,7 @@
 //! The position after a move (Laws 3.7, 3.8; PGN 16.1.3.3 to 16.1.3.6).
 ghost use Rattle.std.specs.Prelude.{◌≡◌};
 ghost use Rattle.chess.specs.Squares.{same_square};
-ghost use Rattle.chess.specs.Positions.{IsOnlyKing};
+ghost use Rattle.chess.specs.Positions.{IsSound, IsOnlyKing};
 ghost use Rattle.chess.specs.Moves.{is_pawn, is_en_passant, taken, arriving, men_after, keeps_right, rights_after, en_passant_after, one_more, halfmove_clock_after, fullmove_number_after, after, IsPseudoLegal, IsLegal};
 ghost use Rattle.chess.specs.Placements.{opposite};
 
@@ -155,7 +155,6 @@ impl<B: Board> Position<B> {
         ensures { IsOnlyKing (men_after self.now m.now) side result }
     {
         self.known();
-        let _ = m.from.file(); // a square is on the board
         let king = self.king(side);
         if king.is(m.from) { m.to } else { king }
     }
@@ -163,10 +162,10 @@ impl<B: Board> Position<B> {
     /// The position after a legal move.
     pub fn play(&self, m: Move) -> Self
         requires { IsLegal self.now m }
-        ensures { result ≡ after self.now m }
+        ensures position { result ≡ after self.now m }
+        ensures sound { IsSound result }
     {
         self.known();
-        let _ = m.from.file(); // a square is on the board
         Position {
             board: self.board_after(&m),
             turn: self.turn_after(),

@@ -91,19 +91,19 @@ impl<B: Board> Position<B> {
         }
     }
 
+    /// Every position keeps the facts of `IsSound`, however it was come by: a caller that asks knows them. Nothing is done.
+    pub fn known(&self)
+        ensures { IsSound self.now }
+    {
+        let _ = &self.board;
+    }
+
     /// Whether the side to move is in check.
     pub fn in_check(&self) -> bool
         ensures { IsTrue result ↔ IsCheck self.now.men self.now.turn }
     {
         let side = self.side();
         self.attacked(self.king(side), side.opposite())
-    }
-
-    /// Each position keeps these facts.
-    pub(crate) fn known(&self)
-        ensures { IsSound self.now }
-    {
-        let _ = &self.board;
     }
 
     /// The square of the side's king.

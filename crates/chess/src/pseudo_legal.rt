@@ -165,7 +165,7 @@ impl<B: Board> Position<B> {
         if man.side != self.side() || self.is_held(self.side(), m.to) {
             return false;
         }
-        let _ = m.to.file();
+        let _ = (m.from.file(), m.to.file()); // squares are on the board
         self.goes(man.kind, m)
     }
 }

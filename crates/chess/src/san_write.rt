@@ -22,9 +22,7 @@ pub fn san<B: Board>(position: &Position<B>, m: Move) -> ArrayString<8>
     ensures text { IsSan position.now m result.bytes }
     ensures names { IsOnlyNamed position.now result.bytes m }
 {
-    // What is known of the position and of the square: a text names its move where these hold.
-    position.known();
-    let _ = m.from.file();
+    position.known(); // a text names its move in a sound position
     written(position, m)
 }
 

@@ -35,14 +35,14 @@ impl SquareSet {
 
     /// Puts a square into the set.
     pub(crate) fn insert(&mut self, square: Square)
-        ensures { (s : Place) → IsOnBoard s → is_in self.new s ≡ (same_square square s || is_in self.old s) }
+        ensures { (s : Place) → is_in self.new s ≡ (same_square square s || is_in self.old s) }
     {
         self.word |= 1u64 << square.index();
     }
 
     /// Puts a square into the set if that is so.
     pub(crate) fn insert_if(&mut self, square: Square, is_so: bool)
-        ensures { (s : Place) → IsOnBoard s → is_in self.new s ≡ ((is_so && same_square square s) || is_in self.old s) }
+        ensures { (s : Place) → is_in self.new s ≡ ((is_so && same_square square s) || is_in self.old s) }
     {
         if is_so {
             self.insert(square);

@@ -1,5 +1,6 @@
 //! The position in which games usually begin (Laws 2.3).
 ghost use Rattle.std.specs.Prelude.{◌≡◌};
+ghost use Rattle.chess.specs.Positions.{IsSound};
 ghost use Rattle.chess.specs.Start.{usual_piece, usual_man, usual_men, usual};
 
 use crate::board::Board;
@@ -71,7 +72,8 @@ fn usual_board<B: Board>() -> B
 impl<B: Board> Position<B> {
     /// The position in which games usually begin.
     pub fn start() -> Self
-        ensures { result ≡ usual }
+        ensures position { result ≡ usual }
+        ensures sound { IsSound result }
     {
         Position {
             board: usual_board(),

@@ -178,8 +178,8 @@ pub fn run<R: Read, O: Write, E: Write>(
         (O.contents out.old.inner) (O.contents out.new.inner)
         (E.contents err.old.inner) (E.contents err.new.inner))) }
 
-    // What stands after an error, always a beginning of the whole report, and when each comes: at most one of the three has
-    // failed then.
+    // What stands after an error: a beginning of the whole report, or, where reading ended, the report of the complete blocks read.
+    // And when each comes: at most one of the three has failed then.
     ensures err { IfErr result (λ error. IfSome (R.remaining input.old.inner) (λ whole.
         Stands settings.now.mode 1048576 64 settings.now.number settings.now.offset whole input.new.moved
         (O.contents out.old.inner) (O.contents out.new.inner)

@@ -1,13 +1,14 @@
 -- A game has a replay or a fault, where its FEN tag has the contents of a string.
 use Rattle.std.proofs.Common.{◌⊎◌, ℕ, ◌+◌, List, [], ◌∷◌, Option, Some, None, IfSome, flat_map, refl, sym, subst, inl, inr}
+use Rattle.chess.specs.Placements.{AreOnBoard}
 use Rattle.chess.specs.Positions.{State}
 use Rattle.chess.specs.Start.{usual}
 use Rattle.chess.specs.Moves.{after}
-use Rattle.chess.specs.Laws.{AreOnBoard}
 use Rattle.chess.specs.declared.moves.Move.{Move}
 use Rattle.chess.proofs.FenSettled.{fen_answer}
 use Rattle.chess.proofs.NamedSettled.{each_text_names}
-use Rattle.chess.proofs.OnBoard.{usual_men_on_board, spelled_men_on_board, men_stay_on_board}
+use Rattle.chess.proofs.OnBoard.{spelled_men_on_board, men_stay_on_board}
+use Rattle.chess.proofs.StartFacts.{usual_kept}
 use Rattle.pgn_text.specs.Strings.{IsContents, value_of_sign}
 use Rattle.pgn_game.specs.Laws.{GameHasAnAnswer}
 use Rattle.pgn_game.specs.MainLines.{main_words, IsMainLine}
@@ -46,7 +47,7 @@ start_answer (Some contents) (signs, spells, all) =
     ]
 
 start_on_board : (fen : Option (List ℕ)) (start : State) → IsStart fen start → AreOnBoard start.men
-start_on_board None start is = subst (λ (P : State). AreOnBoard P.men) (sym is) usual_men_on_board
+start_on_board None start is = subst (λ (P : State). AreOnBoard P.men) (sym is) usual_kept.sound.on_board
 start_on_board (Some contents) start (value, given, read) = spelled_men_on_board value start read.spells
 
 pub game_answer : GameHasAnAnswer

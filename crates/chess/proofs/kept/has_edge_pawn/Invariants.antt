@@ -1,4 +1,4 @@
-use Rattle.chess.specs.BoardFacts.{IsNoneYet}
+use Rattle.chess.proofs.BoardFacts.{IsNoneYet}
 use Rattle.chess.specs.FenWords.{IsEdgePawn}
 use Rattle.chess.proofs.kept.has_edge_pawn.Given as goal
 

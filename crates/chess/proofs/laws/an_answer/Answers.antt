@@ -1,14 +1,11 @@
 -- Each law is a lemma.
 use Rattle.chess.proofs.FenSettled.{fen_answer}
 use Rattle.chess.proofs.NamedSettled.{each_text_names}
-use Rattle.chess.proofs.OnBoard.{usual_men_on_board, spelled_men_on_board, men_stay_on_board}
+use Rattle.chess.proofs.OnBoard.{spelled_men_on_board, men_stay_on_board}
 use Rattle.chess.proofs.laws.an_answer.Goals as goal
 
 pub returns-clause-word : goal.returns-clause-word
 returns-clause-word c = each_text_names
-
-pub returns-clause-usual : goal.returns-clause-usual
-returns-clause-usual c = usual_men_on_board
 
 pub returns-clause-spelled : goal.returns-clause-spelled
 returns-clause-spelled c = spelled_men_on_board

@@ -1,6 +1,8 @@
 use Rattle.std.proofs.Common.{subst, Option}
 use Rattle.chess.specs.Squares.{Place}
 use Rattle.chess.specs.Sets.{IsTakenFirst}
+use Rattle.chess.specs.San.{IsRival}
+use Rattle.chess.proofs.LoopFacts.{sifted_none}
 use Rattle.chess.proofs.SanTextFacts.{rivals_start, rivals_more}
 use Rattle.chess.proofs.san_write.rivals.Goals as goal
 
@@ -15,3 +17,9 @@ loop-step-preserved g c =
     c.insert_if.new.self c.in-Some.from c.is_rival.result c.loop-step.invariant
     (subst (λ (o : Option Place). IsTakenFirst c.loop-step.left c.take_first.new.self o) c.in-Some.is c.take_first.ensures)
     c.is_rival.ensures c.insert_if.ensures
+
+pub returns-in_default : goal.returns-in_default
+returns-in_default g c =
+    sifted_none (IsRival c.args.position.now c.args.m.now) c.loop-step.step c.loop-step.left c.take_first.new.self c.loop-step.found
+    c.loop-step.invariant.sifted
+    (subst (λ (o : Option Place). IsTakenFirst c.loop-step.left c.take_first.new.self o) c.in_default.is c.take_first.ensures)

@@ -8,7 +8,7 @@ returns c = (
     c.in-Ok.text.items,
     c.in-Err-from_fen.field-0,
     c.in-Ok.ensures,
-    subst (λ text. IsRefused text c.in-Err-from_fen.field-0) c.as_slice.ensures.value c.in-Err-from_fen.ensures,
+    subst (λ text. IsRefused text c.in-Err-from_fen.field-0) c.as_slice.ensures.value c.in-Err-from_fen.ensures.answer,
   ),
   refl,
 )

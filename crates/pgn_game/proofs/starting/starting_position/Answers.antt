@@ -16,4 +16,4 @@ returns-in-Some c =
 
 pub returns-in-None : goal.returns-in-None
 returns-in-None c =
-    subst (λ fen. IsStart fen c.start.result) (sym (tag_found c.args.tags.now fen_tag None c.in-None.ensures.value)) c.start.ensures
+    subst (λ fen. IsStart fen c.start.result) (sym (tag_found c.args.tags.now fen_tag None c.in-None.ensures.value)) c.start.ensures.position

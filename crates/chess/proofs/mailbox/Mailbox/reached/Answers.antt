@@ -1,6 +1,6 @@
 use Rattle.chess.specs.Cells.{cells_men}
 use Rattle.chess.specs.Attacks.{Reaches}
-use Rattle.chess.specs.BoardFacts.{gathered_none, gathered_step}
+use Rattle.chess.proofs.BoardFacts.{gathered_none, gathered_step}
 use Rattle.chess.proofs.mailbox.Mailbox.reached.Goals as goal
 
 pub loop-index-init : goal.loop-index-init

@@ -1,6 +1,6 @@
 use Rattle.chess.specs.Cells.{cells_men}
 use Rattle.chess.specs.Attacks.{Reaches}
-use Rattle.chess.specs.BoardFacts.{IsGathered}
+use Rattle.chess.proofs.BoardFacts.{IsGathered}
 use Rattle.chess.proofs.mailbox.Mailbox.reached.Given as goal
 
 abbrev pub invariant-loop-index : goal.invariant-loop-index

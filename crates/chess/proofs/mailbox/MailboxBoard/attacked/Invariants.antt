@@ -1,6 +1,6 @@
 use Rattle.chess.specs.Cells.{cells_men}
 use Rattle.chess.specs.Attacks.{IsHitFrom}
-use Rattle.chess.specs.BoardFacts.{IsNoneYet}
+use Rattle.chess.proofs.BoardFacts.{IsNoneYet}
 use Rattle.chess.proofs.mailbox.MailboxBoard.attacked.Given as goal
 
 abbrev pub invariant-loop-index : goal.invariant-loop-index

@@ -6,9 +6,9 @@ use Rattle.chess.specs.Sets.{is_in}
 use Rattle.chess.specs.SetFacts.{is_in-empty}
 
 pub returns-in-None : goal.returns-in-None
-returns-in-None c s on_board =
+returns-in-None c s =
     let outside : is_in c.new.result s ≡ false = ap (λ set. is_in set s) c.new.ensures ∙ is_in-empty s in
     let none : man_at (cells_men c.args.self.now.cells) c.args.square ≡ None = sym c.man.ensures ∙ c.in-None.is in (
       (λ e. let no : true ≡ false = sym e ∙ outside in cc),
-      (λ r. let both : None ≡ Some r.man = sym none ∙ r.here in cc),
+      (λ r. let both : None ≡ Some r.1.man = sym none ∙ r.1.here in cc),
     )

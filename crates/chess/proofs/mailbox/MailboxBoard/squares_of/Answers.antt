@@ -1,7 +1,7 @@
 use Rattle.std.proofs.Common.{◌≡◌, Some}
 use Rattle.chess.specs.Placements.{man_at}
 use Rattle.chess.specs.Cells.{cells_men}
-use Rattle.chess.specs.BoardFacts.{gathered_none, gathered_step}
+use Rattle.chess.proofs.BoardFacts.{gathered_none, gathered_step}
 use Rattle.chess.proofs.mailbox.MailboxBoard.squares_of.Goals as goal
 
 pub loop-index-init : goal.loop-index-init

@@ -1,7 +1,7 @@
 use Rattle.std.proofs.Common.{◌≡◌, Some}
 use Rattle.chess.specs.Placements.{man_at}
 use Rattle.chess.specs.Cells.{cells_men}
-use Rattle.chess.specs.BoardFacts.{IsGathered}
+use Rattle.chess.proofs.BoardFacts.{IsGathered}
 use Rattle.chess.proofs.mailbox.MailboxBoard.squares_of.Given as goal
 
 abbrev pub invariant-loop-index : goal.invariant-loop-index

@@ -3,7 +3,7 @@ use Rattle.chess.specs.Squares.{Place}
 use Rattle.chess.specs.Sets.{IsTakenFirst}
 use Rattle.chess.specs.MoveWords.{IsMover, CanLeave}
 use Rattle.chess.proofs.PlaceFacts.{true_not_false}
-use Rattle.chess.proofs.LoopFacts.{left_more, left_end}
+use Rattle.chess.proofs.LoopFacts.{left_more, left_none, left_end}
 use Rattle.chess.proofs.position.Position.can_move.Goals as goal
 
 pub loop-step-preserved : goal.loop-step-preserved
@@ -27,4 +27,12 @@ returns g c = (
   (λ e. let f : false ≡ true = e in absurd (cc)),
   (λ h. absurd (left_end (λ s. IsMover c.args.self.now c.args.kind s) (λ s. IsMover c.args.self.now c.args.kind s × CanLeave c.args.self.now s)
       c.loop-step.step c.loop-step.left c.loop-step.invariant c.loop-step-test.false h.0 h.1 (h.2, h.3))),
+)
+
+pub returns-in_default : goal.returns-in_default
+returns-in_default g c = (
+  (λ e. let f : false ≡ true = e in absurd (cc)),
+  (λ h. absurd (left_none (λ s. IsMover c.args.self.now c.args.kind s) (λ s. IsMover c.args.self.now c.args.kind s × CanLeave c.args.self.now s)
+      c.loop-step.step c.loop-step.left c.take_first.new.self c.loop-step.invariant
+      (subst (λ (o : Option Place). IsTakenFirst c.loop-step.left c.take_first.new.self o) c.in_default.is c.take_first.ensures) h.0 h.1 (h.2, h.3))),
 )

@@ -6,10 +6,10 @@ use Rattle.chess.proofs.position.Position.from_fen.Goals as goal
 use Rattle.chess.proofs.position.Position.from_fen.Goals.{in-White, in-Black}
 
 pub returns-in_default-only_king : goal.returns-in_default-only_king
-returns-in_default-only_king g c = (_, c.in-Some.ensures, (White, c.in_default-only_king.ensures))
+returns-in_default-only_king g c = record { answer = (_, c.in-Some.ensures, (White, c.in_default-only_king.ensures)); sound = tt }
 
 pub returns-in_default-only_king-2 : goal.returns-in_default-only_king-2
-returns-in_default-only_king-2 g c = (_, c.in-Some.ensures, (Black, c.in_default-only_king-2.ensures))
+returns-in_default-only_king-2 g c = record { answer = (_, c.in-Some.ensures, (Black, c.in_default-only_king-2.ensures)); sound = tt }
 
 pub returns-then-has_edge_pawn : goal.returns-then-has_edge_pawn
 returns-then-has_edge_pawn g c =
@@ -25,12 +25,15 @@ returns-then-has_edge_pawn g c =
     let white = c.in-Some-only_king in
     let black = c.in-Some-only_king-2 in
     let kings : HasKings P white.white_king black.black_king =
-    record { white_on = white.ensures.0; white_only = white.ensures.1; black_on = black.ensures.0; black_only = black.ensures.1 } in (
-      P,
-      c.in-Some.ensures,
-      right_kings P white.white_king black.black_king kings,
-      wrong_pawns P c.has_edge_pawn.result c.has_edge_pawn.ensures c.if-has_edge_pawn.true,
-    )
+    record { white_only = white.ensures; black_only = black.ensures } in record {
+      answer = (
+        P,
+        c.in-Some.ensures,
+        right_kings P white.white_king black.black_king kings,
+        wrong_pawns P c.has_edge_pawn.result c.has_edge_pawn.ensures c.if-has_edge_pawn.true,
+      );
+      sound = tt;
+    }
 
 pub returns-then-attacked : goal.returns-then-attacked
 returns-then-attacked g c =
@@ -47,17 +50,20 @@ returns-then-attacked g c =
     let black = c.in-Some-only_king-2 in
     let king = c.match-draft.king in
     let kings : HasKings P white.white_king black.black_king =
-    record { white_on = white.ensures.0; white_only = white.ensures.1; black_on = black.ensures.0; black_only = black.ensures.1 } in
+    record { white_only = white.ensures; black_only = black.ensures } in
     let enemy : IsOnlyKing P.men (opposite P.turn) king = elim c.match-draft.branch [
       | in-White w ↦ enemy_white P white.white_king black.black_king king kings w.in-White.is w.king-is
       | in-Black w ↦ enemy_black P white.white_king black.black_king king kings w.in-Black.is w.king-is
-    ] in (
-      P,
-      c.in-Some.ensures,
-      right_kings P white.white_king black.black_king kings,
-      right_pawns P c.has_edge_pawn.result c.has_edge_pawn.ensures c.if-has_edge_pawn.false,
-      wrong_check P king c.attacked.result enemy c.attacked.ensures c.if-attacked.true,
-    )
+    ] in record {
+      answer = (
+        P,
+        c.in-Some.ensures,
+        right_kings P white.white_king black.black_king kings,
+        right_pawns P c.has_edge_pawn.result c.has_edge_pawn.ensures c.if-has_edge_pawn.false,
+        wrong_check P king c.attacked.result enemy c.attacked.ensures c.if-attacked.true,
+      );
+      sound = tt;
+    }
 
 pub invariant_of-result : goal.invariant_of-result
 invariant_of-result g c =
@@ -74,7 +80,7 @@ invariant_of-result g c =
     let black = c.in-Some-only_king-2 in
     let king = c.match-draft.king in
     let kings : HasKings P white.white_king black.black_king =
-    record { white_on = white.ensures.0; white_only = white.ensures.1; black_on = black.ensures.0; black_only = black.ensures.1 } in
+    record { white_only = white.ensures; black_only = black.ensures } in
     let enemy : IsOnlyKing P.men (opposite P.turn) king = elim c.match-draft.branch [
       | in-White w ↦ enemy_white P white.white_king black.black_king king kings w.in-White.is w.king-is
       | in-Black w ↦ enemy_black P white.white_king black.black_king king kings w.in-Black.is w.king-is
@@ -82,3 +88,6 @@ invariant_of-result g c =
     spelled_kept c.args.text.now P white.white_king black.black_king c.in-Some.ensures kings
     (right_pawns P c.has_edge_pawn.result c.has_edge_pawn.ensures c.if-has_edge_pawn.false)
     (right_check P king c.attacked.result enemy c.attacked.ensures c.if-attacked.false)
+
+pub returns-clause-sound : goal.returns-clause-sound
+returns-clause-sound g c = (invariant_of-result g c).sound

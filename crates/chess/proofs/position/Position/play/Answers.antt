@@ -27,7 +27,10 @@ invariant_of-result g c =
     } in
     subst (λ (Q : State). IsKept Q c.king_after.result c.king_after-2.result) (sym shown)
     (record {
-      sound = after_sound P m (record { sound = c.known.ensures; from = c.file.ensures.on_board; rules = c.requires.pseudo_legal }) c.requires.safe;
+      sound = after_sound P m (record { sound = c.known.ensures; rules = c.requires.pseudo_legal }) c.requires.safe;
       white = c.king_after.ensures;
       black = c.king_after-2.ensures;
     })
+
+pub returns-clause-sound : goal.returns-clause-sound
+returns-clause-sound g c = (invariant_of-result g c).sound

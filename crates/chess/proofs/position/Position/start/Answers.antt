@@ -1,7 +1,7 @@
 use Rattle.std.proofs.Common.{sym, subst}
 use Rattle.chess.specs.Squares.{Place}
 use Rattle.chess.specs.Placements.{Placement}
-use Rattle.chess.specs.Positions.{State, IsKept, king_from}
+use Rattle.chess.specs.Positions.{State, IsKept, IsSound, king_from}
 use Rattle.chess.specs.Start.{usual}
 use Rattle.chess.specs.declared.man.Side.TheVariants.{White}
 use Rattle.chess.proofs.StartFacts.{usual_kept}
@@ -17,3 +17,7 @@ invariant_of-result g c =
     subst (λ (men : Placement). IsKept (with_men men) c.at.result c.at-2.result) (sym c.usual_board.ensures)
     (subst (λ (k : Place). IsKept usual k c.at-2.result) (sym c.at.ensures.square)
     (subst (λ (k : Place). IsKept usual (king_from White) k) (sym c.at-2.ensures.square) usual_kept))
+
+pub returns-clause-sound : goal.returns-clause-sound
+unfolding with_men
+returns-clause-sound g c = subst (λ (men : Placement). IsSound (with_men men)) (sym c.usual_board.ensures) usual_kept.sound

@@ -2,7 +2,7 @@ use Rattle.std.proofs.Common.{subst, Option}
 use Rattle.chess.specs.Squares.{Place}
 use Rattle.chess.specs.Sets.{IsTakenFirst}
 use Rattle.chess.specs.Moves.{CanGo}
-use Rattle.chess.proofs.LoopFacts.{sifted_start, sifted_more}
+use Rattle.chess.proofs.LoopFacts.{sifted_start, sifted_more, sifted_none}
 use Rattle.chess.proofs.position.Position.targets.Goals as goal
 
 pub loop-step-init : goal.loop-step-init
@@ -15,3 +15,8 @@ loop-step-preserved g c =
     c.insert_if.new.self c.in-Some.to c.can_go.result c.loop-step.invariant
     (subst (λ (o : Option Place). IsTakenFirst c.loop-step.left c.take_first.new.self o) c.in-Some.is c.take_first.ensures)
     c.can_go.ensures c.insert_if.ensures
+
+pub returns-in_default : goal.returns-in_default
+returns-in_default g c =
+    sifted_none (λ t. CanGo c.args.self.now c.args.square t) c.loop-step.step c.loop-step.left c.take_first.new.self c.loop-step.found
+    c.loop-step.invariant (subst (λ (o : Option Place). IsTakenFirst c.loop-step.left c.take_first.new.self o) c.in_default.is c.take_first.ensures)

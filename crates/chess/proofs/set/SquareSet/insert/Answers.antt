@@ -1,7 +1,7 @@
 use Rattle.std.proofs.Common.{arith, ap, ◌∙◌, ◌||◌, ◌<◌, ◌*◌, ◌^◌, ◌%◌, bit_or}
 use Rattle.chess.specs.Squares.{same_square}
 use Rattle.chess.specs.Sets.{is_in, places_of, has_bit}
-use Rattle.chess.specs.SetFacts.{is_in-set_bit}
+use Rattle.chess.proofs.SetBits.{set_bit}
 use Rattle.chess.proofs.set.SquareSet.insert.Goals as goal
 use Rattle.std.proofs.lemmas.Nat.{or_lt}
 
@@ -12,7 +12,7 @@ invariant_of-self c =
     or_lt 64 c.self.inside.word bit c.self.invariant below
 
 pub returns : goal.returns
-returns c s on_board =
+returns c s =
     ap (λ n. is_in (places_of (has_bit (bit_or c.self.inside.word (1 * 2 ^ n % 2 ^ 64)))) s) c.index.ensures.place
-    ∙ is_in-set_bit c.self.inside.word c.args.square s c.index.ensures.on_board on_board
+    ∙ set_bit c.self.inside.word c.args.square s c.index.ensures.on_board
     ∙ ap (λ set. same_square c.args.square s || is_in set s) c.self.view_is

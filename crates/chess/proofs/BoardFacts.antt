@@ -1,10 +1,11 @@
 -- Facts that the plain board rests on.
-use Rattle.std.proofs.Common.{◌≡◌, ◌↔◌, ◌<◌, ◌≤◌, ◌+◌, ◌&&◌, ◌||◌, ℕ, Bool, true, false, inl, inr, ap, refl, sym, subst, ◌∙◌, arith, IsTrue}
+use Rattle.std.proofs.Common.{◌≡◌, ◌↔◌, ◌⊎◌, ◌<◌, ◌≤◌, ◌+◌, ◌&&◌, ◌||◌, ℕ, Bool, true, false, inl, inr, ap, refl, sym, subst, ◌∙◌, arith, IsTrue}
 use Rattle.std.proofs.lemmas.Bool.{cases_eq}
 use Rattle.chess.specs.Squares.{Place, IsOnBoard, square_at, index_of, IsAhead, same_square}
 use Rattle.chess.specs.SquareFacts.{index_of-square_at}
 use Rattle.chess.specs.SetFacts.{square_at-index_of, on_board-square_at, same_squares, other_squares, is_in-empty}
 use Rattle.chess.specs.Sets.{Places, is_in, no_places}
+use Rattle.chess.proofs.PlaceFacts.{same_square-then}
 use Rattle.chess.specs.declared.direction.Direction.{Direction}
 use Rattle.chess.specs.declared.direction.Direction.TheVariants.{North, South, East, West, NorthEast, NorthWest, SouthEast, SouthWest}
 
@@ -24,12 +25,17 @@ one_count SouthWest j k s t a b = let a1 = a.0 in let b1 = b.0 in omega arith
 pub record IsGathered (fact : Place → Type 0) (n : ℕ) (set : Places) : Type 0 where
   pub there : (s : Place) → IsOnBoard s → index_of s < n → (is_in set s ≡ true) ↔ fact s
   pub none : (s : Place) → IsOnBoard s → n ≤ index_of s → is_in set s ≡ false
+  pub inside : (s : Place) → is_in set s ≡ true → IsOnBoard s
 
 true_not_false : true ≡ false → ⊥
 true_not_false e = cc
 
 index_of-at : (n : ℕ) → n < 64 → index_of (square_at n) ≡ n
 index_of-at n h = index_of-square_at n h
+
+or_either : (a b : Bool) → (a || b) ≡ true → (a ≡ true) ⊎ (b ≡ true)
+or_either true b e = inl refl
+or_either false b e = inr e
 
 true_or : (b : Bool) → b ≡ true → (a : Bool) → (b || a) ≡ true
 true_or true e a = refl
@@ -40,25 +46,29 @@ the_square : (s : Place) (n : ℕ) → IsOnBoard s → index_of s ≡ n → s �
 the_square s n on_board e = sym (square_at-index_of s on_board) ∙ ap square_at e
 
 pub gathered_more : (fact : Place → Type 0) (n : ℕ) (old new : Places) → n < 64 → IsGathered fact n old → fact (square_at n)
-    → ((s : Place) → IsOnBoard s → is_in new s ≡ (same_square (square_at n) s || is_in old s)) → IsGathered fact (n + 1) new
+    → ((s : Place) → is_in new s ≡ (same_square (square_at n) s || is_in old s)) → IsGathered fact (n + 1) new
 gathered_more fact n old new h so_far holds put = record {
   there = λ s on_board less. elim (cases_eq (index_of s) n) [
     | inl same ↦
         let here = the_square s n on_board same in
         let in_set : is_in new s ≡ true =
-        put s on_board ∙ true_or _ (same_squares (square_at n) s (on_board-square_at n h) on_board (ap index_of (sym here))) (is_in old s) in
+        put s ∙ true_or _ (same_squares (square_at n) s (on_board-square_at n h) on_board (ap index_of (sym here))) (is_in old s) in
         ((λ e. subst fact (sym here) holds), (λ f. in_set))
     | inr other ↦
         let apart = other_squares (square_at n) s (on_board-square_at n h) on_board
         (λ e. other (sym e ∙ index_of-at n h)) in
-        let as_before : is_in new s ≡ is_in old s = put s on_board ∙ ap (λ b. b || is_in old s) apart in
+        let as_before : is_in new s ≡ is_in old s = put s ∙ ap (λ b. b || is_in old s) apart in
         let before = so_far.there s on_board (omega arith) in
         ((λ e. before.0 (sym as_before ∙ e)), (λ f. as_before ∙ before.1 f))
   ];
   none = λ s on_board more.
       let apart = other_squares (square_at n) s (on_board-square_at n h) on_board
       (λ e. let place = index_of-at n h in omega arith) in
-      put s on_board ∙ ap (λ b. b || is_in old s) apart ∙ so_far.none s on_board (omega arith);
+      put s ∙ ap (λ b. b || is_in old s) apart ∙ so_far.none s on_board (omega arith);
+  inside = λ s here. elim (or_either (same_square (square_at n) s) (is_in old s) (sym (put s) ∙ here)) [
+    | inl added ↦ subst IsOnBoard (same_square-then (square_at n) s added) (on_board-square_at n h)
+    | inr before ↦ so_far.inside s before
+  ];
 }
 
 pub gathered_skip : (fact : Place → Type 0) (n : ℕ) (set : Places) → n < 64 → IsGathered fact n set → (fact (square_at n) → ⊥) → IsGathered fact (n + 1) set
@@ -72,22 +82,24 @@ gathered_skip fact n set h so_far fails = record {
     | inr other ↦ so_far.there s on_board (omega arith)
   ];
   none = λ s on_board more. so_far.none s on_board (omega arith);
+  inside = so_far.inside;
 }
 
 gathered_same : (fact : Place → Type 0) (n : ℕ) (old new : Places) → IsGathered fact n old
-    → ((s : Place) → IsOnBoard s → is_in new s ≡ is_in old s) → IsGathered fact n new
+    → ((s : Place) → is_in new s ≡ is_in old s) → IsGathered fact n new
 gathered_same fact n old new so_far same = record {
   there = λ s on_board less.
       let before = so_far.there s on_board less in
-      ((λ e. before.0 (sym (same s on_board) ∙ e)), (λ f. same s on_board ∙ before.1 f));
-  none = λ s on_board more. same s on_board ∙ so_far.none s on_board more;
+      ((λ e. before.0 (sym (same s) ∙ e)), (λ f. same s ∙ before.1 f));
+  none = λ s on_board more. same s ∙ so_far.none s on_board more;
+  inside = λ s here. so_far.inside s (sym (same s) ∙ here);
 }
 
 pub gathered_step : (fact : Place → Type 0) (n : ℕ) (old new : Places) (t : Place) (b : Bool) → n < 64 → IsGathered fact n old → t ≡ square_at n
-    → IsTrue b ↔ fact t → ((s : Place) → IsOnBoard s → is_in new s ≡ ((b && same_square t s) || is_in old s)) → IsGathered fact (n + 1) new
+    → IsTrue b ↔ fact t → ((s : Place) → is_in new s ≡ ((b && same_square t s) || is_in old s)) → IsGathered fact (n + 1) new
 gathered_step fact n old new t true h so_far here test put =
     gathered_more fact n old new h so_far (subst fact here (test.0 refl))
-    (λ s on_board. put s on_board ∙ ap (λ (u : Place). same_square u s || is_in old s) here)
+    (λ s. put s ∙ ap (λ (u : Place). same_square u s || is_in old s) here)
 gathered_step fact n old new t false h so_far here test put =
     gathered_same fact (n + 1) old new
     (gathered_skip fact n old h so_far (λ f. let no : false ≡ true = test.1 (subst fact (sym here) f) in absurd (true_not_false (sym no)))) put
@@ -96,6 +108,7 @@ pub gathered_none : (fact : Place → Type 0) (set : Places) → set ≡ no_plac
 gathered_none fact set e = record {
   there = λ s on_board less. absurd (omega arith);
   none = λ s on_board more. ap (λ set. is_in set s) e ∙ is_in-empty s;
+  inside = λ s here. let clash : true ≡ false = sym here ∙ ap (λ set. is_in set s) e ∙ is_in-empty s in absurd (true_not_false clash);
 }
 
 -- no square of 64 has the fact
