@@ -1,5 +1,5 @@
 //! How many games of so many moves there are: published counts of legal move sequences.
-use super::chess_rows::position;
+use super::chess_rows::{played, position};
 use chess::{Kind, Mailbox, Move, Position, Square, Wing};
 use std::test::Fail;
 
@@ -13,15 +13,6 @@ const WAYS: [(Option<Kind>, Option<Wing>); 7] = [
     (None, Some(Wing::KingSide)),
     (None, Some(Wing::QueenSide)),
 ];
-
-/// The position after the move, if it is legal.
-fn played(position: &Position<Mailbox>, m: Move) -> Option<Position<Mailbox>> {
-    if position.is_legal(m) {
-        Some(position.play(m))
-    } else {
-        None
-    }
-}
 
 /// How many games of so many moves there are from here.
 #[cycle(count)]
@@ -70,7 +61,7 @@ fn count_between(position: &Position<Mailbox>, from: Square, to: Square, depth: 
             promote,
             castle,
         };
-        if let Some(next) = played(position, m) {
+        if let Some(next) = played(position, &m) {
             games = games.saturating_add(count(&next, depth - 1));
         }
     }

@@ -1,15 +1,15 @@
 //! Legal moves and the positions after them (Laws 3.1 to 3.9; PGN 16.1.3).
-use super::chess_rows::{move_of, position, square};
+use super::chess_rows::{move_of, played, position, square};
 use std::test::Fail;
 
 /// Whether the move is legal in the position, and leads to that one.
 fn leads(fen: &str, tried: &str, after: &str) -> Result<bool, Fail> {
     let position = position(fen.as_bytes())?;
     let m = move_of(&position, tried.as_bytes())?;
-    if !position.is_legal(m) {
-        return Ok(false);
-    }
-    Ok(position.play(m).fen().as_str() == after)
+    Ok(match played(&position, &m) {
+        Some(next) => next.fen().as_str() == after,
+        None => false,
+    })
 }
 
 #[test]

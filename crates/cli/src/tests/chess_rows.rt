@@ -58,3 +58,12 @@ pub fn move_of(position: &Position<Mailbox>, text: &[u8]) -> Result<Move, Fail> 
         castle: wing(position, from, to),
     })
 }
+
+/// The position after the move, if it is legal.
+pub fn played(position: &Position<Mailbox>, m: &Move) -> Option<Position<Mailbox>> {
+    if position.is_legal(*m) {
+        Some(position.play(*m))
+    } else {
+        None
+    }
+}

@@ -1,6 +1,6 @@
 //! Texts of moves: which moves they name, and the text of each move (PGN 8.2.3).
 use super::chess_rows::{move_of, position};
-use chess::{SanError, resolve, san};
+use chess::{Mailbox, Move, Position, SanError, resolve, san};
 use std::test::Fail;
 
 const ROOKS: &str = "r3k2r/8/8/8/8/8/8/R3K2R w KQkq - 0 1";
@@ -125,14 +125,19 @@ fn texts_name_no_move_or_several(rt: HostRuntime) -> Result<(), Fail> {
     Ok(())
 }
 
-/// Whether that is the text of the legal move.
+/// Whether the move is legal, and that is its text.
+fn writes(position: &Position<Mailbox>, m: &Move, text: &str) -> bool {
+    if !position.is_legal(*m) {
+        return false;
+    }
+    san(position, *m).as_str() == text
+}
+
+/// Whether the move that is written as its squares is legal, and that is its text.
 fn is_text(fen: &str, tried: &str, text: &str) -> Result<bool, Fail> {
     let position = position(fen.as_bytes())?;
     let m = move_of(&position, tried.as_bytes())?;
-    if !position.is_legal(m) {
-        return Ok(false);
-    }
-    Ok(san(&position, m).as_str() == text)
+    Ok(writes(&position, &m, text))
 }
 
 #[test]
