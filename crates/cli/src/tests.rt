@@ -1,6 +1,12 @@
 //! The public calls of every crate and the program over words and texts in memory: worked rows, whose expected values stand in them.
 //! They stand here, at the top, since a crate with tests is proved twice and this one is small.
 mod blocks;
+mod chess_board;
+mod chess_counts;
+mod chess_fen;
+mod chess_moves;
+mod chess_rows;
+mod chess_texts;
 mod faults;
 mod index;
 mod listing;

@@ -1,0 +1,177 @@
+//! Texts of moves: which moves they name, and the text of each move (PGN 8.2.3).
+use super::chess_rows::{move_of, position};
+use chess::{Mailbox, Move, Position, SanError, resolve, san};
+use std::test::Fail;
+
+const ROOKS: &str = "r3k2r/8/8/8/8/8/8/R3K2R w KQkq - 0 1";
+
+const START: &str = "rnbqkbnr/pppppppp/8/8/8/8/PPPPPPPP/RNBQKBNR w KQkq - 0 1";
+
+const QUEENS: &str = "4k3/8/8/8/8/Q7/8/Q1Q1K3 w - - 0 1";
+
+const PAWN: &str = "4k3/P7/8/8/8/8/8/4K3 w - - 0 1";
+
+const TAKES: &str = "4k3/8/8/3pp3/2P1P3/8/8/4K3 w - - 0 1";
+
+const EN_PASSANT: &str = "4k3/8/8/3pP3/8/8/8/4K3 w - d6 0 1";
+
+/// Whether the text names the move, and no other.
+fn names(fen: &str, text: &str, named: &str) -> Result<bool, Fail> {
+    let position = position(fen.as_bytes())?;
+    Ok(resolve(&position, text.as_bytes()) == Ok(move_of(&position, named.as_bytes())?))
+}
+
+#[test]
+fn texts_name_these_moves(rt: HostRuntime) -> Result<(), Fail> {
+    let rows = [
+        // a pawn's move, also with its letter and with both squares
+        (START, "e4", "e2e4"),
+        (START, "Pe4", "e2e4"),
+        (START, "e2e4", "e2e4"),
+        (START, "e2-e4", "e2e4"),
+        (START, "Pe2e4", "e2e4"),
+        // each sign before the target, or none
+        (ROOKS, "Rxa8", "a1a8"),
+        (ROOKS, "R:a8", "a1a8"),
+        (ROOKS, "R-a8", "a1a8"),
+        (ROOKS, "Ra8", "a1a8"),
+        (TAKES, "cxd5", "c4d5"),
+        (TAKES, "c:d5", "c4d5"),
+        (TAKES, "cd5", "c4d5"),
+        (TAKES, "exd5", "e4d5"),
+        (EN_PASSANT, "exd6", "e5d6"),
+        (EN_PASSANT, "e5xd6", "e5d6"),
+        (EN_PASSANT, "e6", "e5e6"),
+        // any number of marks
+        (START, "Nf3+", "g1f3"),
+        (START, "Nf3#", "g1f3"),
+        (START, "e4++", "e2e4"),
+        (START, "e4+#+", "e2e4"),
+        (ROOKS, "O-O++", "e1g1"),
+        // castling with the letter O and with zeros
+        (ROOKS, "O-O", "e1g1"),
+        (ROOKS, "O-O-O", "e1c1"),
+        (ROOKS, "0-0", "e1g1"),
+        (ROOKS, "0-0-0", "e1c1"),
+        (ROOKS, "0-0+", "e1g1"),
+        (ROOKS, "0-0-0#", "e1c1"),
+        // promotions, with and without =
+        (PAWN, "a8=Q", "a7a8q"),
+        (PAWN, "a8=R", "a7a8r"),
+        (PAWN, "a8=B", "a7a8b"),
+        (PAWN, "a8=N", "a7a8n"),
+        (PAWN, "a8Q+", "a7a8q"),
+        (PAWN, "a7-a8=N", "a7a8n"),
+        // a file, a rank, both, and more than is needed
+        (QUEENS, "Qcb2", "c1b2"),
+        (QUEENS, "Q3b2", "a3b2"),
+        (QUEENS, "Qa1b2", "a1b2"),
+        (START, "Ngf3", "g1f3"),
+        (START, "N1f3", "g1f3"),
+        (START, "Ng1f3", "g1f3"),
+    ];
+    for (fen, text, named) in rows {
+        assert!(rt; names(fen, text, named)?, "{text} in {fen}");
+    }
+    Ok(())
+}
+
+/// Whether the text names no move, for that reason.
+fn is_refused(fen: &str, text: &str, error: SanError) -> Result<bool, Fail> {
+    Ok(resolve(&position(fen.as_bytes())?, text.as_bytes()) == Err(error))
+}
+
+#[test]
+fn texts_name_no_move_or_several(rt: HostRuntime) -> Result<(), Fail> {
+    let rows = [
+        (QUEENS, "Qb2", SanError::Several),
+        (QUEENS, "Qab2", SanError::Several),
+        (QUEENS, "Q1b2", SanError::Several),
+        // a pawn that gives no file stays on its file
+        (TAKES, "d5", SanError::None),
+        (TAKES, "xd5", SanError::None),
+        (EN_PASSANT, "d6", SanError::None),
+        // a promotion is said exactly where there is one, and not of a king or a pawn
+        (PAWN, "a8", SanError::None),
+        (PAWN, "a8=K", SanError::None),
+        (PAWN, "a8=P", SanError::None),
+        (PAWN, "a8=", SanError::None),
+        (START, "e4=Q", SanError::None),
+        // castling is not named by the king's squares, nor by other letters and marks
+        (ROOKS, "Kg1", SanError::None),
+        (ROOKS, "e1g1", SanError::None),
+        (ROOKS, "o-o", SanError::None),
+        (ROOKS, "O-O-O-O", SanError::None),
+        (ROOKS, "O-0", SanError::None),
+        (ROOKS, "O-O!", SanError::None),
+        (START, "O-O", SanError::None),
+        // another man, another square, a square of no board, other bytes
+        (START, "Bf3", SanError::None),
+        (START, "e5", SanError::None),
+        (START, "i4", SanError::None),
+        (START, "e9", SanError::None),
+        (START, "e0", SanError::None),
+        (START, "ne4", SanError::None),
+        (START, "Nxxf3", SanError::None),
+        (START, "N f3", SanError::None),
+        (START, "e4!", SanError::None),
+        (START, "+e4", SanError::None),
+        (START, "", SanError::None),
+        (START, "N", SanError::None),
+    ];
+    for (fen, text, error) in rows {
+        assert!(rt; is_refused(fen, text, error)?, "{text} in {fen}");
+    }
+    Ok(())
+}
+
+/// Whether the move is legal, and that is its text.
+fn writes(position: &Position<Mailbox>, m: &Move, text: &str) -> bool {
+    if !position.is_legal(*m) {
+        return false;
+    }
+    san(position, *m).as_str() == text
+}
+
+/// Whether the move that is written as its squares is legal, and that is its text.
+fn is_text(fen: &str, tried: &str, text: &str) -> Result<bool, Fail> {
+    let position = position(fen.as_bytes())?;
+    let m = move_of(&position, tried.as_bytes())?;
+    Ok(writes(&position, &m, text))
+}
+
+#[test]
+fn moves_have_these_texts(rt: HostRuntime) -> Result<(), Fail> {
+    let rows = [
+        (START, "e2e4", "e4"),
+        (START, "g1f3", "Nf3"),
+        (ROOKS, "e1g1", "O-O"),
+        (ROOKS, "e1c1", "O-O-O"),
+        // captures: x, a pawn's file, en passant
+        (ROOKS, "a1a8", "Rxa8+"),
+        (TAKES, "c4d5", "cxd5"),
+        (TAKES, "e4d5", "exd5"),
+        (EN_PASSANT, "e5d6", "exd6"),
+        // promotions
+        (PAWN, "a7a8q", "a8=Q+"),
+        (PAWN, "a7a8n", "a8=N"),
+        ("1n2k3/P7/8/8/8/8/8/4K3 w - - 0 1", "a7b8r", "axb8=R+"),
+        // the file, else the rank, else both; a pinned man does not count, nor one of the other side
+        ("4k3/8/8/8/8/5N2/8/1N2K3 w - - 0 1", "b1d2", "Nbd2"),
+        ("4k3/8/8/R7/8/8/8/R3K3 w - - 0 1", "a1a3", "R1a3"),
+        (QUEENS, "a1b2", "Qa1b2"),
+        (QUEENS, "a3b2", "Q3b2"),
+        (QUEENS, "c1b2", "Qcb2"),
+        ("4k3/8/8/8/1b6/2N5/8/4K1N1 w - - 0 1", "g1e2", "Ne2"),
+        ("4k3/8/8/8/8/5N2/8/1n2K3 w - - 0 1", "f3d2", "Nd2"),
+        // marks: check, mate, and none for stalemate
+        ("7k/8/8/8/8/8/8/1Q4K1 w - - 0 1", "b1b2", "Qb2+"),
+        ("7k/8/6K1/8/8/8/8/1Q6 w - - 0 1", "b1b8", "Qb8#"),
+        ("7k/8/8/6Q1/8/8/8/6K1 w - - 0 1", "g5g6", "Qg6"),
+        ("k7/8/PK6/8/8/8/8/8 w - - 0 1", "a6a7", "a7"),
+    ];
+    for (fen, tried, text) in rows {
+        assert!(rt; is_text(fen, tried, text)?, "{tried} in {fen}");
+    }
+    Ok(())
+}
