@@ -149,6 +149,3 @@ impl<B: Board> Position<B> {
         })
     }
 }
-
-#[cfg(test)]
-mod tests;

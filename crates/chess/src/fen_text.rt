@@ -161,6 +161,3 @@ impl<B: Board> Position<B> {
         push_run(out, empty);
     }
 }
-
-#[cfg(test)]
-mod tests;

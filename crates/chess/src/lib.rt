@@ -36,6 +36,3 @@ pub use san_read::{SanError, resolve};
 pub use san_write::san;
 pub use set::SquareSet;
 pub use square::Square;
-
-#[cfg(test)]
-mod rows;

@@ -221,6 +221,3 @@ impl Mailbox {
         }
     }
 }
-
-#[cfg(test)]
-mod tests;

@@ -183,6 +183,3 @@ impl<B: Board> Position<B> {
         self.board
     }
 }
-
-#[cfg(test)]
-mod tests;

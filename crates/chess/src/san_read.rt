@@ -170,6 +170,3 @@ impl SaidMove {
         from.file() == self.target.file()
     }
 }
-
-#[cfg(test)]
-mod tests;

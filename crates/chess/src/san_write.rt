@@ -220,6 +220,3 @@ fn has_on_rank(squares: &SquareSet, square: Square) -> bool
     }
     false
 }
-
-#[cfg(test)]
-mod tests;
