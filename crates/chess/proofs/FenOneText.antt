@@ -1,15 +1,14 @@
 -- A position has one text in FEN: its ranks can be written in one shortest way only.
-use Rattle.std.proofs.Common.{◌≡◌, ◌≤◌, ◌+◌, ◌-◌, ℕ, zero, suc, Bool, true, false, not, ap, refl, sym, subst, ◌∙◌, arith, Option, Some, None, IsTrue, List, [], ◌∷◌, ◌++◌}
+use Rattle.std.proofs.Common.{◌≡◌, ◌≤◌, ◌+◌, ◌-◌, ℕ, zero, suc, Bool, true, false, not, ap, refl, sym, subst, ◌∙◌, arith, Option, Some, None, List, [], ◌∷◌, ◌++◌}
 use Rattle.std.specs.Prelude.{replicate, ◌&&◌, decimal}
 use Rattle.std.specs.List.{list_all}
 use Rattle.std.proofs.lemmas.Bool.Decides.{nat_tests}
-use Rattle.std.proofs.lemmas.List.{append-nil}
 use Rattle.chess.specs.Placements.{Placement}
 use Rattle.chess.specs.Positions.{State}
 use Rattle.chess.specs.Letters.{man_letter}
 use Rattle.chess.specs.Fen.{IsSquares, SpellsRank, SpellRanks, IsFen, is_shortest, is_step, joined, row, side_text, or_dash, rights_letters, en_passant_text}
 use Rattle.chess.specs.Fen.IsSquares.{letter, step}
-use Rattle.chess.specs.FenTextWords.{digit_of, spelled_from}
+use Rattle.chess.specs.FenTextWords.{spelled_from}
 use Rattle.chess.specs.declared.man.Man.{Man}
 
 -- a run of empty squares behind others is a longer run

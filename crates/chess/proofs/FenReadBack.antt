@@ -1,12 +1,12 @@
 -- The text of a sound position is read back: its fields are found again, and each gives what was written.
-use Rattle.std.proofs.Common.{◌≡◌, ◌≢◌, ◌≤◌, ◌<◌, ◌+◌, ◌-◌, ◌*◌, ◌/◌, ◌%◌, ◌^◌, ◌||◌, ◌&&◌, ◌⊎◌, ℕ, zero, suc, Bool, true, false, not, inl, inr, ap, refl, sym, subst, ◌∙◌, arith, Option, Some, None, IfSome, IsTrue, List, [], ◌∷◌, ◌++◌, length}
-use Rattle.std.specs.Prelude.{◌==◌, if◌then◌else◌, codes, decimal, replicate}
+use Rattle.std.proofs.Common.{◌≡◌, ◌≢◌, ◌≤◌, ◌<◌, ◌+◌, ◌-◌, ◌*◌, ◌/◌, ◌%◌, ◌||◌, ◌&&◌, ℕ, Bool, true, false, not, inl, inr, ap, refl, sym, subst, ◌∙◌, arith, Option, Some, None, IfSome, List, [], ◌∷◌, ◌++◌, length}
+use Rattle.std.specs.Prelude.{◌==◌, if◌then◌else◌, codes, decimal}
 use Rattle.std.specs.List.{list_all}
 use Rattle.std.proofs.lemmas.Bool.Decides.{nat_tests}
 use Rattle.std.proofs.lemmas.Fmt.{decimal_by_steps, length-decimal-le, decimal_nonempty}
 use Rattle.chess.specs.Squares.{Place}
 use Rattle.chess.specs.Placements.{Placement}
-use Rattle.chess.specs.Letters.{man_letter, square_text}
+use Rattle.chess.specs.Letters.{man_letter}
 use Rattle.chess.specs.Positions.{State, has_right, FitsEnPassant, IsSound}
 use Rattle.chess.specs.Fen.{before_first, parted_at, without_empty, fields_of, IsSquares, SpellsRank, SpellRanks, row, side_text, right_letter, has_byte, is_distinct, is_right_letter, GivesRights, GivesEnPassant, number_from, is_digit, IsCount, SpellsPosition, ReadsFen, joined, rights_letters, or_dash, en_passant_text, IsFen}
 use Rattle.chess.specs.Fen.IsSquares.{letter, step}

@@ -34,3 +34,5 @@ pub mod PawnNamesFacts
 pub mod SanNamesFacts
 pub mod SanOnce
 pub mod Examples
+pub mod BoardExamples
+pub mod TextExamples

@@ -1,7 +1,7 @@
 -- A text is read as a sound position exactly where it spells one.
-use Rattle.std.proofs.Common.{◌≡◌, ◌≢◌, ◌≤◌, ◌<◌, ◌⊎◌, ◌↔◌, ℕ, zero, suc, inl, inr, ap, refl, sym, subst, ◌∙◌, arith, Option, Some, None, List}
+use Rattle.std.proofs.Common.{◌≡◌, ◌≢◌, ◌<◌, ◌⊎◌, ◌↔◌, ℕ, zero, suc, inl, inr, ap, refl, sym, subst, ◌∙◌, arith, Option, Some, None, List}
 use Rattle.std.proofs.lemmas.Bool.{cases_eq}
-use Rattle.chess.specs.Squares.{Place, IsOnBoard, square_at, index_of}
+use Rattle.chess.specs.Squares.{Place, square_at, index_of}
 use Rattle.chess.specs.SquareFacts.{index_of-square_at}
 use Rattle.chess.specs.SetFacts.{square_at-index_of, index_of-below}
 use Rattle.chess.specs.Placements.{Placement, man_at, AreOnBoard}

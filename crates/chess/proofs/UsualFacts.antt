@@ -1,5 +1,5 @@
 -- The position that is made square by square is the usual one, and there is no other.
-use Rattle.std.proofs.Common.{◌≡◌, ◌≤◌, ◌⊎◌, ℕ, zero, suc, true, inl, inr, ap, refl, sym, subst, ◌∙◌, arith, Option, Some, None}
+use Rattle.std.proofs.Common.{◌≡◌, ◌≤◌, ℕ, zero, suc, true, inl, inr, ap, refl, sym, subst, ◌∙◌, arith, Option, Some, None}
 use Rattle.chess.specs.Squares.{Place, IsOnBoard}
 use Rattle.chess.specs.Placements.{Placement, man_at, AreOnBoard}
 use Rattle.chess.specs.CellFacts.{same_men, on_board_or_not}
@@ -11,7 +11,6 @@ use Rattle.chess.specs.declared.man.Side.TheVariants.{White, Black}
 use Rattle.chess.specs.declared.man.Wing.{Wing}
 use Rattle.chess.specs.declared.man.Wing.TheVariants.{KingSide, QueenSide}
 use Rattle.chess.proofs.StartFacts.{usual_at, usual_on}
-use Rattle.chess.proofs.PlaceFacts.{some_not_none}
 
 -- a square of a file on a rank
 abbrev at_rank : ℕ → ℕ → Place
