@@ -55,7 +55,7 @@ goes_hits P m Bishop g = inr g.2
 goes_hits P m Knight g = inr g.2
 goes_hits P m Pawn g = elim g.1 [
   | inl single ↦ inl single.2
-  | inr more ↦ elim more [ inl double ↦ inl double.3 | inr capture ↦ inr capture.0 ]
+  | inr more ↦ elim more [ inl double ↦ inl double.end_empty | inr capture ↦ inr capture.0 ]
 ]
 
 -- the king of the side not to move is never taken: it would stand in check
@@ -75,7 +75,7 @@ no_king_taken P m x king =
 -- the man that arrives is of the side to move
 promoted_side : (P : State) (m : Move) (man : Man) (promote : Option Kind) → IsPromotion promote → arriving P promote m.from ≡ Some man
     → (man.side ≡ P.turn) × (promote ≡ Some man.kind)
-promoted_side P m man None h e = elim h [ inl a ↦ cc | inr b ↦ elim b [ inl a ↦ cc | inr d ↦ elim d [ inl a ↦ cc | inr a ↦ cc ] ] ]
+promoted_side P m man None h e = absurd h
 promoted_side P m man (Some other) h e = (sym (same_side _ man e), ap Some (same_kind _ man e))
 
 -- and it is the man that left, or what the pawn became

@@ -46,7 +46,7 @@ pawn_forward : (P : State) (m : Move) → IsPawnMove P m.from m.to → not (m.fr
 pawn_forward P m g other = elim g [
   | inl single ↦ let same = single.0 in absurd (grind (arith, nat_tests))
   | inr more ↦ elim more [
-    | inl double ↦ let same = double.0 in absurd (grind (arith, nat_tests))
+    | inl double ↦ let same = double.file in absurd (grind (arith, nat_tests))
     | inr capture ↦ capture.0.1
   ]
 ]

@@ -41,3 +41,5 @@ pub mod OnBoard
 pub mod NamedSettled
 pub mod RanksSettled
 pub mod FenSettled
+pub mod BoardExamples
+pub mod TextExamples

@@ -5,9 +5,9 @@ use Rattle.std.specs.List.{list_all}
 use Rattle.chess.specs.Squares.{IsOnBoard}
 use Rattle.chess.specs.Placements.{man_at}
 use Rattle.chess.specs.Positions.{State, pawn_of, IsSound}
-use Rattle.chess.specs.Moves.{IsLegal, IsPromotion, IsPawnMove, Goes}
+use Rattle.chess.specs.Moves.{IsLegal, IsPromotion, IsPromotionKind, IsPawnMove, Goes}
 use Rattle.chess.specs.Letters.{file_letter, square_text, is_check_mark}
-use Rattle.chess.specs.San.{Said, Spells, Agrees, IsOnlyNamed, IsPromotionKind, is_capture, pawn_text, promotion_text}
+use Rattle.chess.specs.San.{Said, Spells, Agrees, IsOnlyNamed, is_capture, pawn_text, promotion_text}
 use Rattle.chess.specs.SanWords.{IsMoveSaid}
 use Rattle.chess.specs.declared.man.Man.{Man}
 use Rattle.chess.specs.declared.man.Kind.{Kind}
@@ -58,10 +58,8 @@ pawn_spelled false m mark on there becomes marks = record {
 }
 
 becomes_kind : (o : Option Kind) → IsPromotion o → IfSome o IsPromotionKind
-becomes_kind o (inl e) = subst (λ p. IfSome p IsPromotionKind) (sym e) (inl refl)
-becomes_kind o (inr (inl e)) = subst (λ p. IfSome p IsPromotionKind) (sym e) (inr (inl refl))
-becomes_kind o (inr (inr (inl e))) = subst (λ p. IfSome p IsPromotionKind) (sym e) (inr (inr (inl refl)))
-becomes_kind o (inr (inr (inr e))) = subst (λ p. IfSome p IsPromotionKind) (sym e) (inr (inr (inr refl)))
+becomes_kind None is = tt
+becomes_kind (Some found) is = is
 
 promotes_kind : (P : State) (m : Move) → IsLegal P m → IfSome m.promote IsPromotionKind
 promotes_kind P m legal = elim (goes_promote P m legal.pseudo_legal.man.kind legal.pseudo_legal.goes) [

@@ -29,7 +29,7 @@ step_of P m (inr (inr capture)) same = absurd (hit_leaves m.from.file m.to.file 
 
 hit_of : (P : State) (m : Move) → IsPawnMove P m.from m.to → (m.from.file ≡ m.to.file → ⊥) → IsForward P.turn m.from.rank m.to.rank
 hit_of P m (inl single) other = absurd (other (sym single.0))
-hit_of P m (inr (inl double)) other = absurd (other (sym double.0))
+hit_of P m (inr (inl double)) other = absurd (other (sym double.file))
 hit_of P m (inr (inr capture)) other = capture.0.1
 
 -- ---- a pawn takes where it changes its file, and nowhere else
@@ -49,7 +49,7 @@ step_takes_none P m same empty =
 pub capture_leaves : (P : State) (m : Move) → IsPawnMove P m.from m.to → is_capture P m ≡ true → m.from.file ≡ m.to.file → ⊥
 capture_leaves P m goes capture same = elim (step_of P m goes same) [
   | inl single ↦ true_not_false (is_capture P m) capture (step_takes_none P m same single.2)
-  | inr double ↦ true_not_false (is_capture P m) capture (step_takes_none P m same double.3)
+  | inr double ↦ true_not_false (is_capture P m) capture (step_takes_none P m same double.end_empty)
 ]
 
 -- a pawn that changes its file takes a man: on the square that it goes to, or en passant beside it
@@ -59,7 +59,7 @@ some_is o man e = ap is_some e
 passes : (P : State) (m : Move) → man_at P.men m.from ≡ Some (pawn_of P.turn) → IsPawnMove P m.from m.to → (m.from.file ≡ m.to.file → ⊥)
     → is_en_passant P m ≡ false → IsHeld P.men (opposite P.turn) m.to
 passes P m here (inl single) other e = absurd (other (sym single.0))
-passes P m here (inr (inl double)) other e = absurd (other (sym double.0))
+passes P m here (inr (inl double)) other e = absurd (other (sym double.file))
 passes P m here (inr (inr (hit, inl held))) other e = held
 passes P m here (inr (inr (hit, inr square))) other e =
     let pawn : is_pawn (man_at P.men m.from) ≡ true = ap is_pawn here in
@@ -99,16 +99,15 @@ same_capture P m n goes others to file other =
 over_pawn : (P : State) (s t : Place) (own : Man) → man_at P.men s ≡ Some own → t.file ≡ s.file → IsForward P.turn s.rank t.rank
     → (from : Place) → IsDoubleStep P from t → ⊥
 over_pawn P s t own here file near from double =
-    let between = double.2 in
-    let same : between.0 ≡ s = place_of between.0 s (between.1 ∙ sym double.0 ∙ file) (forward_from P.turn between.0.rank s.rank t.rank between.3 near) in
-    some_not_none (man_at P.men s) own (subst (IsEmpty P.men) same between.4) here
+    let same : double.passed ≡ s = place_of double.passed s (double.same_file ∙ sym double.file ∙ file) (forward_from P.turn double.passed.rank s.rank t.rank double.second near) in
+    some_not_none (man_at P.men s) own (subst (IsEmpty P.men) same double.empty) here
 
 same_steps : (P : State) (s from t : Place) (own : Man) → man_at P.men s ≡ Some own → man_at P.men from ≡ Some own
     → IsSingleStep P s t ⊎ IsDoubleStep P s t → IsSingleStep P from t ⊎ IsDoubleStep P from t → s ≡ from
 same_steps P s from t own here there (inl a) (inl b) = place_of s from (sym a.0 ∙ b.0) (forward_from P.turn s.rank from.rank t.rank a.1 b.1)
 same_steps P s from t own here there (inl a) (inr b) = absurd (over_pawn P s t own here a.0 a.1 from b)
 same_steps P s from t own here there (inr a) (inl b) = absurd (over_pawn P from t own there b.0 b.1 s a)
-same_steps P s from t own here there (inr a) (inr b) = place_of s from (sym a.0 ∙ b.0) (a.1 ∙ sym b.1)
+same_steps P s from t own here there (inr a) (inr b) = place_of s from (sym a.file ∙ b.file) (a.from_first_rank ∙ sym b.from_first_rank)
 
 pub same_step : (P : State) (m n : Move) (own : Man) → man_at P.men m.from ≡ Some own → man_at P.men n.from ≡ Some own
     → IsPawnMove P m.from m.to → IsPawnMove P n.from n.to → n.to ≡ m.to → m.from.file ≡ m.to.file → n.from.file ≡ n.to.file → n.from ≡ m.from

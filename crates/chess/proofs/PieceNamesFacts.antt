@@ -8,9 +8,8 @@ use Rattle.chess.specs.Placements.{man_at}
 use Rattle.chess.specs.Positions.{State}
 use Rattle.chess.specs.Moves.{IsLegal}
 use Rattle.chess.specs.Letters.{kind_letter, square_text, is_check_mark, is_sign}
-use Rattle.chess.specs.San.{Said, Spells, Agrees, IsOnlyNamed, IsRival, is_capture, capture_text, file_text, rank_text}
+use Rattle.chess.specs.San.{Said, Spells, Agrees, IsOnlyNamed, IsRival, IsPieceText, is_capture, capture_text, file_text, rank_text}
 use Rattle.chess.specs.SanWords.{IsMoveSaid}
-use Rattle.chess.specs.SanTextWords.{IsPieceText}
 use Rattle.chess.specs.declared.man.Man.{Man}
 use Rattle.chess.specs.declared.man.Kind.{Kind}
 use Rattle.chess.specs.declared.man.Kind.TheVariants.{Pawn}

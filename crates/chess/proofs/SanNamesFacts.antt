@@ -4,9 +4,8 @@ use Rattle.std.specs.List.{list_all}
 use Rattle.chess.specs.Positions.{State, IsSound}
 use Rattle.chess.specs.Moves.{after, IsLegal}
 use Rattle.chess.specs.Letters.{is_check_mark}
-use Rattle.chess.specs.San.{IsOnlyNamed, IsBody, IsMark, IsSan, pawn_text}
+use Rattle.chess.specs.San.{IsOnlyNamed, IsPieceText, IsBody, IsMark, IsSan, pawn_text}
 use Rattle.chess.specs.San.IsMark.{mate, check, quiet}
-use Rattle.chess.specs.SanTextWords.{IsPieceText}
 use Rattle.chess.specs.declared.man.Kind.{Kind}
 use Rattle.chess.specs.declared.man.Kind.TheVariants.{King, Queen, Rook, Bishop, Knight, Pawn}
 use Rattle.chess.specs.declared.moves.Move.{Move}

@@ -31,7 +31,7 @@ advance : (P : State) (s t : Place) → IsPawnMove P s t → IsAdvance P.turn s.
 advance P s t g = elim g [
   | inl single ↦ inl single.1
   | inr more ↦ elim more [
-    | inl double ↦ let between = double.2 in inr (between.0.rank, between.2, between.3)
+    | inl double ↦ inr (double.passed.rank, double.first, double.second)
     | inr capture ↦ inl capture.0.1
   ]
 ]
@@ -44,9 +44,6 @@ not_home Black a b low high g e = elim g [ inl one ↦ omega arith | inr two ↦
 edges : (side : Side) (b : ℕ) → (b ≡ home_rank side → ⊥) → (b ≡ home_rank (opposite side) → ⊥) → (b ≢ 1) × (b ≢ 8)
 edges White b own other = (own, other)
 edges Black b own other = (other, own)
-
-not_promotion : IsPromotion None → ⊥
-not_promotion h = elim h [ inl a ↦ cc | inr b ↦ elim b [ inl a ↦ cc | inr d ↦ elim d [ inl a ↦ cc | inr a ↦ cc ] ] ]
 
 not_a_pawn : IsPromotion (Some Pawn) → ⊥
 not_a_pawn h = elim h [ inl a ↦ cc | inr b ↦ elim b [ inl a ↦ cc | inr d ↦ elim d [ inl a ↦ cc | inr a ↦ cc ] ] ]
@@ -65,7 +62,7 @@ arrived_pawn P m x side e =
 
 not_last : (side : Side) (t : Place) (promote : Option Kind) → Promotes side t promote → promote ≡ None → t.rank ≡ home_rank (opposite side) → ⊥
 not_last side t promote h none last = elim h [
-  | inl there ↦ not_promotion (subst IsPromotion none there.1)
+  | inl there ↦ subst IsPromotion none there.1
   | inr other ↦ other.0 last
 ]
 
@@ -263,12 +260,11 @@ double_fits P m x e =
     let pawn = pawn_kind x.rules.man (ap is_pawn (sym x.rules.here) ∙ is_a_pawn) in
     let goes : Goes P m Pawn = subst (Goes P m) pawn x.rules.goes in
     let double = double_of P m.from m.to goes.1 two in
-    let between = double.2 in
-    let u = between.0 in
-    let ranks = double_ranks P.turn m.from.rank u.rank m.to.rank double.1 between.2 between.3 in
-    let middle : u ≡ record { file = m.from.file; rank = (m.from.rank + m.to.rank) / 2 } = λ i. record { file = between.1 i; rank = ranks.middle i } in
+    let u = double.passed in
+    let ranks = double_ranks P.turn m.from.rank u.rank m.to.rank double.from_first_rank double.first double.second in
+    let middle : u ≡ record { file = m.from.file; rank = (m.from.rank + m.to.rank) / 2 } = λ i. record { file = double.same_file i; rank = ranks.middle i } in
     subst (FitsEnPassant (men_after P m) (opposite P.turn)) middle
-    (passed_fits P m x pawn u between.1 double.0 between.4 ranks)
+    (passed_fits P m x pawn u double.same_file double.file double.empty ranks)
 
 en_passant_sound : (P : State) (m : Move) → IsTried P m → IfSome (en_passant_after P m) (FitsEnPassant (men_after P m) (opposite P.turn))
 en_passant_sound P m x =

@@ -5,7 +5,8 @@ use Rattle.std.specs.List.{list_all}
 use Rattle.std.proofs.lemmas.List.{append_assoc, append-nil, reverse-reverse}
 use Rattle.std.proofs.lemmas.Bool.Decides.{nat_tests}
 use Rattle.chess.specs.Letters.{is_check_mark, is_sign, kind_letter, file_letter, rank_digit}
-use Rattle.chess.specs.San.{Said, Spells, letter_text, file_text, rank_text, promotion_text, IsFileOrRank, IsPromotionKind}
+use Rattle.chess.specs.San.{Said, Spells, letter_text, file_text, rank_text, promotion_text, IsFileOrRank}
+use Rattle.chess.specs.Moves.{IsPromotionKind}
 use Rattle.chess.specs.SanWords.{is_of, kind_of, kind_given, number_given, last_of, before_last, unmarked, before_equals, stem, behind_target_rank, behind_target, behind_sign, behind_rank, behind_file, behind_letter}
 use Rattle.chess.specs.declared.man.Kind.{Kind}
 use Rattle.chess.specs.declared.man.Kind.TheVariants.{King, Queen, Rook, Bishop, Knight, Pawn}

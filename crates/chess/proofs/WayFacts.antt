@@ -1,5 +1,5 @@
 -- Where legal moves begin, and where pawns go.
-use Rattle.std.proofs.Common.{◌≡◌, ◌≤◌, ℕ, inl, inr, ap, refl, subst, ◌∙◌, arith, Some, None, Option}
+use Rattle.std.proofs.Common.{◌≡◌, ◌≤◌, ℕ, inl, inr, ap, refl, subst, ◌∙◌, arith, Some, None}
 use Rattle.chess.specs.Squares.{Place, IsOnBoard}
 use Rattle.chess.specs.Attacks.{IsForward}
 use Rattle.chess.specs.Positions.{State}
@@ -70,19 +70,19 @@ found_move P other h = (h.0, h.3.0, h.3.2)
 abbrev pub CanBecome : State → Place → Place → Kind → Type 0
 CanBecome P s t other = IsLegal P (record { from = s; to = t; promote = Some other; castle = None })
 
-become_by : (P : State) (s t : Place) (promote : Option Kind) (other : Kind) → promote ≡ Some other
-    → IsLegal P (record { from = s; to = t; promote = promote; castle = None }) → CanBecome P s t other
-become_by P s t promote other e legal = subst (λ o. IsLegal P (record { from = s; to = t; promote = o; castle = None })) e legal
+become_by : (P : State) (s t : Place) (found other : Kind) → found ≡ other → CanBecome P s t found → CanBecome P s t other
+become_by P s t found other e legal = subst (λ (k : Kind). CanBecome P s t k) e legal
 
 pub becomes_knight : (P : State) (s t : Place) → (CanBecome P s t Queen → ⊥) → (CanBecome P s t Rook → ⊥) → (CanBecome P s t Bishop → ⊥)
     → CanPromote P s t → CanBecome P s t Knight
-becomes_knight P s t queen rook bishop h = elim h.1 [
-  | inl a ↦ absurd (queen (become_by P s t h.0 Queen a h.2))
+becomes_knight P s t queen rook bishop (None, none, legal) = absurd none
+becomes_knight P s t queen rook bishop (Some found, is, legal) = elim is [
+  | inl a ↦ absurd (queen (become_by P s t found Queen a legal))
   | inr b ↦ elim b [
-    | inl a ↦ absurd (rook (become_by P s t h.0 Rook a h.2))
+    | inl a ↦ absurd (rook (become_by P s t found Rook a legal))
     | inr d ↦ elim d [
-      | inl a ↦ absurd (bishop (become_by P s t h.0 Bishop a h.2))
-      | inr a ↦ become_by P s t h.0 Knight a h.2
+      | inl a ↦ absurd (bishop (become_by P s t found Bishop a legal))
+      | inr a ↦ become_by P s t found Knight a legal
     ]
   ]
 ]

@@ -19,9 +19,16 @@ abbrev pub IsSingleStep : State → Place → Place → Type 0
 IsSingleStep P s t = (t.file ≡ s.file) × IsForward P.turn s.rank t.rank × IsEmpty P.men t
 
 -- from its first rank a pawn steps two squares forward, both empty (Laws 3.7.2)
-abbrev pub IsDoubleStep : State → Place → Place → Type 0
-IsDoubleStep P s t = (t.file ≡ s.file) × (s.rank ≡ pawn_rank P.turn)
-    × ((u : Place) × (u.file ≡ s.file) × IsForward P.turn s.rank u.rank × IsForward P.turn u.rank t.rank × IsEmpty P.men u) × IsEmpty P.men t
+pub record IsDoubleStep (P : State) (s t : Place) : Type 0 where
+  pub file : t.file ≡ s.file
+  pub from_first_rank : s.rank ≡ pawn_rank P.turn
+  -- the square that it passes over
+  pub passed : Place
+  pub same_file : passed.file ≡ s.file
+  pub first : IsForward P.turn s.rank passed.rank
+  pub second : IsForward P.turn passed.rank t.rank
+  pub empty : IsEmpty P.men passed
+  pub end_empty : IsEmpty P.men t
 
 -- a pawn takes a man of the other side that it attacks, or moves to the en passant square that it attacks (Laws 3.7.3, 3.7.3.1)
 abbrev pub IsPawnCapture : State → Place → Place → Type 0
@@ -31,8 +38,12 @@ abbrev pub IsPawnMove : State → Place → Place → Type 0
 IsPawnMove P s t = IsSingleStep P s t ⊎ (IsDoubleStep P s t ⊎ IsPawnCapture P s t)
 
 -- what a pawn may become
+abbrev pub IsPromotionKind : Kind → Type 0
+IsPromotionKind kind = (kind ≡ Queen) ⊎ ((kind ≡ Rook) ⊎ ((kind ≡ Bishop) ⊎ (kind ≡ Knight)))
+
 abbrev pub IsPromotion : Option Kind → Type 0
-IsPromotion promote = (promote ≡ Some Queen) ⊎ ((promote ≡ Some Rook) ⊎ ((promote ≡ Some Bishop) ⊎ (promote ≡ Some Knight)))
+IsPromotion None = ⊥
+IsPromotion (Some found) = IsPromotionKind found
 
 -- a pawn that reaches the last rank becomes a queen, rook, bishop or knight, and no other pawn becomes anything (Laws 3.7.3.3)
 abbrev pub Promotes : Side → Place → Option Kind → Type 0

@@ -4,7 +4,7 @@ use Rattle.std.specs.List.{list_all}
 use Rattle.chess.specs.Squares.{Place, IsOnBoard}
 use Rattle.chess.specs.Placements.{man_at}
 use Rattle.chess.specs.Positions.{State, IsCheck}
-use Rattle.chess.specs.Moves.{taken, after, IsLegal, CanGo, IsMate}
+use Rattle.chess.specs.Moves.{IsPromotionKind, taken, after, IsLegal, CanGo, IsMate}
 use Rattle.chess.specs.Letters.{kind_letter, file_letter, rank_digit, square_text, is_check_mark, is_sign}
 use Rattle.chess.specs.declared.man.Man.{Man}
 use Rattle.chess.specs.declared.man.Kind.{Kind}
@@ -42,10 +42,6 @@ promotion_text equals (Some kind) = (if equals then 61 ∷ [] else []) ++ kind_l
 -- a file or rank of the board
 abbrev pub IsFileOrRank : ℕ → Type 0
 IsFileOrRank n = (1 ≤ n) × (n ≤ 8)
-
--- what a pawn may become
-abbrev pub IsPromotionKind : Kind → Type 0
-IsPromotionKind kind = (kind ≡ Queen) ⊎ ((kind ≡ Rook) ⊎ ((kind ≡ Bishop) ⊎ (kind ≡ Knight)))
 
 -- the text: an optional letter, file, rank and one of x : - , the target, an optional promotion, any number of + and #
 -- (PGN 8.2.3.2 to 8.2.3.5)
@@ -136,15 +132,19 @@ capture_text P m = if is_capture P m then 120 ∷ [] else []
 abbrev pub pawn_text : State → Move → List ℕ
 pawn_text P m = (if is_capture P m then file_letter m.from.file ∷ 120 ∷ [] else []) ++ (square_text m.to ++ promotion_text true m.promote)
 
+-- the text of a piece's move without its mark: its letter, what tells it from its rivals, x for a capture, the square (PGN 8.2.3.2 to 8.2.3.4)
+abbrev pub IsPieceText : State → Move → Kind → List ℕ → Type 0
+IsPieceText P m kind x = (origin : List ℕ) × IsDisambiguation P m origin × (x ≡ kind_letter kind ∷ (origin ++ (capture_text P m ++ square_text m.to)))
+
 -- the text of a move of that kind of man, without its mark (PGN 8.2.3.2 to 8.2.3.5)
 abbrev pub IsBody : State → Move → Option Wing → Kind → List ℕ → Type 0
 IsBody P m (Some wing) _ x = x ≡ castling_text wing
 IsBody P m None Pawn x = x ≡ pawn_text P m
-IsBody P m None King x = (origin : List ℕ) × IsDisambiguation P m origin × (x ≡ kind_letter King ∷ (origin ++ (capture_text P m ++ square_text m.to)))
-IsBody P m None Queen x = (origin : List ℕ) × IsDisambiguation P m origin × (x ≡ kind_letter Queen ∷ (origin ++ (capture_text P m ++ square_text m.to)))
-IsBody P m None Rook x = (origin : List ℕ) × IsDisambiguation P m origin × (x ≡ kind_letter Rook ∷ (origin ++ (capture_text P m ++ square_text m.to)))
-IsBody P m None Bishop x = (origin : List ℕ) × IsDisambiguation P m origin × (x ≡ kind_letter Bishop ∷ (origin ++ (capture_text P m ++ square_text m.to)))
-IsBody P m None Knight x = (origin : List ℕ) × IsDisambiguation P m origin × (x ≡ kind_letter Knight ∷ (origin ++ (capture_text P m ++ square_text m.to)))
+IsBody P m None King x = IsPieceText P m King x
+IsBody P m None Queen x = IsPieceText P m Queen x
+IsBody P m None Rook x = IsPieceText P m Rook x
+IsBody P m None Bishop x = IsPieceText P m Bishop x
+IsBody P m None Knight x = IsPieceText P m Knight x
 
 -- the mark behind a move, of the position after it: # for mate, + for a check that is no mate, else none, also for stalemate (PGN 8.2.3.5)
 pub data IsMark (P : State) : List ℕ → Type 0 where

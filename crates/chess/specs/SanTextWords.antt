@@ -1,14 +1,12 @@
 -- What the writer of move texts knows on its way.
-use Rattle.std.specs.Prelude.{◌≡◌, ℕ, true, List, ◌∷◌, ◌++◌, Some}
+use Rattle.std.specs.Prelude.{◌≡◌, ℕ, true, List, ◌++◌, Some}
 use Rattle.chess.specs.Squares.{Place, IsOnBoard}
 use Rattle.chess.specs.Placements.{man_at}
 use Rattle.chess.specs.Positions.{State}
-use Rattle.chess.specs.Letters.{kind_letter, square_text}
-use Rattle.chess.specs.San.{IsDisambiguation, IsRival, capture_text}
+use Rattle.chess.specs.San.{IsRival}
 use Rattle.chess.specs.Sets.{Places, is_in}
 use Rattle.chess.specs.MoveWords.{IsSifted, IsLeft}
 use Rattle.chess.specs.declared.man.Man.{Man}
-use Rattle.chess.specs.declared.man.Kind.{Kind}
 use Rattle.chess.specs.declared.moves.Move.{Move}
 
 -- a text that has the fact was appended
@@ -18,10 +16,6 @@ Appends fact old new = (text : List ℕ) × fact text × (new ≡ old ++ text)
 -- the set has a square that has the fact
 abbrev pub HasSquare : Places → (Place → Type 0) → Type 0
 HasSquare set fact = (s : Place) × IsOnBoard s × (is_in set s ≡ true) × fact s
-
--- the text of a move of a piece of that kind, without its mark (PGN 8.2.3.2 to 8.2.3.4)
-abbrev pub IsPieceText : State → Move → Kind → List ℕ → Type 0
-IsPieceText P m kind x = (origin : List ℕ) × IsDisambiguation P m origin × (x ≡ kind_letter kind ∷ (origin ++ (capture_text P m ++ square_text m.to)))
 
 -- the rivals are those found and some of those left, which are squares of that man, none before the nth
 pub record AreRivalsSifted (P : State) (m : Move) (man : Man) (n : ℕ) (left found : Places) : Type 0 where

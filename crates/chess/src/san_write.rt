@@ -3,9 +3,9 @@ ghost use Rattle.std.specs.Prelude.{◌≡◌, ◌↔◌, ◌+◌, ◌≤◌, �
 ghost use Rattle.arrayvec.specs.ArrayString.{array_string_len};
 ghost use Rattle.chess.specs.Placements.{man_at};
 ghost use Rattle.chess.specs.Moves.{IsLegal};
-ghost use Rattle.chess.specs.San.{IsSan, IsOnlyNamed, IsRival, IsDisambiguation, IsBody, IsMark, castling_text, is_capture, capture_text, pawn_text, promotion_text};
+ghost use Rattle.chess.specs.San.{IsSan, IsOnlyNamed, IsRival, IsDisambiguation, IsPieceText, IsBody, IsMark, castling_text, is_capture, capture_text, pawn_text, promotion_text};
 ghost use Rattle.chess.specs.Sets.{HoldsExactly};
-ghost use Rattle.chess.specs.SanTextWords.{Appends, HasSquare, IsPieceText};
+ghost use Rattle.chess.specs.SanTextWords.{Appends, HasSquare};
 
 use crate::board::Board;
 use crate::letters::{kind_letter, push_byte, push_square};
