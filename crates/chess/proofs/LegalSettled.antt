@@ -5,7 +5,7 @@ use Rattle.chess.specs.Squares.{Place, IsStraight, IsAhead}
 use Rattle.chess.specs.Placements.{Placement, man_at, AreOnBoard, opposite, IsHeld, IsEmpty}
 use Rattle.chess.specs.Attacks.{IsClearFor, IsOnRay, IsForward, Reaches, IsAttacked}
 use Rattle.chess.specs.Positions.{State, king_of, home_rank, pawn_rank, has_right, king_from, king_to, rook_to, IsCheck}
-use Rattle.chess.specs.Moves.{IsDoubleStep, IsPawnMove, IsPromotion, Promotes, IsBetween, Castles, IsKingMove, Goes, IsPseudoLegal, men_after, IsUnbarred, IsLegal}
+use Rattle.chess.specs.Moves.{IsDoubleStep, IsPawnMove, IsPromotionKind, IsPromotion, Promotes, IsBetween, Castles, IsKingMove, Goes, IsPseudoLegal, men_after, IsUnbarred, IsLegal}
 use Rattle.chess.specs.CellFacts.{on_board_or_not}
 use Rattle.chess.specs.declared.direction.Direction.{Direction}
 use Rattle.chess.specs.declared.direction.Direction.TheVariants.{North, South, East, West, NorthEast, NorthWest, SouthEast, SouthWest}
@@ -142,24 +142,42 @@ settled_passed P s t k =
 
 settled_double : (P : State) (s t : Place) → Settled (IsDoubleStep P s t)
 settled_double P s t =
-    settled_like (λ h. (h.0, h.1, h.2.0, h.2.1)) (λ h. (h.0, h.1, (h.2, h.3)))
+    settled_like (λ h. record {
+      file = h.0;
+      from_first_rank = h.1;
+      passed = record { file = s.file; rank = h.2.0.0 };
+      same_file = refl;
+      first = h.2.0.1.0;
+      second = h.2.0.1.1;
+      empty = h.2.0.1.2;
+      end_empty = h.2.1;
+    })
+    (λ r. (
+      r.file,
+      r.from_first_rank,
+      (
+        (
+          r.passed.rank,
+          (r.first, r.second, subst (IsEmpty P.men) (λ i. record { file = r.same_file i; rank = r.passed.rank }) r.empty),
+        ),
+        r.end_empty,
+      ),
+    ))
     (settled_three (cases_eq t.file s.file) (cases_eq s.rank (pawn_rank P.turn)) (settled_both over (settled_empty P.men t)))
   where
-    over : Settled ((u : Place) × (u.file ≡ s.file) × IsForward P.turn s.rank u.rank × IsForward P.turn u.rank t.rank × IsEmpty P.men u)
+    over : Settled ((k : ℕ) × IsPassed P s t k)
     over =
-        settled_like (λ h. (record { file = s.file; rank = h.0 }, refl, h.2.0, h.2.1, h.2.2)) (λ h. (
-          h.0.rank,
-          forward_low P.turn s.rank h.0.rank h.2,
-          (h.2, h.3, subst (IsEmpty P.men) (λ i. record { file = h.1 i; rank = h.0.rank }) h.4),
-        ))
+        settled_like (λ h. (h.0, h.2)) (λ h. (h.0, forward_low P.turn s.rank h.0 h.1.0, h.1))
         (settled_below (s.rank + 2) (IsPassed P s t) (λ k less. settled_passed P s t k))
 
+pub settled_promotion_kind : (kind : Kind) → Settled (IsPromotionKind kind)
+settled_promotion_kind kind =
+    settled_either (cases_kind kind Queen) (settled_either (cases_kind kind Rook)
+    (settled_either (cases_kind kind Bishop) (cases_kind kind Knight)))
+
 settled_promotion : (promote : Option Kind) → Settled (IsPromotion promote)
-settled_promotion promote =
-    settled_either (same Queen) (settled_either (same Rook) (settled_either (same Bishop) (same Knight)))
-  where
-    same : (kind : Kind) → Settled (promote ≡ Some kind)
-    same kind = cases_option cases_kind promote (Some kind)
+settled_promotion None = inr (λ h. h)
+settled_promotion (Some kind) = settled_promotion_kind kind
 
 settled_promotes : (side : Side) (t : Place) (promote : Option Kind) → Settled (Promotes side t promote)
 settled_promotes side t promote =

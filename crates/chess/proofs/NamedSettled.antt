@@ -7,7 +7,8 @@ use Rattle.chess.specs.Squares.{Place, IsOnBoard}
 use Rattle.chess.specs.Placements.{man_at, AreOnBoard}
 use Rattle.chess.specs.Positions.{State}
 use Rattle.chess.specs.Letters.{is_check_mark, is_sign, square_text}
-use Rattle.chess.specs.San.{Said, letter_text, file_text, rank_text, promotion_text, IsFileOrRank, IsPromotionKind, Spells, castling_text, castling_with_zeros, IsCastlingText, kind_said, Agrees, IsNamed}
+use Rattle.chess.specs.San.{Said, letter_text, file_text, rank_text, promotion_text, IsFileOrRank, Spells, castling_text, castling_with_zeros, IsCastlingText, kind_said, Agrees, IsNamed}
+use Rattle.chess.specs.Moves.{IsPromotionKind}
 use Rattle.chess.specs.Laws.{NamesOneNoneOrSeveral, EachTextNamesOneNoneOrSeveral}
 use Rattle.chess.specs.CellFacts.{on_board_or_not}
 use Rattle.chess.specs.declared.man.Man.{Man}
@@ -18,7 +19,7 @@ use Rattle.chess.specs.declared.moves.Move.{Move}
 use Rattle.chess.proofs.PlaceFacts.{cases_place}
 use Rattle.chess.proofs.Settled.{Settled, settled_like, settled_both, settled_three, settled_either, settled_implies, settled_if_some, settled_not, settled_le, settled_true, settled_below, settled_held, settled_front, SearchIn, IsAny, search_any, search_both, search_bool, search_option, cases_option}
 use Rattle.chess.proofs.Searches.{search_square, search_wing, search_any_kind, cases_kind, cases_wing, cases_move}
-use Rattle.chess.proofs.LegalSettled.{settled_legal}
+use Rattle.chess.proofs.LegalSettled.{settled_promotion_kind, settled_legal}
 
 -- ---- files and ranks that may be given
 
@@ -108,11 +109,6 @@ settled_spelled_by : (x : List ℕ) (said : Said) → Settled (IsSpelledBy x sai
 settled_spelled_by x said =
     search_sign (λ sign. (equals : Bool) × IsSpelledWith x said sign equals)
     (λ sign. search_bool (IsSpelledWith x said sign) (λ equals. settled_front is_check_mark (said_text said sign equals) x))
-
-settled_promotion_kind : (kind : Kind) → Settled (IsPromotionKind kind)
-settled_promotion_kind kind =
-    settled_either (cases_kind kind Queen) (settled_either (cases_kind kind Rook)
-    (settled_either (cases_kind kind Bishop) (cases_kind kind Knight)))
 
 settled_given_number : (o : Option ℕ) → Settled (IsGivenNumber o)
 settled_given_number o = settled_if_some o IsFileOrRank settled_file_or_rank
