@@ -122,6 +122,27 @@ fn texts_are_read_and_written(rt: HostRuntime) -> Result<(), Fail> {
             "4k3/8/8/8/4P3/8/8/4K3 w - e3 0 1",
             "4k3/8/8/8/4P3/8/8/4K3 w - - 0 1",
         ),
+        // rights without their rooks, an en passant square that does not fit; rights in any order; leading zeros
+        (
+            "4k3/8/8/8/8/8/8/4K3 w KQkq e6 5",
+            "4k3/8/8/8/8/8/8/4K3 w - - 5 1",
+        ),
+        (
+            "4k3/8/8/8/8/8/8/22K3 w - -",
+            "4k3/8/8/8/8/8/8/4K3 w - - 0 1",
+        ),
+        (
+            "  rnbqkbnr/pppppppp/8/8/8/8/PPPPPPPP/RNBQKBNR   w qkQK -  0 1 ",
+            "rnbqkbnr/pppppppp/8/8/8/8/PPPPPPPP/RNBQKBNR w KQkq - 0 1",
+        ),
+        (
+            "8/8/8/K2pP2r/8/8/8/4k3 w - d6 0007 12",
+            "8/8/8/K2pP2r/8/8/8/4k3 w - d6 7 12",
+        ),
+        (
+            "r3k2r/8/8/8/8/8/8/4K2R b Kkq - 0 0",
+            "r3k2r/8/8/8/8/8/8/4K2R b Kkq - 0 0",
+        ),
     ];
     for (given, written) in rows {
         assert!(rt; is_written(given, written), "of {given}");
@@ -186,6 +207,8 @@ fn texts_of_another_form_are_refused(rt: HostRuntime) -> Result<(), Fail> {
         "4k3/8/8/8/8/8/8/4K3",
         "4k3/8/8/8/8/8/8/4K3 w -",
         "4k3/8/8/8/8/8/8/4K3 w - - 0 1 2",
+        "4k3/8/8/8/8/8/8/4K3 w - - 12345678 1",
+        "4k3/8/8/8/8/8/8/4K3 w KK - 0 1",
     ];
     for text in rows {
         assert!(rt; is_refused(text, FenError::Syntax), "of {text}");

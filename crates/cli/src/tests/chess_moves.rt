@@ -111,6 +111,26 @@ fn moves_lead_to_these_positions(rt: HostRuntime) -> Result<(), Fail> {
             "e8e7",
             "8/4k3/8/8/8/8/8/4K3 w - - 10000000 10000000",
         ),
+        (
+            "rnbqkbnr/pppppppp/8/8/8/8/PPPPPPPP/RNBQKBNR w KQkq - 0 1",
+            "e2e4",
+            "rnbqkbnr/pppppppp/8/8/4P3/8/PPPP1PPP/RNBQKBNR b KQkq e3 0 1",
+        ),
+        (
+            "rnbqkbnr/pppppppp/8/8/4P3/8/PPPP1PPP/RNBQKBNR b KQkq e3 0 1",
+            "c7c5",
+            "rnbqkbnr/pp1ppppp/8/2p5/4P3/8/PPPP1PPP/RNBQKBNR w KQkq c6 0 2",
+        ),
+        (
+            "rnbqkbnr/pp1ppppp/8/2p5/4P3/8/PPPP1PPP/RNBQKBNR w KQkq c6 0 2",
+            "g1f3",
+            "rnbqkbnr/pp1ppppp/8/2p5/4P3/5N2/PPPP1PPP/RNBQKB1R b KQkq - 1 2",
+        ),
+        (
+            "rnbqkbnr/pppp1ppp/4p3/8/7P/7R/PPPPPPP1/RNBQKBN1 b Qkq - 1 2",
+            "e8e7",
+            "rnbq1bnr/ppppkppp/4p3/8/7P/7R/PPPPPPP1/RNBQKBN1 w Q - 2 3",
+        ),
     ];
     for (fen, tried, after) in rows {
         assert!(rt; leads(fen, tried, after)?, "{tried} in {fen}");
@@ -213,6 +233,21 @@ fn check_mate_and_stalemate(rt: HostRuntime) -> Result<(), Fail> {
         ("6k1/8/8/8/8/8/3p4/4K3 w - - 0 1", true, true),
         ("6k1/8/8/8/8/8/4p3/4K3 w - - 0 1", false, true),
         ("6k1/8/8/8/4K3/3p4/8/8 w - - 0 1", false, true),
+        (
+            "rnb1kbnr/pppp1ppp/8/4p3/6Pq/5P2/PPPPP2P/RNBQKBNR w KQkq - 1 3",
+            true,
+            false,
+        ),
+        (
+            "rnb1kbnr/pppp1ppp/8/4p3/7q/P4P2/1PPPP1PP/RNBQKBNR w KQkq - 1 3",
+            true,
+            true,
+        ),
+        (
+            "rnbqkbnr/pppppppp/8/8/8/8/PPPPPPPP/RNBQKBNR w KQkq - 0 1",
+            false,
+            true,
+        ),
     ];
     for (fen, in_check, has_move) in rows {
         assert!(rt; stands(fen, in_check, has_move)?, "{fen}");
@@ -244,6 +279,9 @@ fn targets_are_counted(rt: HostRuntime) -> Result<(), Fail> {
         ("6k1/8/8/8/8/8/P7/7K w - - 0 1", *b"d4", 0),
         ("6k1/P7/8/8/8/8/8/7K w - - 0 1", *b"a7", 1),
         ("4k3/8/8/8/8/8/8/R3K2R w KQ - 0 1", *b"e1", 7),
+        ("8/8/8/K2pP2r/8/8/8/4k3 w - d6 0 1", *b"e5", 1),
+        ("4k3/8/8/8/8/8/5r2/4K2R w K - 0 1", *b"e1", 2),
+        ("1r2k3/8/8/8/8/8/8/R3K3 w Q - 0 1", *b"e1", 6),
     ];
     for (fen, name, count) in rows {
         assert!(rt; has_targets(fen, name, count)?, "{fen}");

@@ -69,6 +69,10 @@ fn texts_name_these_moves(rt: HostRuntime) -> Result<(), Fail> {
         (START, "Ngf3", "g1f3"),
         (START, "N1f3", "g1f3"),
         (START, "Ng1f3", "g1f3"),
+        (QUEENS, "Qa1-b2#", "a1b2"),
+        ("1r2k3/8/8/8/8/8/8/R3K3 w Q - 0 1", "0-0-0", "e1c1"),
+        ("4k3/8/8/8/1b6/2N5/8/4K1N1 w - - 0 1", "Nge2", "g1e2"),
+        ("4k3/8/8/8/1b6/2N5/8/4K1N1 w - - 0 1", "Ne2", "g1e2"),
     ];
     for (fen, text, named) in rows {
         assert!(rt; names(fen, text, named)?, "{text} in {fen}");
@@ -118,6 +122,16 @@ fn texts_name_no_move_or_several(rt: HostRuntime) -> Result<(), Fail> {
         (START, "+e4", SanError::None),
         (START, "", SanError::None),
         (START, "N", SanError::None),
+        (
+            "4k3/8/8/8/8/2N5/8/4K1N1 w - - 0 1",
+            "Ne2",
+            SanError::Several,
+        ),
+        ("8/8/8/K2pP2r/8/8/8/4k3 w - d6 0 1", "exd6", SanError::None),
+        ("4k3/8/8/8/8/8/5r2/4K2R w K - 0 1", "O-O", SanError::None),
+        (START, "--", SanError::None),
+        (START, "g1f3", SanError::None),
+        (START, "Kx", SanError::None),
     ];
     for (fen, text, error) in rows {
         assert!(rt; is_refused(fen, text, error)?, "{text} in {fen}");
@@ -169,6 +183,11 @@ fn moves_have_these_texts(rt: HostRuntime) -> Result<(), Fail> {
         ("7k/8/6K1/8/8/8/8/1Q6 w - - 0 1", "b1b8", "Qb8#"),
         ("7k/8/8/6Q1/8/8/8/6K1 w - - 0 1", "g5g6", "Qg6"),
         ("k7/8/PK6/8/8/8/8/8 w - - 0 1", "a6a7", "a7"),
+        (
+            "rnbqkbnr/pppp1ppp/8/4p3/6P1/5P2/PPPPP2P/RNBQKBNR b KQkq - 0 2",
+            "d8h4",
+            "Qh4#",
+        ),
     ];
     for (fen, tried, text) in rows {
         assert!(rt; is_text(fen, tried, text)?, "{tried} in {fen}");
