@@ -1,7 +1,9 @@
 -- Conditions by what they are tried on: the game alone, or a position.
 use Rattle.std.specs.Prelude.{◌≡◌, ◌≤◌, ◌<◌, ℕ, List, [], ◌∷◌, Option, Some, None}
 use Rattle.chess.specs.Positions.{State, IsCheck}
-use Rattle.chess.specs.Moves.{IsMate, IsStalemate}
+use Rattle.std.specs.List.{slice_get}
+use Rattle.chess.specs.Moves.{IsLegal, IsMate, IsStalemate}
+use Rattle.chess.specs.declared.moves.Move.{Move}
 use Rattle.pgn_text.specs.Strings.{IsContents}
 use Rattle.pgn_game.specs.Replays.{Replay}
 use Rattle.pgn_criteria.specs.Patterns.{FitsPattern}
@@ -44,6 +46,10 @@ AreGood (condition ∷ more) = IsGood condition × AreGood more
 abbrev pub AllGood : List (List (Condition (List ℕ))) → Type 0
 AllGood [] = Unit {0}
 AllGood (alternative ∷ more) = AreGood alternative × AllGood more
+
+-- each move is legal in its position
+abbrev pub AreLegal : Replay → Type 0
+AreLegal replay = (i : ℕ) (P : State) (m : Move) → slice_get replay.positions i ≡ Some P → slice_get replay.played i ≡ Some m → IsLegal P m
 
 -- what a condition says of the game alone
 abbrev pub OfGame : Tags → Replay → Condition (List ℕ) → Type 0
