@@ -11,7 +11,7 @@ use Rattle.pgn_criteria.specs.declared.condition.Condition.TheVariants.{Tag, Fen
 use Rattle.pgn_criteria.specs.declared.line.Meaning.{Meaning}
 use Rattle.pgn_criteria.specs.declared.line.Meaning.TheVariants.{Nothing, Or, Asks}
 use Rattle.pgn_criteria.specs.Lines.{SpellsEntries}
-use Rattle.pgn_criteria.specs.Meeting.{seen}
+use Rattle.pgn_criteria.specs.Stages.{seen}
 
 -- what follows the first word and the blanks behind it
 abbrev pub behind_word : List ℕ → List ℕ

@@ -4,7 +4,7 @@ ghost use Rattle.std.specs.List.{list_all};
 ghost use Rattle.pgn_text.specs.Bytes.{is_name_byte};
 ghost use Rattle.pgn_text.specs.Strings.{IsContents};
 ghost use Rattle.pgn_criteria.specs.Lines.{SpellsCondition, relation_text};
-ghost use Rattle.pgn_criteria.specs.Meeting.{seen};
+ghost use Rattle.pgn_criteria.specs.Stages.{seen};
 ghost use Rattle.pgn_criteria.specs.declared.compare.Relation.{Relation};
 ghost use Rattle.pgn_criteria.specs.declared.condition.Condition.TheVariants.{Tag};
 
