@@ -24,7 +24,7 @@ stands_so relation given text order r of_given of_text is told =
       },
       λ stands.
           let same : order_of stands.value stands.other ≡ order =
-              ap (λ v. order_of v stands.other) (one_value given stands.value stands.signs stands.has)
-              ∙ ap (order_of (value_of given)) (one_value text stands.other stands.other_signs stands.other_has) ∙ sym is in
+          ap (λ v. order_of v stands.other) (one_value given stands.value stands.signs stands.has)
+          ∙ ap (order_of (value_of given)) (one_value text stands.other stands.other_signs stands.other_has) ∙ sym is in
           told.1 (subst (Allows relation) same stands.allowed),
     )

@@ -1,5 +1,5 @@
 -- What the definitions say of values, ranks and words that every reader can check.
-use Rattle.std.proofs.Common.{◌≡◌, ◌≤◌, ◌<◌, ℕ, List, [], ◌∷◌, Option, Some, None, true, false, refl, arith, codes}
+use Rattle.std.proofs.Common.{◌≡◌, ◌≤◌, List, [], ◌∷◌, Option, Some, None, true, false, refl, arith, codes}
 use Rattle.std.specs.declared.cmp.Ordering.TheVariants as order
 use Rattle.chess.specs.Fen.{IsSquares}
 use Rattle.chess.specs.Fen.IsSquares.{letter, step}
@@ -96,8 +96,8 @@ pawns_behind_an_empty_square =
           pawn ∷ pawn ∷ [],
           refl,
           spelled 80 (pawn ∷ []) p,
-          (pawn ∷ [], pawn ∷ [], refl, spelled 80 (pawn ∷ []) p, (pawn ∷ [], [], refl, spelled 80 (pawn ∷ []) p, refl))
-        )
+          (pawn ∷ [], pawn ∷ [], refl, spelled 80 (pawn ∷ []) p, (pawn ∷ [], [], refl, spelled 80 (pawn ∷ []) p, refl)),
+        ),
       ),
     )
 
@@ -129,10 +129,10 @@ each_sign =
               None ∷ None ∷ None ∷ None ∷ [],
               refl,
               black (record { side = Black; kind = Rook }) refl,
-              (None ∷ None ∷ None ∷ None ∷ [], [], refl, spelled 52 (None ∷ None ∷ None ∷ None ∷ []) four, ([], [], refl, many [], refl))
-            )
-          )
-        )
+              (None ∷ None ∷ None ∷ None ∷ [], [], refl, spelled 52 (None ∷ None ∷ None ∷ None ∷ []) four, ([], [], refl, many [], refl)),
+            ),
+          ),
+        ),
       ),
     )
 

@@ -1,6 +1,6 @@
 -- Conditions on the men: what spells one is read as it, and the other way round.
-use Rattle.std.proofs.Common.{◌≡◌, ◌≢◌, ◌≤◌, ℕ, Bool, true, false, List, [], ◌∷◌, ◌++◌, refl, sym, ap, ◌∙◌, arith}
-use Rattle.std.specs.Prelude.{codes, Option, ◌+◌, ◌-◌, ◌==◌, nat_le, if◌then◌else◌}
+use Rattle.std.proofs.Common.{◌≡◌, ◌≢◌, ℕ, true, false, List, [], ◌∷◌, refl, sym, ap, arith}
+use Rattle.std.specs.Prelude.{codes, Option, ◌+◌, ◌-◌, ◌==◌, if◌then◌else◌}
 use Rattle.std.specs.List.{list_all}
 use Rattle.std.proofs.lemmas.Bool.{eqb-true}
 use Rattle.std.proofs.lemmas.Bool.Decides.{nat_tests}
@@ -16,7 +16,7 @@ use Rattle.pgn_criteria.specs.Words.{run_of}
 use Rattle.pgn_criteria.specs.Reading.{behind_word}
 use Rattle.pgn_criteria.specs.Lines.{SpellsCondition}
 use Rattle.pgn_criteria.specs.declared.condition.Condition.TheVariants.{Fen}
-use Rattle.pgn_criteria.proofs.SolidFacts.{is_solid, AreSolid, BeginsSolid, EndsSolid, both_true, solid_begins, solid_ends, begins_some, word_read, word_spelled}
+use Rattle.pgn_criteria.proofs.SolidFacts.{is_solid, AreSolid, both_true, solid_begins, word_read, word_spelled}
 
 letter_solid : (side : Side) (kind : Kind) → is_solid (man_letter (record { side = side; kind = kind })) ≡ true
 letter_solid White King = refl

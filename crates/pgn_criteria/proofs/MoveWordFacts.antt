@@ -1,13 +1,11 @@
 -- The words of a condition on the moves, one after the other.
-use Rattle.std.proofs.Common.{◌≡◌, ◌≢◌, ◌<◌, ℕ, Bool, true, false, List, [], ◌∷◌, ◌++◌, length, refl, sym, ap, ◌∙◌, subst, IsTrue, inl, inr, append-nil, arith, length-append}
-use Rattle.std.specs.Prelude.{codes, ◌⊎◌, ◌||◌, ◌==◌, nat_le, ◌≤◌, ◌+◌, if◌then◌else◌}
+use Rattle.std.proofs.Common.{◌≡◌, ◌≢◌, ◌<◌, ℕ, true, false, List, [], ◌∷◌, ◌++◌, length, refl, sym, ap, ◌∙◌, subst, inl, inr, append-nil, arith, length-append}
+use Rattle.std.specs.Prelude.{codes, ◌⊎◌, ◌≤◌, ◌+◌, if◌then◌else◌}
 use Rattle.std.specs.List.{list_all}
 use Rattle.std.proofs.lemmas.Bool.Decides.{nat_tests}
-use Rattle.chess.specs.Fen.{is_digit}
-use Rattle.pgn_text.specs.Bytes.{is_letter}
 use Rattle.pgn_criteria.specs.Words.{is_blank, run_of, after_run, behind_blanks}
 use Rattle.pgn_criteria.specs.Reading.{behind_word}
-use Rattle.pgn_criteria.specs.Lines.{is_move_byte, IsMoveWord, AreMoveWords, a_word, and_words, IsGap, SpellsCondition}
+use Rattle.pgn_criteria.specs.Lines.{is_move_byte, IsMoveWord, AreMoveWords, a_word, and_words, SpellsCondition}
 use Rattle.pgn_criteria.specs.declared.condition.Condition.TheVariants.{Moves}
 use Rattle.pgn_criteria.proofs.WordFacts.{run_whole}
 use Rattle.pgn_criteria.proofs.SolidFacts.{is_solid, AreSolid, BeginsSolid, EndsSolid, all_solid, solid_begins, solid_ends, begins_front, begins_some, ends_behind, word_alone, word_read, word_spelled}

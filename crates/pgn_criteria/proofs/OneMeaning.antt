@@ -1,6 +1,6 @@
 -- An accepted text has one meaning: its lines are cut in one way, and each kind of condition has its own first word.
-use Rattle.std.proofs.Common.{◌≡◌, ◌≢◌, ◌≤◌, ◌<◌, ℕ, Bool, true, false, List, [], ◌∷◌, ◌++◌, length, refl, sym, ap, ◌∙◌, subst, inl, inr, arith}
-use Rattle.std.specs.Prelude.{codes, ◌+◌, ◌⊎◌, ◌==◌, if◌then◌else◌, Option, Some, None}
+use Rattle.std.proofs.Common.{◌≡◌, ◌≤◌, ℕ, List, [], ◌∷◌, ◌++◌, length, refl, sym, ap, ◌∙◌, subst, inl, inr, arith}
+use Rattle.std.specs.Prelude.{codes, ◌+◌, ◌==◌, if◌then◌else◌}
 use Rattle.std.proofs.lemmas.List.{append_cancel_right}
 use Rattle.chess.specs.Fen.{parted_at}
 use Rattle.chess.specs.declared.man.Side.{Side}
@@ -10,7 +10,7 @@ use Rattle.chess.specs.declared.man.Kind.TheVariants.{King, Queen, Rook, Bishop,
 use Rattle.pgn_criteria.specs.Words.{run_of}
 use Rattle.pgn_criteria.specs.Reading.{behind_word, core_of}
 use Rattle.pgn_criteria.specs.Materials.{limit_of}
-use Rattle.pgn_criteria.specs.Lines.{SpellsCondition, SpellsLimits, Spells, IsLine, AreLines, side_text, relation_text, alternatives_of, Accepts, IsFirstBad, IsRefused}
+use Rattle.pgn_criteria.specs.Lines.{SpellsCondition, SpellsLimits, Spells, IsLine, AreLines, side_text, relation_text, alternatives_of, IsFirstBad}
 use Rattle.pgn_criteria.specs.Laws.{TextHasOneMeaning, TextHasOneAnswer}
 use Rattle.pgn_criteria.specs.declared.compare.Relation.{Relation}
 use Rattle.pgn_criteria.specs.declared.compare.Relation.TheVariants.{Equal, Unequal, Less, LessOrEqual, Greater, GreaterOrEqual}

@@ -12,8 +12,8 @@ use Rattle.std.specs.Int.{trailing_zeros}
 use mir.Val.{bits}
 use mir.Syntax.{w16}
 use Rattle.chess.specs.declared.man.Man.{Man}
-use Rattle.pgn_criteria.specs.Patterns.{CanBeSplit, IsStretch}
-use Rattle.pgn_criteria.specs.Items.{IsOf, EachOf, Fits, item_of, Has, IsBehind, Ends, Goes}
+use Rattle.pgn_criteria.specs.Patterns.{CanBeSplit}
+use Rattle.pgn_criteria.specs.Items.{IsOf, Fits, item_of, Has, IsBehind, Ends, Goes}
 use Rattle.pgn_criteria.specs.declared.rank.Class.{Class}
 use Rattle.pgn_criteria.specs.declared.rank.Item.{Item}
 use Rattle.pgn_criteria.specs.declared.rank.Item.TheVariants.{Run, Many}
@@ -42,7 +42,7 @@ run_more class squares reached next left count items eight more told = (
       let within : before < length squares = omega (arith, behind.2, eight) in
       let step : suc before ≡ goes.0 = omega (arith, behind.1) in
       let cut : drop before squares ≡ get_or squares before None ∷ (goes.3.0 ++ goes.3.1) =
-          drop-cons squares before None within ∙ ap (λ n. get_or squares before None ∷ drop n squares) step ∙ ap (λ x. get_or squares before None ∷ x) goes.3.2 in
+      drop-cons squares before None within ∙ ap (λ n. get_or squares before None ∷ drop n squares) step ∙ ap (λ x. get_or squares before None ∷ x) goes.3.2 in
       let size : suc (length goes.3.0) ≡ left = omega (arith, goes.3.3.0) in
       let low : before ≤ 8 = omega (arith, behind.2) in
       (before, low, behind.3, (get_or squares before None ∷ goes.3.0, goes.3.1, cut, (size, (behind.4, goes.3.3.1)), goes.3.4)),

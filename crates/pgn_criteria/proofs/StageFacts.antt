@@ -1,15 +1,14 @@
 -- Conditions on a game are what they say of the game alone and what they say of a position.
-use Rattle.std.proofs.Common.{◌≡◌, ◌↔◌, ◌≤◌, ◌<◌, ◌+◌, ◌++◌, ℕ, Bool, false, List, [], ◌∷◌, Option, Some, None, IsTrue, refl, sym, ap, subst, inl, inr, arith}
+use Rattle.std.proofs.Common.{◌≡◌, ◌↔◌, ◌+◌, ◌++◌, ℕ, Bool, false, List, [], ◌∷◌, Option, Some, None, IsTrue, refl, subst, inl, inr, arith}
 use Rattle.std.specs.Prelude.{◌⊎◌}
 use Rattle.std.specs.Option.{unwrap_or}
 use Rattle.std.specs.List.{slice_get}
-use Rattle.std.proofs.lemmas.Bool.{cases_lt}
 use Rattle.chess.specs.Positions.{State}
 use Rattle.pgn_game.specs.Replays.{Replay}
 use Rattle.pgn_criteria.specs.Meeting.{Tags, Holds, AllHold, SomeHold, Meets, IsFirst}
 use Rattle.pgn_criteria.specs.Stages.{OfGame, AllOfGame, OfPosition, AllOfPosition, AllOfStage, stage_of, IsFirstBefore}
 use Rattle.pgn_criteria.specs.declared.meets.Stage.{Stage}
-use Rattle.pgn_criteria.specs.declared.meets.Stage.TheVariants.{Game, Men, Attacks, Replies}
+use Rattle.pgn_criteria.specs.declared.meets.Stage.TheVariants.{Men, Attacks, Replies}
 use Rattle.pgn_criteria.specs.declared.condition.Condition.{Condition}
 use Rattle.pgn_criteria.specs.declared.condition.Condition.TheVariants.{Tag, Fen, Material, Moves, Turn, Check, Mate, Stalemate}
 
@@ -130,6 +129,7 @@ next_best tags replay before more min max best found first here = go best found 
       | inl hold ↦ inl (record { position = met.position; here = met.here; hold = hold })
       | inr hold ↦ inr (record { position = met.position; here = met.here; hold = hold })
     ]
+
     go : (best found : Option ℕ) → IsFirst (λ plies. Meets tags replay plies before) min max best → IsFirstBefore (λ plies. Meets tags replay plies more) min (unwrap_or best (max + 1)) found
         → IsFirst (λ plies. Meets tags replay plies (before ++ more)) min max (elim found [ None ↦ best | Some plies ↦ Some plies ])
     go None None first here = λ n low high met. elim (either n met) [ inl old ↦ first n low high old | inr new ↦ here n low (omega arith) new ]

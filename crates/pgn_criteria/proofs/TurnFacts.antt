@@ -1,5 +1,5 @@
 -- Conditions on the turn: what spells one is read as it, and the other way round.
-use Rattle.std.proofs.Common.{◌≡◌, ◌≢◌, ℕ, List, [], ◌∷◌, ◌++◌, refl, sym, ap, ◌∙◌}
+use Rattle.std.proofs.Common.{◌≡◌, ◌≢◌, ℕ, List, [], refl, sym, ◌∙◌}
 use Rattle.std.specs.Prelude.{codes, Option, Some, None, MatchOption}
 use Rattle.chess.specs.declared.man.Side.{Side}
 use Rattle.chess.specs.declared.man.Side.TheVariants.{White, Black}
@@ -7,7 +7,7 @@ use Rattle.pgn_criteria.specs.Words.{run_of}
 use Rattle.pgn_criteria.specs.Reading.{behind_word}
 use Rattle.pgn_criteria.specs.Lines.{side_text, SpellsCondition}
 use Rattle.pgn_criteria.specs.declared.condition.Condition.TheVariants.{Turn}
-use Rattle.pgn_criteria.proofs.SolidFacts.{AreSolid, BeginsSolid, EndsSolid, solid_begins, solid_ends, begins_some, word_read, word_spelled}
+use Rattle.pgn_criteria.proofs.SolidFacts.{AreSolid, EndsSolid, solid_begins, solid_ends, word_read, word_spelled}
 
 side_solid : (side : Side) → AreSolid (side_text side)
 side_solid White = refl

@@ -1,5 +1,5 @@
 -- How lines are read: the words that the code equals.
-use Rattle.std.specs.Prelude.{ℕ, ◌-◌, ◌++◌, ◌==◌, if◌then◌else◌, List, [], ◌∷◌, reverse, codes, Option, Some, None, IsTrue, map}
+use Rattle.std.specs.Prelude.{ℕ, ◌-◌, ◌++◌, ◌==◌, if◌then◌else◌, List, [], ◌∷◌, reverse, IsTrue, map}
 use Rattle.chess.specs.Fen.{is_digit, is_distinct}
 use Rattle.chess.specs.Letters.{kind_letter}
 use Rattle.chess.specs.declared.man.Kind.{Kind}
@@ -7,7 +7,6 @@ use Rattle.pgn_criteria.specs.Words.{after_run, behind_blanks}
 use Rattle.pgn_criteria.specs.declared.material.Limit.{Limit}
 use Rattle.pgn_criteria.specs.declared.material.Limit.TheVariants.{Exactly, AtLeast, AtMost, AnyNumber}
 use Rattle.pgn_criteria.specs.declared.condition.Condition.{Condition}
-use Rattle.pgn_criteria.specs.declared.condition.Condition.TheVariants.{Tag, Fen, Material, Moves, Turn, Check, Mate, Stalemate}
 use Rattle.pgn_criteria.specs.declared.line.Meaning.{Meaning}
 use Rattle.pgn_criteria.specs.declared.line.Meaning.TheVariants.{Nothing, Or, Asks}
 use Rattle.pgn_criteria.specs.Lines.{SpellsEntries}

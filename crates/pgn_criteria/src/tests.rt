@@ -57,7 +57,13 @@ fn are_met(alloc: Global, criteria: &[u8], block: &[u8], plies: &[usize]) -> Res
 }
 
 /// The first ply of the game within the bounds that meets the criteria.
-fn first_within(alloc: Global, criteria: &[u8], block: &[u8], min: u32, max: u32) -> Result<Option<usize>, Fail> {
+fn first_within(
+    alloc: Global,
+    criteria: &[u8],
+    block: &[u8],
+    min: u32,
+    max: u32,
+) -> Result<Option<usize>, Fail> {
     let criteria = read(alloc, criteria)?;
     let game = first_game(alloc, block)?;
     let replayed = replayed(alloc, &game)?;
@@ -72,7 +78,8 @@ const STALEMATE: &[u8] = b"[FEN \"7k/5Q2/8/8/8/8/8/K7 b - - 0 1\"]\n\n*";
 
 const PINNED: &[u8] = b"[FEN \"4k3/8/8/8/1b6/2N5/8/4K1N1 w - - 0 1\"]\n\n1. Nge2 *";
 
-const ENDING: &[u8] = b"[Round \"9\"]\n[White \"O\\\"Neil\"]\n[FEN \"4k3/4p3/8/8/8/8/4P3/4K3 w - - 0 1\"]\n\n1. e4 *";
+const ENDING: &[u8] =
+    b"[Round \"9\"]\n[White \"O\\\"Neil\"]\n[FEN \"4k3/4p3/8/8/8/8/4P3/4K3 w - - 0 1\"]\n\n1. e4 *";
 
 #[test]
 fn conditions_hold_at_their_plies(rt: HostRuntime) -> Result<(), Fail> {
@@ -106,7 +113,11 @@ fn conditions_hold_at_their_plies(rt: HostRuntime) -> Result<(), Fail> {
         (b"moves d4", SHORT, &[]),
         (b"moves e4 e5 *", SHORT, &[]),
         (b"moves e4 *", b"1. e4 *", &[]),
-        (b"moves e4 e5 Qh5 Nc6 Bc4 Nf6 Qxf7\nturn black", MATE, &[1, 3, 5, 7]),
+        (
+            b"moves e4 e5 Qh5 Nc6 Bc4 Nf6 Qxf7\nturn black",
+            MATE,
+            &[1, 3, 5, 7],
+        ),
         (b"moves Nge2", PINNED, &[]),
         (b"moves Ne2", PINNED, &[0, 1]),
         (b"moves zz", SHORT, &[]),
@@ -117,14 +128,21 @@ fn conditions_hold_at_their_plies(rt: HostRuntime) -> Result<(), Fail> {
         (b"material KQ*P2- v KP1", ENDING, &[0, 1]),
         (b"material K2+ v K", SHORT, &[]),
         (b"material P v P", ENDING, &[]),
-        (b"fen rnbqkbnr/pppppppp/8/8/8/8/PPPPPPPP/RNBQKBNR", SHORT, &[0]),
+        (
+            b"fen rnbqkbnr/pppppppp/8/8/8/8/PPPPPPPP/RNBQKBNR",
+            SHORT,
+            &[0],
+        ),
         (b"fen */*/*/*/*/*/*/*", SHORT, &[0, 1, 2]),
         (b"fen */*/*/*/4P*/*/*/*", SHORT, &[1, 2]),
         (b"fen */*/*/*/*/*/*1PPP/*", SHORT, &[1, 2]),
         (b"fen */*/*/*p*/*/*/*/*\nturn white", SHORT, &[2]),
     ];
     for (criteria, block, plies) in rows {
-        assert!(rt; are_met(alloc, criteria, block, plies)?, "{criteria:?} in {block:?}");
+        assert!(rt;
+            are_met(alloc, criteria, block, plies)?,
+            "{criteria:?} in {block:?}"
+        );
     }
     Ok(())
 }
@@ -144,7 +162,11 @@ fn the_first_stands_within_its_bounds(rt: HostRuntime) -> Result<(), Fail> {
         (b"turn black\nor\nturn white", 0, 9, Some(0)),
     ];
     for (criteria, min, max, expected) in rows {
-        assert_eq!(rt; first_within(alloc, criteria, SHORT, min, max)?, expected, "{criteria:?} from {min} to {max}");
+        assert_eq!(rt;
+            first_within(alloc, criteria, SHORT, min, max)?,
+            expected,
+            "{criteria:?} from {min} to {max}"
+        );
     }
     Ok(())
 }

@@ -19,9 +19,24 @@ fn values_stand_in_relations(rt: HostRuntime) -> Result<(), Fail> {
         (Relation::Equal, b"007", b"7", true),
         (Relation::Unequal, b"007", b"7", false),
         (Relation::Equal, b"0", b"00", true),
-        (Relation::Less, b"99999999999999999", b"100000000000000000", true),
-        (Relation::Less, b"999999999999999999", b"1000000000000000000", false),
-        (Relation::Less, b"1000000000000000000", b"999999999999999999", true),
+        (
+            Relation::Less,
+            b"99999999999999999",
+            b"100000000000000000",
+            true,
+        ),
+        (
+            Relation::Less,
+            b"999999999999999999",
+            b"1000000000000000000",
+            false,
+        ),
+        (
+            Relation::Less,
+            b"1000000000000000000",
+            b"999999999999999999",
+            true,
+        ),
         (Relation::Equal, b"000000000000000007", b"7", true),
         (Relation::Equal, b"0000000000000000007", b"7", false),
         (Relation::Equal, b"", b"", true),
@@ -45,7 +60,11 @@ fn values_stand_in_relations(rt: HostRuntime) -> Result<(), Fail> {
         (Relation::GreaterOrEqual, b"6", b"5", true),
     ];
     for (relation, given, text, expected) in rows {
-        assert_eq!(rt; compare(relation, given, text), expected, "{given:?} {relation:?} {text:?}");
+        assert_eq!(rt;
+            compare(relation, given, text),
+            expected,
+            "{given:?} {relation:?} {text:?}"
+        );
     }
     Ok(())
 }

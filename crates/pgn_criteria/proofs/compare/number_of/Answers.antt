@@ -1,5 +1,4 @@
-use Rattle.std.proofs.Common.{◌≡◌, ◌<◌, ◌*◌, ◌+◌, ◌^◌, ap, sym, ◌∙◌, arith}
-use Rattle.std.proofs.lemmas.Bool.Decides.{nat_tests}
+use Rattle.std.proofs.Common.{◌≡◌, ap, sym, ◌∙◌, arith}
 use Rattle.pgn_text.specs.Reading.{value_of}
 use Rattle.pgn_text.proofs.Values.{one_value}
 use Rattle.pgn_criteria.specs.Numbers.{number_behind}
@@ -9,7 +8,7 @@ use Rattle.pgn_criteria.proofs.compare.number_of.Goals as goal
 pub loop-byte-init : goal.loop-byte-init
 loop-byte-init c =
     let same : c.into_iter-byte-iterator.result ≡ value_of c.args.contents.now =
-        c.into_iter-byte-iterator.ensures.into_iter_gives ∙ one_value _ _ _ c.value-byte-items.ensures.1 in
+    c.into_iter-byte-iterator.ensures.into_iter_gives ∙ one_value _ _ _ c.value-byte-items.ensures.1 in
     record {
       few = omega arith;
       small = omega arith;

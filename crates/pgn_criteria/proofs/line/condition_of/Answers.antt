@@ -1,4 +1,4 @@
-use Rattle.std.proofs.Common.{rules, ◌≡◌, ◌≢◌, ℕ, List}
+use Rattle.std.proofs.Common.{rules, ◌≢◌, ℕ, List}
 use Rattle.std.specs.Prelude.{codes, Option, Some, None, MatchOption}
 use Rattle.chess.specs.declared.man.Side.{Side}
 use Rattle.pgn_criteria.specs.Lines.{SpellsCondition}

@@ -1,4 +1,4 @@
-use Rattle.std.proofs.Common.{ℕ, List, map}
+use Rattle.std.proofs.Common.{map}
 use Rattle.pgn_text.specs.GameTexts.{tag_in}
 use Rattle.pgn_criteria.specs.Stages.{seen}
 use Rattle.pgn_criteria.proofs.StageFacts.{both_parts, first_part_fails}

@@ -1,6 +1,5 @@
-use Rattle.std.proofs.Common.{ℕ, List, map}
+use Rattle.std.proofs.Common.{map}
 use Rattle.pgn_criteria.specs.Stages.{seen}
-use Rattle.pgn_criteria.specs.declared.condition.Condition.{Condition}
 use Rattle.pgn_criteria.specs.declared.meets.Stage.TheVariants.{Men, Attacks}
 use Rattle.pgn_criteria.proofs.StageFacts.{last_stage, stage_fails}
 use Rattle.pgn_criteria.proofs.meets.are_of_position.Goals as goal

@@ -1,4 +1,4 @@
-use Rattle.std.proofs.Common.{◌≡◌, ◌<◌, ◌∷◌, [], ℕ, List, map, subst, inl, inr, arith}
+use Rattle.std.proofs.Common.{◌≡◌, ◌∷◌, [], map, subst, inl, inr, arith}
 use Rattle.std.proofs.lemmas.Bool.{cases_lt}
 use Rattle.pgn_text.specs.GameTexts.{tag_in}
 use Rattle.pgn_criteria.specs.Meeting.{Tags, Meets}
@@ -17,7 +17,7 @@ returns-then-are_of_position c = (
   c.loop-plies.invariant.from,
   c.loop-plies-test.true,
   one_meets (λ name. tag_in name c.args.game.now.tags) c.args.replayed.now c.loop-plies.plies (map (seen (λ text. text.items)) c.args.conditions.now) c.position.result.now
-  c.position.ensures (c.are_of_game.ensures.0 c.if-not-are_of_game.false) (c.are_of_position.ensures.0 c.if-are_of_position.true),
+      c.position.ensures (c.are_of_game.ensures.0 c.if-not-are_of_game.false) (c.are_of_position.ensures.0 c.if-are_of_position.true),
   c.loop-plies.invariant.none,
 )
 
@@ -31,8 +31,8 @@ loop-plies-preserved c = record {
         let conditions = map (seen (λ text. text.items)) c.args.conditions.now in
         let same : n ≡ c.loop-plies.plies = omega arith in
         let of_position =
-            position_of tags c.args.replayed.now c.loop-plies.plies conditions c.position.result.now c.position.ensures
-            (subst (λ m. Meets tags c.args.replayed.now m (conditions ∷ [])) same met) in
+        position_of tags c.args.replayed.now c.loop-plies.plies conditions c.position.result.now c.position.ensures
+        (subst (λ m. Meets tags c.args.replayed.now m (conditions ∷ [])) same met) in
         absurd (cc (c.are_of_position.ensures.1 of_position, c.if-are_of_position.false))
   ];
 }

@@ -1,4 +1,4 @@
-use Rattle.std.proofs.Common.{◌∷◌, [], ℕ, List, map, None, Some, subst}
+use Rattle.std.proofs.Common.{◌∷◌, [], map, None, Some, subst}
 use Rattle.pgn_text.specs.GameTexts.{tag_in}
 use Rattle.pgn_criteria.specs.Meeting.{Tags, Meets}
 use Rattle.pgn_criteria.specs.Stages.{IsFirstBefore, seen}

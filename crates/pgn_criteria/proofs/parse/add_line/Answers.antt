@@ -1,5 +1,4 @@
-use Rattle.std.proofs.Common.{◌≡◌, ◌∷◌, ◌++◌, [], ℕ, List, map, refl, sym, ap, ◌∙◌, Vec, Global}
-use Rattle.std.specs.Prelude.{Option}
+use Rattle.std.proofs.Common.{◌≡◌, ◌∷◌, ◌++◌, [], ℕ, List, map, ap, ◌∙◌, Vec, Global}
 use Rattle.std.proofs.lemmas.List.{map-append}
 use Rattle.pgn_criteria.specs.Lines.{alternatives_of}
 use Rattle.pgn_criteria.specs.Reading.{with_open}
@@ -26,6 +25,6 @@ returns-in_ok-push-in-Some-Or c = (
   Or,
   (rw c.in-Some-Or.field-0-is at c.in-Some-Or.ensures),
   or_pushed (seen (λ bytes. bytes.items)) c.args.alternatives.now.items c.push-in-Some-Or.new.self.items c.args.last.now c.replace.new.dest
-  (c.in_ok-push-in-Some-Or.ensures.items ∙ ap (λ (a : Vec (Condition (Vec ℕ Global)) Global). c.args.alternatives.now.items ++ (a ∷ [])) c.replace.ensures.value)
-  (ap (λ (a : Vec (Condition (Vec ℕ Global)) Global). a.items) c.replace.ensures.after ∙ c.new.ensures.items),
+      (c.in_ok-push-in-Some-Or.ensures.items ∙ ap (λ (a : Vec (Condition (Vec ℕ Global)) Global). c.args.alternatives.now.items ++ (a ∷ [])) c.replace.ensures.value)
+      (ap (λ (a : Vec (Condition (Vec ℕ Global)) Global). a.items) c.replace.ensures.after ∙ c.new.ensures.items),
 )

@@ -14,8 +14,8 @@ returns-in_default c =
 pub returns-then-reached-eq0 : goal.returns-then-reached-eq0
 returns-then-reached-eq0 c =
     let kept =
-        item_kept c.args.squares.now c.loop-byte.reached c.step-reached.result c.args.items.now c.loop-byte.byte-index c.item_of.result c.in-Some.item
-        (CanBeSplit c.args.items.now c.args.squares.now) c.loop-byte-test.true c.item_of.ensures c.in-Some.is c.step-reached.ensures.goes_on c.loop-byte.invariant.goes_on in
+    item_kept c.args.squares.now c.loop-byte.reached c.step-reached.result c.args.items.now c.loop-byte.byte-index c.item_of.result c.in-Some.item
+    (CanBeSplit c.args.items.now c.args.squares.now) c.loop-byte-test.true c.item_of.ensures c.in-Some.is c.step-reached.ensures.goes_on c.loop-byte.invariant.goes_on in
     none_fails c.args.squares.now c.step-reached.result _ (CanBeSplit c.args.items.now c.args.squares.now) c.if-reached-eq0.true kept
 
 pub loop-byte-preserved : goal.loop-byte-preserved

@@ -1,4 +1,4 @@
-use Rattle.std.proofs.Common.{◌+◌, ◌-◌, ◌≡◌, arith, subst, sym}
+use Rattle.std.proofs.Common.{◌+◌, ◌-◌, ◌≡◌, arith, subst}
 use Rattle.pgn_criteria.specs.Items.{Goes}
 use Rattle.pgn_criteria.specs.declared.rank.Item.TheVariants.{Run}
 use Rattle.pgn_criteria.proofs.PlaceFacts.{run_more, run_none}

@@ -1,4 +1,4 @@
-use Rattle.std.proofs.Common.{◌≡◌, ◌≢◌, ℕ, Bool, true, false, List, [], ◌∷◌, length, refl, sym, ap, ◌∙◌, IsTrue}
+use Rattle.std.proofs.Common.{◌≡◌, ◌≢◌, ℕ, true, false, List, [], length, sym, ap, ◌∙◌}
 use Rattle.std.specs.Prelude.{◌==◌}
 use Rattle.std.proofs.lemmas.Bool.{eqb-true}
 use Rattle.std.proofs.lemmas.List.{nil_from_length}
@@ -6,7 +6,7 @@ use Rattle.chess.specs.Letters.{kind_letter}
 use Rattle.chess.specs.declared.man.Kind.{Kind}
 use Rattle.chess.specs.declared.man.Kind.TheVariants.{King, Queen, Rook, Bishop, Knight, Pawn}
 use Rattle.pgn_criteria.specs.Materials.{limit_of}
-use Rattle.pgn_criteria.specs.Reading.{AreEntries, limit_behind}
+use Rattle.pgn_criteria.specs.Reading.{limit_behind}
 use Rattle.pgn_criteria.specs.declared.material.Limits.{Limits}
 use Rattle.pgn_criteria.proofs.LimitFacts.{limits_some, limits_entries, limits_spelled}
 use Rattle.pgn_criteria.proofs.line.limits.limits_of.Goals as goal
@@ -34,8 +34,8 @@ by_kind text limits king queen rook bishop knight pawn Pawn = pawn
 pub returns : goal.returns
 returns c =
     let some : c.args.text.now ≢ [] = λ none.
-        let full : (length c.args.text.now == 0) ≡ true = ap (λ x. length x == 0) none in
-        let clash : true ≡ false = sym full ∙ sym c.is_empty.ensures ∙ c.if-is_empty.false in cc in
+    let full : (length c.args.text.now == 0) ≡ true = ap (λ x. length x == 0) none in
+    let clash : true ≡ false = sym full ∙ sym c.is_empty.ensures ∙ c.if-is_empty.false in cc in
     let limits : Limits = record {
       king = c.limit_in.result;
       queen = c.limit_in-2.result;

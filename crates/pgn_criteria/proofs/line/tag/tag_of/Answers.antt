@@ -1,10 +1,9 @@
-use Rattle.std.proofs.Common.{◌≡◌, ◌≢◌, ℕ, Bool, true, false, List, [], sym, ap, ◌∙◌, subst, IsTrue}
-use Rattle.std.specs.Prelude.{◌↔◌}
+use Rattle.std.proofs.Common.{◌≡◌, ◌≢◌, ℕ, List, [], sym, ap, ◌∙◌, subst, IsTrue}
 use Rattle.std.specs.List.{list_all}
 use Rattle.pgn_text.specs.Bytes.{is_name_byte}
 use Rattle.pgn_criteria.specs.Words.{run_of}
 use Rattle.pgn_criteria.specs.Reading.{behind_word}
-use Rattle.pgn_criteria.proofs.TagFacts.{IsTagRead, tag_read, tag_spelled, quoted}
+use Rattle.pgn_criteria.proofs.TagFacts.{tag_read, tag_spelled}
 use Rattle.pgn_criteria.proofs.line.tag.tag_of.Goals as goal
 
 pub returns-in_default : goal.returns-in_default
