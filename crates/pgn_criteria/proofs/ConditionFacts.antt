@@ -2,8 +2,8 @@
 use Rattle.std.proofs.Common.{◌≡◌, ◌≢◌, ℕ, Bool, true, false, List, [], ◌∷◌, ◌++◌, refl, sym, ap, ◌∙◌, subst, IsTrue, inl, inr, arith}
 use Rattle.std.specs.Prelude.{codes, ◌⊎◌}
 use Rattle.chess.specs.declared.man.Side.{Side}
-use Rattle.pgn_criteria.specs.Words.{is_blank, behind_blanks}
-use Rattle.pgn_criteria.specs.Reading.{core_of}
+use Rattle.pgn_criteria.specs.Words.{is_blank}
+use Rattle.pgn_criteria.specs.Reading.{behind_blanks, core_of}
 use Rattle.pgn_criteria.specs.Lines.{SpellsCondition, Spells, IsLine, side_text, relation_text}
 use Rattle.pgn_criteria.specs.declared.condition.Condition.{Condition}
 use Rattle.pgn_criteria.specs.declared.condition.Condition.TheVariants.{Tag, Fen, Material, Moves, Turn, Check, Mate, Stalemate}
@@ -34,18 +34,18 @@ condition_ends : (text : List ℕ) (condition : Condition (List ℕ)) → Spells
 condition_ends text (Tag name relation contents) (first, second, third, is, g, h, k, some, each, good) =
     let string = 34 ∷ (contents ++ 34 ∷ []) in
     ends_as text _ is (ends_behind (codes "tag") (first ++ (name ++ (second ++ (relation_text relation ++ (third ++ string)))))
-        (ends_behind first (name ++ (second ++ (relation_text relation ++ (third ++ string))))
-            (ends_behind name (second ++ (relation_text relation ++ (third ++ string)))
-                (ends_behind second (relation_text relation ++ (third ++ string))
-                    (ends_behind (relation_text relation) (third ++ string) (ends_behind third string (34 ∷ contents, 34, refl, refl)))))))
+    (ends_behind first (name ++ (second ++ (relation_text relation ++ (third ++ string))))
+    (ends_behind name (second ++ (relation_text relation ++ (third ++ string)))
+    (ends_behind second (relation_text relation ++ (third ++ string))
+    (ends_behind (relation_text relation) (third ++ string) (ends_behind third string (34 ∷ contents, 34, refl, refl)))))))
 condition_ends text (Fen pattern) (gap, is, g, good) =
     ends_as text _ is (ends_behind (codes "fen") (gap ++ pattern) (ends_behind gap pattern (solid_ends pattern (pattern_some pattern good) (pattern_solid pattern good))))
 condition_ends text (Material white black) (first, second, third, of_white, of_black, is, g, h, k, spells_white, spells_black) =
     let last = ends_behind third of_black (solid_ends of_black (limits_some of_black black spells_black) (limits_solid of_black black spells_black)) in
     ends_as text _ is (ends_behind (codes "material") (first ++ (of_white ++ (second ++ (codes "v" ++ (third ++ of_black)))))
-        (ends_behind first (of_white ++ (second ++ (codes "v" ++ (third ++ of_black))))
-            (ends_behind of_white (second ++ (codes "v" ++ (third ++ of_black)))
-                (ends_behind second (codes "v" ++ (third ++ of_black)) (ends_behind (codes "v") (third ++ of_black) last)))))
+    (ends_behind first (of_white ++ (second ++ (codes "v" ++ (third ++ of_black))))
+    (ends_behind of_white (second ++ (codes "v" ++ (third ++ of_black)))
+    (ends_behind second (codes "v" ++ (third ++ of_black)) (ends_behind (codes "v") (third ++ of_black) last)))))
 condition_ends text (Moves words) (gap, is, g, are) =
     ends_as text _ is (ends_behind (codes "moves") (gap ++ words) (ends_behind gap words (words_end words are)))
 condition_ends text (Turn side) (gap, is, g) =
@@ -60,6 +60,7 @@ line_read line means is = by_meaning means is.spells
   where
     core : BeginsSolid is.text → EndsSolid is.text → core_of line ≡ is.text
     core begins ends = solid_core line is.before is.text is.after is.last is.whole is.blank_before is.blank_after is.end begins ends
+
     by_meaning : (means : Meaning (List ℕ)) → Spells is.text means → Spells (core_of line) means
     by_meaning Nothing (inl none) = inl (empty_core line is.before is.text is.after is.last is.whole is.blank_before is.blank_after is.end none)
     by_meaning Nothing (inr comment) =

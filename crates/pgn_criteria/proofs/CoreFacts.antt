@@ -6,8 +6,8 @@ use Rattle.std.proofs.lemmas.Bool.{and_parts, eqb-true}
 use Rattle.std.proofs.lemmas.Bool.Decides.{nat_tests}
 use Rattle.std.proofs.lemmas.List.{reverse-append, reverse-reverse}
 use Rattle.std.proofs.lemmas.List.Folds.{list_all-append}
-use Rattle.pgn_criteria.specs.Words.{is_blank, behind_blanks}
-use Rattle.pgn_criteria.specs.Reading.{drop_return, core_of}
+use Rattle.pgn_criteria.specs.Words.{is_blank}
+use Rattle.pgn_criteria.specs.Reading.{behind_blanks, drop_return, core_of}
 use Rattle.pgn_criteria.specs.Lines.{AreBlanks}
 use Rattle.pgn_criteria.proofs.SolidFacts.{is_solid, solid_blank, solid_return, both_true, over_blanks, blank_front, BeginsSolid, EndsSolid, begins_kept}
 
@@ -49,14 +49,14 @@ solid_core line before text after last whole blank_before blank_after end begins
     let tail : List ℕ = reverse front ++ reverse before in
     let text_reversed : reverse text ≡ b ∷ reverse front = ap reverse ends ∙ reverse-append front (b ∷ []) in
     let line_is : reverse line ≡ reverse last ++ (reverse after ++ (b ∷ tail)) =
-        ap reverse whole ∙ line_reversed before text after last ∙ ap (λ x. reverse last ++ (reverse after ++ (x ++ reverse before))) text_reversed in
+    ap reverse whole ∙ line_reversed before text after last ∙ ap (λ x. reverse last ++ (reverse after ++ (x ++ reverse before))) text_reversed in
     let cut : drop_return (reverse line) ≡ reverse after ++ (b ∷ tail) =
-        ap drop_return line_is ∙ return_dropped last (reverse after) tail b end (blanks_reversed after blank_after) solid in
+    ap drop_return line_is ∙ return_dropped last (reverse after) tail b end (blanks_reversed after blank_after) solid in
     let ended : behind_blanks (drop_return (reverse line)) ≡ b ∷ tail =
-        ap behind_blanks cut ∙ over_blanks (reverse after) (b ∷ tail) (blanks_reversed after blank_after)
-        ∙ ap (λ t. if t then behind_blanks tail else b ∷ tail) (solid_blank b solid) in
+    ap behind_blanks cut ∙ over_blanks (reverse after) (b ∷ tail) (blanks_reversed after blank_after)
+    ∙ ap (λ t. if t then behind_blanks tail else b ∷ tail) (solid_blank b solid) in
     let back : reverse (b ∷ tail) ≡ before ++ text =
-        ap (λ x. reverse (x ++ reverse before)) (sym text_reversed) ∙ ap reverse (sym (reverse-append before text)) ∙ reverse-reverse (before ++ text) in
+    ap (λ x. reverse (x ++ reverse before)) (sym text_reversed) ∙ ap reverse (sym (reverse-append before text)) ∙ reverse-reverse (before ++ text) in
     ap (λ x. behind_blanks (reverse x)) ended ∙ ap behind_blanks back ∙ over_blanks before text blank_before ∙ begins_kept text begins
 
 -- blanks alone have an empty core
@@ -80,9 +80,9 @@ pub empty_core : (line before text after last : List ℕ) → line ≡ before ++
     → (last ≡ []) ⊎ (last ≡ 13 ∷ []) → text ≡ [] → core_of line ≡ []
 empty_core line before text after last whole blank_before blank_after end none =
     let blanks : AreBlanks (reverse after ++ reverse before) =
-        list_all-append is_blank (reverse after) (reverse before) ∙ both_true _ _ (blanks_reversed after blank_after) (blanks_reversed before blank_before) in
+    list_all-append is_blank (reverse after) (reverse before) ∙ both_true _ _ (blanks_reversed after blank_after) (blanks_reversed before blank_before) in
     let line_is : reverse line ≡ reverse last ++ (reverse after ++ reverse before) =
-        ap reverse whole ∙ line_reversed before text after last ∙ ap (λ x. reverse last ++ (reverse after ++ (reverse x ++ reverse before))) none in
+    ap reverse whole ∙ line_reversed before text after last ∙ ap (λ x. reverse last ++ (reverse after ++ (reverse x ++ reverse before))) none in
     ap (λ x. behind_blanks (reverse (behind_blanks (drop_return x)))) line_is
     ∙ ap (λ x. behind_blanks (reverse x)) (blanks_dropped last (reverse after ++ reverse before) end blanks)
 
@@ -106,14 +106,14 @@ blanks_over (b ∷ x) rest =
 pub comment_core : (line before rest : List ℕ) → line ≡ before ++ (35 ∷ rest) → AreBlanks before → (y : List ℕ) × (core_of line ≡ 35 ∷ y)
 comment_core line before rest whole blank_before =
     let line_is : reverse line ≡ reverse rest ++ (35 ∷ reverse before) =
-        ap reverse whole ∙ reverse-append before (35 ∷ rest) ∙ ap (λ x. x ++ reverse before) (reverse-append (35 ∷ []) rest)
-        ∙ append_assoc (reverse rest) (35 ∷ []) (reverse before) in
+    ap reverse whole ∙ reverse-append before (35 ∷ rest) ∙ ap (λ x. x ++ reverse before) (reverse-append (35 ∷ []) rest)
+    ∙ append_assoc (reverse rest) (35 ∷ []) (reverse before) in
     let cut = drop_over (reverse rest) (reverse before) in
     let ended = blanks_over cut.0 (reverse before) in
     let tail : behind_blanks (drop_return (reverse line)) ≡ ended.0 ++ (35 ∷ reverse before) = ap (λ x. behind_blanks (drop_return x)) line_is ∙ ap behind_blanks cut.1 ∙ ended.1 in
     let back : reverse (ended.0 ++ (35 ∷ reverse before)) ≡ before ++ (35 ∷ reverse ended.0) =
-        reverse-append ended.0 (35 ∷ reverse before) ∙ ap (λ x. x ++ reverse ended.0) (reverse-append (35 ∷ []) (reverse before) ∙ ap (λ x. x ++ (35 ∷ [])) (reverse-reverse before))
-        ∙ append_assoc before (35 ∷ []) (reverse ended.0) in
+    reverse-append ended.0 (35 ∷ reverse before) ∙ ap (λ x. x ++ reverse ended.0) (reverse-append (35 ∷ []) (reverse before) ∙ ap (λ x. x ++ (35 ∷ [])) (reverse-reverse before))
+    ∙ append_assoc before (35 ∷ []) (reverse ended.0) in
     (reverse ended.0, ap (λ x. behind_blanks (reverse x)) tail ∙ ap behind_blanks back ∙ over_blanks before (35 ∷ reverse ended.0) blank_before)
 
 -- a line is its core, with blanks about it and perhaps a carriage return at its end
@@ -146,7 +146,7 @@ core_about line =
     let opened = blank_front (reverse stem) in
     let line_is : reverse line ≡ ended.0 ++ (closed.0 ++ stem) = ended.1 ∙ ap (λ x. ended.0 ++ x) closed.1 in
     let back : reverse (ended.0 ++ (closed.0 ++ stem)) ≡ (reverse stem ++ reverse closed.0) ++ reverse ended.0 =
-        reverse-append ended.0 (closed.0 ++ stem) ∙ ap (λ x. x ++ reverse ended.0) (reverse-append closed.0 stem) in
+    reverse-append ended.0 (closed.0 ++ stem) ∙ ap (λ x. x ++ reverse ended.0) (reverse-append closed.0 stem) in
     record {
       before = opened.0;
       after = reverse closed.0;

@@ -154,6 +154,7 @@ limit_spelled (b ∷ x) =
   where
     digit_number : (b : ℕ) → is_digit b ≡ true → 48 + (b - 48) ≡ b
     digit_number b digit = grind (arith, nat_tests)
+
     digit_small : (b : ℕ) → is_digit b ≡ true → b - 48 ≤ 9
     digit_small b digit = grind (arith, nat_tests)
 
@@ -200,7 +201,7 @@ pub entries_read : (b : ℕ) (x : List ℕ) → AreEntries (b ∷ x)
 entries_read b x (entries, spells, distinct) =
     let e = entry_read b x entries spells in
     let parts : (not (has_byte (kind_letter e.kind) (letters e.more)) ≡ true) × (is_distinct (letters e.more) ≡ true) =
-        and_parts _ _ (subst (λ (es : List (Kind × Limit)). is_distinct (letters es) ≡ true) e.entries_are distinct) in
+    and_parts _ _ (subst (λ (es : List (Kind × Limit)). is_distinct (letters es) ≡ true) e.entries_are distinct) in
     let other : has_byte (kind_letter e.kind) (letters e.more) ≡ false = not-true _ parts.0 in (
       (e.kind, e.letter_is),
       ap (λ a. has_byte a (first_limit x).1) e.letter_is ∙ has_letter (kind_letter e.kind) (first_limit x).1 e.more (letter_high e.kind) e.spells ∙ other,
@@ -210,7 +211,7 @@ entries_read b x (entries, spells, distinct) =
 pub entries_spelled : (b : ℕ) (x : List ℕ) (kind : Kind) → b ≡ kind_letter kind → has_byte b (first_limit x).1 ≡ false → AreEntries (first_limit x).1 → AreEntries (b ∷ x)
 entries_spelled b x kind is other (more, spells, distinct) =
     let absent : has_byte (kind_letter kind) (letters more) ≡ false =
-        sym (has_letter (kind_letter kind) (first_limit x).1 more (letter_high kind) spells) ∙ ap (λ a. has_byte a (first_limit x).1) (sym is) ∙ other in
+    sym (has_letter (kind_letter kind) (first_limit x).1 more (letter_high kind) spells) ∙ ap (λ a. has_byte a (first_limit x).1) (sym is) ∙ other in
     subst (λ a. AreEntries (a ∷ x)) (sym is)
     ((kind, (first_limit x).0) ∷ more, entry_spelled kind x more spells, both_true _ _ (ap not absent) distinct)
 
@@ -220,11 +221,15 @@ entries_give text [] is kind = ap (limit_behind (kind_letter kind)) is
 entries_give text (entry ∷ more) (own, rest, is, limit, spells) kind =
     subst (IsLimitIn (entry ∷ more) kind) (sym (ap (limit_behind (kind_letter kind)) is))
     (elim (kind_letter entry.0 == kind_letter kind) as (λ t. (kind_letter entry.0 == kind_letter kind) ≡ t
-        → IsLimitIn (entry ∷ more) kind (if t then (first_limit (own ++ rest)).0 else limit_behind (kind_letter kind) (own ++ rest))) [
-      | true ↦ λ same. inl (same_kind entry.0 kind (eqb-true _ _ same),
-          ap (λ (f : Limit × List ℕ). f.0) (limit_read own rest entry.1 limit (entries_begin rest more spells)))
-      | false ↦ λ other. inr ((λ e. let clash : true ≡ false = sym (eqb-same _ _ (ap kind_letter e)) ∙ other in cc),
-          subst (IsLimitIn more kind) (sym (limit_behind_low (kind_letter kind) own rest (letter_high kind) (limit_low own entry.1 limit))) (entries_give rest more spells kind))
+    → IsLimitIn (entry ∷ more) kind (if t then (first_limit (own ++ rest)).0 else limit_behind (kind_letter kind) (own ++ rest))) [
+      | true ↦ λ same. inl (
+        same_kind entry.0 kind (eqb-true _ _ same),
+        ap (λ (f : Limit × List ℕ). f.0) (limit_read own rest entry.1 limit (entries_begin rest more spells)),
+      )
+      | false ↦ λ other. inr (
+        (λ e. let clash : true ≡ false = sym (eqb-same _ _ (ap kind_letter e)) ∙ other in cc),
+        subst (IsLimitIn more kind) (sym (limit_behind_low (kind_letter kind) own rest (letter_high kind) (limit_low own entry.1 limit))) (entries_give rest more spells kind),
+      )
     ] refl)
   where
     eqb-same : (a b : ℕ) → a ≡ b → (a == b) ≡ true
@@ -232,11 +237,11 @@ entries_give text (entry ∷ more) (own, rest, is, limit, spells) kind =
 
 -- and no other limit
 one_limit : (entries : List (Kind × Limit)) (kind : Kind) (a b : Limit) → IsLimitIn entries kind a → IsLimitIn entries kind b → a ≡ b
-one_limit [] kind a b is has = is ∙ sym has
-one_limit (entry ∷ more) kind a b (inl is) (inl has) = is.1 ∙ sym has.1
-one_limit (entry ∷ more) kind a b (inl is) (inr has) = absurd (has.0 is.0)
-one_limit (entry ∷ more) kind a b (inr is) (inl has) = absurd (is.0 has.0)
-one_limit (entry ∷ more) kind a b (inr is) (inr has) = one_limit more kind a b is.1 has.1
+one_limit [] wanted a b is has = is ∙ sym has
+one_limit (entry ∷ more) wanted a b (inl is) (inl has) = is.1 ∙ sym has.1
+one_limit (entry ∷ more) wanted a b (inl is) (inr has) = absurd (has.0 is.0)
+one_limit (entry ∷ more) wanted a b (inr is) (inl has) = absurd (is.0 has.0)
+one_limit (entry ∷ more) wanted a b (inr is) (inr has) = one_limit more wanted a b is.1 has.1
 
 -- limits: what spells them has entries, and gives each kind the limit behind its letter
 pub limits_entries : (text : List ℕ) (limits : Limits) → SpellsLimits text limits → AreEntries text

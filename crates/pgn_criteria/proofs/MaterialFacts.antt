@@ -1,8 +1,7 @@
 -- Conditions on the material: what spells one is read as it, and the other way round.
 use Rattle.std.proofs.Common.{◌≡◌, ◌≢◌, ℕ, List, [], ◌∷◌, ◌++◌, refl, sym, ap, ◌∙◌, subst}
 use Rattle.std.specs.Prelude.{codes}
-use Rattle.pgn_criteria.specs.Words.{run_of}
-use Rattle.pgn_criteria.specs.Reading.{behind_word}
+use Rattle.pgn_criteria.specs.Reading.{run_of, behind_word}
 use Rattle.pgn_criteria.specs.Lines.{SpellsCondition, SpellsLimits}
 use Rattle.pgn_criteria.specs.declared.material.Limits.{Limits}
 use Rattle.pgn_criteria.specs.declared.condition.Condition.TheVariants.{Material}
@@ -23,7 +22,7 @@ pub material_read : (text : List ℕ) (white black : Limits) → SpellsCondition
 material_read text white black (first, second, third, of_white, of_black, is, g, h, k, spells_white, spells_black) =
     let between = codes "v" ++ (third ++ of_black) in
     let one = word_read text (codes "material") first (of_white ++ (second ++ between)) is refl g
-        (begins_front of_white (second ++ between) (limits_begin of_white white spells_white)) in
+    (begins_front of_white (second ++ between) (limits_begin of_white white spells_white)) in
     let two = word_read (behind_word text) of_white second between one.1 (limits_solid of_white white spells_white) h (118, third ++ of_black, refl, refl) in
     let three = word_read (behind_word (behind_word text)) (codes "v") third of_black two.1 refl k (limits_begin of_black black spells_black) in
     record {
@@ -40,5 +39,5 @@ material_spelled text white black read =
     let three = word_spelled (behind_word (behind_word text)) (codes "v") of_black read.between_is refl (limits_some of_black black read.black_is) in
     let two = word_spelled (behind_word text) of_white (codes "v" ++ (three.0 ++ of_black)) refl three.1 (λ none. cc) in
     let one = word_spelled text (codes "material") (of_white ++ (two.0 ++ (codes "v" ++ (three.0 ++ of_black)))) read.key_is two.1
-        (begins_some _ (begins_front of_white (two.0 ++ (codes "v" ++ (three.0 ++ of_black))) (limits_begin of_white white read.white_is))) in
+    (begins_some _ (begins_front of_white (two.0 ++ (codes "v" ++ (three.0 ++ of_black))) (limits_begin of_white white read.white_is))) in
     (one.0, two.0, three.0, of_white, of_black, one.1, one.2, two.2, three.2, read.white_is, read.black_is)

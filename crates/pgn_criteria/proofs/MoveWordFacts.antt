@@ -5,8 +5,8 @@ use Rattle.std.specs.List.{list_all}
 use Rattle.std.proofs.lemmas.Bool.Decides.{nat_tests}
 use Rattle.chess.specs.Fen.{is_digit}
 use Rattle.pgn_text.specs.Bytes.{is_letter}
-use Rattle.pgn_criteria.specs.Words.{is_blank, run_of, after_run, behind_blanks}
-use Rattle.pgn_criteria.specs.Reading.{behind_word}
+use Rattle.pgn_criteria.specs.Words.{is_blank}
+use Rattle.pgn_criteria.specs.Reading.{run_of, after_run, behind_blanks, behind_word}
 use Rattle.pgn_criteria.specs.Lines.{is_move_byte, IsMoveWord, AreMoveWords, a_word, and_words, IsGap, SpellsCondition}
 use Rattle.pgn_criteria.specs.declared.condition.Condition.TheVariants.{Moves}
 use Rattle.pgn_criteria.proofs.WordFacts.{run_whole}

@@ -5,8 +5,7 @@ use Rattle.std.specs.List.{list_all}
 use Rattle.std.proofs.lemmas.Bool.Decides.{nat_tests}
 use Rattle.pgn_text.specs.Bytes.{is_name_byte}
 use Rattle.pgn_text.specs.Strings.{IsContents}
-use Rattle.pgn_criteria.specs.Words.{run_of}
-use Rattle.pgn_criteria.specs.Reading.{behind_word}
+use Rattle.pgn_criteria.specs.Reading.{run_of, behind_word}
 use Rattle.pgn_criteria.specs.Lines.{SpellsCondition, relation_text}
 use Rattle.pgn_criteria.specs.declared.compare.Relation.{Relation}
 use Rattle.pgn_criteria.specs.declared.compare.Relation.TheVariants.{Equal, Unequal, Less, LessOrEqual, Greater, GreaterOrEqual}
@@ -53,7 +52,7 @@ tag_read text name relation contents (first, second, third, is, g, h, k, some, e
     let named = name ++ (second ++ operator) in
     let one = word_read text (codes "tag") first named is refl g (begins_front name (second ++ operator) (solid_begins name some (name_solid name each))) in
     let two = word_read (behind_word text) name second operator one.1 (name_solid name each) h
-        (begins_front (relation_text relation) (third ++ string) (solid_begins (relation_text relation) (relation_some relation) (relation_solid relation))) in
+    (begins_front (relation_text relation) (third ++ string) (solid_begins (relation_text relation) (relation_some relation) (relation_solid relation))) in
     let three = word_read (behind_word (behind_word text)) (relation_text relation) third string two.1 (relation_solid relation) k (34, contents ++ 34 ∷ [], refl, refl) in
     record { key_is = one.0; name_is = two.0; operator_is = three.0; string_is = three.1 }
 
@@ -63,8 +62,8 @@ pub tag_spelled : (text name : List ℕ) (relation : Relation) (contents : List 
 tag_spelled text name relation contents read some each good =
     let three = word_spelled (behind_word (behind_word text)) (relation_text relation) (quoted contents) read.operator_is read.string_is (λ none. cc) in
     let two = word_spelled (behind_word text) name (relation_text relation ++ (three.0 ++ quoted contents)) read.name_is three.1
-        (begins_some _ (begins_front (relation_text relation) (three.0 ++ quoted contents)
-            (solid_begins (relation_text relation) (relation_some relation) (relation_solid relation)))) in
+    (begins_some _ (begins_front (relation_text relation) (three.0 ++ quoted contents)
+    (solid_begins (relation_text relation) (relation_some relation) (relation_solid relation)))) in
     let one = word_spelled text (codes "tag") (name ++ (two.0 ++ (relation_text relation ++ (three.0 ++ quoted contents)))) read.key_is two.1
-        (begins_some _ (begins_front name (two.0 ++ (relation_text relation ++ (three.0 ++ quoted contents))) (solid_begins name some (name_solid name each)))) in
+    (begins_some _ (begins_front name (two.0 ++ (relation_text relation ++ (three.0 ++ quoted contents))) (solid_begins name some (name_solid name each)))) in
     (one.0, two.0, three.0, one.1, one.2, two.2, three.2, some, each, good)

@@ -57,5 +57,9 @@ pub(super) fn moves_of(text: &[u8]) -> Option<&[u8]>
     let Some(words) = behind_key(text, b"moves") else {
         return None;
     };
-    if are_move_words(words) { Some(words) } else { None }
+    if are_move_words(words) {
+        Some(words)
+    } else {
+        None
+    }
 }

@@ -26,6 +26,6 @@ returns-in_ok-push-in-Some-Or c = (
   Or,
   (rw c.in-Some-Or.field-0-is at c.in-Some-Or.ensures),
   or_pushed (seen (λ bytes. bytes.items)) c.args.alternatives.now.items c.push-in-Some-Or.new.self.items c.args.last.now c.replace.new.dest
-  (c.in_ok-push-in-Some-Or.ensures.items ∙ ap (λ (a : Vec (Condition (Vec ℕ Global)) Global). c.args.alternatives.now.items ++ (a ∷ [])) c.replace.ensures.value)
-  (ap (λ (a : Vec (Condition (Vec ℕ Global)) Global). a.items) c.replace.ensures.after ∙ c.new.ensures.items),
+      (c.in_ok-push-in-Some-Or.ensures.items ∙ ap (λ (a : Vec (Condition (Vec ℕ Global)) Global). c.args.alternatives.now.items ++ (a ∷ [])) c.replace.ensures.value)
+      (ap (λ (a : Vec (Condition (Vec ℕ Global)) Global). a.items) c.replace.ensures.after ∙ c.new.ensures.items),
 )

@@ -14,7 +14,7 @@ pub loop-last-init : goal.loop-last-init
 loop-last-init c =
     subst (λ (x : List (Vec (Condition (Vec ℕ Global)) Global)). IsBuilt c.args.text.now c.args.text.now (map conditions x) (conditions c.new-last.result)) (sym c.new-alternatives.ensures.items)
     (subst (λ (x : List (Condition (Vec ℕ Global))). IsBuilt c.args.text.now c.args.text.now [] (map (seen (λ bytes. bytes.items)) x)) (sym c.new-last.ensures.items)
-        (built_start c.args.text.now c.requires))
+    (built_start c.args.text.now c.requires))
 
 pub loop-last-smaller : goal.loop-last-smaller
 loop-last-smaller c =
@@ -38,7 +38,7 @@ returns-in_default c =
     let added = c.in_ok-add_line.ensures in
     let parts = rw c.in_default.is at c.next_part.ensures in
     let view : map conditions c.push.new.self.items ≡ map conditions c.add_line.new.alternatives.items ++ (conditions c.add_line.new.last ∷ []) =
-        ap (map conditions) c.in_ok-push.ensures.items ∙ map-append conditions c.add_line.new.alternatives.items (c.add_line.new.last ∷ []) in
+    ap (map conditions) c.in_ok-push.ensures.items ∙ map-append conditions c.add_line.new.alternatives.items (c.add_line.new.last ∷ []) in
     subst (SpellsCriteria c.args.text.now) (sym view)
     (built_end c.args.text.now c.loop-last.rest.now c.next_part.result.0.now (map conditions c.loop-last.alternatives.items) (conditions c.loop-last.last)
-        (map conditions c.add_line.new.alternatives.items) (conditions c.add_line.new.last) c.loop-last.invariant (record { own = added.0; is = added.1; same = added.2 }) parts)
+    (map conditions c.add_line.new.alternatives.items) (conditions c.add_line.new.last) c.loop-last.invariant (record { own = added.0; is = added.1; same = added.2 }) parts)

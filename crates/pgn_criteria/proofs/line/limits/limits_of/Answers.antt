@@ -34,8 +34,8 @@ by_kind text limits king queen rook bishop knight pawn Pawn = pawn
 pub returns : goal.returns
 returns c =
     let some : c.args.text.now ≢ [] = λ none.
-        let full : (length c.args.text.now == 0) ≡ true = ap (λ x. length x == 0) none in
-        let clash : true ≡ false = sym full ∙ sym c.is_empty.ensures ∙ c.if-is_empty.false in cc in
+    let full : (length c.args.text.now == 0) ≡ true = ap (λ x. length x == 0) none in
+    let clash : true ≡ false = sym full ∙ sym c.is_empty.ensures ∙ c.if-is_empty.false in cc in
     let limits : Limits = record {
       king = c.limit_in.result;
       queen = c.limit_in-2.result;

@@ -1,6 +1,5 @@
 use Rattle.std.proofs.Common.{◌≡◌, ℕ, List, ◌∙◌, sym, ap, subst}
-use Rattle.pgn_criteria.specs.Words.{run_of}
-use Rattle.pgn_criteria.specs.Reading.{behind_word}
+use Rattle.pgn_criteria.specs.Reading.{run_of, behind_word}
 use Rattle.pgn_criteria.specs.Lines.{SpellsLimits}
 use Rattle.pgn_criteria.specs.declared.material.Limits.{Limits}
 use Rattle.pgn_criteria.proofs.MaterialFacts.{IsMaterialRead, material_read, material_spelled}
@@ -25,7 +24,7 @@ returns-in_default-limits_of-2 c white black spells =
     let read = material_read c.args.text.now white black spells in
     let rest : c.split_first.result.1.now ≡ behind_word (behind_word c.args.text.now) = c.split_first.ensures.rest ∙ ap behind_word c.in-Some.ensures.1 in
     let same : behind_word (behind_word (behind_word c.args.text.now)) ≡ c.in-Some-behind_key.black.now =
-        ap behind_word (sym rest) ∙ sym c.in-Some-behind_key.ensures.1 in
+    ap behind_word (sym rest) ∙ sym c.in-Some-behind_key.ensures.1 in
     c.in_default-limits_of-2.ensures black (subst (λ (x : List ℕ). SpellsLimits x black) same read.black_is)
 
 pub returns : goal.returns

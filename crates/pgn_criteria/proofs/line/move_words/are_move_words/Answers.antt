@@ -3,8 +3,7 @@ use Rattle.std.specs.Prelude.{◌↔◌, ◌==◌}
 use Rattle.std.proofs.lemmas.Bool.{eqb-true}
 use Rattle.std.proofs.lemmas.List.{nil_from_length}
 use Rattle.pgn_criteria.specs.Lines.{AreMoveWords, IsMoveWord}
-use Rattle.pgn_criteria.specs.Words.{run_of, after_run, behind_blanks}
-use Rattle.pgn_criteria.specs.Reading.{behind_word}
+use Rattle.pgn_criteria.specs.Reading.{run_of, after_run, behind_blanks, behind_word}
 use Rattle.pgn_criteria.proofs.MoveWordFacts.{words_read, words_left, last_word, first_word, words_shorter}
 use Rattle.pgn_criteria.proofs.line.move_words.are_move_words.Goals as goal
 
@@ -27,7 +26,7 @@ pub returns-then-is_empty : goal.returns-then-is_empty
 returns-then-is_empty c =
     let word = a_word c.loop-behind.rest.now c.split_word.result.0.now c.is_move_word.result c.split_word.ensures.word c.is_move_word.ensures c.if-not-is_move_word.false in
     let none : after_run c.loop-behind.rest.now ≡ [] =
-        sym c.split_word.ensures.rest ∙ nil_from_length c.split_word.result.1.now (eqb-true _ _ (sym c.is_empty.ensures ∙ c.if-is_empty.true)) in (
+    sym c.split_word.ensures.rest ∙ nil_from_length c.split_word.result.1.now (eqb-true _ _ (sym c.is_empty.ensures ∙ c.if-is_empty.true)) in (
       (λ yes. c.loop-behind.invariant.0 (last_word c.loop-behind.rest.now word none)),
       (λ are. refl),
     )
@@ -43,8 +42,8 @@ loop-behind-preserved c =
     let word = a_word rest c.split_word.result.0.now c.is_move_word.result c.split_word.ensures.word c.is_move_word.ensures c.if-not-is_move_word.false in
     let same : behind_word rest ≡ c.behind_blanks-rest.result.now = ap behind_blanks (sym c.split_word.ensures.rest) ∙ sym c.behind_blanks-rest.ensures in
     let some : after_run rest ≢ [] =
-        λ none. let full : (length c.split_word.result.1.now == 0) ≡ true = ap (λ x. length x == 0) (c.split_word.ensures.rest ∙ none) in
-            let clash : true ≡ false = sym full ∙ sym c.is_empty.ensures ∙ c.if-is_empty.false in cc in (
+    λ none. let full : (length c.split_word.result.1.now == 0) ≡ true = ap (λ x. length x == 0) (c.split_word.ensures.rest ∙ none) in
+    let clash : true ≡ false = sym full ∙ sym c.is_empty.ensures ∙ c.if-is_empty.false in cc in (
       (λ are. c.loop-behind.invariant.0 (first_word rest word (subst AreMoveWords (sym same) are))),
       (λ are. subst AreMoveWords same (words_left rest (c.loop-behind.invariant.1 are) some)),
     )

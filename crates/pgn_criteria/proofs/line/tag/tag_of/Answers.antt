@@ -2,8 +2,7 @@ use Rattle.std.proofs.Common.{◌≡◌, ◌≢◌, ℕ, Bool, true, false, List
 use Rattle.std.specs.Prelude.{◌↔◌}
 use Rattle.std.specs.List.{list_all}
 use Rattle.pgn_text.specs.Bytes.{is_name_byte}
-use Rattle.pgn_criteria.specs.Words.{run_of}
-use Rattle.pgn_criteria.specs.Reading.{behind_word}
+use Rattle.pgn_criteria.specs.Reading.{run_of, behind_word}
 use Rattle.pgn_criteria.proofs.TagFacts.{IsTagRead, tag_read, tag_spelled, quoted}
 use Rattle.pgn_criteria.proofs.line.tag.tag_of.Goals as goal
 
