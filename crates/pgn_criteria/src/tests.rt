@@ -1,6 +1,11 @@
 //! Criteria with games, and the positions of their main lines that must meet them.
+ghost use Rattle.std.specs.Prelude.{IfOk};
+ghost use Rattle.pgn_text.specs.GameTexts.{tag_in};
+ghost use Rattle.pgn_game.specs.Replays.{IsReplay};
+ghost use Rattle.pgn_game.specs.Starts.{fen_tag};
+
 use crate::Criteria;
-use pgn_game::{Lines, replay};
+use pgn_game::{Lines, Replayed, replay};
 use pgn_text::{Piece, RawGame, games};
 use std::alloc::Global;
 use std::test::Fail;
@@ -21,13 +26,21 @@ fn first_game<'a>(alloc: Global, block: &'a [u8]) -> Result<RawGame<'a>, Fail> {
     }
 }
 
+/// The replay of the game, which is to be sound.
+fn replayed(alloc: Global, game: &RawGame) -> Result<Replayed, Fail>
+    ensures { IfOk result (IsReplay (tag_in fen_tag game.now.tags) game.now.elements) }
+{
+    match replay(alloc, game, Lines::Main) {
+        Ok(replayed) => Ok(replayed),
+        Err(_) => Err("the game is faulty")?,
+    }
+}
+
 /// Whether these plies of the game, and no others, meet the criteria, each alone and one after the other from the first.
 fn are_met(alloc: Global, criteria: &[u8], block: &[u8], plies: &[usize]) -> Result<bool, Fail> {
     let criteria = read(alloc, criteria)?;
     let game = first_game(alloc, block)?;
-    let Ok(replayed) = replay(alloc, &game, Lines::Main) else {
-        Err("the game is faulty")?
-    };
+    let replayed = replayed(alloc, &game)?;
     let mut min = 0u32;
     for ply in 0..=replayed.plies() {
         if criteria.meets(&game, &replayed, ply) != plies.contains(&ply) {
@@ -47,9 +60,7 @@ fn are_met(alloc: Global, criteria: &[u8], block: &[u8], plies: &[usize]) -> Res
 fn first_within(alloc: Global, criteria: &[u8], block: &[u8], min: u32, max: u32) -> Result<Option<usize>, Fail> {
     let criteria = read(alloc, criteria)?;
     let game = first_game(alloc, block)?;
-    let Ok(replayed) = replay(alloc, &game, Lines::Main) else {
-        Err("the game is faulty")?
-    };
+    let replayed = replayed(alloc, &game)?;
     Ok(criteria.first(&game, &replayed, min, max))
 }
 
