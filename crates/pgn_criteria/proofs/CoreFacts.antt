@@ -6,8 +6,8 @@ use Rattle.std.proofs.lemmas.Bool.{and_parts, eqb-true}
 use Rattle.std.proofs.lemmas.Bool.Decides.{nat_tests}
 use Rattle.std.proofs.lemmas.List.{reverse-append, reverse-reverse}
 use Rattle.std.proofs.lemmas.List.Folds.{list_all-append}
-use Rattle.pgn_criteria.specs.Words.{is_blank, behind_blanks}
-use Rattle.pgn_criteria.specs.Reading.{drop_return, core_of}
+use Rattle.pgn_criteria.specs.Words.{is_blank}
+use Rattle.pgn_criteria.specs.Reading.{behind_blanks, drop_return, core_of}
 use Rattle.pgn_criteria.specs.Lines.{AreBlanks}
 use Rattle.pgn_criteria.proofs.SolidFacts.{is_solid, solid_blank, solid_return, both_true, over_blanks, blank_front, BeginsSolid, EndsSolid, begins_kept}
 

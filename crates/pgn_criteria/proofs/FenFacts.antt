@@ -12,8 +12,7 @@ use Rattle.chess.specs.declared.man.Side.TheVariants.{White, Black}
 use Rattle.chess.specs.declared.man.Kind.{Kind}
 use Rattle.chess.specs.declared.man.Kind.TheVariants.{King, Queen, Rook, Bishop, Knight, Pawn}
 use Rattle.pgn_criteria.specs.Patterns.{IsStretch, spelled, any, occupied, white, black, many, IsItem, AreItems, AreRanks, IsPattern}
-use Rattle.pgn_criteria.specs.Words.{run_of}
-use Rattle.pgn_criteria.specs.Reading.{behind_word}
+use Rattle.pgn_criteria.specs.Reading.{run_of, behind_word}
 use Rattle.pgn_criteria.specs.Lines.{SpellsCondition}
 use Rattle.pgn_criteria.specs.declared.condition.Condition.TheVariants.{Fen}
 use Rattle.pgn_criteria.proofs.SolidFacts.{is_solid, AreSolid, both_true, solid_begins, word_read, word_spelled}

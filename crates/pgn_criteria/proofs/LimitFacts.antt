@@ -237,11 +237,11 @@ entries_give text (entry ∷ more) (own, rest, is, limit, spells) kind =
 
 -- and no other limit
 one_limit : (entries : List (Kind × Limit)) (kind : Kind) (a b : Limit) → IsLimitIn entries kind a → IsLimitIn entries kind b → a ≡ b
-one_limit [] kind a b is has = is ∙ sym has
-one_limit (entry ∷ more) kind a b (inl is) (inl has) = is.1 ∙ sym has.1
-one_limit (entry ∷ more) kind a b (inl is) (inr has) = absurd (has.0 is.0)
-one_limit (entry ∷ more) kind a b (inr is) (inl has) = absurd (is.0 has.0)
-one_limit (entry ∷ more) kind a b (inr is) (inr has) = one_limit more kind a b is.1 has.1
+one_limit [] wanted a b is has = is ∙ sym has
+one_limit (entry ∷ more) wanted a b (inl is) (inl has) = is.1 ∙ sym has.1
+one_limit (entry ∷ more) wanted a b (inl is) (inr has) = absurd (has.0 is.0)
+one_limit (entry ∷ more) wanted a b (inr is) (inl has) = absurd (is.0 has.0)
+one_limit (entry ∷ more) wanted a b (inr is) (inr has) = one_limit more wanted a b is.1 has.1
 
 -- limits: what spells them has entries, and gives each kind the limit behind its letter
 pub limits_entries : (text : List ℕ) (limits : Limits) → SpellsLimits text limits → AreEntries text

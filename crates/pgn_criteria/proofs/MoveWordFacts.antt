@@ -3,8 +3,8 @@ use Rattle.std.proofs.Common.{◌≡◌, ◌≢◌, ◌<◌, ℕ, true, false, L
 use Rattle.std.specs.Prelude.{codes, ◌⊎◌, ◌≤◌, ◌+◌, if◌then◌else◌}
 use Rattle.std.specs.List.{list_all}
 use Rattle.std.proofs.lemmas.Bool.Decides.{nat_tests}
-use Rattle.pgn_criteria.specs.Words.{is_blank, run_of, after_run, behind_blanks}
-use Rattle.pgn_criteria.specs.Reading.{behind_word}
+use Rattle.pgn_criteria.specs.Words.{is_blank}
+use Rattle.pgn_criteria.specs.Reading.{run_of, after_run, behind_blanks, behind_word}
 use Rattle.pgn_criteria.specs.Lines.{is_move_byte, IsMoveWord, AreMoveWords, a_word, and_words, SpellsCondition}
 use Rattle.pgn_criteria.specs.declared.condition.Condition.TheVariants.{Moves}
 use Rattle.pgn_criteria.proofs.WordFacts.{run_whole}

@@ -4,8 +4,8 @@ use Rattle.std.specs.Prelude.{if◌then◌else◌, ◌==◌, ◌&&◌, nat_le}
 use Rattle.std.specs.List.{list_all}
 use Rattle.std.proofs.lemmas.Bool.{and_parts}
 use Rattle.std.proofs.lemmas.Bool.Decides.{nat_tests}
-use Rattle.pgn_criteria.specs.Words.{is_blank, run_of, after_run, behind_blanks}
-use Rattle.pgn_criteria.specs.Reading.{behind_word}
+use Rattle.pgn_criteria.specs.Words.{is_blank}
+use Rattle.pgn_criteria.specs.Reading.{run_of, after_run, behind_blanks, behind_word}
 use Rattle.pgn_criteria.specs.Lines.{AreBlanks, IsGap}
 use Rattle.pgn_criteria.proofs.WordFacts.{run_whole, begins_word}
 

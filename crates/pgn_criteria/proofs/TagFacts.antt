@@ -5,8 +5,7 @@ use Rattle.std.specs.List.{list_all}
 use Rattle.std.proofs.lemmas.Bool.Decides.{nat_tests}
 use Rattle.pgn_text.specs.Bytes.{is_name_byte}
 use Rattle.pgn_text.specs.Strings.{IsContents}
-use Rattle.pgn_criteria.specs.Words.{run_of}
-use Rattle.pgn_criteria.specs.Reading.{behind_word}
+use Rattle.pgn_criteria.specs.Reading.{run_of, behind_word}
 use Rattle.pgn_criteria.specs.Lines.{SpellsCondition, relation_text}
 use Rattle.pgn_criteria.specs.declared.compare.Relation.{Relation}
 use Rattle.pgn_criteria.specs.declared.compare.Relation.TheVariants.{Equal, Unequal, Less, LessOrEqual, Greater, GreaterOrEqual}

@@ -3,8 +3,7 @@ use Rattle.std.proofs.Common.{◌≡◌, ◌≢◌, ℕ, List, [], refl, sym, �
 use Rattle.std.specs.Prelude.{codes, Option, Some, None, MatchOption}
 use Rattle.chess.specs.declared.man.Side.{Side}
 use Rattle.chess.specs.declared.man.Side.TheVariants.{White, Black}
-use Rattle.pgn_criteria.specs.Words.{run_of}
-use Rattle.pgn_criteria.specs.Reading.{behind_word}
+use Rattle.pgn_criteria.specs.Reading.{run_of, behind_word}
 use Rattle.pgn_criteria.specs.Lines.{side_text, SpellsCondition}
 use Rattle.pgn_criteria.specs.declared.condition.Condition.TheVariants.{Turn}
 use Rattle.pgn_criteria.proofs.SolidFacts.{AreSolid, EndsSolid, solid_begins, solid_ends, word_read, word_spelled}

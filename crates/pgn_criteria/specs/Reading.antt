@@ -3,7 +3,7 @@ use Rattle.std.specs.Prelude.{ℕ, ◌-◌, ◌++◌, ◌==◌, if◌then◌else
 use Rattle.chess.specs.Fen.{is_digit, is_distinct}
 use Rattle.chess.specs.Letters.{kind_letter}
 use Rattle.chess.specs.declared.man.Kind.{Kind}
-use Rattle.pgn_criteria.specs.Words.{after_run, behind_blanks}
+use Rattle.pgn_criteria.specs.Words.{is_blank}
 use Rattle.pgn_criteria.specs.declared.material.Limit.{Limit}
 use Rattle.pgn_criteria.specs.declared.material.Limit.TheVariants.{Exactly, AtLeast, AtMost, AnyNumber}
 use Rattle.pgn_criteria.specs.declared.condition.Condition.{Condition}
@@ -11,6 +11,19 @@ use Rattle.pgn_criteria.specs.declared.line.Meaning.{Meaning}
 use Rattle.pgn_criteria.specs.declared.line.Meaning.TheVariants.{Nothing, Or, Asks}
 use Rattle.pgn_criteria.specs.Lines.{SpellsEntries}
 use Rattle.pgn_criteria.specs.Stages.{seen}
+
+-- the first run of bytes that are no blanks, what follows it, and what follows the blanks that a text begins with
+abbrev pub run_of : List ℕ → List ℕ
+run_of [] = []
+run_of (b ∷ x) = if is_blank b then [] else b ∷ run_of x
+
+abbrev pub after_run : List ℕ → List ℕ
+after_run [] = []
+after_run (b ∷ x) = if is_blank b then b ∷ x else after_run x
+
+abbrev pub behind_blanks : List ℕ → List ℕ
+behind_blanks [] = []
+behind_blanks (b ∷ x) = if is_blank b then behind_blanks x else b ∷ x
 
 -- what follows the first word and the blanks behind it
 abbrev pub behind_word : List ℕ → List ℕ

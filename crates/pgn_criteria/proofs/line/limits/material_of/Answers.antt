@@ -1,6 +1,5 @@
 use Rattle.std.proofs.Common.{◌≡◌, ℕ, List, ◌∙◌, sym, ap, subst}
-use Rattle.pgn_criteria.specs.Words.{run_of}
-use Rattle.pgn_criteria.specs.Reading.{behind_word}
+use Rattle.pgn_criteria.specs.Reading.{run_of, behind_word}
 use Rattle.pgn_criteria.specs.Lines.{SpellsLimits}
 use Rattle.pgn_criteria.proofs.MaterialFacts.{material_read, material_spelled}
 use Rattle.pgn_criteria.proofs.line.limits.material_of.Goals as goal
