@@ -90,30 +90,39 @@ entries_begin : (text : List ℕ) (entries : List (Kind × Limit)) → SpellsEnt
 entries_begin text [] is = ap begins_high is
 entries_begin text (entry ∷ more) (own, rest, is, limit, spells) = ap begins_high is ∙ letter_high entry.0
 
+digit_star : (n : ℕ) → (48 + n == 42) ≡ false
+digit_star n = grind (arith, nat_tests)
+
+digit_digit : (n : ℕ) → n ≤ 9 → is_digit (48 + n) ≡ true
+digit_digit n h = grind (arith, nat_tests)
+
+digit_number : (n : ℕ) → 48 + n - 48 ≡ n
+digit_number n = omega arith
+
 digit_first : (n : ℕ) (x : List ℕ) → n ≤ 9 → first_limit ((48 + n) ∷ x) ≡ digit_limit n x
 digit_first n x h =
-    let star : (48 + n == 42) ≡ false = grind (arith, nat_tests) in
-    let digit : is_digit (48 + n) ≡ true = grind (arith, nat_tests) in
-    let number : 48 + n - 48 ≡ n = omega arith in
-    ap (λ t. if t then (AnyNumber, x) else if is_digit (48 + n) then digit_limit (48 + n - 48) x else (Exactly 1, (48 + n) ∷ x)) star
-    ∙ ap (λ t. if t then digit_limit (48 + n - 48) x else (Exactly 1, (48 + n) ∷ x)) digit
-    ∙ ap (λ m. digit_limit m x) number
+    ap (λ t. if t then (AnyNumber, x) else if is_digit (48 + n) then digit_limit (48 + n - 48) x else (Exactly 1, (48 + n) ∷ x)) (digit_star n)
+    ∙ ap (λ t. if t then digit_limit (48 + n - 48) x else (Exactly 1, (48 + n) ∷ x)) (digit_digit n h)
+    ∙ ap (λ m. digit_limit m x) (digit_number n)
+
+-- what follows a limit is none of its bytes
+high_other : (b other : ℕ) → is_high b ≡ true → other ≤ 57 → (b == other) ≡ false
+high_other b other high low = grind (arith, nat_tests)
+
+high_digit : (b : ℕ) → is_high b ≡ true → is_digit b ≡ false
+high_digit b high = grind (arith, nat_tests)
 
 digit_end : (n : ℕ) (rest : List ℕ) → begins_high rest ≡ true → digit_limit n rest ≡ (Exactly n, rest)
 digit_end n [] high = refl
 digit_end n (b ∷ x) high =
-    let plus : (b == 43) ≡ false = grind (arith, nat_tests) in
-    let minus : (b == 45) ≡ false = grind (arith, nat_tests) in
-    ap (λ t. if t then (AtLeast n, x) else if b == 45 then (AtMost n, x) else (Exactly n, b ∷ x)) plus
-    ∙ ap (λ t. if t then (AtMost n, x) else (Exactly n, b ∷ x)) minus
+    ap (λ t. if t then (AtLeast n, x) else if b == 45 then (AtMost n, x) else (Exactly n, b ∷ x)) (high_other b 43 high (omega arith))
+    ∙ ap (λ t. if t then (AtMost n, x) else (Exactly n, b ∷ x)) (high_other b 45 high (omega arith))
 
 no_limit : (rest : List ℕ) → begins_high rest ≡ true → first_limit rest ≡ (Exactly 1, rest)
 no_limit [] high = refl
 no_limit (b ∷ x) high =
-    let star : (b == 42) ≡ false = grind (arith, nat_tests) in
-    let digit : is_digit b ≡ false = grind (arith, nat_tests) in
-    ap (λ t. if t then (AnyNumber, x) else if is_digit b then digit_limit (b - 48) x else (Exactly 1, b ∷ x)) star
-    ∙ ap (λ t. if t then digit_limit (b - 48) x else (Exactly 1, b ∷ x)) digit
+    ap (λ t. if t then (AnyNumber, x) else if is_digit b then digit_limit (b - 48) x else (Exactly 1, b ∷ x)) (high_other b 42 high (omega arith))
+    ∙ ap (λ t. if t then digit_limit (b - 48) x else (Exactly 1, b ∷ x)) (high_digit b high)
 
 -- a limit before the end or a letter is cut as it is spelled
 limit_read : (own rest : List ℕ) (limit : Limit) → SpellsLimit own limit → begins_high rest ≡ true → first_limit (own ++ rest) ≡ (limit, rest)
@@ -145,15 +154,15 @@ limit_spelled (b ∷ x) =
       | true ↦ λ star. (42 ∷ [], ap (λ a. a ∷ x) (eqb-true b 42 star), any)
       | false ↦ λ other. elim (is_digit b) as (λ t. is_digit b ≡ t → IsCut [] (b ∷ x) (if t then digit_limit (b - 48) x else (Exactly 1, b ∷ x))) [
         | true ↦ λ digit.
-            let number : 48 + (b - 48) ≡ b = digit_number b digit in
+            let number : 48 + (b - 48) ≡ b = digit_back b digit in
             let f = digit_spelled (b - 48) x (digit_small b digit) in
             (b ∷ f.0, ap (λ y. b ∷ y) f.1, subst (λ a. SpellsLimit (a ∷ f.0) (digit_limit (b - 48) x).0) number f.2)
         | false ↦ λ neither. ([], refl, one)
       ] refl
     ] refl
   where
-    digit_number : (b : ℕ) → is_digit b ≡ true → 48 + (b - 48) ≡ b
-    digit_number b digit = grind (arith, nat_tests)
+    digit_back : (b : ℕ) → is_digit b ≡ true → 48 + (b - 48) ≡ b
+    digit_back b digit = grind (arith, nat_tests)
 
     digit_small : (b : ℕ) → is_digit b ≡ true → b - 48 ≤ 9
     digit_small b digit = grind (arith, nat_tests)

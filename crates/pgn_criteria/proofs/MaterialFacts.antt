@@ -5,7 +5,7 @@ use Rattle.pgn_criteria.specs.Reading.{run_of, behind_word}
 use Rattle.pgn_criteria.specs.Lines.{SpellsCondition, SpellsLimits}
 use Rattle.pgn_criteria.specs.declared.material.Limits.{Limits}
 use Rattle.pgn_criteria.specs.declared.condition.Condition.TheVariants.{Material}
-use Rattle.pgn_criteria.proofs.SolidFacts.{BeginsSolid, solid_begins, begins_front, begins_some, word_read, word_spelled}
+use Rattle.pgn_criteria.proofs.SolidFacts.{BeginsSolid, solid_begins, begins_front, front_some, word_read, word_spelled}
 use Rattle.pgn_criteria.proofs.LimitFacts.{limits_some, limits_solid}
 
 -- the words of the text are those of the condition
@@ -39,5 +39,5 @@ material_spelled text white black read =
     let three = word_spelled (behind_word (behind_word text)) (codes "v") of_black read.between_is refl (limits_some of_black black read.black_is) in
     let two = word_spelled (behind_word text) of_white (codes "v" ++ (three.0 ++ of_black)) refl three.1 (λ none. cc) in
     let one = word_spelled text (codes "material") (of_white ++ (two.0 ++ (codes "v" ++ (three.0 ++ of_black)))) read.key_is two.1
-    (begins_some _ (begins_front of_white (two.0 ++ (codes "v" ++ (three.0 ++ of_black))) (limits_begin of_white white read.white_is))) in
+    (front_some of_white (two.0 ++ (codes "v" ++ (three.0 ++ of_black))) (limits_begin of_white white read.white_is)) in
     (one.0, two.0, three.0, of_white, of_black, one.1, one.2, two.2, three.2, read.white_is, read.black_is)

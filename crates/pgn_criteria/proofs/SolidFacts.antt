@@ -52,6 +52,9 @@ begins_front x y (b, rest, is, solid) = (b, rest ++ y, ap (λ z. z ++ y) is, sol
 pub ends_behind : (x y : List ℕ) → EndsSolid y → EndsSolid (x ++ y)
 ends_behind x y (front, b, is, solid) = (x ++ front, b, ap (λ z. x ++ z) is ∙ sym (append_assoc x front (b ∷ [])), solid)
 
+pub front_some : (x y : List ℕ) → BeginsSolid x → x ++ y ≢ []
+front_some x y begins = begins_some (x ++ y) (begins_front x y begins)
+
 pub solid_begins : (x : List ℕ) → x ≢ [] → AreSolid x → BeginsSolid x
 solid_begins [] some solid = absurd (some refl)
 solid_begins (b ∷ x) some solid =

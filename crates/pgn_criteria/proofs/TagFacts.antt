@@ -10,7 +10,7 @@ use Rattle.pgn_criteria.specs.Lines.{SpellsCondition, relation_text}
 use Rattle.pgn_criteria.specs.declared.compare.Relation.{Relation}
 use Rattle.pgn_criteria.specs.declared.compare.Relation.TheVariants.{Equal, Unequal, Less, LessOrEqual, Greater, GreaterOrEqual}
 use Rattle.pgn_criteria.specs.declared.condition.Condition.TheVariants.{Tag}
-use Rattle.pgn_criteria.proofs.SolidFacts.{is_solid, AreSolid, all_solid, solid_begins, begins_front, begins_some, word_read, word_spelled}
+use Rattle.pgn_criteria.proofs.SolidFacts.{is_solid, AreSolid, all_solid, solid_begins, begins_front, front_some, word_read, word_spelled}
 
 name_byte_solid : (b : ℕ) → is_name_byte b ≡ true → is_solid b ≡ true
 name_byte_solid b is = grind (arith, nat_tests)
@@ -62,8 +62,7 @@ pub tag_spelled : (text name : List ℕ) (relation : Relation) (contents : List 
 tag_spelled text name relation contents read some each good =
     let three = word_spelled (behind_word (behind_word text)) (relation_text relation) (quoted contents) read.operator_is read.string_is (λ none. cc) in
     let two = word_spelled (behind_word text) name (relation_text relation ++ (three.0 ++ quoted contents)) read.name_is three.1
-    (begins_some _ (begins_front (relation_text relation) (three.0 ++ quoted contents)
-    (solid_begins (relation_text relation) (relation_some relation) (relation_solid relation)))) in
+    (front_some (relation_text relation) (three.0 ++ quoted contents) (solid_begins (relation_text relation) (relation_some relation) (relation_solid relation))) in
     let one = word_spelled text (codes "tag") (name ++ (two.0 ++ (relation_text relation ++ (three.0 ++ quoted contents)))) read.key_is two.1
-    (begins_some _ (begins_front name (two.0 ++ (relation_text relation ++ (three.0 ++ quoted contents))) (solid_begins name some (name_solid name each)))) in
+    (front_some name (two.0 ++ (relation_text relation ++ (three.0 ++ quoted contents))) (solid_begins name some (name_solid name each))) in
     (one.0, two.0, three.0, one.1, one.2, two.2, three.2, some, each, good)
