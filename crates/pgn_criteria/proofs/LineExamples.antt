@@ -1,0 +1,134 @@
+-- What the definitions say of lines that every reader can check.
+use Rattle.std.proofs.Common.{◌≡◌, List, [], ◌∷◌, ◌++◌, refl, inl, inr, arith, codes}
+use Rattle.chess.specs.Fen.{parted_at}
+use Rattle.chess.specs.declared.man.Kind.{Kind}
+use Rattle.chess.specs.declared.man.Kind.TheVariants.{King, Queen, Rook, Bishop, Knight, Pawn}
+use Rattle.chess.specs.declared.man.Side.TheVariants.{White}
+use Rattle.pgn_text.specs.Strings.{Single}
+use Rattle.pgn_criteria.specs.Lines.{SpellsCondition, SpellsLimits, IsLimitIn, a_word, and_words, IsLine, Accepts, alternatives_of}
+use Rattle.pgn_criteria.specs.Lines.SpellsLimit.{one, exactly, at_least, at_most, any}
+use Rattle.pgn_criteria.specs.Materials.{limit_of}
+use Rattle.pgn_criteria.specs.declared.compare.Relation.TheVariants.{GreaterOrEqual}
+use Rattle.pgn_criteria.specs.declared.material.Limit.{Limit}
+use Rattle.pgn_criteria.specs.declared.material.Limit.TheVariants.{Exactly, AtLeast, AtMost, AnyNumber}
+use Rattle.pgn_criteria.specs.declared.material.Limits.{Limits}
+use Rattle.pgn_criteria.specs.declared.condition.Condition.TheVariants.{Tag, Moves, Turn, Check, Mate, Stalemate}
+use Rattle.pgn_criteria.specs.declared.line.Meaning.TheVariants.{Nothing, Or, Asks}
+
+-- more blanks may stand where one stands
+turn : SpellsCondition (codes "turn  white") (Turn White)
+turn = (codes "  ", refl, ((λ none. cc), refl))
+
+-- tag A >= "10"
+tag : SpellsCondition (codes "tag A >= " ++ (34 ∷ 49 ∷ 48 ∷ 34 ∷ [])) (Tag (codes "A") GreaterOrEqual (codes "10"))
+tag = (
+  codes " ",
+  codes " ",
+  codes " ",
+  refl,
+  ((λ none. cc), refl),
+  ((λ none. cc), refl),
+  ((λ none. cc), refl),
+  (λ none. cc),
+  refl,
+  (Single 49 ∷ Single 48 ∷ [], refl, refl),
+)
+
+-- a king, two pawns or more, at most three knights, any rooks, and no man of the other kinds
+abbrev pub limits : Limits
+limits = record { king = Exactly 1; queen = Exactly 0; rook = AnyNumber; bishop = Exactly 0; knight = AtMost 3; pawn = AtLeast 2 }
+
+abbrev pub entries : List (Kind × Limit)
+entries = (King, Exactly 1) ∷ (Pawn, AtLeast 2) ∷ (Knight, AtMost 3) ∷ (Rook, AnyNumber) ∷ (Bishop, Exactly 0) ∷ []
+
+named : (kind : Kind) → IsLimitIn entries kind (limit_of limits kind)
+named King = inl (refl, refl)
+named Queen = inr ((λ e. cc), inr ((λ e. cc), inr ((λ e. cc), inr ((λ e. cc), inr ((λ e. cc), refl)))))
+named Rook = inr ((λ e. cc), inr ((λ e. cc), inr ((λ e. cc), inl (refl, refl))))
+named Bishop = inr ((λ e. cc), inr ((λ e. cc), inr ((λ e. cc), inr ((λ e. cc), inl (refl, refl)))))
+named Knight = inr ((λ e. cc), inr ((λ e. cc), inl (refl, refl)))
+named Pawn = inr ((λ e. cc), inl (refl, refl))
+
+side : SpellsLimits (codes "KP2+N3-R*B0") limits
+side = (
+  entries,
+  (λ none. cc),
+  (
+    [],
+    codes "P2+N3-R*B0",
+    refl,
+    one,
+    (
+      codes "2+",
+      codes "N3-R*B0",
+      refl,
+      at_least 2 (omega arith),
+      (
+        codes "3-",
+        codes "R*B0",
+        refl,
+        at_most 3 (omega arith),
+        (codes "*", codes "B0", refl, any, (codes "0", [], refl, exactly 0 (omega arith), refl)),
+      ),
+    ),
+  ),
+  refl,
+  named,
+)
+
+-- words for moves
+moves : SpellsCondition (codes "moves e4 *") (Moves (codes "e4 *"))
+moves = (
+  codes " ",
+  refl,
+  ((λ none. cc), refl),
+  and_words (codes "e4") (codes " ") (codes "*") (inr (omega arith, omega arith, refl)) ((λ none. cc), refl) (a_word (codes "*") (inl refl)),
+)
+
+-- blanks about a line do not count, nor does one carriage return
+ended : IsLine (32 ∷ 9 ∷ 99 ∷ 104 ∷ 101 ∷ 99 ∷ 107 ∷ 32 ∷ 13 ∷ []) (Asks Check)
+ended = record {
+  before = 32 ∷ 9 ∷ [];
+  text = codes "check";
+  after = codes " ";
+  last = 13 ∷ [];
+  whole = refl;
+  blank_before = refl;
+  blank_after = refl;
+  end = inr refl;
+  spells = refl;
+}
+
+comment : IsLine (codes "  # x") Nothing
+comment = record {
+  before = codes "  ";
+  text = codes "# x";
+  after = [];
+  last = [];
+  whole = refl;
+  blank_before = refl;
+  blank_after = refl;
+  end = inl refl;
+  spells = inr (codes " x", refl);
+}
+
+-- there is one alternative more than there are lines `or`
+no_lines : alternatives_of [] ≡ [] ∷ []
+no_lines = refl
+
+two_or : alternatives_of (Or ∷ Or ∷ []) ≡ [] ∷ [] ∷ [] ∷ []
+two_or = refl
+
+in_order : alternatives_of (Asks Check ∷ Or ∷ Asks Mate ∷ Nothing ∷ Asks Stalemate ∷ []) ≡ (Check ∷ []) ∷ (Mate ∷ Stalemate ∷ []) ∷ []
+in_order = refl
+
+-- a text without bytes has one line, which is empty, and spells one alternative without conditions
+no_bytes : Accepts [] ([] ∷ [])
+no_bytes = (omega arith, (Nothing ∷ [], (Nothing, [], refl, empty, refl), refl))
+  where
+    empty : IsLine [] Nothing
+    empty = record { before = []; text = []; after = []; last = []; whole = refl; blank_before = refl; blank_after = refl; end = inl refl; spells = inl refl }
+
+-- a line feed at the end begins a last line, which is empty
+two_lines : parted_at 10 (97 ∷ 10 ∷ []) ≡ (97 ∷ []) ∷ [] ∷ []
+two_lines = refl
