@@ -1,0 +1,81 @@
+-- The words of a condition on the moves, one after the other.
+use Rattle.std.proofs.Common.{◌≡◌, ◌≢◌, ◌<◌, ℕ, Bool, true, false, List, [], ◌∷◌, ◌++◌, length, refl, sym, ap, ◌∙◌, subst, IsTrue, inl, inr, append-nil, arith, length-append}
+use Rattle.std.specs.Prelude.{codes, ◌⊎◌, ◌||◌, ◌==◌, nat_le, ◌≤◌, ◌+◌, if◌then◌else◌}
+use Rattle.std.specs.List.{list_all}
+use Rattle.std.proofs.lemmas.Bool.Decides.{nat_tests}
+use Rattle.chess.specs.Fen.{is_digit}
+use Rattle.pgn_text.specs.Bytes.{is_letter}
+use Rattle.pgn_criteria.specs.Words.{is_blank, run_of, after_run, behind_blanks}
+use Rattle.pgn_criteria.specs.Reading.{behind_word}
+use Rattle.pgn_criteria.specs.Lines.{is_move_byte, IsMoveWord, AreMoveWords, a_word, and_words, IsGap, SpellsCondition}
+use Rattle.pgn_criteria.specs.declared.condition.Condition.TheVariants.{Moves}
+use Rattle.pgn_criteria.proofs.WordFacts.{run_whole}
+use Rattle.pgn_criteria.proofs.SolidFacts.{is_solid, AreSolid, BeginsSolid, EndsSolid, all_solid, solid_begins, solid_ends, begins_front, begins_some, ends_behind, word_alone, word_read, word_spelled}
+
+move_byte_solid : (b : ℕ) → is_move_byte b ≡ true → is_solid b ≡ true
+move_byte_solid b is = grind (arith, nat_tests)
+
+pub word_solid : (word : List ℕ) → IsMoveWord word → AreSolid word
+word_solid word (inl star) = ap (list_all is_solid) star
+word_solid word (inr (long, short, each)) = all_solid is_move_byte move_byte_solid word each
+
+pub word_some : (word : List ℕ) → IsMoveWord word → word ≢ []
+word_some word (inl star) none = let clash : codes "*" ≡ [] = sym star ∙ none in cc
+word_some word (inr (long, short, each)) none = let clash : 2 ≤ 0 = subst (λ x. 2 ≤ length x) none long in absurd (omega arith)
+
+pub words_begin : (words : List ℕ) → AreMoveWords words → BeginsSolid words
+words_begin words (a_word word is) = solid_begins word (word_some word is) (word_solid word is)
+words_begin words (and_words word gap more is g are) = begins_front word (gap ++ more) (solid_begins word (word_some word is) (word_solid word is))
+
+pub words_end : (words : List ℕ) → AreMoveWords words → EndsSolid words
+words_end words (a_word word is) = solid_ends word (word_some word is) (word_solid word is)
+words_end words (and_words word gap more is g are) = ends_behind word (gap ++ more) (ends_behind gap more (words_end more are))
+
+-- the first word, and the words behind it
+pub words_read : (x : List ℕ) → AreMoveWords x → IsMoveWord (run_of x) × ((after_run x ≡ []) ⊎ AreMoveWords (behind_word x))
+words_read x (a_word word is) =
+    let alone = word_alone word (word_solid word is) in (subst IsMoveWord (sym alone.0) is, inl alone.1)
+words_read x (and_words word gap more is g are) =
+    let read = word_read (word ++ (gap ++ more)) word gap more refl (word_solid word is) g (words_begin more are) in
+    (subst IsMoveWord (sym read.0) is, inr (subst AreMoveWords (sym read.1) are))
+
+pub last_word : (x : List ℕ) → IsMoveWord (run_of x) → after_run x ≡ [] → AreMoveWords x
+last_word x is none =
+    subst AreMoveWords (sym (append-nil (run_of x)) ∙ ap (λ rest. run_of x ++ rest) (sym none) ∙ run_whole x) (a_word (run_of x) is)
+
+pub first_word : (x : List ℕ) → IsMoveWord (run_of x) → AreMoveWords (behind_word x) → AreMoveWords x
+first_word x is are =
+    let spelled = word_spelled x (run_of x) (behind_word x) refl refl (begins_some (behind_word x) (words_begin (behind_word x) are)) in
+    subst AreMoveWords (sym spelled.1) (and_words (run_of x) spelled.0 (behind_word x) is spelled.2 are)
+
+-- no words follow blanks at the end
+pub words_left : (x : List ℕ) → AreMoveWords x → after_run x ≢ [] → AreMoveWords (behind_word x)
+words_left x are some = elim ((words_read x are).1) [ inl none ↦ absurd (some none) | inr more ↦ more ]
+
+behind_shorter : (x : List ℕ) → length (behind_blanks x) ≤ length x
+behind_shorter [] = omega arith
+behind_shorter (b ∷ x) =
+    elim (is_blank b) as (λ t. length (if t then behind_blanks x else b ∷ x) ≤ length (b ∷ x)) [
+      | true ↦ let less : length (behind_blanks x) ≤ length x = behind_shorter x in let size : length (b ∷ x) ≡ length x + 1 = omega arith in omega arith
+      | false ↦ omega arith
+    ]
+
+some_length : (x : List ℕ) → x ≢ [] → 1 ≤ length x
+some_length [] some = absurd (some refl)
+some_length (b ∷ x) some = omega arith
+
+pub words_shorter : (x : List ℕ) → IsMoveWord (run_of x) → length (behind_word x) < length x
+words_shorter x is =
+    let less : length (behind_word x) ≤ length (after_run x) = behind_shorter (after_run x) in
+    let some : 1 ≤ length (run_of x) = some_length (run_of x) (word_some (run_of x) is) in
+    let whole : length x ≡ length (run_of x) + length (after_run x) = ap length (sym (run_whole x)) ∙ length-append (run_of x) (after_run x) in
+    omega arith
+
+-- the condition: what spells it is read as it, and the other way round
+pub moves_read : (text words : List ℕ) → SpellsCondition text (Moves words) → (run_of text ≡ codes "moves") × (behind_word text ≡ words)
+moves_read text words (gap, is, g, are) = word_read text (codes "moves") gap words is refl g (words_begin words are)
+
+pub moves_spelled : (text words : List ℕ) → run_of text ≡ codes "moves" → words ≡ behind_word text → AreMoveWords words → SpellsCondition text (Moves words)
+moves_spelled text words run behind are =
+    let spelled = word_spelled text (codes "moves") words run (sym behind) (begins_some words (words_begin words are)) in
+    (spelled.0, spelled.1, spelled.2, are)

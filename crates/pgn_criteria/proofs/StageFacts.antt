@@ -1,0 +1,157 @@
+-- Conditions on a game are what they say of the game alone and what they say of a position.
+use Rattle.std.proofs.Common.{◌≡◌, ◌↔◌, ◌≤◌, ◌<◌, ◌+◌, ◌++◌, ℕ, Bool, false, List, [], ◌∷◌, Option, Some, None, IsTrue, refl, sym, ap, subst, inl, inr, arith}
+use Rattle.std.specs.Prelude.{◌⊎◌}
+use Rattle.std.specs.Option.{unwrap_or}
+use Rattle.std.specs.List.{slice_get}
+use Rattle.std.proofs.lemmas.Bool.{cases_lt}
+use Rattle.chess.specs.Positions.{State}
+use Rattle.pgn_game.specs.Replays.{Replay}
+use Rattle.pgn_criteria.specs.Meeting.{Tags, Holds, AllHold, SomeHold, Meets, IsFirst}
+use Rattle.pgn_criteria.specs.Stages.{OfGame, AllOfGame, OfPosition, AllOfPosition, AllOfStage, stage_of, IsFirstBefore}
+use Rattle.pgn_criteria.specs.declared.meets.Stage.{Stage}
+use Rattle.pgn_criteria.specs.declared.meets.Stage.TheVariants.{Game, Men, Attacks, Replies}
+use Rattle.pgn_criteria.specs.declared.condition.Condition.{Condition}
+use Rattle.pgn_criteria.specs.declared.condition.Condition.TheVariants.{Tag, Fen, Material, Moves, Turn, Check, Mate, Stalemate}
+
+-- each condition on the position is tried at some stage
+one_stage : (P : State) (condition : Condition (List ℕ)) → (stage_of condition ≡ Men → OfPosition P condition) → (stage_of condition ≡ Attacks → OfPosition P condition)
+    → (stage_of condition ≡ Replies → OfPosition P condition) → OfPosition P condition
+one_stage P (Tag name relation contents) men attacks replies = tt
+one_stage P (Fen pattern) men attacks replies = men refl
+one_stage P (Material white black) men attacks replies = men refl
+one_stage P (Moves words) men attacks replies = tt
+one_stage P (Turn side) men attacks replies = men refl
+one_stage P Check men attacks replies = attacks refl
+one_stage P Mate men attacks replies = replies refl
+one_stage P Stalemate men attacks replies = replies refl
+
+all_stages : (P : State) (conditions : List (Condition (List ℕ))) → AllOfStage Men P conditions → AllOfStage Attacks P conditions → AllOfStage Replies P conditions → AllOfPosition P conditions
+all_stages P [] men attacks replies = tt
+all_stages P (condition ∷ more) men attacks replies = (one_stage P condition men.0 attacks.0 replies.0, all_stages P more men.1 attacks.1 replies.1)
+
+each_stage : (stage : Stage) (P : State) (conditions : List (Condition (List ℕ))) → AllOfPosition P conditions → AllOfStage stage P conditions
+each_stage stage P [] all = tt
+each_stage stage P (condition ∷ more) all = ((λ here. all.0), each_stage stage P more all.1)
+
+pub last_stage : (P : State) (conditions : List (Condition (List ℕ))) (men attacks r : Bool) → IsTrue men → IsTrue attacks → (IsTrue men ↔ AllOfStage Men P conditions)
+    → (IsTrue attacks ↔ AllOfStage Attacks P conditions) → (IsTrue r ↔ AllOfStage Replies P conditions) → IsTrue r ↔ AllOfPosition P conditions
+last_stage P conditions men attacks r by_men by_attacks told_men told_attacks told = (
+  λ t. all_stages P conditions (told_men.0 by_men) (told_attacks.0 by_attacks) (told.0 t),
+  λ all. told.1 (each_stage Replies P conditions all),
+)
+
+pub stage_fails : (stage : Stage) (P : State) (conditions : List (Condition (List ℕ))) (r : Bool) → r ≡ false → (IsTrue r ↔ AllOfStage stage P conditions)
+    → IsTrue false ↔ AllOfPosition P conditions
+stage_fails stage P conditions r fails told = (
+  λ t. absurd (cc),
+  λ all. let t : IsTrue r = told.1 (each_stage stage P conditions all) in absurd (cc),
+)
+
+-- a condition is both that it says
+one_parted : (tags : Tags) (replay : Replay) (P : State) (condition : Condition (List ℕ)) → Holds tags replay P condition ↔ (OfGame tags replay condition × OfPosition P condition)
+one_parted tags replay P (Tag name relation contents) = (λ holds. (holds, tt), λ both. both.0)
+one_parted tags replay P (Fen pattern) = (λ holds. (tt, holds), λ both. both.1)
+one_parted tags replay P (Material white black) = (λ holds. (tt, holds), λ both. both.1)
+one_parted tags replay P (Moves words) = (λ holds. (holds, tt), λ both. both.0)
+one_parted tags replay P (Turn side) = (λ holds. (tt, holds), λ both. both.1)
+one_parted tags replay P Check = (λ holds. (tt, holds), λ both. both.1)
+one_parted tags replay P Mate = (λ holds. (tt, holds), λ both. both.1)
+one_parted tags replay P Stalemate = (λ holds. (tt, holds), λ both. both.1)
+
+all_parted : (tags : Tags) (replay : Replay) (P : State) (conditions : List (Condition (List ℕ)))
+    → AllHold tags replay P conditions ↔ (AllOfGame tags replay conditions × AllOfPosition P conditions)
+all_parted tags replay P [] = (λ hold. (tt, tt), λ both. tt)
+all_parted tags replay P (condition ∷ more) =
+    let here = one_parted tags replay P condition in
+    let there = all_parted tags replay P more in (
+      (λ hold. (((here.0 hold.0).0, (there.0 hold.1).0), ((here.0 hold.0).1, (there.0 hold.1).1))),
+      (λ both. (here.1 (both.0.0, both.1.0), there.1 (both.0.1, both.1.1))),
+    )
+
+pub both_parts : (tags : Tags) (replay : Replay) (P : State) (conditions : List (Condition (List ℕ))) (first r : Bool) → IsTrue first → (IsTrue first ↔ AllOfGame tags replay conditions)
+    → (IsTrue r ↔ AllOfPosition P conditions) → IsTrue r ↔ AllHold tags replay P conditions
+both_parts tags replay P conditions first r holds of_game of_position = (
+  λ t. (all_parted tags replay P conditions).1 (of_game.0 holds, of_position.0 t),
+  λ hold. of_position.1 ((all_parted tags replay P conditions).0 hold).1,
+)
+
+pub first_part_fails : (tags : Tags) (replay : Replay) (P : State) (conditions : List (Condition (List ℕ))) (first : Bool) → first ≡ false
+    → (IsTrue first ↔ AllOfGame tags replay conditions) → IsTrue first ↔ AllHold tags replay P conditions
+first_part_fails tags replay P conditions first fails of_game = (
+  λ t. absurd (cc),
+  λ hold. of_game.1 ((all_parted tags replay P conditions).0 hold).0,
+)
+
+-- one alternative at one place of the main line
+pub one_meets : (tags : Tags) (replay : Replay) (plies : ℕ) (conditions : List (Condition (List ℕ))) (P : State) → slice_get replay.positions plies ≡ Some P
+    → AllOfGame tags replay conditions → AllOfPosition P conditions → Meets tags replay plies (conditions ∷ [])
+one_meets tags replay plies conditions P here of_game of_position =
+    record { position = P; here = here; hold = inl ((all_parted tags replay P conditions).1 (of_game, of_position)) }
+
+one_holds : (tags : Tags) (replay : Replay) (P : State) (conditions : List (Condition (List ℕ))) → SomeHold tags replay P (conditions ∷ []) → AllHold tags replay P conditions
+one_holds tags replay P conditions hold = elim hold [ inl all ↦ all | inr none ↦ absurd none ]
+
+pub game_of : (tags : Tags) (replay : Replay) (plies : ℕ) (conditions : List (Condition (List ℕ))) → Meets tags replay plies (conditions ∷ []) → AllOfGame tags replay conditions
+game_of tags replay plies conditions met = ((all_parted tags replay met.position conditions).0 (one_holds tags replay met.position conditions met.hold)).0
+
+pub position_of : (tags : Tags) (replay : Replay) (plies : ℕ) (conditions : List (Condition (List ℕ))) (P : State) → slice_get replay.positions plies ≡ Some P
+    → Meets tags replay plies (conditions ∷ []) → AllOfPosition P conditions
+position_of tags replay plies conditions P here met =
+    let same : met.position ≡ P = cc (met.here, here) in
+    subst (λ p. AllOfPosition p conditions) same ((all_parted tags replay met.position conditions).0 (one_holds tags replay met.position conditions met.hold)).1
+
+-- alternatives and one more
+hold_before : (tags : Tags) (replay : Replay) (P : State) (before : List (List (Condition (List ℕ)))) (more : List (List (Condition (List ℕ))))
+    → SomeHold tags replay P before → SomeHold tags replay P (before ++ more)
+hold_before tags replay P [] more hold = absurd hold
+hold_before tags replay P (first ∷ before) more hold = elim hold [ inl all ↦ inl all | inr some ↦ inr (hold_before tags replay P before more some) ]
+
+hold_behind : (tags : Tags) (replay : Replay) (P : State) (before : List (List (Condition (List ℕ)))) (more : List (List (Condition (List ℕ))))
+    → SomeHold tags replay P more → SomeHold tags replay P (before ++ more)
+hold_behind tags replay P [] more hold = hold
+hold_behind tags replay P (first ∷ before) more hold = inr (hold_behind tags replay P before more hold)
+
+hold_either : (tags : Tags) (replay : Replay) (P : State) (before : List (List (Condition (List ℕ)))) (more : List (List (Condition (List ℕ))))
+    → SomeHold tags replay P (before ++ more) → SomeHold tags replay P before ⊎ SomeHold tags replay P more
+hold_either tags replay P [] more hold = inr hold
+hold_either tags replay P (first ∷ before) more hold = elim hold [
+  | inl all ↦ inl (inl all)
+  | inr some ↦ elim (hold_either tags replay P before more some) [ inl here ↦ inl (inr here) | inr there ↦ inr there ]
+]
+
+-- the least of the best so far and of the first ply of one more alternative
+pub next_best : (tags : Tags) (replay : Replay) (before : List (List (Condition (List ℕ)))) (more : List (List (Condition (List ℕ)))) (min max : ℕ) (best found : Option ℕ)
+    → IsFirst (λ plies. Meets tags replay plies before) min max best → IsFirstBefore (λ plies. Meets tags replay plies more) min (unwrap_or best (max + 1)) found
+    → IsFirst (λ plies. Meets tags replay plies (before ++ more)) min max (elim found [ None ↦ best | Some plies ↦ Some plies ])
+next_best tags replay before more min max best found first here = go best found first here
+  where
+    either : (plies : ℕ) → Meets tags replay plies (before ++ more) → Meets tags replay plies before ⊎ Meets tags replay plies more
+    either plies met = elim (hold_either tags replay met.position before more met.hold) [
+      | inl hold ↦ inl (record { position = met.position; here = met.here; hold = hold })
+      | inr hold ↦ inr (record { position = met.position; here = met.here; hold = hold })
+    ]
+    go : (best found : Option ℕ) → IsFirst (λ plies. Meets tags replay plies before) min max best → IsFirstBefore (λ plies. Meets tags replay plies more) min (unwrap_or best (max + 1)) found
+        → IsFirst (λ plies. Meets tags replay plies (before ++ more)) min max (elim found [ None ↦ best | Some plies ↦ Some plies ])
+    go None None first here = λ n low high met. elim (either n met) [ inl old ↦ first n low high old | inr new ↦ here n low (omega arith) new ]
+    go None (Some plies) first here = (
+      here.0,
+      (let less = here.1 in omega arith),
+      (record { position = here.2.position; here = here.2.here; hold = hold_behind tags replay here.2.position before more here.2.hold }),
+      λ m low less met.
+          let past = here.1 in
+          elim (either m met) [ inl old ↦ first m low (omega arith) old | inr new ↦ here.3 m low less new ],
+    )
+    go (Some best) None first here = (
+      first.0,
+      first.1,
+      (record { position = first.2.position; here = first.2.here; hold = hold_before tags replay first.2.position before more first.2.hold }),
+      λ m low less met. elim (either m met) [ inl old ↦ first.3 m low less old | inr new ↦ here m low less new ],
+    )
+    go (Some best) (Some plies) first here = (
+      here.0,
+      (let less = here.1 in let high = first.1 in omega arith),
+      (record { position = here.2.position; here = here.2.here; hold = hold_behind tags replay here.2.position before more here.2.hold }),
+      λ m low less met.
+          let past = here.1 in
+          elim (either m met) [ inl old ↦ first.3 m low (omega arith) old | inr new ↦ here.3 m low less new ],
+    )

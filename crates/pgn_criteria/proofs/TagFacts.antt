@@ -1,0 +1,70 @@
+-- Conditions on a tag: what spells one is read as it, and the other way round.
+use Rattle.std.proofs.Common.{◌≡◌, ◌≢◌, ℕ, Bool, true, false, List, [], ◌∷◌, ◌++◌, refl, sym, ap, ◌∙◌, IsTrue, arith}
+use Rattle.std.specs.Prelude.{codes, nat_le}
+use Rattle.std.specs.List.{list_all}
+use Rattle.std.proofs.lemmas.Bool.Decides.{nat_tests}
+use Rattle.pgn_text.specs.Bytes.{is_name_byte}
+use Rattle.pgn_text.specs.Strings.{IsContents}
+use Rattle.pgn_criteria.specs.Words.{run_of}
+use Rattle.pgn_criteria.specs.Reading.{behind_word}
+use Rattle.pgn_criteria.specs.Lines.{SpellsCondition, relation_text}
+use Rattle.pgn_criteria.specs.declared.compare.Relation.{Relation}
+use Rattle.pgn_criteria.specs.declared.compare.Relation.TheVariants.{Equal, Unequal, Less, LessOrEqual, Greater, GreaterOrEqual}
+use Rattle.pgn_criteria.specs.declared.condition.Condition.TheVariants.{Tag}
+use Rattle.pgn_criteria.proofs.SolidFacts.{is_solid, AreSolid, BeginsSolid, all_solid, solid_begins, begins_front, begins_some, word_read, word_spelled}
+
+name_byte_solid : (b : ℕ) → is_name_byte b ≡ true → is_solid b ≡ true
+name_byte_solid b is = grind (arith, nat_tests)
+
+name_solid : (name : List ℕ) → IsTrue (list_all is_name_byte name) → AreSolid name
+name_solid name each = all_solid is_name_byte name_byte_solid name each
+
+relation_solid : (relation : Relation) → AreSolid (relation_text relation)
+relation_solid Equal = refl
+relation_solid Unequal = refl
+relation_solid Less = refl
+relation_solid LessOrEqual = refl
+relation_solid Greater = refl
+relation_solid GreaterOrEqual = refl
+
+relation_some : (relation : Relation) → relation_text relation ≢ []
+relation_some Equal none = cc
+relation_some Unequal none = cc
+relation_some Less none = cc
+relation_some LessOrEqual none = cc
+relation_some Greater none = cc
+relation_some GreaterOrEqual none = cc
+
+-- a string with these contents
+abbrev pub quoted : List ℕ → List ℕ
+quoted contents = 34 ∷ (contents ++ 34 ∷ [])
+
+-- the words of the text are those of the condition
+pub record IsTagRead (text name : List ℕ) (relation : Relation) (contents : List ℕ) : Type 0 where
+  pub key_is : run_of text ≡ codes "tag"
+  pub name_is : run_of (behind_word text) ≡ name
+  pub operator_is : run_of (behind_word (behind_word text)) ≡ relation_text relation
+  pub string_is : behind_word (behind_word (behind_word text)) ≡ quoted contents
+
+pub tag_read : (text name : List ℕ) (relation : Relation) (contents : List ℕ) → SpellsCondition text (Tag name relation contents) → IsTagRead text name relation contents
+tag_read text name relation contents (first, second, third, is, g, h, k, some, each, good) =
+    let string = quoted contents in
+    let operator = relation_text relation ++ (third ++ string) in
+    let named = name ++ (second ++ operator) in
+    let one = word_read text (codes "tag") first named is refl g (begins_front name (second ++ operator) (solid_begins name some (name_solid name each))) in
+    let two = word_read (behind_word text) name second operator one.1 (name_solid name each) h
+        (begins_front (relation_text relation) (third ++ string) (solid_begins (relation_text relation) (relation_some relation) (relation_solid relation))) in
+    let three = word_read (behind_word (behind_word text)) (relation_text relation) third string two.1 (relation_solid relation) k (34, contents ++ 34 ∷ [], refl, refl) in
+    record { key_is = one.0; name_is = two.0; operator_is = three.0; string_is = three.1 }
+
+-- and a text of such words spells it
+pub tag_spelled : (text name : List ℕ) (relation : Relation) (contents : List ℕ) → IsTagRead text name relation contents → name ≢ [] → IsTrue (list_all is_name_byte name)
+    → IsContents contents → SpellsCondition text (Tag name relation contents)
+tag_spelled text name relation contents read some each good =
+    let three = word_spelled (behind_word (behind_word text)) (relation_text relation) (quoted contents) read.operator_is read.string_is (λ none. cc) in
+    let two = word_spelled (behind_word text) name (relation_text relation ++ (three.0 ++ quoted contents)) read.name_is three.1
+        (begins_some _ (begins_front (relation_text relation) (three.0 ++ quoted contents)
+            (solid_begins (relation_text relation) (relation_some relation) (relation_solid relation)))) in
+    let one = word_spelled text (codes "tag") (name ++ (two.0 ++ (relation_text relation ++ (three.0 ++ quoted contents)))) read.key_is two.1
+        (begins_some _ (begins_front name (two.0 ++ (relation_text relation ++ (three.0 ++ quoted contents))) (solid_begins name some (name_solid name each)))) in
+    (one.0, two.0, three.0, one.1, one.2, two.2, three.2, some, each, good)

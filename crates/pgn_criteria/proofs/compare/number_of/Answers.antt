@@ -1,0 +1,26 @@
+use Rattle.std.proofs.Common.{◌≡◌, ◌<◌, ◌*◌, ◌+◌, ◌^◌, ap, sym, ◌∙◌, arith}
+use Rattle.std.proofs.lemmas.Bool.Decides.{nat_tests}
+use Rattle.pgn_text.specs.Reading.{value_of}
+use Rattle.pgn_text.proofs.Values.{one_value}
+use Rattle.pgn_criteria.specs.Numbers.{number_behind}
+use Rattle.pgn_criteria.proofs.NumberFacts.{number_found, tenfold, digit_small}
+use Rattle.pgn_criteria.proofs.compare.number_of.Goals as goal
+
+pub loop-byte-init : goal.loop-byte-init
+loop-byte-init c =
+    let same : c.into_iter-byte-iterator.result ≡ value_of c.args.contents.now =
+        c.into_iter-byte-iterator.ensures.into_iter_gives ∙ one_value _ _ _ c.value-byte-items.ensures.1 in
+    record {
+      few = omega arith;
+      small = omega arith;
+      rest = ap (number_behind 0 0) same ∙ number_found (value_of c.args.contents.now);
+    }
+
+pub overflow_mul-number : goal.overflow_mul-number
+overflow_mul-number c = omega (arith, tenfold c.loop-byte.number c.loop-byte.digits c.loop-byte.invariant.few c.if-digits-eq18.false c.loop-byte.invariant.small)
+
+pub overflow_add-number : goal.overflow_add-number
+overflow_add-number c =
+    let bound = tenfold c.loop-byte.number c.loop-byte.digits c.loop-byte.invariant.few c.if-digits-eq18.false c.loop-byte.invariant.small in
+    let digit = digit_small c.in-Some.byte (sym (c.if-not-is_digit.ensures)) in
+    omega (arith, bound, digit, c.from.ensures)

@@ -1,0 +1,43 @@
+use Rattle.std.proofs.Common.{◌≡◌, ◌≢◌, ℕ, Bool, true, false, List, [], sym, ap, ◌∙◌, subst, IsTrue}
+use Rattle.std.specs.Prelude.{◌↔◌}
+use Rattle.std.specs.List.{list_all}
+use Rattle.pgn_text.specs.Bytes.{is_name_byte}
+use Rattle.pgn_criteria.specs.Words.{run_of}
+use Rattle.pgn_criteria.specs.Reading.{behind_word}
+use Rattle.pgn_criteria.proofs.TagFacts.{IsTagRead, tag_read, tag_spelled, quoted}
+use Rattle.pgn_criteria.proofs.line.tag.tag_of.Goals as goal
+
+pub returns-in_default : goal.returns-in_default
+returns-in_default c name contents relation spells = c.in_default.ensures (tag_read c.args.text.now name relation contents spells).key_is
+
+pub returns-then-not-is_name : goal.returns-then-not-is_name
+returns-then-not-is_name c name contents relation spells =
+    let read = tag_read c.args.text.now name relation contents spells in
+    let same : name ≡ c.split_first.result.0.now = sym read.name_is ∙ ap run_of (sym c.in-Some.ensures.1) ∙ sym c.split_first.ensures.word in
+    let t = c.is_name.ensures.1 (subst (λ (x : List ℕ). (x ≢ []) × IsTrue (list_all is_name_byte x)) same (spells.7, spells.8)) in
+    absurd (cc (t, c.if-not-is_name.true))
+
+pub returns-in_default-relation_of : goal.returns-in_default-relation_of
+returns-in_default-relation_of c name contents relation spells =
+    let read = tag_read c.args.text.now name relation contents spells in
+    let rest : c.split_first.result.1.now ≡ behind_word (behind_word c.args.text.now) = c.split_first.ensures.rest ∙ ap behind_word c.in-Some.ensures.1 in
+    c.in_default-relation_of.ensures relation (c.split_first-2.ensures.word ∙ ap run_of rest ∙ read.operator_is)
+
+pub returns-in_default-contents_of : goal.returns-in_default-contents_of
+returns-in_default-contents_of c name contents relation spells =
+    let read = tag_read c.args.text.now name relation contents spells in
+    let rest : c.split_first.result.1.now ≡ behind_word (behind_word c.args.text.now) = c.split_first.ensures.rest ∙ ap behind_word c.in-Some.ensures.1 in
+    c.in_default-contents_of.ensures contents (c.split_first-2.ensures.rest ∙ ap behind_word rest ∙ read.string_is) spells.9
+
+pub returns : goal.returns
+returns c =
+    let rest : c.split_first.result.1.now ≡ behind_word (behind_word c.args.text.now) = c.split_first.ensures.rest ∙ ap behind_word c.in-Some.ensures.1 in
+    let good = c.is_name.ensures.0 c.if-not-is_name.false in
+    tag_spelled c.args.text.now c.split_first.result.0.now c.in-Some-relation_of.relation c.in-Some-contents_of.contents.now
+    (record {
+      key_is = c.in-Some.ensures.0;
+      name_is = ap run_of (sym c.in-Some.ensures.1) ∙ sym c.split_first.ensures.word;
+      operator_is = ap run_of (sym rest) ∙ sym c.split_first-2.ensures.word ∙ c.in-Some-relation_of.ensures;
+      string_is = ap behind_word (sym rest) ∙ sym c.split_first-2.ensures.rest ∙ c.in-Some-contents_of.ensures.0;
+    })
+    good.0 good.1 c.in-Some-contents_of.ensures.1

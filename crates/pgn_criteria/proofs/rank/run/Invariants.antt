@@ -1,0 +1,10 @@
+use Rattle.std.proofs.Common.{◌↔◌, ◌-◌, ◌<◌, ◌^◌, ℕ, List}
+use Rattle.pgn_criteria.specs.Items.{Goes}
+use Rattle.pgn_criteria.specs.declared.rank.Item.TheVariants.{Run}
+use Rattle.pgn_criteria.proofs.rank.run.Given as goal
+
+abbrev pub invariant-loop-step : goal.invariant-loop-step
+invariant-loop-step l = record {
+  low : l.now < 2 ^ 9;
+  goes_on : (items : List ℕ) → Goes l.squares l.now (Run l.class (l.count - l.step)) items ↔ Goes l.squares l.fn.reached (Run l.class l.count) items;
+}

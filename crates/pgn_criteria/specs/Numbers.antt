@@ -1,0 +1,8 @@
+-- A number that is read digit by digit.
+use Rattle.std.specs.Prelude.{ℕ, ◌+◌, ◌*◌, ◌-◌, ◌==◌, ◌||◌, not, if◌then◌else◌, List, [], ◌∷◌, Option, Some, None}
+use Rattle.pgn_text.specs.Bytes.{is_digit}
+
+-- the number that a text writes behind digits of which there are so many already
+abbrev pub number_behind : ℕ → ℕ → List ℕ → Option ℕ
+number_behind number digits [] = if digits == 0 then None else Some number
+number_behind number digits (b ∷ x) = if (digits == 18 || not (is_digit b)) then None else number_behind (10 * number + (b - 48)) (digits + 1) x

@@ -1,0 +1,51 @@
+-- How lines are read: the words that the code equals.
+use Rattle.std.specs.Prelude.{ℕ, ◌-◌, ◌==◌, ◌||◌, if◌then◌else◌, List, [], ◌∷◌, reverse, codes, Option, Some, None, IsTrue, map}
+use Rattle.chess.specs.Fen.{is_digit, is_distinct}
+use Rattle.chess.specs.Letters.{kind_letter}
+use Rattle.chess.specs.declared.man.Kind.{Kind}
+use Rattle.pgn_criteria.specs.Words.{after_run, behind_blanks}
+use Rattle.pgn_criteria.specs.declared.material.Limit.{Limit}
+use Rattle.pgn_criteria.specs.declared.material.Limit.TheVariants.{Exactly, AtLeast, AtMost, AnyNumber}
+use Rattle.pgn_criteria.specs.declared.condition.Condition.{Condition}
+use Rattle.pgn_criteria.specs.declared.condition.Condition.TheVariants.{Tag, Fen, Material, Moves, Turn, Check, Mate, Stalemate}
+use Rattle.pgn_criteria.specs.declared.line.Meaning.{Meaning}
+use Rattle.pgn_criteria.specs.declared.line.Meaning.TheVariants.{Nothing, Or, Asks}
+use Rattle.pgn_criteria.specs.Lines.{SpellsEntries}
+use Rattle.pgn_criteria.specs.Stages.{seen}
+
+-- what follows the first word and the blanks behind it
+abbrev pub behind_word : List ℕ → List ℕ
+behind_word text = behind_blanks (after_run text)
+
+-- a line that is read from its end: without the carriage return that ends it
+abbrev pub drop_return : List ℕ → List ℕ
+drop_return [] = []
+drop_return (b ∷ x) = if b == 13 then x else b ∷ x
+
+-- a line without the carriage return at its end and the blanks about it
+abbrev pub core_of : List ℕ → List ℕ
+core_of line = behind_blanks (reverse (behind_blanks (drop_return (reverse line))))
+
+-- the limit that a text begins with, behind the letter of a kind, and what follows it
+abbrev pub digit_limit : ℕ → List ℕ → Limit × List ℕ
+digit_limit n [] = (Exactly n, [])
+digit_limit n (b ∷ x) = if b == 43 then (AtLeast n, x) else if b == 45 then (AtMost n, x) else (Exactly n, b ∷ x)
+
+abbrev pub first_limit : List ℕ → Limit × List ℕ
+first_limit [] = (Exactly 1, [])
+first_limit (b ∷ x) = if b == 42 then (AnyNumber, x) else if is_digit b then digit_limit (b - 48) x else (Exactly 1, b ∷ x)
+
+-- the limit behind the first place of a letter; without one, none
+abbrev pub limit_behind : ℕ → List ℕ → Limit
+limit_behind letter [] = Exactly 0
+limit_behind letter (b ∷ x) = if b == letter then (first_limit x).0 else limit_behind letter x
+
+-- the meaning of a line by the bytes of its texts
+abbrev pub meaning_seen : {T : Type 0} → (T → List ℕ) → Meaning T → Meaning (List ℕ)
+meaning_seen bytes Nothing = Nothing
+meaning_seen bytes Or = Or
+meaning_seen bytes (Asks condition) = Asks (seen bytes condition)
+
+-- letters of kinds with their limits, no letter twice, or nothing
+abbrev pub AreEntries : List ℕ → Type 0
+AreEntries text = (entries : List (Kind × Limit)) × SpellsEntries text entries × IsTrue (is_distinct (map (λ entry. kind_letter entry.0) entries))

@@ -1,0 +1,148 @@
+//! Conditions on the material.
+ghost use Rattle.std.specs.Prelude.{◌≡◌, ◌≢◌, ◌↔◌, ◌≤◌, ◌<◌, [], ℕ, List, length, IsTrue, MatchOption, Option};
+ghost use Rattle.chess.specs.Fen.{has_byte};
+ghost use Rattle.chess.specs.Letters.{kind_letter};
+ghost use Rattle.chess.specs.declared.man.Kind.{Kind};
+ghost use Rattle.pgn_criteria.specs.Lines.{SpellsCondition, SpellsLimits};
+ghost use Rattle.pgn_criteria.specs.Reading.{AreEntries, digit_limit, first_limit, limit_behind};
+ghost use Rattle.pgn_criteria.specs.declared.material.Limits.{Limits};
+ghost use Rattle.pgn_criteria.specs.declared.condition.Condition.TheVariants.{Material};
+
+use crate::material::{Limit, Limits};
+use crate::words::{behind_key, split_first};
+use chess::Kind;
+
+/// The limit of that number that begins the text, and what follows it.
+fn digit_limit(number: u8, text: &[u8]) -> (Limit, &[u8])
+    ensures limit { result.0 ≡ (digit_limit number text.now).0 }
+    ensures rest { result.1.now ≡ (digit_limit number text.now).1 }
+    ensures shorter { length result.1.now ≤ length text.now }
+{
+    match text {
+        [b'+', rest @ ..] => (Limit::AtLeast(number), rest),
+        [b'-', rest @ ..] => (Limit::AtMost(number), rest),
+        _ => (Limit::Exactly(number), text),
+    }
+}
+
+/// The limit that begins the text behind the letter of a kind, and what follows it.
+fn first_limit(text: &[u8]) -> (Limit, &[u8])
+    ensures limit { result.0 ≡ (first_limit text.now).0 }
+    ensures rest { result.1.now ≡ (first_limit text.now).1 }
+    ensures shorter { length result.1.now ≤ length text.now }
+{
+    match text {
+        [b'*', rest @ ..] => (Limit::AnyNumber, rest),
+        [digit @ b'0'..=b'9', rest @ ..] => digit_limit(*digit - b'0', rest),
+        _ => (Limit::Exactly(1), text),
+    }
+}
+
+/// The kind of man with that letter.
+fn kind_of(letter: u8) -> Option<Kind>
+    ensures { MatchOption result ((kind : Kind) → letter ≡ kind_letter kind → ⊥) (λ kind. letter ≡ kind_letter kind) }
+{
+    match letter {
+        b'K' => Some(Kind::King),
+        b'Q' => Some(Kind::Queen),
+        b'R' => Some(Kind::Rook),
+        b'B' => Some(Kind::Bishop),
+        b'N' => Some(Kind::Knight),
+        b'P' => Some(Kind::Pawn),
+        _ => None,
+    }
+}
+
+/// The letter of men of the kind.
+fn letter_of(kind: Kind) -> u8
+    ensures { result ≡ kind_letter kind }
+{
+    match kind {
+        Kind::King => b'K',
+        Kind::Queen => b'Q',
+        Kind::Rook => b'R',
+        Kind::Bishop => b'B',
+        Kind::Knight => b'N',
+        Kind::Pawn => b'P',
+    }
+}
+
+/// Whether the byte stands in the text.
+fn has_byte(byte: u8, text: &[u8]) -> bool
+    ensures { result ≡ has_byte byte text.now }
+{
+    text.contains(&byte)
+}
+
+/// Whether the text is letters of kinds with their limits, no letter twice, or empty.
+fn are_entries(text: &[u8]) -> bool
+    ensures { IsTrue result ↔ AreEntries text.now }
+{
+    let mut rest = text;
+    while let [letter, behind @ ..] = rest {
+        let Some(_) = kind_of(*letter) else {
+            return false;
+        };
+        let (_, more) = first_limit(behind);
+        if has_byte(*letter, more) {
+            return false;
+        }
+        rest = more;
+    }
+    true
+}
+
+/// The limit that the entries of a text give to the kind.
+fn limit_in(text: &[u8], kind: Kind) -> Limit
+    ensures { result ≡ limit_behind (kind_letter kind) text.now }
+{
+    let letter = letter_of(kind);
+    let mut rest = text;
+    while let [first, behind @ ..] = rest {
+        if *first == letter {
+            return first_limit(behind).0;
+        }
+        rest = behind;
+    }
+    Limit::Exactly(0)
+}
+
+/// The limits that the text spells, if it does.
+fn limits_of(text: &[u8]) -> Option<Limits>
+    ensures { MatchOption result ((limits : Limits) → SpellsLimits text.now limits → ⊥) (λ limits. SpellsLimits text.now limits) }
+{
+    if text.is_empty() {
+        return None;
+    }
+    if !are_entries(text) {
+        return None;
+    }
+    Some(Limits {
+        king: limit_in(text, Kind::King),
+        queen: limit_in(text, Kind::Queen),
+        rook: limit_in(text, Kind::Rook),
+        bishop: limit_in(text, Kind::Bishop),
+        knight: limit_in(text, Kind::Knight),
+        pawn: limit_in(text, Kind::Pawn),
+    })
+}
+
+/// The limits for White and for Black of a condition on the material, if the text is one.
+pub(super) fn material_of(text: &[u8]) -> Option<(Limits, Limits)>
+    ensures { MatchOption result ((white black : Limits) → SpellsCondition text.now (Material white black) → ⊥) (λ found. SpellsCondition text.now (Material found.0 found.1)) }
+{
+    let Some(rest) = behind_key(text, b"material") else {
+        return None;
+    };
+    let (white, rest) = split_first(rest);
+    let Some(black) = behind_key(rest, b"v") else {
+        return None;
+    };
+    let Some(white) = limits_of(white) else {
+        return None;
+    };
+    let Some(black) = limits_of(black) else {
+        return None;
+    };
+    Some((white, black))
+}

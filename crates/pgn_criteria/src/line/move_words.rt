@@ -1,0 +1,61 @@
+//! Conditions on the first moves.
+ghost use Rattle.std.specs.Prelude.{◌≡◌, ◌↔◌, ℕ, List, IsTrue, MatchOption};
+ghost use Rattle.std.specs.List.{list_all};
+ghost use Rattle.pgn_criteria.specs.Lines.{SpellsCondition, is_move_byte, IsMoveWord, AreMoveWords};
+ghost use Rattle.pgn_criteria.specs.declared.condition.Condition.TheVariants.{Moves};
+
+use crate::words::{behind_blanks, behind_key, split_word};
+
+/// Whether the byte may stand in the word of a move.
+fn is_move_byte(byte: u8) -> bool
+    ensures { result ≡ is_move_byte byte }
+{
+    byte.is_ascii_alphanumeric() || byte == b'=' || byte == b'-'
+}
+
+/// Whether each byte may stand in the word of a move.
+fn are_move_bytes(word: &[u8]) -> bool
+    ensures { result ≡ list_all is_move_byte word.now }
+{
+    word.iter().all(|byte| is_move_byte(*byte))
+}
+
+/// Whether the word is one for a move: a star, or 2 to 7 letters, digits, `=` and `-`.
+fn is_move_word(word: &[u8]) -> bool
+    ensures { IsTrue result ↔ IsMoveWord word.now }
+{
+    if word == b"*".as_slice() {
+        return true;
+    }
+    if word.len() < 2 || 7 < word.len() {
+        return false;
+    }
+    are_move_bytes(word)
+}
+
+/// Whether the text is one or more words for moves, with blanks between.
+fn are_move_words(text: &[u8]) -> bool
+    ensures { IsTrue result ↔ AreMoveWords text.now }
+{
+    let mut rest = text;
+    loop {
+        let (word, behind) = split_word(rest);
+        if !is_move_word(word) {
+            return false;
+        }
+        if behind.is_empty() {
+            return true;
+        }
+        rest = behind_blanks(behind);
+    }
+}
+
+/// The words of a condition on the moves, if the text is one.
+pub(super) fn moves_of(text: &[u8]) -> Option<&[u8]>
+    ensures { MatchOption result ((words : List ℕ) → SpellsCondition text.now (Moves words) → ⊥) (λ words. SpellsCondition text.now (Moves words.now)) }
+{
+    let Some(words) = behind_key(text, b"moves") else {
+        return None;
+    };
+    if are_move_words(words) { Some(words) } else { None }
+}

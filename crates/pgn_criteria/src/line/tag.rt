@@ -1,0 +1,85 @@
+//! Conditions on a tag.
+ghost use Rattle.std.specs.Prelude.{◌≡◌, ◌≢◌, ◌↔◌, ◌∷◌, ◌++◌, [], ℕ, List, IsTrue, MatchOption};
+ghost use Rattle.std.specs.List.{list_all};
+ghost use Rattle.pgn_text.specs.Bytes.{is_name_byte};
+ghost use Rattle.pgn_text.specs.Strings.{IsContents};
+ghost use Rattle.pgn_criteria.specs.Lines.{SpellsCondition, relation_text};
+ghost use Rattle.pgn_criteria.specs.Stages.{seen};
+ghost use Rattle.pgn_criteria.specs.declared.compare.Relation.{Relation};
+ghost use Rattle.pgn_criteria.specs.declared.condition.Condition.TheVariants.{Tag};
+
+use crate::compare::Relation;
+use crate::condition::Condition;
+use crate::words::{behind_key, split_first};
+use pgn_text::is_contents;
+
+/// The relation that is written so.
+fn relation_of(text: &[u8]) -> Option<Relation>
+    ensures { MatchOption result ((relation : Relation) → text.now ≡ relation_text relation → ⊥) (λ relation. text.now ≡ relation_text relation) }
+{
+    match text {
+        b"=" => Some(Relation::Equal),
+        b"<>" => Some(Relation::Unequal),
+        b"<" => Some(Relation::Less),
+        b"<=" => Some(Relation::LessOrEqual),
+        b">" => Some(Relation::Greater),
+        b">=" => Some(Relation::GreaterOrEqual),
+        _ => None,
+    }
+}
+
+/// Whether the byte may stand in a tag's name.
+fn is_name_byte(byte: u8) -> bool
+    ensures { result ≡ is_name_byte byte }
+{
+    byte.is_ascii_alphanumeric() || byte == b'_'
+}
+
+/// Whether each byte may stand in a tag's name.
+fn are_name_bytes(text: &[u8]) -> bool
+    ensures { result ≡ list_all is_name_byte text.now }
+{
+    text.iter().all(|byte| is_name_byte(*byte))
+}
+
+/// Whether the text is a tag's name.
+fn is_name(text: &[u8]) -> bool
+    ensures { IsTrue result ↔ ((text.now ≢ []) × IsTrue (list_all is_name_byte text.now)) }
+{
+    !text.is_empty() && are_name_bytes(text)
+}
+
+/// What stands between the quotes of a string, if the text is one.
+fn contents_of(text: &[u8]) -> Option<&[u8]>
+    ensures { MatchOption result ((contents : List ℕ) → text.now ≡ 34 ∷ (contents ++ 34 ∷ []) → IsContents contents → ⊥) (λ contents. (text.now ≡ 34 ∷ (contents.now ++ 34 ∷ [])) × IsContents contents.now) }
+{
+    match text {
+        [b'"', contents @ .., b'"'] if is_contents(contents) => Some(contents),
+        _ => None,
+    }
+}
+
+/// The condition on a tag that the text spells, if it is one.
+pub(super) fn tag_of(text: &[u8]) -> Option<Condition<&[u8]>>
+    ensures { MatchOption result ((name contents : List ℕ) (relation : Relation) → SpellsCondition text.now (Tag name relation contents) → ⊥) (λ found. SpellsCondition text.now (seen (λ bytes. bytes.now) found)) }
+{
+    let Some(rest) = behind_key(text, b"tag") else {
+        return None;
+    };
+    let (name, rest) = split_first(rest);
+    if !is_name(name) {
+        return None;
+    }
+    let (operator, string) = split_first(rest);
+    let Some(relation) = relation_of(operator) else {
+        return None;
+    };
+    let Some(contents) = contents_of(string) else {
+        return None;
+    };
+    Some(Condition::Tag {
+        name,
+        relation,
+        contents,
+    })
+}
