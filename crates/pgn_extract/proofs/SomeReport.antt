@@ -10,7 +10,8 @@ use Rattle.pgn_game.proofs.AnAnswer.{game_answer}
 use Rattle.pgn_game.specs.Starts.{fen_tag}
 use Rattle.pgn_extract.specs.Index.{fault_text, mark_line}
 use Rattle.pgn_extract.specs.Listing.{listing, entries_from, cause_text}
-use Rattle.pgn_extract.specs.Telling.{Told, SoundGame, FaultyGame, IsGameTold, IsPieceTold, AreTold}
+use Rattle.pgn_extract.specs.Telling.{Told, SoundGame, FaultyGame, IsToldIn, IsPieceTold, AreTold}
+use Rattle.pgn_extract.specs.Aims.{Aim}
 use Rattle.pgn_extract.specs.declared.settings.Mode.{Mode}
 use Rattle.pgn_extract.specs.declared.settings.Mode.TheVariants as modes
 
@@ -59,28 +60,30 @@ blocks_tagged limit max_depth offset (block ∷ more) marks h =
     subst AreTagged (sym h.2) (tagged_append h.0 h.1 first others)
 
 game_reported : (mode : Mode) (number offset : ℕ) (parts : List Part) → IfSome (first_tag fen_tag parts) IsContents
-    → (told : Told) × IsGameTold mode number offset parts told
+    → (told : Told) × IsToldIn mode number offset parts told
 game_reported modes.Index number offset parts has = (SoundGame (mark_line number offset), refl)
 game_reported modes.List number offset parts has = elim (game_answer (first_tag fen_tag parts) (items_of parts) has) [
-  | inl sound ↦ (SoundGame (listing (entries_from number offset 0 sound.0.positions)), (sound.0, sound.1, refl))
+  | inl sound ↦
+      let entries = entries_from number offset 0 sound.0.positions in
+      (SoundGame (listing entries), (sound.0, entries, sound.1, refl, refl))
   | inr faulty ↦ (FaultyGame (fault_text number offset (cause_text faulty.0)), (faulty.0, faulty.1, refl))
 ]
 
-piece_reported : (kind : PieceKind) (mode : Mode) (number offset : ℕ) → IsTagged kind
-    → (told : Told) × IsPieceTold kind mode number offset told
-piece_reported (ReadableGame parts) mode number offset has = game_reported mode number offset parts has
-piece_reported UnreadableRest mode number offset has = (FaultyGame (fault_text number offset (codes "unreadable")), refl)
-piece_reported TooLongBlock mode number offset has = (FaultyGame (fault_text number offset (codes "too long")), refl)
+piece_reported : (kind : PieceKind) (aim : Aim) (number offset : ℕ) → IsTagged kind
+    → (told : Told) × IsPieceTold kind aim number offset told
+piece_reported (ReadableGame parts) aim number offset has = game_reported aim.mode number offset parts has
+piece_reported UnreadableRest aim number offset has = (FaultyGame (fault_text number offset (codes "unreadable")), refl)
+piece_reported TooLongBlock aim number offset has = (FaultyGame (fault_text number offset (codes "too long")), refl)
 
-all_reported : (mode : Mode) (number : ℕ) (pieces : List MarkedPiece) → AreTagged pieces
-    → (reported : List Told) × AreTold mode number pieces reported
-all_reported mode number [] has = ([], refl)
-all_reported mode number (piece ∷ more) has =
-    let own = piece_reported piece.kind mode number piece.offset has.0 in
-    let rest = all_reported mode (number + 1) more has.1 in
+all_reported : (aim : Aim) (number : ℕ) (pieces : List MarkedPiece) → AreTagged pieces
+    → (reported : List Told) × AreTold aim number pieces reported
+all_reported aim number [] has = ([], refl)
+all_reported aim number (piece ∷ more) has =
+    let own = piece_reported piece.kind aim number piece.offset has.0 in
+    let rest = all_reported aim (number + 1) more has.1 in
     (own.0 ∷ rest.0, (own.0, rest.0, refl, own.1, rest.1))
 
-pub some_report : (mode : Mode) (limit max_depth number offset : ℕ) (text : List ℕ) (pieces : List MarkedPiece)
-    → AreMarkedPieces limit max_depth offset text pieces → (reported : List Told) × AreTold mode number pieces reported
-some_report mode limit max_depth number offset text pieces h =
-    all_reported mode number pieces (blocks_tagged limit max_depth offset h.blocks pieces h.each)
+pub some_report : (aim : Aim) (limit max_depth number offset : ℕ) (text : List ℕ) (pieces : List MarkedPiece)
+    → AreMarkedPieces limit max_depth offset text pieces → (reported : List Told) × AreTold aim number pieces reported
+some_report aim limit max_depth number offset text pieces h =
+    all_reported aim number pieces (blocks_tagged limit max_depth offset h.blocks pieces h.each)

@@ -7,7 +7,7 @@ use Rattle.pgn_game.specs.Replays.{Replay}
 use Rattle.pgn_extract.specs.Listing.{Entry, IsReplayOf, AreEntries}
 use Rattle.pgn_extract.specs.Resuming.{IsMarkAmong}
 use Rattle.pgn_extract.specs.Telling.{Told, AreTold, output_text, fault_lines, is_faulty}
-use Rattle.pgn_extract.specs.declared.settings.Mode.{Mode}
+use Rattle.pgn_extract.specs.Aims.{Aim}
 
 -- the entry names a sound game, by its place among the pieces and the offset of its first byte, and a ply of its main line
 pub record IsPlyOfGame (number : ℕ) (pieces : List MarkedPiece) (entry : Entry) : Type 0 where
@@ -47,16 +47,16 @@ EachPieceHasAMark =
 -- the pieces of each text are reported in one way in each mode, and only one
 abbrev pub TextHasOneReport : Type 0
 TextHasOneReport =
-    (mode : Mode) (limit max_depth number offset : ℕ) (text : List ℕ) (pieces : List MarkedPiece)
+    (aim : Aim) (limit max_depth number offset : ℕ) (text : List ℕ) (pieces : List MarkedPiece)
     → AreMarkedPieces limit max_depth offset text pieces
-    → (reported : List Told) × AreTold mode number pieces reported
-    × ((others : List Told) → AreTold mode number pieces others → others ≡ reported)
+    → (reported : List Told) × AreTold aim number pieces reported
+    × ((others : List Told) → AreTold aim number pieces others → others ≡ reported)
 
 -- the text that begins at the offset has these pieces, which are numbered from a number on and reported so
-pub record IsTextReported (mode : Mode) (limit max_depth number offset : ℕ) (text : List ℕ) (pieces : List MarkedPiece)
+pub record IsTextReported (aim : Aim) (limit max_depth number offset : ℕ) (text : List ℕ) (pieces : List MarkedPiece)
     (reported : List Told) : Type 0 where
   pub each : AreMarkedPieces limit max_depth offset text pieces
-  pub told : AreTold mode number pieces reported
+  pub told : AreTold aim number pieces reported
 
 -- two parts of a text have its pieces, one part those before the cut and the other those behind, and what is reported of them, one behind
 -- the other, is what is reported of the whole: on the output and on standard error, and counted
@@ -72,10 +72,10 @@ pub record AreJoined (before behind first second : List MarkedPiece) (all front 
 -- from those of the first
 abbrev pub PartsJoin : Type 0
 PartsJoin =
-    (mode : Mode) (limit max_depth number offset : ℕ) (text : List ℕ)
+    (aim : Aim) (limit max_depth number offset : ℕ) (text : List ℕ)
     (before : List MarkedPiece) (piece : MarkedPiece) (behind : List MarkedPiece) (all : List Told)
-    → IsTextReported mode limit max_depth number offset text (before ++ piece ∷ behind) all
+    → IsTextReported aim limit max_depth number offset text (before ++ piece ∷ behind) all
     → (first second : List MarkedPiece) (front rest : List Told)
-    → IsTextReported mode limit max_depth number offset (take (piece.offset - offset) text) first front
-    → IsTextReported mode limit max_depth (number + length first) piece.offset (drop (piece.offset - offset) text) second rest
+    → IsTextReported aim limit max_depth number offset (take (piece.offset - offset) text) first front
+    → IsTextReported aim limit max_depth (number + length first) piece.offset (drop (piece.offset - offset) text) second rest
     → AreJoined before (piece ∷ behind) first second all front rest

@@ -34,6 +34,10 @@ entries_from number offset ply (position ∷ more) =
 abbrev pub IsReplayOf : List Part → Replay → Type 0
 IsReplayOf parts replay = IsReplay (first_tag fen_tag parts) (items_of parts) replay
 
+-- the entries that a sound game lists: those of its positions from ply 0 on
+abbrev pub AreListed : ℕ → ℕ → Replay → List Entry → Type 0
+AreListed number offset replay entries = entries ≡ entries_from number offset 0 replay.positions
+
 -- the game of these parts is faulty, and this is the fault of its main line
 abbrev pub IsFaultOf : List Part → Fault → Type 0
 IsFaultOf parts fault = IsFault (first_tag fen_tag parts) (items_of parts) fault
@@ -44,9 +48,9 @@ cause_text BadStart = codes "bad position"
 cause_text (IllegalMove word ply) = codes "illegal move " ++ word ++ codes " at ply " ++ decimal ply
 cause_text (AmbiguousMove word ply) = codes "ambiguous move " ++ word ++ codes " at ply " ++ decimal ply
 
--- the entries of a game: those of its positions from ply 0 on where it is sound, and none where it is faulty
+-- the entries of a game: those that it lists where it is sound, and none where it is faulty
 pub data AreGameEntries (number offset : ℕ) (parts : List Part) (entries : List Entry) : Type 0 where
-  sound : (replay : Replay) → IsReplayOf parts replay → entries ≡ entries_from number offset 0 replay.positions
+  sound : (replay : Replay) → IsReplayOf parts replay → AreListed number offset replay entries
       → AreGameEntries number offset parts entries
   faulty : (fault : Fault) → IsFaultOf parts fault → entries ≡ [] → AreGameEntries number offset parts entries
 

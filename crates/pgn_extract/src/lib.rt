@@ -5,13 +5,15 @@
 mod command;
 mod extract;
 pub mod laws;
-mod lines;
+mod listing;
 mod mark;
 mod messages;
 mod outcome;
 mod put;
+mod report;
 mod settings;
 mod skip;
+mod texts;
 mod tool;
 
 pub use extract::run;

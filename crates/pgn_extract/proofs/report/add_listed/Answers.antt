@@ -5,7 +5,7 @@ use Rattle.pgn_text.specs.GameTexts.{tag_in}
 use Rattle.pgn_game.specs.Faults.{IsFault}
 use Rattle.pgn_game.specs.Starts.{fen_tag}
 use Rattle.pgn_extract.proofs.GameTold.{listed_replay, listed_fault}
-use Rattle.pgn_extract.proofs.lines.add_listed.Goals as goal
+use Rattle.pgn_extract.proofs.report.add_listed.Goals as goal
 
 pub returns-in-Ok : goal.returns-in-Ok
 returns-in-Ok c =

@@ -1,8 +1,8 @@
 use Rattle.std.proofs.Common.{◌≡◌, ◌<◌, ◌≤◌, ◌+◌, ℕ, Vec, Global, ap, ◌∙◌, ◌++◌, ◌∷◌, [], length, decimal, arith}
 use Rattle.pgn_extract.specs.Index.{mark}
 use Rattle.pgn_extract.proofs.EntryLines.{writes_start, writes_more, writes_all}
-use Rattle.pgn_extract.proofs.lines.push_entries.Goals as goal
-use Rattle.pgn_extract.proofs.lines.push_entries.Goals.{else-loop-ply-test, then-loop-ply-test+in_ok-push_entry+else-ply-last}
+use Rattle.pgn_extract.proofs.listing.push_entries.Goals as goal
+use Rattle.pgn_extract.proofs.listing.push_entries.Goals.{else-loop-ply-test, then-loop-ply-test+in_ok-push_entry+else-ply-last}
 
 pub loop-ply-init : goal.loop-ply-init
 loop-ply-init c = writes_start _ _ _ _
