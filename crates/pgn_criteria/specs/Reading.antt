@@ -1,5 +1,5 @@
 -- How lines are read: the words that the code equals.
-use Rattle.std.specs.Prelude.{ℕ, ◌-◌, ◌==◌, ◌||◌, if◌then◌else◌, List, [], ◌∷◌, reverse, codes, Option, Some, None, IsTrue, map}
+use Rattle.std.specs.Prelude.{ℕ, ◌-◌, ◌++◌, ◌==◌, if◌then◌else◌, List, [], ◌∷◌, reverse, codes, Option, Some, None, IsTrue, map}
 use Rattle.chess.specs.Fen.{is_digit, is_distinct}
 use Rattle.chess.specs.Letters.{kind_letter}
 use Rattle.chess.specs.declared.man.Kind.{Kind}
@@ -49,3 +49,8 @@ meaning_seen bytes (Asks condition) = Asks (seen bytes condition)
 -- letters of kinds with their limits, no letter twice, or nothing
 abbrev pub AreEntries : List ℕ → Type 0
 AreEntries text = (entries : List (Kind × Limit)) × SpellsEntries text entries × IsTrue (is_distinct (map (λ entry. kind_letter entry.0) entries))
+
+-- alternatives behind those that are done, where the first goes on with the one that is open
+abbrev pub with_open : List (List (Condition (List ℕ))) → List (Condition (List ℕ)) → List (List (Condition (List ℕ))) → List (List (Condition (List ℕ)))
+with_open done begun [] = done ++ (begun ∷ [])
+with_open done begun (first ∷ more) = done ++ ((begun ++ first) ∷ more)

@@ -1,0 +1,183 @@
+-- What the definitions say of values, ranks and words that every reader can check.
+use Rattle.std.proofs.Common.{◌≡◌, ◌≤◌, ◌<◌, ℕ, List, [], ◌∷◌, Option, Some, None, true, false, refl, arith, codes}
+use Rattle.std.specs.declared.cmp.Ordering.TheVariants as order
+use Rattle.chess.specs.Fen.{IsSquares}
+use Rattle.chess.specs.Fen.IsSquares.{letter, step}
+use Rattle.chess.specs.declared.man.Man.{Man}
+use Rattle.chess.specs.declared.man.Side.TheVariants.{White, Black}
+use Rattle.chess.specs.declared.man.Kind.TheVariants.{King, Queen, Pawn, Rook}
+use Rattle.pgn_text.specs.Strings.{Single, Escaped}
+use Rattle.pgn_criteria.specs.Comparing.{number_in, order_of, Stands}
+use Rattle.pgn_criteria.specs.Patterns.{CanBeSplit}
+use Rattle.pgn_criteria.specs.Patterns.IsStretch.{spelled, any, occupied, white, black, many}
+use Rattle.pgn_criteria.specs.Materials.{is_man}
+use Rattle.pgn_criteria.specs.Materials as material
+use Rattle.pgn_criteria.specs.MoveTexts.{without_marks}
+use Rattle.pgn_criteria.specs.Meeting.{IsFirst}
+use Rattle.pgn_criteria.specs.declared.compare.Relation.TheVariants.{Equal}
+use Rattle.pgn_criteria.specs.declared.material.Limit.TheVariants.{Exactly, AtLeast, AtMost, AnyNumber}
+
+-- numbers have 1 to 18 digits and nothing else
+nine : number_in (codes "9") ≡ Some 9
+nine = refl
+
+leading_zeros : number_in (codes "007") ≡ Some 7
+leading_zeros = refl
+
+eighteen_digits : number_in (codes "999999999999999999") ≡ Some 999999999999999999
+eighteen_digits = refl
+
+nineteen_digits : number_in (codes "1000000000000000000") ≡ None
+nineteen_digits = refl
+
+no_digits : number_in [] ≡ None
+no_digits = refl
+
+a_dot : number_in (codes "9.1") ≡ None
+a_dot = refl
+
+a_sign : number_in (codes "-1") ≡ None
+a_sign = refl
+
+-- two numbers are ordered as numbers, else the bytes decide, and a beginning is the lesser
+by_number : order_of (codes "9") (codes "10") ≡ order.Less
+by_number = refl
+
+same_number : order_of (codes "007") (codes "7") ≡ order.Equal
+same_number = refl
+
+by_byte : order_of (codes "9.1") (codes "10") ≡ order.Greater
+by_byte = refl
+
+by_byte_at_nineteen : order_of (codes "999999999999999999") (codes "1000000000000000000") ≡ order.Greater
+by_byte_at_nineteen = refl
+
+a_beginning : order_of (codes "ab") (codes "abc") ≡ order.Less
+a_beginning = refl
+
+-- the contents a\x and a\\x have the same value, so that they are equal
+a_backslash : Stands Equal (97 ∷ 92 ∷ 120 ∷ []) (97 ∷ 92 ∷ 92 ∷ 120 ∷ [])
+a_backslash = record {
+  value = 97 ∷ 92 ∷ 120 ∷ [];
+  other = 97 ∷ 92 ∷ 120 ∷ [];
+  signs = Single 97 ∷ Escaped 120 ∷ [];
+  other_signs = Single 97 ∷ Escaped 92 ∷ Single 120 ∷ [];
+  has = record { spells = refl; each = refl; gives = refl };
+  other_has = record { spells = refl; each = refl; gives = refl };
+  allowed = refl;
+}
+
+-- a pawn of each side, and the squares of a rank with three pawns of White on its right
+abbrev pawn : Option Man
+pawn = Some (record { side = White; kind = Pawn })
+
+abbrev black_rook : Option Man
+black_rook = Some (record { side = Black; kind = Rook })
+
+abbrev three_pawns : List (Option Man)
+three_pawns = None ∷ None ∷ None ∷ None ∷ None ∷ pawn ∷ pawn ∷ pawn ∷ []
+
+-- *1PPP: four squares, an empty one, three pawns
+pawns_behind_an_empty_square : CanBeSplit (codes "*1PPP") three_pawns
+pawns_behind_an_empty_square =
+    let p : IsSquares 80 (pawn ∷ []) = letter (record { side = White; kind = Pawn }) in
+    let e : IsSquares 49 (None ∷ []) = step 1 (omega arith) (omega arith) in (
+      None ∷ None ∷ None ∷ None ∷ [],
+      None ∷ pawn ∷ pawn ∷ pawn ∷ [],
+      refl,
+      many (None ∷ None ∷ None ∷ None ∷ []),
+      (
+        None ∷ [],
+        pawn ∷ pawn ∷ pawn ∷ [],
+        refl,
+        spelled 49 (None ∷ []) e,
+        (
+          pawn ∷ [],
+          pawn ∷ pawn ∷ [],
+          refl,
+          spelled 80 (pawn ∷ []) p,
+          (pawn ∷ [], pawn ∷ [], refl, spelled 80 (pawn ∷ []) p, (pawn ∷ [], [], refl, spelled 80 (pawn ∷ []) p, refl))
+        )
+      ),
+    )
+
+-- ?!Aa5: any square, a man, a man of White, a man of Black, five empty squares would be nine: *?!Aa4* takes eight
+each_sign : CanBeSplit (codes "*?!Aa4*") (None ∷ black_rook ∷ pawn ∷ black_rook ∷ None ∷ None ∷ None ∷ None ∷ [])
+each_sign =
+    let four : IsSquares 52 (None ∷ None ∷ None ∷ None ∷ []) = step 4 (omega arith) (omega arith) in (
+      [],
+      None ∷ black_rook ∷ pawn ∷ black_rook ∷ None ∷ None ∷ None ∷ None ∷ [],
+      refl,
+      many [],
+      (
+        None ∷ [],
+        black_rook ∷ pawn ∷ black_rook ∷ None ∷ None ∷ None ∷ None ∷ [],
+        refl,
+        any None,
+        (
+          black_rook ∷ [],
+          pawn ∷ black_rook ∷ None ∷ None ∷ None ∷ None ∷ [],
+          refl,
+          occupied (record { side = Black; kind = Rook }),
+          (
+            pawn ∷ [],
+            black_rook ∷ None ∷ None ∷ None ∷ None ∷ [],
+            refl,
+            white (record { side = White; kind = Pawn }) refl,
+            (
+              black_rook ∷ [],
+              None ∷ None ∷ None ∷ None ∷ [],
+              refl,
+              black (record { side = Black; kind = Rook }) refl,
+              (None ∷ None ∷ None ∷ None ∷ [], [], refl, spelled 52 (None ∷ None ∷ None ∷ None ∷ []) four, ([], [], refl, many [], refl))
+            )
+          )
+        )
+      ),
+    )
+
+-- men are told apart by kind and by side
+own_man : is_man (record { side = White; kind = King }) (Some (record { side = White; kind = King })) ≡ true
+own_man = refl
+
+other_side : is_man (record { side = White; kind = King }) (Some (record { side = Black; kind = King })) ≡ false
+other_side = refl
+
+other_kind : is_man (record { side = White; kind = King }) (Some (record { side = White; kind = Queen })) ≡ false
+other_kind = refl
+
+no_man : is_man (record { side = White; kind = King }) None ≡ false
+no_man = refl
+
+-- limits: two, two or more, two or fewer, any number
+two_of_two : material.Allows (Exactly 2) 2
+two_of_two = refl
+
+three_of_at_least_two : material.Allows (AtLeast 2) 3
+three_of_at_least_two = omega arith
+
+one_of_at_most_two : material.Allows (AtMost 2) 1
+one_of_at_most_two = omega arith
+
+nine_of_any_number : material.Allows AnyNumber 9
+nine_of_any_number = tt
+
+not_one_of_at_least_two : material.Allows (AtLeast 2) 1 → ⊥
+not_one_of_at_least_two within = absurd (omega arith)
+
+not_three_of_at_most_two : material.Allows (AtMost 2) 3 → ⊥
+not_three_of_at_most_two within = absurd (omega arith)
+
+-- a text without its marks
+check_left_out : without_marks (codes "Nf3+") ≡ codes "Nf3"
+check_left_out = refl
+
+mate_left_out : without_marks (codes "Qxf7#") ≡ codes "Qxf7"
+mate_left_out = refl
+
+-- the first of the numbers 1 to 5 that is 3 or more is 3; none is found between 2 and 1
+third : IsFirst (λ n. 3 ≤ n) 1 5 (Some 3)
+third = (omega arith, omega arith, omega arith, λ m low less here. absurd (omega arith))
+
+bounds_first : IsFirst (λ n. 1 ≤ n) 2 1 None
+bounds_first n low high here = absurd (omega arith)

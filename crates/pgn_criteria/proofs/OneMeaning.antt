@@ -1,0 +1,230 @@
+-- An accepted text has one meaning: its lines are cut in one way, and each kind of condition has its own first word.
+use Rattle.std.proofs.Common.{◌≡◌, ◌≢◌, ◌≤◌, ◌<◌, ℕ, Bool, true, false, List, [], ◌∷◌, ◌++◌, length, refl, sym, ap, ◌∙◌, subst, inl, inr, arith}
+use Rattle.std.specs.Prelude.{codes, ◌+◌, ◌⊎◌, ◌==◌, if◌then◌else◌, Option, Some, None}
+use Rattle.std.proofs.lemmas.List.{append_cancel_right}
+use Rattle.chess.specs.Fen.{parted_at}
+use Rattle.chess.specs.declared.man.Side.{Side}
+use Rattle.chess.specs.declared.man.Side.TheVariants.{White, Black}
+use Rattle.chess.specs.declared.man.Kind.{Kind}
+use Rattle.chess.specs.declared.man.Kind.TheVariants.{King, Queen, Rook, Bishop, Knight, Pawn}
+use Rattle.pgn_criteria.specs.Words.{run_of}
+use Rattle.pgn_criteria.specs.Reading.{behind_word, core_of}
+use Rattle.pgn_criteria.specs.Materials.{limit_of}
+use Rattle.pgn_criteria.specs.Lines.{SpellsCondition, SpellsLimits, Spells, IsLine, AreLines, side_text, relation_text, alternatives_of, Accepts, IsFirstBad, IsRefused}
+use Rattle.pgn_criteria.specs.Laws.{TextHasOneMeaning, TextHasOneAnswer}
+use Rattle.pgn_criteria.specs.declared.compare.Relation.{Relation}
+use Rattle.pgn_criteria.specs.declared.compare.Relation.TheVariants.{Equal, Unequal, Less, LessOrEqual, Greater, GreaterOrEqual}
+use Rattle.pgn_criteria.specs.declared.material.Limits.{Limits}
+use Rattle.pgn_criteria.specs.declared.condition.Condition.{Condition}
+use Rattle.pgn_criteria.specs.declared.condition.Condition.TheVariants.{Tag, Fen, Material, Moves, Turn, Check, Mate, Stalemate}
+use Rattle.pgn_criteria.specs.declared.line.Meaning.{Meaning}
+use Rattle.pgn_criteria.specs.declared.line.Meaning.TheVariants.{Nothing, Or, Asks}
+use Rattle.pgn_criteria.proofs.TurnFacts.{turn_read}
+use Rattle.pgn_criteria.proofs.FenFacts.{fen_read}
+use Rattle.pgn_criteria.proofs.TagFacts.{IsTagRead, tag_read}
+use Rattle.pgn_criteria.proofs.MoveWordFacts.{moves_read}
+use Rattle.pgn_criteria.proofs.MaterialFacts.{IsMaterialRead, material_read}
+use Rattle.pgn_criteria.proofs.LimitFacts.{limits_given}
+use Rattle.pgn_criteria.proofs.ConditionFacts.{line_read}
+
+-- the first word of a condition
+abbrev pub key : Condition (List ℕ) → List ℕ
+key (Tag name relation contents) = codes "tag"
+key (Fen pattern) = codes "fen"
+key (Material white black) = codes "material"
+key (Moves words) = codes "moves"
+key (Turn side) = codes "turn"
+key Check = codes "check"
+key Mate = codes "mate"
+key Stalemate = codes "stalemate"
+
+key_read : (text : List ℕ) (condition : Condition (List ℕ)) → SpellsCondition text condition → run_of text ≡ key condition
+key_read text (Tag name relation contents) spells = (tag_read text name relation contents spells).key_is
+key_read text (Fen pattern) spells = (fen_read text pattern spells).0
+key_read text (Material white black) spells = (material_read text white black spells).key_is
+key_read text (Moves words) spells = (moves_read text words spells).0
+key_read text (Turn side) spells = (turn_read text side spells).0
+key_read text Check spells = ap run_of spells
+key_read text Mate spells = ap run_of spells
+key_read text Stalemate spells = ap run_of spells
+
+-- these words differ in the sum of their bytes
+abbrev pub total : List ℕ → ℕ
+total [] = 0
+total (b ∷ x) = b + total x
+
+-- texts of relations and sides are those of one
+abbrev pub relation_at : ℕ → Relation
+relation_at n = if n == 61 then Equal else if n == 122 then Unequal else if n == 60 then Less else if n == 121 then LessOrEqual else if n == 62 then Greater else GreaterOrEqual
+
+relation_back : (relation : Relation) → relation_at (total (relation_text relation)) ≡ relation
+relation_back Equal = refl
+relation_back Unequal = refl
+relation_back Less = refl
+relation_back LessOrEqual = refl
+relation_back Greater = refl
+relation_back GreaterOrEqual = refl
+
+one_relation : (a b : Relation) → relation_text a ≡ relation_text b → a ≡ b
+one_relation a b e = sym (relation_back a) ∙ ap (λ x. relation_at (total x)) e ∙ relation_back b
+
+abbrev pub side_at : ℕ → Side
+side_at n = if n == 545 then White else Black
+
+side_back : (side : Side) → side_at (total (side_text side)) ≡ side
+side_back White = refl
+side_back Black = refl
+
+one_side : (a b : Side) → side_text a ≡ side_text b → a ≡ b
+one_side a b e = sym (side_back a) ∙ ap (λ x. side_at (total x)) e ∙ side_back b
+
+one_contents : (a b : List ℕ) → 34 ∷ (a ++ 34 ∷ []) ≡ 34 ∷ (b ++ 34 ∷ []) → a ≡ b
+one_contents a b e = let tails : a ++ 34 ∷ [] ≡ b ++ 34 ∷ [] = cc in append_cancel_right a b (34 ∷ []) tails
+
+same_limits : (a b : Limits) → ((kind : Kind) → limit_of a kind ≡ limit_of b kind) → a ≡ b
+same_limits a b each =
+    let king : a.king ≡ b.king = each King in
+    let queen : a.queen ≡ b.queen = each Queen in
+    let rook : a.rook ≡ b.rook = each Rook in
+    let bishop : a.bishop ≡ b.bishop = each Bishop in
+    let knight : a.knight ≡ b.knight = each Knight in
+    let pawn : a.pawn ≡ b.pawn = each Pawn in
+    λ i. record { king = king i; queen = queen i; rook = rook i; bishop = bishop i; knight = knight i; pawn = pawn i }
+
+one_limits : (text : List ℕ) (a b : Limits) → SpellsLimits text a → SpellsLimits text b → a ≡ b
+one_limits text a b is has = same_limits a b (λ kind. limits_given text a is kind ∙ sym (limits_given text b has kind))
+
+-- conditions of one kind
+one_tag : (text name other : List ℕ) (relation reverse : Relation) (contents more : List ℕ) → IsTagRead text name relation contents → IsTagRead text other reverse more
+    → Tag name relation contents ≡ Tag other reverse more
+one_tag text name other relation reverse contents more is has =
+    let names : name ≡ other = sym is.name_is ∙ has.name_is in
+    let relations : relation ≡ reverse = one_relation relation reverse (sym is.operator_is ∙ has.operator_is) in
+    let strings : contents ≡ more = one_contents contents more (sym is.string_is ∙ has.string_is) in
+    ap (λ x. Tag x relation contents) names ∙ ap (λ x. Tag other x contents) relations ∙ ap (λ x. Tag other reverse x) strings
+
+one_material : (text : List ℕ) (white black first second : Limits) → IsMaterialRead text white black → IsMaterialRead text first second
+    → ◌≡◌ {A = Condition (List ℕ)} (Material white black) (Material first second)
+one_material text white black first second is has =
+    let whites : white ≡ first = one_limits (run_of (behind_word text)) white first is.white_is has.white_is in
+    let blacks : black ≡ second = one_limits (behind_word (behind_word (behind_word text))) black second is.black_is has.black_is in
+    ap (λ x. Material x black) whites ∙ ap (λ x. Material first x) blacks
+
+apart : (text : List ℕ) (c d : Condition (List ℕ)) → SpellsCondition text c → SpellsCondition text d → total (key c) ≡ total (key d)
+apart text c d spells has = ap total (sym (key_read text c spells) ∙ key_read text d has)
+
+one_condition : (text : List ℕ) (c d : Condition (List ℕ)) → SpellsCondition text c → SpellsCondition text d → c ≡ d
+one_condition text (Tag name relation contents) (Tag other reverse more) spells has =
+    one_tag text name other relation reverse contents more (tag_read text name relation contents spells) (tag_read text other reverse more has)
+one_condition text (Fen pattern) (Fen other) spells has = ap Fen (sym (fen_read text pattern spells).1 ∙ (fen_read text other has).1)
+one_condition text (Material white black) (Material first second) spells has =
+    one_material text white black first second (material_read text white black spells) (material_read text first second has)
+one_condition text (Moves words) (Moves other) spells has = ap Moves (sym (moves_read text words spells).1 ∙ (moves_read text other has).1)
+one_condition text (Turn side) (Turn other) spells has = ap Turn (one_side side other (sym (turn_read text side spells).1 ∙ (turn_read text other has).1))
+one_condition text Check Check spells has = refl
+one_condition text Mate Mate spells has = refl
+one_condition text Stalemate Stalemate spells has = refl
+one_condition text c d spells has = let e : total (key c) ≡ total (key d) = apart text c d spells has in absurd (omega arith)
+
+-- a condition is no comment, not empty, and not `or`
+key_high : (condition : Condition (List ℕ)) → 300 ≤ total (key condition)
+key_high (Tag name relation contents) = omega arith
+key_high (Fen pattern) = omega arith
+key_high (Material white black) = omega arith
+key_high (Moves words) = omega arith
+key_high (Turn side) = omega arith
+key_high Check = omega arith
+key_high Mate = omega arith
+key_high Stalemate = omega arith
+
+abbrev pub first_byte : List ℕ → ℕ
+first_byte [] = 0
+first_byte (b ∷ x) = b
+
+key_first : (condition : Condition (List ℕ)) → 99 ≤ first_byte (key condition)
+key_first (Tag name relation contents) = omega arith
+key_first (Fen pattern) = omega arith
+key_first (Material white black) = omega arith
+key_first (Moves words) = omega arith
+key_first (Turn side) = omega arith
+key_first Check = omega arith
+key_first Mate = omega arith
+key_first Stalemate = omega arith
+
+nothing_first : (text : List ℕ) → Spells text Nothing → first_byte (run_of text) ≤ 35
+nothing_first text (inl none) = let e : first_byte (run_of text) ≡ 0 = ap (λ x. first_byte (run_of x)) none in omega arith
+nothing_first text (inr comment) = let e : first_byte (run_of text) ≡ 35 = ap (λ x. first_byte (run_of x)) comment.1 in omega arith
+
+nothing_or : (text : List ℕ) → Spells text Nothing → text ≡ codes "or" → ⊥
+nothing_or text spells is =
+    let low = nothing_first text spells in
+    let e : first_byte (run_of text) ≡ 111 = ap (λ x. first_byte (run_of x)) is in omega arith
+
+nothing_condition : (text : List ℕ) (condition : Condition (List ℕ)) → Spells text Nothing → SpellsCondition text condition → ⊥
+nothing_condition text condition spells has =
+    let low = nothing_first text spells in
+    let high = key_first condition in
+    let e : first_byte (run_of text) ≡ first_byte (key condition) = ap first_byte (key_read text condition has) in omega arith
+
+or_condition : (text : List ℕ) (condition : Condition (List ℕ)) → text ≡ codes "or" → SpellsCondition text condition → ⊥
+or_condition text condition is has =
+    let high = key_high condition in
+    let e : 225 ≡ total (key condition) = ap (λ x. total (run_of x)) (sym is) ∙ ap total (key_read text condition has) in omega arith
+
+one_spelled : (text : List ℕ) (first second : Meaning (List ℕ)) → Spells text first → Spells text second → first ≡ second
+one_spelled text Nothing Nothing is has = refl
+one_spelled text Nothing Or is has = absurd (nothing_or text is has)
+one_spelled text Nothing (Asks d) is has = absurd (nothing_condition text d is has)
+one_spelled text Or Nothing is has = absurd (nothing_or text has is)
+one_spelled text Or Or is has = refl
+one_spelled text Or (Asks d) is has = absurd (or_condition text d is has)
+one_spelled text (Asks c) Nothing is has = absurd (nothing_condition text c has is)
+one_spelled text (Asks c) Or is has = absurd (or_condition text c has is)
+one_spelled text (Asks c) (Asks d) is has = ap Asks (one_condition text c d is has)
+
+one_line : (line : List ℕ) (first second : Meaning (List ℕ)) → IsLine line first → IsLine line second → first ≡ second
+one_line line first second is has = one_spelled (core_of line) first second (line_read line first is) (line_read line second has)
+
+one_list : (lines : List (List ℕ)) (first second : List (Meaning (List ℕ))) → AreLines lines first → AreLines lines second → first ≡ second
+one_list [] first second is has = is ∙ sym has
+one_list (line ∷ lines) first second (own, more, is, own_is, are) (other, rest, has, other_is, others) =
+    is ∙ ap (λ x. x ∷ more) (one_line line own other own_is other_is) ∙ ap (λ x. other ∷ x) (one_list lines more rest are others) ∙ sym has
+
+pub text_one_meaning : TextHasOneMeaning
+text_one_meaning text first second (short, (means, are, is)) (short_too, (others, have, has)) =
+    is ∙ ap alternatives_of (one_list (parted_at 10 text) means others are have) ∙ sym has
+
+-- a bad line stands in no accepted text
+are_at : (before after : List (List ℕ)) (bad : List ℕ) (means : List (Meaning (List ℕ))) → AreLines (before ++ (bad ∷ after)) means → (own : Meaning (List ℕ)) × IsLine bad own
+are_at [] after bad means (own, more, is, own_is, are) = (own, own_is)
+are_at (line ∷ before) after bad means (own, more, is, own_is, are) = are_at before after bad more are
+
+bad_refused : (lines : List (List ℕ)) (number : ℕ) (means : List (Meaning (List ℕ))) → IsFirstBad lines number → AreLines lines means → ⊥
+bad_refused lines number means (before, after, bad, is, counted, good, none) are =
+    let own = are_at before after bad means (subst (λ x. AreLines x means) is are) in none own.0 own.1
+
+-- and one bad line is the first
+one_bad : (before after other rest : List (List ℕ)) (bad worse : List ℕ) (means others : List (Meaning (List ℕ))) → before ++ (bad ∷ after) ≡ other ++ (worse ∷ rest)
+    → AreLines before means → AreLines other others → ((own : Meaning (List ℕ)) → IsLine bad own → ⊥) → ((own : Meaning (List ℕ)) → IsLine worse own → ⊥)
+    → length before ≡ length other
+one_bad [] after [] rest bad worse means others is are have none never = refl
+one_bad [] after (y ∷ other) rest bad worse means others is are (own, more, has, own_is, have) none never =
+    let same : y ≡ bad = cc in absurd (none own (subst (λ x. IsLine x own) same own_is))
+one_bad (x ∷ before) after [] rest bad worse means others is (own, more, has, own_is, are) have none never =
+    let same : x ≡ worse = cc in absurd (never own (subst (λ y. IsLine y own) same own_is))
+one_bad (x ∷ before) after (y ∷ other) rest bad worse means others is (own, more, has, own_is, are) (own_too, more_too, has_too, own_too_is, have) none never =
+    let tails : before ++ (bad ∷ after) ≡ other ++ (worse ∷ rest) = cc in
+    let same : length before ≡ length other = one_bad before after other rest bad worse more more_too tails are have none never in omega arith
+
+one_number : (lines : List (List ℕ)) (number other : ℕ) → IsFirstBad lines number → IsFirstBad lines other → number ≡ other
+one_number lines number other (before, after, bad, is, counted, good, none) (before_too, after_too, bad_too, has, counted_too, good_too, never) =
+    let same : length before ≡ length before_too = one_bad before after before_too after_too bad bad_too good.0 good_too.0 (sym is ∙ has) good.1 good_too.1 none never in
+    counted ∙ ap (λ n. n + 1) same ∙ sym counted_too
+
+pub text_one_answer : TextHasOneAnswer
+text_one_answer = (
+  (λ text alternatives accepted long. let short : length text ≤ 65536 = accepted.0 in omega arith),
+  (λ text alternatives number accepted refused. bad_refused (parted_at 10 text) number accepted.1.0 refused.1 accepted.1.1),
+  (λ text number long refused. let short : length text ≤ 65536 = refused.0 in omega arith),
+  (λ text number other refused refused_too. one_number (parted_at 10 text) number other refused.1 refused_too.1),
+)

@@ -1,0 +1,201 @@
+-- The lines of a text read one after the other, and the alternatives that they spell.
+use Rattle.std.proofs.Common.{◌≡◌, ◌≢◌, ◌≤◌, ◌<◌, ℕ, Bool, true, false, List, [], ◌∷◌, ◌++◌, length, refl, sym, ap, ◌∙◌, subst, append_assoc, append-nil, length-append, arith}
+use Rattle.std.specs.Prelude.{◌+◌, ◌==◌, if◌then◌else◌, Option, Some, None, MatchOption}
+use Rattle.chess.specs.Fen.{parted_at, before_first}
+use Rattle.pgn_criteria.specs.Lines.{SpellsCondition, IsLine, AreLines, alternatives_of, onto_first, SpellsCriteria, IsFirstBad}
+use Rattle.pgn_criteria.specs.Reading.{with_open}
+use Rattle.pgn_criteria.specs.Stages.{IsGood, AreGood, AllGood}
+use Rattle.pgn_criteria.specs.declared.condition.Condition.{Condition}
+use Rattle.pgn_criteria.specs.declared.condition.Condition.TheVariants.{Tag, Fen, Material, Moves, Turn, Check, Mate, Stalemate}
+use Rattle.pgn_criteria.specs.declared.line.Meaning.{Meaning}
+use Rattle.pgn_criteria.specs.declared.line.Meaning.TheVariants.{Nothing, Or, Asks}
+
+-- one line more
+pub are_more : (lines : List (List ℕ)) (means : List (Meaning (List ℕ))) (line : List ℕ) (own : Meaning (List ℕ)) → AreLines lines means → IsLine line own
+    → AreLines (lines ++ (line ∷ [])) (means ++ (own ∷ []))
+are_more [] means line own none is = (own, [], ap (λ m. m ++ (own ∷ [])) none, is, refl)
+are_more (first ∷ lines) means line own (head, more, is, head_is, are) line_is =
+    (head, more ++ (own ∷ []), ap (λ m. m ++ (own ∷ [])) is, head_is, are_more lines more line own are line_is)
+
+-- the size of a text by its parts
+abbrev pub size_of : List (List ℕ) → ℕ
+size_of [] = 0
+size_of (x ∷ more) = length x + 1 + size_of more
+
+before_size : (b : ℕ) (parts : List (List ℕ)) → 1 ≤ size_of parts → size_of (before_first b parts) ≡ size_of parts + 1
+before_size b [] h = absurd (omega arith)
+before_size b (x ∷ more) h = omega arith
+
+parted_size : (separator : ℕ) (x : List ℕ) → size_of (parted_at separator x) ≡ length x + 1
+parted_size separator [] = refl
+parted_size separator (b ∷ x) =
+    let more : size_of (parted_at separator x) ≡ length x + 1 = parted_size separator x in
+    elim (b == separator) as (λ t. size_of (if t then [] ∷ parted_at separator x else before_first b (parted_at separator x)) ≡ length (b ∷ x) + 1) [
+      | true ↦ omega arith
+      | false ↦ let some : 1 ≤ size_of (parted_at separator x) = omega arith in
+          let size : size_of (before_first b (parted_at separator x)) ≡ size_of (parted_at separator x) + 1 = before_size b (parted_at separator x) some in omega arith
+    ]
+
+-- what follows a part is shorter
+pub rest_shorter : (text part rest : List ℕ) → parted_at 10 text ≡ part ∷ parted_at 10 rest → length rest < length text
+rest_shorter text part rest parts =
+    let whole : length text + 1 ≡ length part + 1 + size_of (parted_at 10 rest) = sym (parted_size 10 text) ∙ ap size_of parts in
+    let behind : size_of (parted_at 10 rest) ≡ length rest + 1 = parted_size 10 rest in
+    omega arith
+
+-- the lines up to the rest have meanings, and so many are they
+pub record IsUpTo (text rest : List ℕ) (number : ℕ) : Type 0 where
+  pub before : List (List ℕ)
+  pub means : List (Meaning (List ℕ))
+  pub parts : parted_at 10 text ≡ before ++ parted_at 10 rest
+  pub counted : number ≡ length before + 1
+  pub are : AreLines before means
+  pub small : number + length rest ≤ length text + 1
+
+pub up_start : (text : List ℕ) → IsUpTo text text 1
+up_start text = record { before = []; means = []; parts = refl; counted = refl; are = refl; small = omega arith }
+
+pub up_more : (text rest line behind : List ℕ) (number : ℕ) (own : Meaning (List ℕ)) → IsUpTo text rest number → parted_at 10 rest ≡ line ∷ parted_at 10 behind → IsLine line own
+    → IsUpTo text behind (number + 1)
+up_more text rest line behind number own up parts is =
+    let shorter : length behind < length rest = rest_shorter rest line behind parts in
+    let counted : number ≡ length up.before + 1 = up.counted in
+    let size : length (up.before ++ (line ∷ [])) ≡ length up.before + 1 = length-append up.before (line ∷ []) in
+    let small : number + length rest ≤ length text + 1 = up.small in
+    record {
+      before = up.before ++ (line ∷ []);
+      means = up.means ++ (own ∷ []);
+      parts = up.parts ∙ ap (λ x. up.before ++ x) parts ∙ sym (append_assoc up.before (line ∷ []) (parted_at 10 behind));
+      counted = omega arith;
+      are = are_more up.before up.means line own up.are is;
+      small = omega arith;
+    }
+
+-- the first part, whatever follows it
+pub first_part : {T : Type 0} (now : T → List ℕ) (rest line : List ℕ) (behind : Option T)
+    → MatchOption behind (parted_at 10 rest ≡ line ∷ []) (λ found. parted_at 10 rest ≡ line ∷ parted_at 10 (now found))
+    → (after : List (List ℕ)) × (parted_at 10 rest ≡ line ∷ after)
+first_part now rest line None is = ([], is)
+first_part now rest line (Some found) is = (parted_at 10 (now found), is)
+
+pub up_bad : (text rest line : List ℕ) (number : ℕ) → IsUpTo text rest number → ((after : List (List ℕ)) × (parted_at 10 rest ≡ line ∷ after))
+    → ((means : Meaning (List ℕ)) → IsLine line means → ⊥) → IsFirstBad (parted_at 10 text) number
+up_bad text rest line number up (after, parts) bad =
+    (up.before, after, line, up.parts ∙ ap (λ x. up.before ++ x) parts, up.counted, (up.means, up.are), bad)
+
+pub up_end : (text rest line : List ℕ) (number : ℕ) (own : Meaning (List ℕ)) → IsUpTo text rest number → parted_at 10 rest ≡ line ∷ [] → IsLine line own
+    → (means : List (Meaning (List ℕ))) × AreLines (parted_at 10 text) means
+up_end text rest line number own up parts is =
+    (up.means ++ (own ∷ []), subst (λ lines. AreLines lines (up.means ++ (own ∷ []))) (sym (up.parts ∙ ap (λ x. up.before ++ x) parts)) (are_more up.before up.means line own up.are is))
+
+-- there is always a first alternative
+pub some_alternative : (means : List (Meaning (List ℕ))) → (first : List (Condition (List ℕ))) × (more : List (List (Condition (List ℕ)))) × (alternatives_of means ≡ first ∷ more)
+some_alternative [] = ([], [], refl)
+some_alternative (Nothing ∷ means) = some_alternative means
+some_alternative (Or ∷ means) = ([], alternatives_of means, refl)
+some_alternative (Asks condition ∷ means) =
+    let f = some_alternative means in (condition ∷ f.0, f.1, ap (onto_first condition) f.2)
+
+-- the alternatives of the lines up to the rest are built: those behind go on with what is open
+pub record IsBuilt (text rest : List ℕ) (done : List (List (Condition (List ℕ)))) (begun : List (Condition (List ℕ))) : Type 0 where
+  pub before : List (List ℕ)
+  pub means : List (Meaning (List ℕ))
+  pub parts : parted_at 10 text ≡ before ++ parted_at 10 rest
+  pub are : AreLines before means
+  pub later : List (Meaning (List ℕ))
+  pub left : AreLines (parted_at 10 rest) later
+  pub same : (more : List (Meaning (List ℕ))) → alternatives_of (means ++ more) ≡ with_open done begun (alternatives_of more)
+
+pub built_start : (text : List ℕ) → ((means : List (Meaning (List ℕ))) × AreLines (parted_at 10 text) means) → IsBuilt text text [] []
+built_start text (means, are) = record { before = []; means = []; parts = refl; are = refl; later = means; left = are; same = fresh }
+  where
+    fresh : (more : List (Meaning (List ℕ))) → alternatives_of more ≡ with_open [] [] (alternatives_of more)
+    fresh more = let f = some_alternative more in f.2 ∙ ap (with_open [] []) (sym f.2)
+
+-- so the next line has a meaning
+pub built_next : (text rest line : List ℕ) (done : List (List (Condition (List ℕ)))) (begun : List (Condition (List ℕ))) → IsBuilt text rest done begun
+    → ((after : List (List ℕ)) × (parted_at 10 rest ≡ line ∷ after)) → (means : Meaning (List ℕ)) × IsLine line means
+built_next text rest line done begun built (after, parts) =
+    let left = subst (λ lines. AreLines lines built.later) parts built.left in (left.0, left.3)
+
+-- what a line adds
+pub record IsAdded (line : List ℕ) (old : List (List (Condition (List ℕ)))) (open_old : List (Condition (List ℕ))) (new : List (List (Condition (List ℕ)))) (open_new : List (Condition (List ℕ))) : Type 0 where
+  pub own : Meaning (List ℕ)
+  pub is : IsLine line own
+  pub same : (more : List (Meaning (List ℕ))) → with_open new open_new (alternatives_of more) ≡ with_open old open_old (alternatives_of (own ∷ more))
+
+built_same : (text rest line : List ℕ) (done : List (List (Condition (List ℕ)))) (begun : List (Condition (List ℕ))) (new : List (List (Condition (List ℕ)))) (open_new : List (Condition (List ℕ)))
+    → (built : IsBuilt text rest done begun) → (added : IsAdded line done begun new open_new) → (more : List (Meaning (List ℕ)))
+    → alternatives_of ((built.means ++ (added.own ∷ [])) ++ more) ≡ with_open new open_new (alternatives_of more)
+built_same text rest line done begun new open_new built added more =
+    ap alternatives_of (append_assoc built.means (added.own ∷ []) more) ∙ built.same (added.own ∷ more) ∙ sym (added.same more)
+
+pub built_more : (text rest line behind : List ℕ) (done : List (List (Condition (List ℕ)))) (begun : List (Condition (List ℕ))) (new : List (List (Condition (List ℕ)))) (open_new : List (Condition (List ℕ)))
+    → IsBuilt text rest done begun → IsAdded line done begun new open_new → parted_at 10 rest ≡ line ∷ parted_at 10 behind → IsBuilt text behind new open_new
+built_more text rest line behind done begun new open_new built added parts =
+    let left = subst (λ lines. AreLines lines built.later) parts built.left in
+    record {
+      before = built.before ++ (line ∷ []);
+      means = built.means ++ (added.own ∷ []);
+      parts = built.parts ∙ ap (λ x. built.before ++ x) parts ∙ sym (append_assoc built.before (line ∷ []) (parted_at 10 behind));
+      are = are_more built.before built.means line added.own built.are added.is;
+      later = left.1;
+      left = left.4;
+      same = built_same text rest line done begun new open_new built added;
+    }
+
+pub built_end : (text rest line : List ℕ) (done : List (List (Condition (List ℕ)))) (begun : List (Condition (List ℕ))) (new : List (List (Condition (List ℕ)))) (open_new : List (Condition (List ℕ)))
+    → IsBuilt text rest done begun → IsAdded line done begun new open_new → parted_at 10 rest ≡ line ∷ [] → SpellsCriteria text (new ++ (open_new ∷ []))
+built_end text rest line done begun new open_new built added parts =
+    let means = built.means ++ (added.own ∷ []) in
+    let last : with_open new open_new ([] ∷ []) ≡ new ++ (open_new ∷ []) = ap (λ x. new ++ (x ∷ [])) (append-nil open_new) in (
+      means,
+      subst (λ lines. AreLines lines means) (sym (built.parts ∙ ap (λ x. built.before ++ x) parts)) (are_more built.before built.means line added.own built.are added.is),
+      sym (ap alternatives_of (sym (append-nil means)) ∙ built_same text rest line done begun new open_new built added [] ∙ last),
+    )
+
+-- what the three meanings add
+pub or_added : (done : List (List (Condition (List ℕ)))) (begun : List (Condition (List ℕ))) (more : List (Meaning (List ℕ)))
+    → with_open (done ++ (begun ∷ [])) [] (alternatives_of more) ≡ with_open done begun (alternatives_of (Or ∷ more))
+or_added done begun more =
+    let f = some_alternative more in
+    ap (with_open (done ++ (begun ∷ [])) []) f.2
+    ∙ append_assoc done (begun ∷ []) (f.0 ∷ f.1)
+    ∙ ap (λ x. done ++ (x ∷ (f.0 ∷ f.1))) (sym (append-nil begun))
+    ∙ ap (λ x. with_open done begun ([] ∷ x)) (sym f.2)
+
+pub condition_added : (done : List (List (Condition (List ℕ)))) (begun : List (Condition (List ℕ))) (condition : Condition (List ℕ)) (more : List (Meaning (List ℕ)))
+    → with_open done (begun ++ (condition ∷ [])) (alternatives_of more) ≡ with_open done begun (alternatives_of (Asks condition ∷ more))
+condition_added done begun condition more =
+    let f = some_alternative more in
+    ap (with_open done (begun ++ (condition ∷ []))) f.2
+    ∙ ap (λ x. done ++ (x ∷ f.1)) (append_assoc begun (condition ∷ []) f.0)
+    ∙ ap (λ x. with_open done begun (onto_first condition x)) (sym f.2)
+
+-- conditions that are spelled have the contents of strings
+condition_good : (text : List ℕ) (condition : Condition (List ℕ)) → SpellsCondition text condition → IsGood condition
+condition_good text (Tag name relation contents) spells = spells.9
+condition_good text (Fen pattern) spells = tt
+condition_good text (Material white black) spells = tt
+condition_good text (Moves words) spells = tt
+condition_good text (Turn side) spells = tt
+condition_good text Check spells = tt
+condition_good text Mate spells = tt
+condition_good text Stalemate spells = tt
+
+onto_good : (condition : Condition (List ℕ)) (alternatives : List (List (Condition (List ℕ)))) → IsGood condition → AllGood alternatives → AllGood (onto_first condition alternatives)
+onto_good condition [] good all = ((good, tt), tt)
+onto_good condition (first ∷ more) good all = ((good, all.0), all.1)
+
+with_own : (line : List ℕ) (own : Meaning (List ℕ)) (more : List (Meaning (List ℕ))) → IsLine line own → AllGood (alternatives_of more) → AllGood (alternatives_of (own ∷ more))
+with_own line Nothing more is all = all
+with_own line Or more is all = (tt, all)
+with_own line (Asks condition) more is all = onto_good condition (alternatives_of more) (condition_good is.text condition is.spells) all
+
+lines_good : (lines : List (List ℕ)) (means : List (Meaning (List ℕ))) → AreLines lines means → AllGood (alternatives_of means)
+lines_good [] means none = subst (λ m. AllGood (alternatives_of m)) (sym none) (tt, tt)
+lines_good (line ∷ lines) means (own, more, is, own_is, are) =
+    subst (λ m. AllGood (alternatives_of m)) (sym is) (with_own line own more own_is (lines_good lines more are))
+
+pub spelled_good : (text : List ℕ) (alternatives : List (List (Condition (List ℕ)))) → SpellsCriteria text alternatives → AllGood alternatives
+spelled_good text alternatives (means, are, same) = subst AllGood (sym same) (lines_good (parted_at 10 text) means are)

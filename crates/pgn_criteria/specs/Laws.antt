@@ -1,0 +1,17 @@
+-- What holds of every text, whatever reads it.
+use Rattle.std.specs.Prelude.{◌≡◌, ℕ, List}
+use Rattle.pgn_criteria.specs.Lines.{Accepts, IsRefused}
+use Rattle.pgn_criteria.specs.declared.condition.Condition.{Condition}
+use Rattle.pgn_criteria.specs.declared.parse.CriteriaError.TheVariants.{TooLong, Line}
+
+-- an accepted text has one meaning
+abbrev pub TextHasOneMeaning : Type 0
+TextHasOneMeaning = (text : List ℕ) (first second : List (List (Condition (List ℕ)))) → Accepts text first → Accepts text second → first ≡ second
+
+-- a text is either accepted, or too long, or refused for one of its lines
+abbrev pub TextHasOneAnswer : Type 0
+TextHasOneAnswer =
+    ((text : List ℕ) (alternatives : List (List (Condition (List ℕ)))) → Accepts text alternatives → IsRefused text TooLong → ⊥)
+    × ((text : List ℕ) (alternatives : List (List (Condition (List ℕ)))) (number : ℕ) → Accepts text alternatives → IsRefused text (Line number) → ⊥)
+    × ((text : List ℕ) (number : ℕ) → IsRefused text TooLong → IsRefused text (Line number) → ⊥)
+    × ((text : List ℕ) (number other : ℕ) → IsRefused text (Line number) → IsRefused text (Line other) → number ≡ other)

@@ -1,0 +1,51 @@
+//! Contents of strings that must stand in a relation, or must not.
+use super::{Relation, stands};
+use pgn_text::is_contents;
+use std::test::Fail;
+
+/// Whether both are the contents of strings, and their values stand in the relation.
+fn compare(relation: Relation, given: &[u8], text: &[u8]) -> bool {
+    is_contents(given) && is_contents(text) && stands(relation, given, text)
+}
+
+#[test]
+fn values_stand_in_relations(rt: HostRuntime) -> Result<(), Fail> {
+    let rows: [(Relation, &[u8], &[u8], bool); 32] = [
+        (Relation::Less, b"9", b"10", true),
+        (Relation::Less, b"10", b"9", false),
+        (Relation::Less, b"9.1", b"10", false),
+        (Relation::Greater, b"9.1", b"10", true),
+        (Relation::Less, b"1850-01-01", b"1850.01.01", true),
+        (Relation::Equal, b"007", b"7", true),
+        (Relation::Unequal, b"007", b"7", false),
+        (Relation::Equal, b"0", b"00", true),
+        (Relation::Less, b"99999999999999999", b"100000000000000000", true),
+        (Relation::Less, b"999999999999999999", b"1000000000000000000", false),
+        (Relation::Less, b"1000000000000000000", b"999999999999999999", true),
+        (Relation::Equal, b"000000000000000007", b"7", true),
+        (Relation::Equal, b"0000000000000000007", b"7", false),
+        (Relation::Equal, b"", b"", true),
+        (Relation::Less, b"", b"0", true),
+        (Relation::Equal, b"1 ", b"1", false),
+        (Relation::Less, b"-1", b"1", true),
+        (Relation::Equal, b"a\\x", b"a\\\\x", true),
+        (Relation::Equal, b"a\\\\x", b"a\\x", true),
+        (Relation::Equal, b"\\\"", b"\\\\\\\"", false),
+        (Relation::Less, b"Kasparov", b"Kasparow", true),
+        (Relation::LessOrEqual, b"ab", b"abc", true),
+        (Relation::GreaterOrEqual, b"ab", b"abc", false),
+        (Relation::Greater, b"\xc4", b"z", true),
+        (Relation::LessOrEqual, b"5", b"5", true),
+        (Relation::GreaterOrEqual, b"5", b"5", true),
+        (Relation::Less, b"5", b"5", false),
+        (Relation::Greater, b"5", b"5", false),
+        (Relation::Unequal, b"5", b"6", true),
+        (Relation::Equal, b"5", b"6", false),
+        (Relation::LessOrEqual, b"6", b"5", false),
+        (Relation::GreaterOrEqual, b"6", b"5", true),
+    ];
+    for (relation, given, text, expected) in rows {
+        assert_eq!(rt; compare(relation, given, text), expected, "{given:?} {relation:?} {text:?}");
+    }
+    Ok(())
+}

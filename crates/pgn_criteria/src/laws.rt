@@ -1,0 +1,9 @@
+//! What holds of every text, whatever reads it. Each law is the contract of a function that does nothing.
+
+ghost use Rattle.pgn_criteria.specs.Laws.{TextHasOneMeaning, TextHasOneAnswer};
+
+/// A text spells at most one list of alternatives, and is either accepted, or too long, or refused for one of its lines.
+pub fn one_meaning()
+    ensures meaning { TextHasOneMeaning }
+    ensures answer { TextHasOneAnswer }
+{}

@@ -1,0 +1,150 @@
+//! Criteria with games, and the positions of their main lines that must meet them.
+ghost use Rattle.std.specs.Prelude.{IfOk};
+ghost use Rattle.pgn_text.specs.GameTexts.{tag_in};
+ghost use Rattle.pgn_game.specs.Replays.{IsReplay};
+ghost use Rattle.pgn_game.specs.Starts.{fen_tag};
+
+use crate::Criteria;
+use pgn_game::{Lines, Replayed, replay};
+use pgn_text::{Piece, RawGame, games};
+use std::alloc::Global;
+use std::test::Fail;
+
+/// The criteria of the text.
+fn read(alloc: Global, text: &[u8]) -> Result<Criteria, Fail> {
+    match Criteria::parse(alloc, text) {
+        Ok(criteria) => Ok(criteria),
+        Err(_) => Err("criteria are refused")?,
+    }
+}
+
+/// The first piece, which is to be a game.
+fn first_game<'a>(alloc: Global, block: &'a [u8]) -> Result<RawGame<'a>, Fail> {
+    match games(alloc, block, true).next() {
+        Some(Ok(Piece::Game(game))) => Ok(game),
+        _ => Err("no game")?,
+    }
+}
+
+/// The replay of the game, which is to be sound.
+fn replayed(alloc: Global, game: &RawGame) -> Result<Replayed, Fail>
+    ensures { IfOk result (IsReplay (tag_in fen_tag game.now.tags) game.now.elements) }
+{
+    match replay(alloc, game, Lines::Main) {
+        Ok(replayed) => Ok(replayed),
+        Err(_) => Err("the game is faulty")?,
+    }
+}
+
+/// Whether these plies of the game, and no others, meet the criteria, each alone and one after the other from the first.
+fn are_met(alloc: Global, criteria: &[u8], block: &[u8], plies: &[usize]) -> Result<bool, Fail> {
+    let criteria = read(alloc, criteria)?;
+    let game = first_game(alloc, block)?;
+    let replayed = replayed(alloc, &game)?;
+    let mut min = 0u32;
+    for ply in 0..=replayed.plies() {
+        if criteria.meets(&game, &replayed, ply) != plies.contains(&ply) {
+            return Ok(false);
+        }
+    }
+    for ply in plies {
+        if criteria.first(&game, &replayed, min, u32::MAX) != Some(*ply) {
+            return Ok(false);
+        }
+        min = u32::try_from(*ply).unwrap_or(u32::MAX).saturating_add(1);
+    }
+    Ok(criteria.first(&game, &replayed, min, u32::MAX).is_none())
+}
+
+/// The first ply of the game within the bounds that meets the criteria.
+fn first_within(alloc: Global, criteria: &[u8], block: &[u8], min: u32, max: u32) -> Result<Option<usize>, Fail> {
+    let criteria = read(alloc, criteria)?;
+    let game = first_game(alloc, block)?;
+    let replayed = replayed(alloc, &game)?;
+    Ok(criteria.first(&game, &replayed, min, max))
+}
+
+const SHORT: &[u8] = b"1. e4 e5 *";
+
+const MATE: &[u8] = b"1. e4 e5 2. Qh5 Nc6 3. Bc4 Nf6 4. Qxf7# 1-0";
+
+const STALEMATE: &[u8] = b"[FEN \"7k/5Q2/8/8/8/8/8/K7 b - - 0 1\"]\n\n*";
+
+const PINNED: &[u8] = b"[FEN \"4k3/8/8/8/1b6/2N5/8/4K1N1 w - - 0 1\"]\n\n1. Nge2 *";
+
+const ENDING: &[u8] = b"[Round \"9\"]\n[White \"O\\\"Neil\"]\n[FEN \"4k3/4p3/8/8/8/8/4P3/4K3 w - - 0 1\"]\n\n1. e4 *";
+
+#[test]
+fn conditions_hold_at_their_plies(rt: HostRuntime) -> Result<(), Fail> {
+    let alloc = rt.alloc();
+    let rows: [(&[u8], &[u8], &[usize]); 44] = [
+        (b"", SHORT, &[0, 1, 2]),
+        (b"# x", SHORT, &[0, 1, 2]),
+        (b"or", SHORT, &[0, 1, 2]),
+        (b"turn white", SHORT, &[0, 2]),
+        (b"turn black", SHORT, &[1]),
+        (b"check", MATE, &[7]),
+        (b"mate", MATE, &[7]),
+        (b"stalemate", MATE, &[]),
+        (b"stalemate", STALEMATE, &[0]),
+        (b"mate", STALEMATE, &[]),
+        (b"check", STALEMATE, &[]),
+        (b"turn white\nor\nturn white", SHORT, &[0, 2]),
+        (b"turn black\nor\nturn white", SHORT, &[0, 1, 2]),
+        (b"turn black\nturn white", SHORT, &[]),
+        (b"or\nturn black", SHORT, &[0, 1, 2]),
+        (b"turn black\nor", SHORT, &[0, 1, 2]),
+        (b"mate\nor\nturn black\ncheck", MATE, &[7]),
+        (b"tag Round < \"10\"", ENDING, &[0, 1]),
+        (b"tag Round < \"9\"", ENDING, &[]),
+        (b"tag White = \"O\\\"Neil\"", ENDING, &[0, 1]),
+        (b"tag Black <> \"X\"", ENDING, &[]),
+        (b"tag Black = \"\"", ENDING, &[]),
+        (b"moves e4", SHORT, &[0, 1, 2]),
+        (b"moves e4 e5", SHORT, &[0, 1, 2]),
+        (b"moves * e5", SHORT, &[0, 1, 2]),
+        (b"moves d4", SHORT, &[]),
+        (b"moves e4 e5 *", SHORT, &[]),
+        (b"moves e4 *", b"1. e4 *", &[]),
+        (b"moves e4 e5 Qh5 Nc6 Bc4 Nf6 Qxf7\nturn black", MATE, &[1, 3, 5, 7]),
+        (b"moves Nge2", PINNED, &[]),
+        (b"moves Ne2", PINNED, &[0, 1]),
+        (b"moves zz", SHORT, &[]),
+        (b"material KQR2B2N2P8 v KQR2B2N2P7+", SHORT, &[0, 1, 2]),
+        (b"material KP8 v KP*", SHORT, &[]),
+        (b"material KP v KP*", ENDING, &[0, 1]),
+        (b"material KP2- v KP0", ENDING, &[]),
+        (b"material KQ*P2- v KP1", ENDING, &[0, 1]),
+        (b"material K2+ v K", SHORT, &[]),
+        (b"material P v P", ENDING, &[]),
+        (b"fen rnbqkbnr/pppppppp/8/8/8/8/PPPPPPPP/RNBQKBNR", SHORT, &[0]),
+        (b"fen */*/*/*/*/*/*/*", SHORT, &[0, 1, 2]),
+        (b"fen */*/*/*/4P*/*/*/*", SHORT, &[1, 2]),
+        (b"fen */*/*/*/*/*/*1PPP/*", SHORT, &[1, 2]),
+        (b"fen */*/*/*p*/*/*/*/*\nturn white", SHORT, &[2]),
+    ];
+    for (criteria, block, plies) in rows {
+        assert!(rt; are_met(alloc, criteria, block, plies)?, "{criteria:?} in {block:?}");
+    }
+    Ok(())
+}
+
+#[test]
+fn the_first_stands_within_its_bounds(rt: HostRuntime) -> Result<(), Fail> {
+    let alloc = rt.alloc();
+    let rows: [(&[u8], u32, u32, Option<usize>); 9] = [
+        (b"", 0, 9, Some(0)),
+        (b"", 1, 9, Some(1)),
+        (b"", 2, 1, None),
+        (b"", 2, 2, Some(2)),
+        (b"", 3, 9, None),
+        (b"", u32::MAX, u32::MAX, None),
+        (b"turn white", 1, u32::MAX, Some(2)),
+        (b"turn white", 1, 1, None),
+        (b"turn black\nor\nturn white", 0, 9, Some(0)),
+    ];
+    for (criteria, min, max, expected) in rows {
+        assert_eq!(rt; first_within(alloc, criteria, SHORT, min, max)?, expected, "{criteria:?} from {min} to {max}");
+    }
+    Ok(())
+}
