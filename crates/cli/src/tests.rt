@@ -1,6 +1,7 @@
 //! The public calls of every crate and the program over words and texts in memory: worked rows, whose expected values stand in them.
 //! They stand here, at the top, since a crate with tests is proved twice and this one is small.
 mod blocks;
+mod criteria;
 mod faults;
 mod index;
 mod listing;

@@ -17,21 +17,21 @@ listing-append [] ys = refl
 listing-append (x ∷ xs) ys = ap (λ t. entry_line x ++ t) (listing-append xs ys) ∙ sym (append_assoc (entry_line x) (listing xs) (listing ys))
 
 -- a game's entries
-of_game : (told : Told) (number offset : ℕ) (parts : List Part) → IsListed told number offset parts
-    → (own : List Entry) × AreGameEntries number offset parts own × (output_of told ≡ listing own)
-of_game (SoundGame text) number offset parts (replay, entries, is, these, here) = (entries, sound replay is these, here)
-of_game (FaultyGame line) number offset parts (fault, is, here) = ([], faulty fault is refl, refl)
+of_game : (aim : Aim) (told : Told) (number offset : ℕ) (parts : List Part) → IsListed aim told number offset parts
+    → (own : List Entry) × AreGameEntries aim number offset parts own × (output_of told ≡ listing own)
+of_game aim (SoundGame text) number offset parts (replay, entries, is, these, here) = (entries, sound replay is these, here)
+of_game aim (FaultyGame line) number offset parts (fault, is, here) = ([], faulty fault is refl, refl)
 
 -- a piece's entries
 of_piece : (kind : PieceKind) (aim : Aim) → aim.mode ≡ modes.List → (number offset : ℕ) (told : Told) → IsPieceTold kind aim number offset told
-    → (own : List Entry) × ArePieceEntries kind number offset own × (output_of told ≡ listing own)
-of_piece (ReadableGame parts) aim lists number offset told is = of_game told number offset parts (subst (λ m. IsToldIn m number offset parts told) lists is)
+    → (own : List Entry) × ArePieceEntries aim kind number offset own × (output_of told ≡ listing own)
+of_piece (ReadableGame parts) aim lists number offset told is = of_game aim told number offset parts (subst (λ m. IsToldIn m aim number offset parts told) lists is)
 of_piece UnreadableRest aim lists number offset told is = ([], refl, ap output_of is)
 of_piece TooLongBlock aim lists number offset told is = ([], refl, ap output_of is)
 
 -- the entries of pieces in a row
 of_pieces : (aim : Aim) → aim.mode ≡ modes.List → (number : ℕ) (pieces : List MarkedPiece) (tolds : List Told) → AreTold aim number pieces tolds
-    → (entries : List Entry) × AreEntries number pieces entries × (output_text tolds ≡ listing entries)
+    → (entries : List Entry) × AreEntries aim number pieces entries × (output_text tolds ≡ listing entries)
 of_pieces aim lists number [] tolds none = ([], refl, ap output_text none)
 of_pieces aim lists number (piece ∷ more) tolds (told, rest, parted, is, others) =
     let own = of_piece piece.kind aim lists number piece.offset told is in
@@ -44,7 +44,7 @@ of_pieces aim lists number (piece ∷ more) tolds (told, rest, parted, is, other
 -- a piece's line in the index
 indexed_piece : (kind : PieceKind) (aim : Aim) → aim.mode ≡ modes.Index → (number offset : ℕ) (told : Told) → IsPieceTold kind aim number offset told
     → output_of told ≡ index_line number (record { offset = offset; kind = kind })
-indexed_piece (ReadableGame parts) aim indexes number offset told is = ap output_of (subst (λ m. IsToldIn m number offset parts told) indexes is)
+indexed_piece (ReadableGame parts) aim indexes number offset told is = ap output_of (subst (λ m. IsToldIn m aim number offset parts told) indexes is)
 indexed_piece UnreadableRest aim indexes number offset told is = ap output_of is
 indexed_piece TooLongBlock aim indexes number offset told is = ap output_of is
 
@@ -67,7 +67,7 @@ module _ (aim : Aim) (limit max_depth number offset : ℕ) (whole : List ℕ) (o
   }
 
   -- a run for the listing wrote it
-  pub lists_of : aim.mode ≡ modes.List → Lists limit max_depth number offset whole out out'
+  pub lists_of : aim.mode ≡ modes.List → Lists aim limit max_depth number offset whole out out'
   lists_of is =
       let of = of_pieces aim is number e.pieces e.tolds e.told.each in
       record {

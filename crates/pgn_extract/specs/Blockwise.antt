@@ -43,9 +43,9 @@ pub record AddsTold (old new : Report) (told : Told) (count : ℕ) : Type 0 wher
   pub faulty : new.faulty ≡ old.faulty + (if is_faulty told then 1 else 0)
 
 -- what the listing tells of the game that is given is added; the game isn't counted yet
-abbrev pub AddsListed : Report → Report → ℕ → ℕ → GameText → Type 0
-AddsListed old new number offset game =
-    (at : ℕ) (parts : List Part) → ShowsGame game at parts → (told : Told) × IsListed told number offset parts × AddsTold old new told 0
+abbrev pub AddsListed : Aim → Report → Report → ℕ → ℕ → GameText → Type 0
+AddsListed aim old new number offset game =
+    (at : ℕ) (parts : List Part) → ShowsGame game at parts → (told : Told) × IsListed aim told number offset parts × AddsTold old new told 0
 
 -- the same of what the mode tells
 abbrev pub AddsGame : Aim → Report → Report → ℕ → ℕ → GameText → Type 0

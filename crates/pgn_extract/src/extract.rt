@@ -39,13 +39,13 @@ fn put_report<O: Write, E: Write>(
 }
 
 /// Writes what is told of the pieces of one block.
-fn put_block<O: Write, E: Write>(
+fn put_block<'a, O: Write, E: Write>(
     alloc: Global,
     out: &mut Tally<O>,
     err: &mut Tally<E>,
-    settings: &Settings,
+    settings: &'a Settings,
     number: u64,
-    block: Block<'_>,
+    block: Block<'a>,
 ) -> Result<Summary, RunError>
     requires sound { (out.old.faulted ≡ false) × (err.old.faulted ≡ false) }
     requires number { number ≤ 2 ^ 63 }
@@ -175,7 +175,7 @@ pub fn run<R: Read, O: Write, E: Write>(
         → Indexes 1048576 64 settings.now.number settings.now.offset whole
         (O.contents out.old.inner) (O.contents out.new.inner))) }
     ensures lists { OnOk result (IfSome (R.remaining input.old.inner) (λ whole. settings.now.mode ≡ Mode.List
-        → Lists 1048576 64 settings.now.number settings.now.offset whole
+        → Lists (aim_of settings.now) 1048576 64 settings.now.number settings.now.offset whole
         (O.contents out.old.inner) (O.contents out.new.inner))) }
 
     // Begun at a mark of the whole input, the run tells exactly the rest of what a run over the whole tells.

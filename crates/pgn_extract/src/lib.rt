@@ -4,6 +4,7 @@
 
 mod command;
 mod extract;
+mod front;
 pub mod laws;
 mod listing;
 mod mark;

@@ -42,18 +42,27 @@ impl Report {
 }
 
 /// Adds what the listing reports of a game: the lines of its entries, or of its fault.
-fn add_listed(
+fn add_listed<'a>(
     alloc: Global,
     report: &mut Report,
+    settings: &'a Settings,
     number: u64,
     offset: u64,
-    game: &RawGame<'_>,
+    game: &RawGame<'a>,
 ) -> Result<(), AllocError>
     requires faulty { report.old.faulty + 1 < 2 ^ 64 }
-    ensures { OnOk result (AddsListed report.old report.new number offset game.now) }
+    ensures { OnOk result (AddsListed (aim_of settings.now) report.old report.new number offset game.now) }
 {
     match replay(alloc, game, Lines::Main) {
-        Ok(replayed) => push_entries(alloc, &mut report.output, number, offset, &replayed),
+        Ok(replayed) => push_entries(
+            alloc,
+            &mut report.output,
+            settings,
+            number,
+            offset,
+            game,
+            &replayed,
+        ),
         Err(fault) => {
             push_game_fault(&mut report.faults, number, offset, fault)?;
             report.faulty += 1;
@@ -63,20 +72,20 @@ fn add_listed(
 }
 
 /// Adds what is reported of a game.
-fn add_game(
+fn add_game<'a>(
     alloc: Global,
     report: &mut Report,
-    settings: &Settings,
+    settings: &'a Settings,
     number: u64,
     offset: u64,
-    game: &RawGame<'_>,
+    game: &RawGame<'a>,
 ) -> Result<(), AllocError>
     requires faulty { report.old.faulty + 1 < 2 ^ 64 }
     ensures { OnOk result (AddsGame (aim_of settings.now) report.old report.new number offset game.now) }
 {
     match settings.mode {
         Mode::Index => push_mark_line(&mut report.output, number, offset),
-        Mode::List => add_listed(alloc, report, number, offset, game),
+        Mode::List => add_listed(alloc, report, settings, number, offset, game),
     }
 }
 
@@ -92,13 +101,13 @@ fn too_long_report(alloc: Global, number: u64, offset: u64) -> Result<Report, Al
 }
 
 /// Adds what is reported of one piece of the block that begins at the offset.
-fn add_piece(
+fn add_piece<'a>(
     alloc: Global,
     report: &mut Report,
-    settings: &Settings,
+    settings: &'a Settings,
     number: u64,
     offset: u64,
-    piece: &Piece<'_>,
+    piece: &Piece<'a>,
 ) -> Result<(), AllocError>
     requires place { offset + piece_place piece.now < 2 ^ 64 }
     requires counts { (report.old.games + 1 < 2 ^ 64) × (report.old.faulty + 1 < 2 ^ 64) }
@@ -120,12 +129,12 @@ fn add_piece(
 }
 
 /// The report on the pieces of a block, which are numbered from `number` on.
-fn block_report(
+fn block_report<'a>(
     alloc: Global,
-    settings: &Settings,
+    settings: &'a Settings,
     number: u64,
     offset: u64,
-    block: &[u8],
+    block: &'a [u8],
 ) -> Result<Report, AllocError>
     requires size { length block.now ≤ 1048576 }
     requires number { number ≤ 2 ^ 63 }
@@ -142,11 +151,11 @@ fn block_report(
 }
 
 /// The report on the pieces of a block, which are numbered from `number` on.
-pub fn report_of(
+pub fn report_of<'a>(
     alloc: Global,
-    settings: &Settings,
+    settings: &'a Settings,
     number: u64,
-    block: Block<'_>,
+    block: Block<'a>,
 ) -> Result<Report, AllocError>
     requires number { number ≤ 2 ^ 63 }
     requires offset { block.offset ≤ 2 ^ 62 }
