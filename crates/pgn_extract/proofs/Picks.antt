@@ -1,6 +1,6 @@
 -- The entries of a game, picked one after the other from the least ply on that is wanted.
-use Rattle.std.proofs.Common.{◌≡◌, ◌⊎◌, ℕ, zero, suc, ◌+◌, ◌-◌, ◌<◌, ◌≤◌, true, false, List, [], ◌∷◌, ◌++◌, length, drop, Option, Some, None, refl, sym, ap, ◌∙◌, subst, arith, append_assoc, length-append, inl, inr}
-use Rattle.std.proofs.lemmas.List.{append-nil, drop_all}
+use Rattle.std.proofs.Common.{◌≡◌, ◌⊎◌, ℕ, zero, suc, ◌+◌, ◌-◌, ◌<◌, ◌≤◌, true, false, List, [], ◌∷◌, ◌++◌, length, drop, Option, Some, None, refl, sym, ap, ◌∙◌, subst, arith, append_assoc, inl, inr}
+use Rattle.std.proofs.lemmas.List.{append-nil}
 use Rattle.std.proofs.lemmas.Bool.{cases_lt, both_ways}
 use Rattle.std.proofs.lemmas.Option.{slice_get_within}
 use Rattle.chess.specs.Positions.{State}
@@ -102,8 +102,8 @@ module _ {aim : Aim} {number offset : ℕ} {tags : Tags} {replay : Replay} {befo
   picks_none None is h = (
     p.picked,
     ends p.picked from p.left p.completes (λ n low high entry.
-    let fits = p.fits (omega arith) in
-    h n low entry.0.1 (omega arith, entry.0.2)),
+        let fits = p.fits (omega arith) in
+        h n low entry.0.1 (omega arith, entry.0.2)),
     p.written,
   )
 

@@ -1,8 +1,8 @@
 -- What is wanted of a game speaks of its tags by their names: where the same contents are found for each name, the same is wanted.
-use Rattle.std.proofs.Common.{◌≡◌, ◌⊎◌, ℕ, List, [], ◌∷◌, Option, Some, None, sym, ◌∙◌, inl, inr}
+use Rattle.std.proofs.Common.{◌≡◌, ℕ, List, [], ◌∷◌, Option, Some, None, sym, ◌∙◌, inl, inr}
 use Rattle.chess.specs.Positions.{State}
 use Rattle.pgn_game.specs.Replays.{Replay}
-use Rattle.pgn_criteria.specs.Meeting.{Tags, Holds, AllHold, SomeHold, Meets}
+use Rattle.pgn_criteria.specs.Meeting.{Tags, Holds, AllHold, SomeHold}
 use Rattle.pgn_criteria.specs.declared.condition.Condition.{Condition}
 use Rattle.pgn_criteria.specs.declared.condition.Condition.TheVariants.{Tag, Fen, Material, Moves, Turn, Check, Mate, Stalemate}
 use Rattle.pgn_extract.specs.Aims.{Aim, IsMet, IsWanted, IsEntry}

@@ -1,8 +1,8 @@
 -- The pieces of a text are reported in some way: each of its games has a replay or a fault, since its FEN tag has the contents of a string.
-use Rattle.std.proofs.Common.{◌≡◌, ◌⊎◌, ℕ, zero, suc, arith, ◌+◌, ◌<◌, ◌≤◌, ◌==◌, true, Bool, List, [], ◌∷◌, ◌++◌, map, length, Option, Some, None, IfSome, refl, sym, subst, inl, inr, codes}
+use Rattle.std.proofs.Common.{◌≡◌, ◌⊎◌, ℕ, zero, suc, arith, ◌+◌, ◌<◌, ◌==◌, Bool, List, [], ◌∷◌, ◌++◌, map, length, Option, Some, None, IfSome, refl, sym, subst, inl, inr, codes}
 use Rattle.std.proofs.lemmas.Bool.{cases_lt, cases_Bool, both_ways}
 use Rattle.pgn_text.specs.Games.{items_of, first_tag}
-use Rattle.pgn_text.specs.Marks.{PieceKind, ReadableGame, UnreadableRest, TooLongBlock, MarkedPiece, marked, AreOfBlock, over, within, AreOfBlocks, AreMarkedPieces}
+use Rattle.pgn_text.specs.Marks.{PieceKind, ReadableGame, UnreadableRest, TooLongBlock, MarkedPiece, marked, AreOfBlock, over, within, AreOfBlocks}
 use Rattle.pgn_text.specs.Parts.{Part, AllStand, spelled}
 use Rattle.pgn_text.specs.Pieces.{Piece, Game, Unreadable, ArePieces}
 use Rattle.pgn_text.specs.Strings.{IsContents}
