@@ -7,7 +7,7 @@ use Rattle.pgn_text.specs.Marks.{MarkedPiece}
 use Rattle.pgn_extract.specs.Blockwise.{Begins}
 use Rattle.pgn_extract.specs.Outcomes.{AppendsFront, Tells}
 use Rattle.pgn_extract.specs.Telling.{Told}
-use Rattle.pgn_extract.specs.declared.settings.Mode.{Mode}
+use Rattle.pgn_extract.specs.Aims.{Aim}
 use Rattle.pgn_extract.proofs.Telling.{output_text-append, fault_lines-append, told-append}
 use Rattle.pgn_extract.proofs.Writing.{appends_join, appends_kept}
 
@@ -20,10 +20,10 @@ front_join old mid new xs ys whole front =
 front_all : (old new : Option (List ℕ)) (xs : List ℕ) → Appends old new xs → AppendsFront old new xs
 front_all old new xs whole = (length xs, subst (Appends old new) (sym (take_all (length xs) xs (omega arith))) whole)
 
-module _ {mode : Mode} {out out' err err' : Option (List ℕ)} {number : ℕ} {pieces : List MarkedPiece} {tolds : List Told}
-    (told : Tells mode out out' err err' number pieces tolds) where
+module _ {aim : Aim} {out out' err err' : Option (List ℕ)} {number : ℕ} {pieces : List MarkedPiece} {tolds : List Told}
+    (told : Tells aim out out' err err' number pieces tolds) where
   -- what is told stays
-  pub tells_kept : {out'' err'' : Option (List ℕ)} → Keeps out' out'' → Keeps err' err'' → Tells mode out out'' err err'' number pieces tolds
+  pub tells_kept : {out'' err'' : Option (List ℕ)} → Keeps out' out'' → Keeps err' err'' → Tells aim out out'' err err'' number pieces tolds
   tells_kept {out''} {err''} out_kept err_kept = record {
     each = told.each;
     output = appends_kept out out' out'' _ told.output out_kept;
@@ -32,15 +32,15 @@ module _ {mode : Mode} {out out' err err' : Option (List ℕ)} {number : ℕ} {p
 
   -- more pieces are told
   pub tells_more : {out'' err'' : Option (List ℕ)} (own : List MarkedPiece) (others : List Told)
-      → Tells mode out' out'' err' err'' (number + length pieces) own others → Tells mode out out'' err err'' number (pieces ++ own) (tolds ++ others)
+      → Tells aim out' out'' err' err'' (number + length pieces) own others → Tells aim out out'' err err'' number (pieces ++ own) (tolds ++ others)
   tells_more {out''} {err''} own others more = record {
-    each = told-append mode number pieces own tolds others told.each more.each;
+    each = told-append aim number pieces own tolds others told.each more.each;
     output = subst (Appends out out'') (sym (output_text-append tolds others)) (appends_join out out' out'' _ _ told.output more.output);
     faults = subst (Appends err err'') (sym (fault_lines-append tolds others)) (appends_join err err' err'' _ _ told.faults more.faults);
   }
 
   -- what is told is a beginning
-  pub begins_told : (others : List MarkedPiece) → Begins mode out out' err err' number (pieces ++ others)
+  pub begins_told : (others : List MarkedPiece) → Begins aim out out' err err' number (pieces ++ others)
   begins_told others = record {
     before = pieces;
     behind = others;
@@ -52,8 +52,8 @@ module _ {mode : Mode} {out out' err err' : Option (List ℕ)} {number : ℕ} {p
   }
 
   -- and with a beginning of more it is one still
-  pub begins_more : {out'' err'' : Option (List ℕ)} (own others : List MarkedPiece) → Begins mode out' out'' err' err'' (number + length pieces) own
-      → Begins mode out out'' err err'' number ((pieces ++ own) ++ others)
+  pub begins_more : {out'' err'' : Option (List ℕ)} (own others : List MarkedPiece) → Begins aim out' out'' err' err'' (number + length pieces) own
+      → Begins aim out out'' err err'' number ((pieces ++ own) ++ others)
   begins_more {out''} {err''} own others more = record {
     before = pieces ++ more.before;
     behind = more.behind ++ others;
@@ -61,7 +61,7 @@ module _ {mode : Mode} {out out' err err' : Option (List ℕ)} {number : ℕ} {p
         ap (λ t. (pieces ++ t) ++ others) more.parted ∙ append_assoc pieces (more.before ++ more.behind) others
         ∙ ap (λ t. pieces ++ t) (append_assoc more.before more.behind others) ∙ sym (append_assoc pieces more.before (more.behind ++ others));
     tolds = tolds ++ more.tolds;
-    each = told-append mode number pieces more.before tolds more.tolds told.each more.each;
+    each = told-append aim number pieces more.before tolds more.tolds told.each more.each;
     output = subst (AppendsFront out out'') (sym (output_text-append tolds more.tolds)) (front_join out out' out'' _ _ told.output more.output);
     faults = subst (AppendsFront err err'') (sym (fault_lines-append tolds more.tolds)) (front_join err err' err'' _ _ told.faults more.faults);
   }

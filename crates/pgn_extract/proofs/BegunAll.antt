@@ -5,9 +5,8 @@ use Rattle.pgn_text.specs.Marks.{MarkedPiece}
 use Rattle.pgn_extract.specs.Blockwise.{BeginsFirst}
 use Rattle.pgn_extract.specs.Outcomes.{AppendsFront, BeginsAll}
 use Rattle.pgn_extract.specs.Telling.{Told, AreTold, output_text, fault_lines}
-use Rattle.pgn_extract.specs.declared.settings.Mode.{Mode}
+use Rattle.pgn_extract.specs.Aims.{Aim}
 use Rattle.pgn_extract.proofs.OneReport.{same_report}
-use Rattle.pgn_extract.proofs.SomeReport.{some_report}
 use Rattle.pgn_extract.proofs.Telling.{output_text-append, fault_lines-append}
 
 take_front : (size : ℕ) (xs ys : List ℕ) → take size xs ≡ take (length (take size xs)) (xs ++ ys)
@@ -21,33 +20,35 @@ front_longer old new xs ys front =
     (length (take front.0 xs), subst (Appends old new) (take_front front.0 xs ys) front.1)
 
 -- what is reported of all has what is reported of the first at its front
-first_reported : (mode : Mode) (number : ℕ) (before behind : List MarkedPiece) (all : List Told)
-    → AreTold mode number (before ++ behind) all
-    → (first : List Told) × (later : List Told) × (all ≡ first ++ later) × AreTold mode number before first
-first_reported mode number [] behind all told = ([], all, refl, refl)
-first_reported mode number (piece ∷ before) behind all (told, rest, parted, is, others) =
-    let found = first_reported mode (number + 1) before behind rest others in
+first_reported : (aim : Aim) (number : ℕ) (before behind : List MarkedPiece) (all : List Told)
+    → AreTold aim number (before ++ behind) all
+    → (first : List Told) × (later : List Told) × (all ≡ first ++ later) × AreTold aim number before first
+first_reported aim number [] behind all told = ([], all, refl, refl)
+first_reported aim number (piece ∷ before) behind all (told, rest, parted, is, others) =
+    let found = first_reported aim (number + 1) before behind rest others in
     (told ∷ found.0, found.1, parted ∙ ap (λ t. told ∷ t) found.2, (told, found.0, refl, is, found.3))
 
-pub begun_all : (mode : Mode) (limit max_depth number offset : ℕ) (bytes : List ℕ) (out out' err err' : Option (List ℕ))
-    → BeginsFirst mode limit max_depth number offset bytes out out' err err'
-    → BeginsAll mode limit max_depth number offset bytes out out' err err'
-begun_all mode limit max_depth number offset bytes out out' err err' b =
-    let (all, told) = some_report mode limit max_depth number offset bytes b.pieces b.each in
-    let first = b.told in
-    let found = first_reported mode number first.before first.behind all (subst (λ p. AreTold mode number p all) first.parted told) in
-    let same = same_report mode number first.before first.tolds found.0 first.each found.3 in
-    let whole : all ≡ first.tolds ++ found.1 = found.2 ∙ ap (λ t. t ++ found.1) (sym same) in
-    let output = ap output_text whole ∙ output_text-append first.tolds found.1 in
-    let faults = ap fault_lines whole ∙ fault_lines-append first.tolds found.1 in record {
+pub begun_all : (aim : Aim) (limit max_depth number offset : ℕ) (bytes : List ℕ) (out out' err err' : Option (List ℕ))
+    → BeginsFirst aim limit max_depth number offset bytes out out' err err'
+    → BeginsAll aim limit max_depth number offset bytes out out' err err'
+begun_all aim limit max_depth number offset bytes out out' err err' b =
+    let first = b.told in record {
       pieces = b.pieces;
       each = b.each;
-      tolds = all;
-      told = told;
-      output =
-          subst (AppendsFront out out') (sym output)
-          (front_longer out out' (output_text first.tolds) (output_text found.1) first.output);
-      faults =
-          subst (AppendsFront err err') (sym faults)
-          (front_longer err err' (fault_lines first.tolds) (fault_lines found.1) first.faults);
+      before = first.before;
+      behind = first.behind;
+      parted = first.parted;
+      tolds = first.tolds;
+      told = first.each;
+      output = first.output;
+      faults = first.faults;
+      whole = λ all told.
+          let found = first_reported aim number first.before first.behind all (subst (λ p. AreTold aim number p all) first.parted told) in
+          let same = same_report aim number first.before first.tolds found.0 first.each found.3 in
+          let whole : all ≡ first.tolds ++ found.1 = found.2 ∙ ap (λ t. t ++ found.1) (sym same) in
+          let output = ap output_text whole ∙ output_text-append first.tolds found.1 in
+          let faults = ap fault_lines whole ∙ fault_lines-append first.tolds found.1 in (
+            subst (AppendsFront out out') (sym output) (front_longer out out' (output_text first.tolds) (output_text found.1) first.output),
+            subst (AppendsFront err err') (sym faults) (front_longer err err' (fault_lines first.tolds) (fault_lines found.1) first.faults),
+          );
     }

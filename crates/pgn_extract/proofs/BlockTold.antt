@@ -5,8 +5,8 @@ use Rattle.std.specs.Io.KnownBytes.{Appends}
 use Rattle.pgn_text.proofs.MarkedPieces.{of_block_exist}
 use Rattle.pgn_extract.specs.Blockwise.{ReportsBlock, TellsBlock, BeginsBlock}
 use Rattle.pgn_extract.specs.Outcomes.{AppendsFront}
-use Rattle.pgn_extract.specs.declared.lines.Report.{Report}
-use Rattle.pgn_extract.specs.declared.settings.Mode.{Mode}
+use Rattle.pgn_extract.specs.declared.report.Report.{Report}
+use Rattle.pgn_extract.specs.Aims.{Aim}
 use Rattle.pgn_extract.proofs.Writing.{appends_none}
 
 -- nothing is a beginning
@@ -14,9 +14,9 @@ pub front_none : (old : Option (List ℕ)) (bytes : List ℕ) → AppendsFront o
 front_none old bytes = (0, appends_none old)
 
 -- a block of which nothing is told
-pub begins_none : (mode : Mode) (limit max_depth number offset : ℕ) (block : List ℕ) (out err : Option (List ℕ))
-    → BeginsBlock mode limit max_depth number offset block out out err err
-begins_none mode limit max_depth number offset block out err =
+pub begins_none : (aim : Aim) (limit max_depth number offset : ℕ) (block : List ℕ) (out err : Option (List ℕ))
+    → BeginsBlock aim limit max_depth number offset block out out err err
+begins_none aim limit max_depth number offset block out err =
     let own = of_block_exist limit max_depth offset block in
     record {
       own = own.0;
@@ -24,11 +24,11 @@ begins_none mode limit max_depth number offset block out err =
       told = record { before = []; behind = own.0; parted = refl; tolds = []; each = refl; output = front_none out _; faults = front_none err _ };
     }
 
-module _ {mode : Mode} {report : Report} {limit max_depth number offset : ℕ} {block : List ℕ} (of : ReportsBlock mode report limit max_depth number offset block)
+module _ {aim : Aim} {report : Report} {limit max_depth number offset : ℕ} {block : List ℕ} (of : ReportsBlock aim report limit max_depth number offset block)
     (out out' err err' : Option (List ℕ)) where
   -- a block whose report is written
   pub tells_report : Appends out out' report.output.items → Appends err err' report.faults.items
-      → TellsBlock mode limit max_depth number offset block out out' err err' (record { games = report.games; faulty = report.faulty })
+      → TellsBlock aim limit max_depth number offset block out out' err err' (record { games = report.games; faulty = report.faulty })
   tells_report output faults = record {
     own = of.own;
     each = of.each;
@@ -46,7 +46,7 @@ module _ {mode : Mode} {report : Report} {limit max_depth number offset : ℕ} {
 
   -- a block of whose report a beginning is written
   pub begins_report : AppendsFront out out' report.output.items → AppendsFront err err' report.faults.items
-      → BeginsBlock mode limit max_depth number offset block out out' err err'
+      → BeginsBlock aim limit max_depth number offset block out out' err err'
   begins_report output faults = record {
     own = of.own;
     each = of.each;

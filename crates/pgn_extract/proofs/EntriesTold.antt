@@ -4,11 +4,11 @@ use Rattle.std.specs.Io.KnownBytes.{Appends}
 use Rattle.pgn_text.specs.Marks.{PieceKind, ReadableGame, UnreadableRest, TooLongBlock, MarkedPiece}
 use Rattle.pgn_text.specs.Parts.{Part}
 use Rattle.pgn_extract.specs.Index.{index, index_line}
-use Rattle.pgn_extract.specs.Listing.{Entry, entry_line, listing, entries_from, AreGameEntries, sound, faulty, ArePieceEntries, AreEntries}
+use Rattle.pgn_extract.specs.Listing.{Entry, entry_line, listing, AreGameEntries, sound, faulty, ArePieceEntries, AreEntries}
 use Rattle.pgn_extract.specs.Outcomes.{Ends, Indexes, Lists}
-use Rattle.pgn_extract.specs.Telling.{Told, SoundGame, FaultyGame, output_of, output_text, IsListed, IsPieceTold, AreTold}
+use Rattle.pgn_extract.specs.Telling.{Told, SoundGame, FaultyGame, output_of, output_text, IsListed, IsToldIn, IsPieceTold, AreTold}
 use Rattle.pgn_extract.specs.declared.outcome.Summary.{Summary}
-use Rattle.pgn_extract.specs.declared.settings.Mode.{Mode}
+use Rattle.pgn_extract.specs.Aims.{Aim}
 use Rattle.pgn_extract.specs.declared.settings.Mode.TheVariants as modes
 
 -- the lines of entries, and then of others
@@ -17,59 +17,59 @@ listing-append [] ys = refl
 listing-append (x ∷ xs) ys = ap (λ t. entry_line x ++ t) (listing-append xs ys) ∙ sym (append_assoc (entry_line x) (listing xs) (listing ys))
 
 -- a game's entries
-of_game : (told : Told) (number offset : ℕ) (parts : List Part) → IsListed told number offset parts
-    → (own : List Entry) × AreGameEntries number offset parts own × (output_of told ≡ listing own)
-of_game (SoundGame text) number offset parts (replay, is, here) = (entries_from number offset 0 replay.positions, sound replay is refl, here)
-of_game (FaultyGame line) number offset parts (fault, is, here) = ([], faulty fault is refl, refl)
+of_game : (aim : Aim) (told : Told) (number offset : ℕ) (parts : List Part) → IsListed aim told number offset parts
+    → (own : List Entry) × AreGameEntries aim number offset parts own × (output_of told ≡ listing own)
+of_game aim (SoundGame text) number offset parts (replay, entries, is, these, here) = (entries, sound replay is these, here)
+of_game aim (FaultyGame line) number offset parts (fault, is, here) = ([], faulty fault is refl, refl)
 
 -- a piece's entries
-of_piece : (kind : PieceKind) (number offset : ℕ) (told : Told) → IsPieceTold kind modes.List number offset told
-    → (own : List Entry) × ArePieceEntries kind number offset own × (output_of told ≡ listing own)
-of_piece (ReadableGame parts) number offset told is = of_game told number offset parts is
-of_piece UnreadableRest number offset told is = ([], refl, ap output_of is)
-of_piece TooLongBlock number offset told is = ([], refl, ap output_of is)
+of_piece : (kind : PieceKind) (aim : Aim) → aim.mode ≡ modes.List → (number offset : ℕ) (told : Told) → IsPieceTold kind aim number offset told
+    → (own : List Entry) × ArePieceEntries aim kind number offset own × (output_of told ≡ listing own)
+of_piece (ReadableGame parts) aim lists number offset told is = of_game aim told number offset parts (subst (λ m. IsToldIn m aim number offset parts told) lists is)
+of_piece UnreadableRest aim lists number offset told is = ([], refl, ap output_of is)
+of_piece TooLongBlock aim lists number offset told is = ([], refl, ap output_of is)
 
 -- the entries of pieces in a row
-of_pieces : (number : ℕ) (pieces : List MarkedPiece) (tolds : List Told) → AreTold modes.List number pieces tolds
-    → (entries : List Entry) × AreEntries number pieces entries × (output_text tolds ≡ listing entries)
-of_pieces number [] tolds none = ([], refl, ap output_text none)
-of_pieces number (piece ∷ more) tolds (told, rest, parted, is, others) =
-    let own = of_piece piece.kind number piece.offset told is in
-    let later = of_pieces (number + 1) more rest others in (
+of_pieces : (aim : Aim) → aim.mode ≡ modes.List → (number : ℕ) (pieces : List MarkedPiece) (tolds : List Told) → AreTold aim number pieces tolds
+    → (entries : List Entry) × AreEntries aim number pieces entries × (output_text tolds ≡ listing entries)
+of_pieces aim lists number [] tolds none = ([], refl, ap output_text none)
+of_pieces aim lists number (piece ∷ more) tolds (told, rest, parted, is, others) =
+    let own = of_piece piece.kind aim lists number piece.offset told is in
+    let later = of_pieces aim lists (number + 1) more rest others in (
       own.0 ++ later.0,
       (own.0, later.0, refl, own.1, later.1),
       ap output_text parted ∙ ap (λ t. t ++ output_text rest) own.2 ∙ ap (λ t. listing own.0 ++ t) later.2 ∙ sym (listing-append own.0 later.0),
     )
 
 -- a piece's line in the index
-indexed_piece : (kind : PieceKind) (number offset : ℕ) (told : Told) → IsPieceTold kind modes.Index number offset told
+indexed_piece : (kind : PieceKind) (aim : Aim) → aim.mode ≡ modes.Index → (number offset : ℕ) (told : Told) → IsPieceTold kind aim number offset told
     → output_of told ≡ index_line number (record { offset = offset; kind = kind })
-indexed_piece (ReadableGame parts) number offset told is = ap output_of is
-indexed_piece UnreadableRest number offset told is = ap output_of is
-indexed_piece TooLongBlock number offset told is = ap output_of is
+indexed_piece (ReadableGame parts) aim indexes number offset told is = ap output_of (subst (λ m. IsToldIn m aim number offset parts told) indexes is)
+indexed_piece UnreadableRest aim indexes number offset told is = ap output_of is
+indexed_piece TooLongBlock aim indexes number offset told is = ap output_of is
 
 -- the index of pieces in a row
-indexed_pieces : (number : ℕ) (pieces : List MarkedPiece) (tolds : List Told) → AreTold modes.Index number pieces tolds
+indexed_pieces : (aim : Aim) → aim.mode ≡ modes.Index → (number : ℕ) (pieces : List MarkedPiece) (tolds : List Told) → AreTold aim number pieces tolds
     → output_text tolds ≡ index number pieces
-indexed_pieces number [] tolds none = ap output_text none
-indexed_pieces number (piece ∷ more) tolds (told, rest, parted, is, others) =
-    ap output_text parted ∙ ap (λ t. t ++ output_text rest) (indexed_piece piece.kind number piece.offset told is)
-    ∙ ap (λ t. index_line number piece ++ t) (indexed_pieces (number + 1) more rest others)
+indexed_pieces aim indexes number [] tolds none = ap output_text none
+indexed_pieces aim indexes number (piece ∷ more) tolds (told, rest, parted, is, others) =
+    ap output_text parted ∙ ap (λ t. t ++ output_text rest) (indexed_piece piece.kind aim indexes number piece.offset told is)
+    ∙ ap (λ t. index_line number piece ++ t) (indexed_pieces aim indexes (number + 1) more rest others)
 
-module _ (mode : Mode) (limit max_depth number offset : ℕ) (whole : List ℕ) (out out' err err' : Option (List ℕ)) (summary : Summary)
-    (e : Ends mode limit max_depth number offset whole out out' err err' summary) where
+module _ (aim : Aim) (limit max_depth number offset : ℕ) (whole : List ℕ) (out out' err err' : Option (List ℕ)) (summary : Summary)
+    (e : Ends aim limit max_depth number offset whole out out' err err' summary) where
   -- a run for the index wrote it
-  pub indexes_of : mode ≡ modes.Index → Indexes limit max_depth number offset whole out out'
+  pub indexes_of : aim.mode ≡ modes.Index → Indexes limit max_depth number offset whole out out'
   indexes_of is = record {
     pieces = e.pieces;
     each = e.each;
-    indexed = subst (Appends out out') (indexed_pieces number e.pieces e.tolds (subst (λ m. AreTold m number e.pieces e.tolds) is e.told.each)) e.told.output;
+    indexed = subst (Appends out out') (indexed_pieces aim is number e.pieces e.tolds e.told.each) e.told.output;
   }
 
   -- a run for the listing wrote it
-  pub lists_of : mode ≡ modes.List → Lists limit max_depth number offset whole out out'
+  pub lists_of : aim.mode ≡ modes.List → Lists aim limit max_depth number offset whole out out'
   lists_of is =
-      let of = of_pieces number e.pieces e.tolds (subst (λ m. AreTold m number e.pieces e.tolds) is e.told.each) in
+      let of = of_pieces aim is number e.pieces e.tolds e.told.each in
       record {
         pieces = e.pieces;
         each = e.each;

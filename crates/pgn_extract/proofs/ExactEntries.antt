@@ -10,12 +10,11 @@ use Rattle.pgn_text.specs.Games.{items_of, first_tag}
 use Rattle.pgn_game.specs.Laws.{GameHasOneReplay, SoundGameHasNoFault}
 use Rattle.pgn_game.specs.Replays.{Replay}
 use Rattle.pgn_game.specs.Starts.{fen_tag}
+use Rattle.pgn_extract.specs.Aims.{Aim, IsEntry}
+use Rattle.pgn_extract.proofs.Chosen.{chosen_from, chosen_all, chosen_ascend}
+use Rattle.pgn_extract.proofs.Picks.{entry_at}
 use Rattle.pgn_extract.specs.Laws.{IsPlyOfGame, IsEarlier, Ascend}
-use Rattle.pgn_extract.specs.Listing.{Entry, entries_from, IsReplayOf, AreGameEntries, sound, faulty, ArePieceEntries, AreEntries}
-
--- the entry of a game at a ply
-abbrev pub entry_at : ℕ → ℕ → ℕ → Entry
-entry_at number offset ply = record { number = number; offset = offset; ply = ply }
+use Rattle.pgn_extract.specs.Listing.{Entry, entries_from, IsReplayOf, tags_in, AreGameEntries, sound, faulty, ArePieceEntries, AreEntries}
 
 -- nothing is among none
 none_within : (entry : Entry) → Contains [] entry → ⊥
@@ -32,7 +31,7 @@ pub record IsOfGame (number offset ply count : ℕ) (entry : Entry) : Type 0 whe
   pub low : ply ≤ entry.ply
   pub high : entry.ply < ply + count
 
-of_positions : (number offset ply : ℕ) (positions : List State) (entry : Entry) → Contains (entries_from number offset ply positions) entry
+pub of_positions : (number offset ply : ℕ) (positions : List State) (entry : Entry) → Contains (entries_from number offset ply positions) entry
     → IsOfGame number offset ply (length positions) entry
 of_positions number offset ply [] entry has = absurd (none_within entry has)
 of_positions number offset ply (position ∷ more) entry has =
@@ -58,32 +57,36 @@ has_ply number offset ply (position ∷ more) at low high =
     ]
 
 -- the entries of a piece are those of one game
-own_ply : (kind : PieceKind) (number offset : ℕ) (own : List Entry) → ArePieceEntries kind number offset own → (entry : Entry) → Contains own entry
+own_ply : (aim : Aim) (kind : PieceKind) (number offset : ℕ) (own : List Entry) → ArePieceEntries aim kind number offset own → (entry : Entry) → Contains own entry
     → (parts : List Part) × (replay : Replay) × (kind ≡ ReadableGame parts) × IsReplayOf parts replay × IsOfGame number offset 0 (length replay.positions) entry
-own_ply (ReadableGame parts) number offset own (sound replay is these) entry has =
-    (parts, replay, refl, is, of_positions number offset 0 replay.positions entry (subst (λ e. Contains e entry) these has))
-own_ply (ReadableGame parts) number offset own (faulty fault is none) entry has = absurd (none_within entry (subst (λ e. Contains e entry) none has))
-own_ply UnreadableRest number offset own none entry has = absurd (none_within entry (subst (λ e. Contains e entry) none has))
-own_ply TooLongBlock number offset own none entry has = absurd (none_within entry (subst (λ e. Contains e entry) none has))
+    × IsEntry aim (tags_in parts) replay entry.ply
+own_ply aim (ReadableGame parts) number offset own (sound replay is these) entry has =
+    let of = chosen_from (λ e. IsEntry aim (tags_in parts) replay e.ply) (entries_from number offset 0 replay.positions) own these entry has in
+    (parts, replay, refl, is, of_positions number offset 0 replay.positions entry of.0, of.1)
+own_ply aim (ReadableGame parts) number offset own (faulty fault is none) entry has = absurd (none_within entry (subst (λ e. Contains e entry) none has))
+own_ply aim UnreadableRest number offset own none entry has = absurd (none_within entry (subst (λ e. Contains e entry) none has))
+own_ply aim TooLongBlock number offset own none entry has = absurd (none_within entry (subst (λ e. Contains e entry) none has))
 
 -- and all of them, where it is sound
-own_has : (one_replay : GameHasOneReplay) (no_fault : SoundGameHasNoFault) (number offset : ℕ) (parts : List Part) (own : List Entry) → AreGameEntries number offset parts own
-    → (replay : Replay) → IsReplayOf parts replay → (ply : ℕ) → ply < length replay.positions → Contains own (entry_at number offset ply)
-own_has one_replay no_fault number offset parts own (sound first is these) replay also ply less =
+own_has : (one_replay : GameHasOneReplay) (no_fault : SoundGameHasNoFault) (aim : Aim) (number offset : ℕ) (parts : List Part) (own : List Entry) → AreGameEntries aim number offset parts own
+    → (replay : Replay) → IsReplayOf parts replay → (ply : ℕ) → ply < length replay.positions → IsEntry aim (tags_in parts) replay ply → Contains own (entry_at number offset ply)
+own_has one_replay no_fault aim number offset parts own (sound first is these) replay also ply less listed =
     let same : first ≡ replay = one_replay (first_tag fen_tag parts) (items_of parts) first replay is also in
     let here : ply < length first.positions = subst (λ (r : Replay). ply < length r.positions) (sym same) less in
-    subst (λ e. Contains e (entry_at number offset ply)) (sym these) (has_ply number offset 0 first.positions ply (omega arith) (omega arith))
-own_has one_replay no_fault number offset parts own (faulty fault is none) replay also ply less =
+    let also_listed : IsEntry aim (tags_in parts) first ply = subst (λ (r : Replay). IsEntry aim (tags_in parts) r ply) (sym same) listed in
+    chosen_all (λ e. IsEntry aim (tags_in parts) first e.ply) (entries_from number offset 0 first.positions) own these (entry_at number offset ply)
+    (has_ply number offset 0 first.positions ply (omega arith) (omega arith)) also_listed
+own_has one_replay no_fault aim number offset parts own (faulty fault is none) replay also ply less listed =
     absurd (no_fault (first_tag fen_tag parts) (items_of parts) fault (replay, also) is)
 
 -- each entry is a ply of a sound game
-pub to_ply : (number : ℕ) (pieces : List MarkedPiece) (entries : List Entry) → AreEntries number pieces entries → (entry : Entry) → Contains entries entry
-    → IsPlyOfGame number pieces entry
-to_ply number [] entries none entry has = absurd (none_within entry (subst (λ e. Contains e entry) none has))
-to_ply number (piece ∷ more) entries (own, rest, parted, here, others) entry has =
+pub to_ply : (aim : Aim) (number : ℕ) (pieces : List MarkedPiece) (entries : List Entry) → AreEntries aim number pieces entries → (entry : Entry) → Contains entries entry
+    → IsPlyOfGame aim number pieces entry
+to_ply aim number [] entries none entry has = absurd (none_within entry (subst (λ e. Contains e entry) none has))
+to_ply aim number (piece ∷ more) entries (own, rest, parted, here, others) entry has =
     elim (Contains-append_cases own rest entry (subst (λ e. Contains e entry) parted has)) [
       | inl first ↦
-          let of = own_ply piece.kind number piece.offset own here entry first in
+          let of = own_ply aim piece.kind number piece.offset own here entry first in
           let place = of.4 in
           let offset : entry.offset ≡ piece.offset = ap (λ (e : Entry). e.offset) place.is in
           record {
@@ -94,9 +97,10 @@ to_ply number (piece ∷ more) entries (own, rest, parted, here, others) entry h
             numbered = ap (λ (e : Entry). e.number) place.is ∙ omega arith;
             is_replay = of.3;
             within = (let h = place.high in omega arith);
+            listed = of.5;
           }
       | inr later ↦
-          let of = to_ply (number + 1) more rest others entry later in
+          let of = to_ply aim (number + 1) more rest others entry later in
           record {
             place = suc of.place;
             parts = of.parts;
@@ -105,23 +109,24 @@ to_ply number (piece ∷ more) entries (own, rest, parted, here, others) entry h
             numbered = (let n = of.numbered in omega arith);
             is_replay = of.is_replay;
             within = of.within;
+            listed = of.listed;
           }
     ]
 
 module _ (one_replay : GameHasOneReplay) (no_fault : SoundGameHasNoFault) where
   -- and each of these is an entry
-  pub from_ply : (number : ℕ) (pieces : List MarkedPiece) (entries : List Entry) → AreEntries number pieces entries → (entry : Entry) → IsPlyOfGame number pieces entry
+  pub from_ply : (aim : Aim) (number : ℕ) (pieces : List MarkedPiece) (entries : List Entry) → AreEntries aim number pieces entries → (entry : Entry) → IsPlyOfGame aim number pieces entry
       → Contains entries entry
-  from_ply number pieces entries are entry of = by_place number pieces entries are of.place of.game of.numbered
+  from_ply aim number pieces entries are entry of = by_place number pieces entries are of.place of.game of.numbered
     where
-      by_place : (number : ℕ) (pieces : List MarkedPiece) (entries : List Entry) → AreEntries number pieces entries
+      by_place : (number : ℕ) (pieces : List MarkedPiece) (entries : List Entry) → AreEntries aim number pieces entries
           → (place : ℕ) → slice_get pieces place ≡ Some (record { offset = entry.offset; kind = ReadableGame of.parts }) → entry.number ≡ number + place → Contains entries entry
       by_place number [] entries are place none numbered = absurd (cc)
       by_place number (piece ∷ more) entries (own, rest, parted, here, others) zero game numbered =
           let is : piece ≡ record { offset = entry.offset; kind = ReadableGame of.parts } = cc in
           let same : number ≡ entry.number = omega arith in
-          let has = own_has one_replay no_fault number entry.offset of.parts own (subst (λ (p : MarkedPiece). ArePieceEntries p.kind number p.offset own) is here)
-          of.replay of.is_replay entry.ply of.within in
+          let has = own_has one_replay no_fault aim number entry.offset of.parts own (subst (λ (p : MarkedPiece). ArePieceEntries aim p.kind number p.offset own) is here)
+          of.replay of.is_replay entry.ply of.within of.listed in
           subst (λ e. Contains e entry) (sym parted)
           (Contains-append_left own rest entry (subst (λ n. Contains own (entry_at n entry.offset entry.ply)) same has))
       by_place number (piece ∷ more) entries (own, rest, parted, here, others) (suc place) game numbered =
@@ -150,21 +155,22 @@ ascend-append (x ∷ xs) ys before behind cross = (
 )
 
 -- the entries of a piece are in order
-ascend_own : (kind : PieceKind) (number offset : ℕ) (own : List Entry) → ArePieceEntries kind number offset own → Ascend own
-ascend_own (ReadableGame parts) number offset own (sound replay is these) = subst Ascend (sym these) (ascend_positions number offset 0 replay.positions)
-ascend_own (ReadableGame parts) number offset own (faulty fault is none) = subst Ascend (sym none) tt
-ascend_own UnreadableRest number offset own none = subst Ascend (sym none) tt
-ascend_own TooLongBlock number offset own none = subst Ascend (sym none) tt
+ascend_own : (aim : Aim) (kind : PieceKind) (number offset : ℕ) (own : List Entry) → ArePieceEntries aim kind number offset own → Ascend own
+ascend_own aim (ReadableGame parts) number offset own (sound replay is these) =
+    chosen_ascend (λ e. IsEntry aim (tags_in parts) replay e.ply) (entries_from number offset 0 replay.positions) own these (ascend_positions number offset 0 replay.positions)
+ascend_own aim (ReadableGame parts) number offset own (faulty fault is none) = subst Ascend (sym none) tt
+ascend_own aim UnreadableRest number offset own none = subst Ascend (sym none) tt
+ascend_own aim TooLongBlock number offset own none = subst Ascend (sym none) tt
 
 -- the entries of pieces are in order
-pub entries_ascend : (number : ℕ) (pieces : List MarkedPiece) (entries : List Entry) → AreEntries number pieces entries → Ascend entries
-entries_ascend number [] entries none = subst Ascend (sym none) tt
-entries_ascend number (piece ∷ more) entries (own, rest, parted, here, others) =
+pub entries_ascend : (aim : Aim) (number : ℕ) (pieces : List MarkedPiece) (entries : List Entry) → AreEntries aim number pieces entries → Ascend entries
+entries_ascend aim number [] entries none = subst Ascend (sym none) tt
+entries_ascend aim number (piece ∷ more) entries (own, rest, parted, here, others) =
     subst Ascend (sym parted)
-    (ascend-append own rest (ascend_own piece.kind number piece.offset own here) (entries_ascend (number + 1) more rest others)
+    (ascend-append own rest (ascend_own aim piece.kind number piece.offset own here) (entries_ascend aim (number + 1) more rest others)
     (λ x y has other.
-    let first = own_ply piece.kind number piece.offset own here x has in
-    let second = to_ply (number + 1) more rest others y other in
+    let first = own_ply aim piece.kind number piece.offset own here x has in
+    let second = to_ply aim (number + 1) more rest others y other in
     let low : x.number ≡ number = ap (λ (e : Entry). e.number) first.4.is in
     let high = second.numbered in
     inl (omega arith)))

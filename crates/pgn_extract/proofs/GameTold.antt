@@ -14,10 +14,12 @@ use Rattle.pgn_game.specs.Replays.{Replay, IsReplay}
 use Rattle.pgn_game.specs.Starts.{fen_tag}
 use Rattle.pgn_extract.specs.Blockwise.{AddsTold, AddsListed, AddsGame, AddsMark, AddsPiece}
 use Rattle.pgn_extract.specs.Index.{fault_text, mark_line}
-use Rattle.pgn_extract.specs.Listing.{listing, entries_from, cause_text, IsReplayOf, IsFaultOf}
-use Rattle.pgn_extract.specs.Telling.{SoundGame, FaultyGame, output_of, fault_line_of, is_faulty, IsGameTold}
-use Rattle.pgn_extract.specs.declared.lines.Report.{Report}
-use Rattle.pgn_extract.specs.declared.settings.Mode.{Mode}
+use Rattle.pgn_extract.specs.Listing.{Entry, listing, entries_from, AreListed, tags_in, cause_text, IsReplayOf, IsFaultOf}
+use Rattle.pgn_extract.specs.Telling.{SoundGame, FaultyGame, output_of, fault_line_of, is_faulty, IsToldIn, IsGameTold}
+use Rattle.pgn_extract.specs.declared.report.Report.{Report}
+use Rattle.pgn_extract.specs.Aims.{Aim, IsEntry}
+use Rattle.pgn_extract.proofs.Chosen.{chosen_by}
+use Rattle.pgn_extract.proofs.SameTags.{entry_same}
 use Rattle.pgn_extract.specs.declared.settings.Mode.TheVariants as modes
 
 -- bytes go to the output, and nothing else changes
@@ -52,20 +54,26 @@ told_faulty old new line count adds = record {
   faulty = adds.faulty;
 }
 
--- by the listing, its replay
-pub listed_replay : {old new : Report} {number offset : ℕ} {game : GameText} (replay : Replay) → IsReplay (tag_in fen_tag game.tags) game.elements replay
-    → AddsOutput old new (listing (entries_from number offset 0 replay.positions)) → AddsListed old new number offset game
-listed_replay {old} {new} {number} {offset} {game} replay is adds at parts shows =
-    let text = listing (entries_from number offset 0 replay.positions) in
+-- by the listing, the entries of its replay
+pub listed_replay : (aim : Aim) {old new : Report} {number offset : ℕ} {game : GameText} (replay : Replay) (entries : List Entry)
+    → IsReplay (tag_in fen_tag game.tags) game.elements replay → AreListed aim number offset (λ name. tag_in name game.tags) replay entries
+    → AddsOutput old new (listing entries) → AddsListed aim old new number offset game
+listed_replay aim {old} {new} {number} {offset} {game} replay entries is these adds at parts shows =
     let of : IsReplayOf parts replay =
     subst (λ (items : List Item). IsReplay (first_tag fen_tag parts) items replay) shows.elements
     (subst (λ (tag : Option (List ℕ)). IsReplay tag game.elements replay) (shows.tags fen_tag) is) in
-    (SoundGame text, (replay, of, refl), told_sound old new text adds)
+    let own = λ (name : List ℕ). tag_in name game.tags in
+    let listed : AreListed aim number offset (tags_in parts) replay entries =
+    chosen_by (λ entry. IsEntry aim own replay entry.ply) (λ entry. IsEntry aim (tags_in parts) replay entry.ply)
+    (λ entry. entry_same own (tags_in parts) shows.tags replay aim entry.ply)
+    (λ entry. entry_same (tags_in parts) own (λ name. sym (shows.tags name)) replay aim entry.ply)
+    (entries_from number offset 0 replay.positions) entries these in
+    (SoundGame (listing entries), (replay, entries, of, listed, refl), told_sound old new (listing entries) adds)
 
 -- or its fault
-pub listed_fault : {old new : Report} {number offset : ℕ} {game : GameText} (fault : Fault) → IsFault (tag_in fen_tag game.tags) game.elements fault
-    → AddsFault old new (fault_text number offset (cause_text fault)) 0 → AddsListed old new number offset game
-listed_fault {old} {new} {number} {offset} {game} fault is adds at parts shows =
+pub listed_fault : (aim : Aim) {old new : Report} {number offset : ℕ} {game : GameText} (fault : Fault) → IsFault (tag_in fen_tag game.tags) game.elements fault
+    → AddsFault old new (fault_text number offset (cause_text fault)) 0 → AddsListed aim old new number offset game
+listed_fault aim {old} {new} {number} {offset} {game} fault is adds at parts shows =
     let line = fault_text number offset (cause_text fault) in
     let of : IsFaultOf parts fault =
     subst (λ (items : List Item). IsFault (first_tag fen_tag parts) items fault) shows.elements
@@ -73,35 +81,35 @@ listed_fault {old} {new} {number} {offset} {game} fault is adds at parts shows =
     (FaultyGame line, (fault, of, refl), told_faulty old new line 0 adds)
 
 -- by the index, its mark
-pub game_indexed : {old new : Report} (mode : Mode) (number offset : ℕ) (game : GameText) → mode ≡ modes.Index → AddsOutput old new (mark_line number offset)
-    → AddsGame mode old new number offset game
-game_indexed {old} {new} mode number offset game is adds at parts shows = (
+pub game_indexed : {old new : Report} (aim : Aim) (number offset : ℕ) (game : GameText) → aim.mode ≡ modes.Index → AddsOutput old new (mark_line number offset)
+    → AddsGame aim old new number offset game
+game_indexed {old} {new} aim number offset game is adds at parts shows = (
   SoundGame (mark_line number offset),
-  subst (λ m. IsGameTold m number offset parts (SoundGame (mark_line number offset))) (sym is) refl,
+  subst (λ m. IsToldIn m aim number offset parts (SoundGame (mark_line number offset))) (sym is) refl,
   told_sound old new (mark_line number offset) adds,
 )
 
 -- by the listing, what that tells
-pub game_listed : {old new : Report} (mode : Mode) (number offset : ℕ) (game : GameText) → mode ≡ modes.List → AddsListed old new number offset game
-    → AddsGame mode old new number offset game
-game_listed mode number offset game is adds at parts shows =
+pub game_listed : {old new : Report} (aim : Aim) (number offset : ℕ) (game : GameText) → aim.mode ≡ modes.List → AddsListed aim old new number offset game
+    → AddsGame aim old new number offset game
+game_listed aim number offset game is adds at parts shows =
     let told = adds at parts shows in
-    (told.0, subst (λ m. IsGameTold m number offset parts told.0) (sym is) told.1, told.2)
+    (told.0, subst (λ m. IsToldIn m aim number offset parts told.0) (sym is) told.1, told.2)
 
 -- a piece that is a game is counted, and told
-pub piece_game : (mode : Mode) {old mid new : Report} (number offset here : ℕ) (piece : Piece) (game : GameText) → piece ≡ given.Game game → here ≡ offset + game.at
-    → AddsGame mode mid new number here game → mid.output ≡ old.output → mid.faults ≡ old.faults → mid.games ≡ old.games + 1 → mid.faulty ≡ old.faulty
-    → AddsPiece mode old new number offset piece
-piece_game mode {old} {mid} {new} number offset here piece game is_game place adds output faults games faulty shown is =
+pub piece_game : (aim : Aim) {old mid new : Report} (number offset here : ℕ) (piece : Piece) (game : GameText) → piece ≡ given.Game game → here ≡ offset + game.at
+    → AddsGame aim mid new number here game → mid.output ≡ old.output → mid.faults ≡ old.faults → mid.games ≡ old.games + 1 → mid.faulty ≡ old.faulty
+    → AddsPiece aim old new number offset piece
+piece_game aim {old} {mid} {new} number offset here piece game is_game place adds output faults games faulty shown is =
     shows shown (subst (λ p. IsPiece p shown) is_game is)
   where
-    shows : (shown : spec.Piece) → IsPiece (given.Game game) shown → AddsMark mode old new number (marked offset shown)
+    shows : (shown : spec.Piece) → IsPiece (given.Game game) shown → AddsMark aim old new number (marked offset shown)
     shows (spec.Unreadable at) is = absurd is
     shows (spec.Game at parts) is =
         let told = adds at parts is in
         let t = told.2 in (
           told.0,
-          subst (λ n. IsGameTold mode number n parts told.0) (place ∙ ap (λ n. offset + n) is.place) told.1,
+          subst (λ n. IsGameTold aim number n parts told.0) (place ∙ ap (λ n. offset + n) is.place) told.1,
           record {
             output = t.output ∙ ap (λ (v : Vec ℕ Global). v.items ++ output_of told.0) output;
             faults = t.faults ∙ ap (λ (v : Vec ℕ Global). v.items ++ fault_line_of told.0) faults;
@@ -111,11 +119,11 @@ piece_game mode {old} {mid} {new} number offset here piece game is_game place ad
         )
 
 -- a piece that is no game is told, and counted
-pub piece_unreadable : (mode : Mode) {old new : Report} (number offset : ℕ) (piece : Piece) (place : ℕ) → piece ≡ given.Unreadable place
-    → AddsFault old new (fault_text number (offset + place) (codes "unreadable")) 1 → AddsPiece mode old new number offset piece
-piece_unreadable mode {old} {new} number offset piece place is_none adds shown is = shows shown (subst (λ p. IsPiece p shown) is_none is)
+pub piece_unreadable : (aim : Aim) {old new : Report} (number offset : ℕ) (piece : Piece) (place : ℕ) → piece ≡ given.Unreadable place
+    → AddsFault old new (fault_text number (offset + place) (codes "unreadable")) 1 → AddsPiece aim old new number offset piece
+piece_unreadable aim {old} {new} number offset piece place is_none adds shown is = shows shown (subst (λ p. IsPiece p shown) is_none is)
   where
-    shows : (shown : spec.Piece) → IsPiece (given.Unreadable place) shown → AddsMark mode old new number (marked offset shown)
+    shows : (shown : spec.Piece) → IsPiece (given.Unreadable place) shown → AddsMark aim old new number (marked offset shown)
     shows (spec.Game at parts) is = absurd is
     shows (spec.Unreadable at) is =
         let line = fault_text number (offset + place) (codes "unreadable") in

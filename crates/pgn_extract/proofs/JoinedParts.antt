@@ -10,7 +10,7 @@ use Rattle.pgn_extract.proofs.OneReport.{same_report}
 use Rattle.pgn_extract.proofs.Telling.{output_text-append, fault_lines-append, told-append, count_by-join}
 
 pub parts_join : PartsJoin
-parts_join mode limit max_depth number offset text before piece behind all whole first second front rest one two =
+parts_join aim limit max_depth number offset text before piece behind all whole first second front rest one two =
     let size = piece.offset - offset in
     let same_before : first ≡ before =
     one_marked_pieces limit max_depth offset (take size text) first before one.each
@@ -18,12 +18,12 @@ parts_join mode limit max_depth number offset text before piece behind all whole
     let same_behind : second ≡ piece ∷ behind =
     one_marked_pieces limit max_depth piece.offset (drop size text) second (piece ∷ behind) two.each
     (resumes limit max_depth offset text before piece behind whole.each) in
-    let told_behind = subst (λ p. AreTold mode (number + length first) p rest) same_behind two.told in
+    let told_behind = subst (λ p. AreTold aim (number + length first) p rest) same_behind two.told in
     let both =
-    told-append mode number before (piece ∷ behind) front rest (subst (λ p. AreTold mode number p front) same_before one.told)
-    (subst (λ p. AreTold mode (number + length p) (piece ∷ behind) rest) same_before told_behind) in
+    told-append aim number before (piece ∷ behind) front rest (subst (λ p. AreTold aim number p front) same_before one.told)
+    (subst (λ p. AreTold aim (number + length p) (piece ∷ behind) rest) same_before told_behind) in
     let joined : all ≡ front ++ rest =
-    same_report mode number (before ++ piece ∷ behind) all (front ++ rest) whole.told both in record {
+    same_report aim number (before ++ piece ∷ behind) all (front ++ rest) whole.told both in record {
       same_before = same_before;
       same_behind = same_behind;
       reported = joined;

@@ -7,31 +7,31 @@ use Rattle.pgn_text.specs.Marks.{marked, within as in_limit}
 use Rattle.pgn_text.specs.Pieces as spec
 use Rattle.pgn_text.specs.declared.cut.Piece.{Piece}
 use Rattle.pgn_extract.specs.Blockwise.{Reports, ReportsBlock, AddsPiece}
-use Rattle.pgn_extract.specs.declared.lines.Report.{Report}
-use Rattle.pgn_extract.specs.declared.settings.Mode.{Mode}
+use Rattle.pgn_extract.specs.declared.report.Report.{Report}
+use Rattle.pgn_extract.specs.Aims.{Aim}
 use Rattle.pgn_extract.proofs.Telling.{reports_more}
 
 -- some pieces are given and told, and those that are left complete them
-pub record Listed (mode : Mode) (start now : Left) (report : Report) (number offset : ℕ) : Type 0 where
+pub record Listed (aim : Aim) (start now : Left) (report : Report) (number offset : ℕ) : Type 0 where
   pub done : List spec.Piece
   pub completes : (more : List spec.Piece) → ArePiecesLeft 64 now more → ArePiecesLeft 64 start (done ++ more)
-  pub told : Reports mode report number (map (marked offset) done)
+  pub told : Reports aim report number (map (marked offset) done)
   pub few : length done ≤ now.at
   pub within : now.at ≤ length now.block
   pub same : now.block ≡ start.block
   pub sound : now.failed ≡ false
 
-module _ {mode : Mode} {start now : Left} {report : Report} {number offset : ℕ} (l : Listed mode start now report number offset) where
+module _ {aim : Aim} {start now : Left} {report : Report} {number offset : ℕ} (l : Listed aim start now report number offset) where
   -- one more piece
   pub listed_more : {next : Left} {report' : Report} {here : ℕ} (piece : Piece) → TakesPiece 64 now next piece → here ≡ number + report.games
-      → AddsPiece mode report report' here offset piece → Listed mode start next report' number offset
+      → AddsPiece aim report report' here offset piece → Listed aim start next report' number offset
   listed_more {next} {report'} {here} piece takes is adds = record {
     done = l.done ++ takes.shown ∷ [];
     completes = λ more left.
         subst (ArePiecesLeft 64 start) (sym (append_assoc l.done (takes.shown ∷ []) more)) (l.completes (takes.shown ∷ more) (takes.completes more left));
     told =
-        let more = reports_more mode report report' number here (map (marked offset) l.done) (marked offset takes.shown) l.told (is ∙ ap (λ n. number + n) l.told.games) (adds takes.shown takes.is) in
-        subst (Reports mode report' number) (sym (map_push (marked offset) l.done takes.shown)) more;
+        let more = reports_more aim report report' number here (map (marked offset) l.done) (marked offset takes.shown) l.told (is ∙ ap (λ n. number + n) l.told.games) (adds takes.shown takes.is) in
+        subst (Reports aim report' number) (sym (map_push (marked offset) l.done takes.shown)) more;
     few = let f = l.few in let g = takes.grows in omega (arith, length-append l.done (takes.shown ∷ []));
     within = takes.within;
     same = takes.same.0 ∙ l.same;
@@ -40,7 +40,7 @@ module _ {mode : Mode} {start now : Left} {report : Report} {number offset : ℕ
 
   -- all of them, where none is left
   pub listed_all : (block : List ℕ) → start ≡ record { block = block; file_start = offset == 0; at = 0; failed = false } → length block ≤ 1048576
-      → (now.failed ≡ true) ⊎ ArePiecesLeft 64 now [] → ReportsBlock mode report 1048576 64 number offset block
+      → (now.failed ≡ true) ⊎ ArePiecesLeft 64 now [] → ReportsBlock aim report 1048576 64 number offset block
   listed_all block is fits end = record {
     own = map (marked offset) l.done;
     each = in_limit fits l.done (subst (λ (s : Left). ArePiecesLeft 64 s l.done) is whole) refl;

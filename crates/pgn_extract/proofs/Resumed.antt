@@ -9,7 +9,7 @@ use Rattle.pgn_extract.specs.Outcomes.{Ends}
 use Rattle.pgn_extract.specs.Resuming.{told_at_least, Resumes}
 use Rattle.pgn_extract.specs.Telling.{Told, AreTold}
 use Rattle.pgn_extract.specs.declared.outcome.Summary.{Summary}
-use Rattle.pgn_extract.specs.declared.settings.Mode.{Mode}
+use Rattle.pgn_extract.specs.Aims.{Aim}
 use Rattle.pgn_extract.proofs.OneTold.{all_one_told}
 
 -- pieces that are all numbered high enough
@@ -21,18 +21,18 @@ at_least_all least number (told ∷ more) low =
     ∙ ap (λ rest. told ∷ rest) (at_least_all least (number + 1) more (omega arith))
 
 -- of the pieces before the mark nothing is kept, of those from it on all
-at_least_from : (mode : Mode) (number : ℕ) (before behind : List MarkedPiece) (tolds : List Told) → AreTold mode number (before ++ behind) tolds
-    → (later : List Told) × AreTold mode (length before + number) behind later × (told_at_least (length before + number) number tolds ≡ later)
-at_least_from mode number [] behind tolds all =
+at_least_from : (aim : Aim) (number : ℕ) (before behind : List MarkedPiece) (tolds : List Told) → AreTold aim number (before ++ behind) tolds
+    → (later : List Told) × AreTold aim (length before + number) behind later × (told_at_least (length before + number) number tolds ≡ later)
+at_least_from aim number [] behind tolds all =
     let none : number ≡ 0 + number = omega arith in
-    (tolds, subst (λ n. AreTold mode n behind tolds) none all, at_least_all (0 + number) number tolds (omega arith))
-at_least_from mode number (piece ∷ before) behind tolds (told, rest, parted, is, others) =
+    (tolds, subst (λ n. AreTold aim n behind tolds) none all, at_least_all (0 + number) number tolds (omega arith))
+at_least_from aim number (piece ∷ before) behind tolds (told, rest, parted, is, others) =
     let least = length (piece ∷ before) + number in
     let above : nat_le least number ≡ false = grind (arith, nat_tests) in
     let next : length before + (number + 1) ≡ least = omega arith in
-    let from = at_least_from mode (number + 1) before behind rest others in (
+    let from = at_least_from aim (number + 1) before behind rest others in (
       from.0,
-      subst (λ n. AreTold mode n behind from.0) next from.1,
+      subst (λ n. AreTold aim n behind from.0) next from.1,
       ap (told_at_least least number) parted
           ∙ ap (λ b. if b then told ∷ told_at_least least (number + 1) rest else told_at_least least (number + 1) rest) above
           ∙ ap (λ n. told_at_least n (number + 1) rest) (sym next) ∙ from.2,
@@ -40,20 +40,20 @@ at_least_from mode number (piece ∷ before) behind tolds (told, rest, parted, i
 
 module _ (one_replay : GameHasOneReplay) (one_fault : GameHasOneFault) (no_fault : SoundGameHasNoFault) where
   -- what a run told of the rest is what the whole has from the mark on
-  pub resumes_of : (mode : Mode) (limit max_depth number offset : ℕ) (whole : List ℕ) (out out' err err' : Option (List ℕ)) (summary : Summary)
-      → Ends mode limit max_depth number offset whole out out' err err' summary → Resumes mode limit max_depth number offset whole out out' err err'
-  resumes_of mode limit max_depth number offset whole out out' err err' summary ends pieces all mark =
+  pub resumes_of : (aim : Aim) (limit max_depth number offset : ℕ) (whole : List ℕ) (out out' err err' : Option (List ℕ)) (summary : Summary)
+      → Ends aim limit max_depth number offset whole out out' err err' summary → Resumes aim limit max_depth number offset whole out out' err err'
+  resumes_of aim limit max_depth number offset whole out out' err err' summary ends pieces all mark =
       let rest = mark.piece ∷ mark.behind in
       let same : ends.pieces ≡ rest = resumed_pieces limit max_depth whole mark.before mark.piece mark.behind ends.pieces
       (subst (AreMarkedPieces limit max_depth 0 whole) mark.parted all)
       (subst (λ o. AreMarkedPieces limit max_depth o (drop o whole) ends.pieces) mark.placed ends.each) in
-      let own : AreTold mode number rest ends.tolds = subst (λ p. AreTold mode number p ends.tolds) same ends.told.each in record {
+      let own : AreTold aim number rest ends.tolds = subst (λ p. AreTold aim number p ends.tolds) same ends.told.each in record {
         tolds = ends.tolds;
         told = record { each = own; output = ends.told.output; faults = ends.told.faults };
         same = λ tolds told.
-            let from = at_least_from mode 1 mark.before rest tolds (subst (λ p. AreTold mode 1 p tolds) mark.parted told) in
-            all_one_told one_replay one_fault no_fault mode (length mark.before + 1) rest ends.tolds from.0
-            (subst (λ n. AreTold mode n rest ends.tolds) mark.numbered own) from.1
+            let from = at_least_from aim 1 mark.before rest tolds (subst (λ p. AreTold aim 1 p tolds) mark.parted told) in
+            all_one_told one_replay one_fault no_fault aim (length mark.before + 1) rest ends.tolds from.0
+            (subst (λ n. AreTold aim n rest ends.tolds) mark.numbered own) from.1
             ∙ sym from.2 ∙ ap (λ n. told_at_least n 1 tolds) (sym mark.numbered);
       }
 

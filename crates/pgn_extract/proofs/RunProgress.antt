@@ -18,7 +18,7 @@ use Rattle.pgn_extract.specs.declared.outcome.RunError.{RunError}
 use Rattle.pgn_extract.specs.declared.outcome.RunError.TheVariants.{Write, OutOfMemory}
 use Rattle.pgn_extract.specs.Telling.{Told, is_faulty}
 use Rattle.pgn_extract.specs.declared.outcome.Summary.{Summary}
-use Rattle.pgn_extract.specs.declared.settings.Mode.{Mode}
+use Rattle.pgn_extract.specs.Aims.{Aim}
 use Rattle.pgn_extract.proofs.Beginnings.{tells_kept, tells_more, begins_told, begins_more}
 use Rattle.pgn_extract.proofs.BlocksGiven.{Given, none_given, one_given, all_given, all_but_last, goes_on}
 use Rattle.pgn_extract.proofs.Dropping.{all_read}
@@ -31,13 +31,13 @@ turns true = 0
 turns false = 1
 
 -- some blocks are read, and their pieces told and counted
-pub record Progress (mode : Mode) (limit max_depth number offset : ℕ) (now : Window) (first left : Option (List ℕ)) (moved count : ℕ) (out out' err err' : Option (List ℕ)) (games faulty : ℕ) : Type 0 where
+pub record Progress (aim : Aim) (limit max_depth number offset : ℕ) (now : Window) (first left : Option (List ℕ)) (moved count : ℕ) (out out' err err' : Option (List ℕ)) (games faulty : ℕ) : Type 0 where
   pub bytes : List ℕ
   pub pieces : List MarkedPiece
   pub given : Given limit max_depth offset now bytes pieces
   pub reads : Reads first left moved count (bytes ++ now.ahead)
   pub tolds : List Told
-  pub told : Tells mode out out' err err' number pieces tolds
+  pub told : Tells aim out out' err err' number pieces tolds
   pub same : length tolds ≡ length pieces
   pub counted : games ≡ length pieces
   pub faults : faulty ≡ count_by is_faulty tolds
@@ -47,10 +47,10 @@ pub record Progress (mode : Mode) (limit max_depth number offset : ℕ) (now : W
   pub sound : (now.failed ≡ false) × (now.over ≡ false)
 
 -- at the start nothing is read and nothing told
-pub progress_start : {mode : Mode} {limit max_depth number offset : ℕ} {now : Window} (left : Option (List ℕ)) (moved : ℕ) (out err : Option (List ℕ)) → now ≡ fresh_window offset → offset ≤ 2 ^ 62
-    → Progress mode limit max_depth number offset now left left moved moved out out err err 0 0
-progress_start {mode} {limit} {max_depth} {number} {offset} {now} left moved out err is small =
-    subst (λ (w : Window). Progress mode limit max_depth number offset w left left moved moved out out err err 0 0) (sym is) record {
+pub progress_start : {aim : Aim} {limit max_depth number offset : ℕ} {now : Window} (left : Option (List ℕ)) (moved : ℕ) (out err : Option (List ℕ)) → now ≡ fresh_window offset → offset ≤ 2 ^ 62
+    → Progress aim limit max_depth number offset now left left moved moved out out err err 0 0
+progress_start {aim} {limit} {max_depth} {number} {offset} {now} left moved out err is small =
+    subst (λ (w : Window). Progress aim limit max_depth number offset w left left moved moved out out err err 0 0) (sym is) record {
       bytes = [];
       pieces = [];
       given = none_given refl refl;
@@ -73,8 +73,8 @@ known None last moved count read P reads holds = tt
 known (Some whole) None moved count read P reads holds = absurd reads.bytes
 known (Some whole) (Some rest) moved count read P reads holds = subst P (sym reads.bytes) (holds rest (λ end. end))
 
-module _ {mode : Mode} {limit max_depth number offset : ℕ} {now : Window} {first left : Option (List ℕ)} {moved count : ℕ} {out out' err err' : Option (List ℕ)} {games faulty : ℕ}
-    (p : Progress mode limit max_depth number offset now first left moved count out out' err err' games faulty) where
+module _ {aim : Aim} {limit max_depth number offset : ℕ} {now : Window} {first left : Option (List ℕ)} {moved count : ℕ} {out out' err err' : Option (List ℕ)} {games faulty : ℕ}
+    (p : Progress aim limit max_depth number offset now first left moved count out out' err err' games faulty) where
   -- no further block is shorter than the way to the end
   pub nearer : {next : Window} {left' : Option (List ℕ)} {read block : List ℕ} → IsCutOff now next left' read block
       → (2 ^ 62 - next.place) + turns next.ended < (2 ^ 62 - now.place) + turns now.ended
@@ -104,10 +104,10 @@ module _ {mode : Mode} {limit max_depth number offset : ℕ} {now : Window} {fir
   -- one more block is told
   pub progress_more : {next : Window} {left' : Option (List ℕ)} {count' from : ℕ} {read block : List ℕ} {out'' err'' : Option (List ℕ)} {told : Summary}
       → IsCutOff now next left' read block → Reads left left' count count' read → from + length block ≡ next.place
-      → TellsBlock mode limit max_depth (number + games) from block out' out'' err' err'' told
-      → Progress mode limit max_depth number offset next first left' moved count' out out'' err err'' (games + told.games) (faulty + told.faulty)
+      → TellsBlock aim limit max_depth (number + games) from block out' out'' err' err'' told
+      → Progress aim limit max_depth number offset next first left' moved count' out out'' err err'' (games + told.games) (faulty + told.faulty)
   progress_more {next} {left'} {count'} {from} {read} {block} {out''} {err''} {told} cut more place tells =
-      let own = subst (λ n. Tells mode out' out'' err' err'' (number + n) tells.own tells.tolds) p.counted tells.told in
+      let own = subst (λ n. Tells aim out' out'' err' err'' (number + n) tells.own tells.tolds) p.counted tells.told in
       let reads = total cut more in
       record {
         bytes = p.bytes ++ block;
@@ -131,10 +131,10 @@ module _ {mode : Mode} {limit max_depth number offset : ℕ} {now : Window} {fir
   -- one more block is told in part
   pub block_breaks : {next : Window} {left' : Option (List ℕ)} {count' from : ℕ} {read block : List ℕ} {out'' err'' : Option (List ℕ)} (error : RunError)
       → IsCutOff now next left' read block → Reads left left' count count' read → from + length block ≡ next.place
-      → BeginsBlock mode limit max_depth (number + games) from block out' out'' err' err'' → (error ≡ Write) ⊎ (error ≡ OutOfMemory)
-      → BreaksOff mode limit max_depth number offset first left' moved count' out out'' err err'' error
+      → BeginsBlock aim limit max_depth (number + games) from block out' out'' err' err'' → (error ≡ Write) ⊎ (error ≡ OutOfMemory)
+      → BreaksOff aim limit max_depth number offset first left' moved count' out out'' err err'' error
   block_breaks {next} {left'} {count'} {from} {read} {block} {out''} {err''} error cut more place begins kind =
-      let own = subst (λ n. Begins mode out' out'' err' err'' (number + n) begins.own) p.counted begins.told in
+      let own = subst (λ n. Begins aim out' out'' err' err'' (number + n) begins.own) p.counted begins.told in
       let reads = total cut more in
       let given = one_given p.given cut place begins.each in
       record {
@@ -143,7 +143,7 @@ module _ {mode : Mode} {limit max_depth number offset : ℕ} {now : Window} {fir
         size = let w = cut.within in let q = given.place in omega (arith, length-append (p.bytes ++ block) next.ahead);
         stands =
             let begun = known first left' moved count' ((p.bytes ++ block) ++ next.ahead)
-            (λ whole. BeginsFirst mode limit max_depth number offset whole out out'' err err'') reads
+            (λ whole. BeginsFirst aim limit max_depth number offset whole out out'' err err'') reads
             (λ rest end.
             let others = goes_on given rest (λ ended. ((cut.last ended).0, end (cut.last ended).1)) in
             record {
@@ -152,15 +152,15 @@ module _ {mode : Mode} {limit max_depth number offset : ℕ} {now : Window} {fir
               told = begins_more p.told begins.own others.0 own;
             }) in
             elim kind [
-              | inl is ↦ subst (StandsOver mode limit max_depth number offset first ((p.bytes ++ block) ++ next.ahead) out out'' err err'') (sym is) begun
-              | inr is ↦ subst (StandsOver mode limit max_depth number offset first ((p.bytes ++ block) ++ next.ahead) out out'' err err'') (sym is) begun
+              | inl is ↦ subst (StandsOver aim limit max_depth number offset first ((p.bytes ++ block) ++ next.ahead) out out'' err err'') (sym is) begun
+              | inr is ↦ subst (StandsOver aim limit max_depth number offset first ((p.bytes ++ block) ++ next.ahead) out out'' err err'') (sym is) begun
             ];
       }
 
   -- all blocks are told
   pub all_told : {left' : Option (List ℕ)} {count' : ℕ} {out'' err'' : Option (List ℕ)} {summary : Summary} → now.ended ≡ true → Reads left left' count count' []
       → Keeps out' out'' → Keeps err' err'' → summary.games ≡ games → summary.faulty ≡ faulty
-      → EndsBlocks mode limit max_depth number offset first left' moved count' out out'' err err'' summary
+      → EndsBlocks aim limit max_depth number offset first left' moved count' out out'' err err'' summary
   all_told {left'} {count'} {out''} {err''} {summary} ended more out_kept err_kept counted faults =
       let none = (p.last ended).0 in
       let here : (p.bytes ++ now.ahead) ++ [] ≡ p.bytes = append-nil (p.bytes ++ now.ahead) ∙ ap (λ t. p.bytes ++ t) none ∙ append-nil p.bytes in
@@ -179,7 +179,7 @@ module _ {mode : Mode} {limit max_depth number offset : ℕ} {now : Window} {fir
 
   -- all blocks are told, and a flush failed
   pub flush_breaks : {left' : Option (List ℕ)} {count' : ℕ} {out'' err'' : Option (List ℕ)} (error : RunError) → now.ended ≡ true → Reads left left' count count' []
-      → Keeps out' out'' → Keeps err' err'' → error ≡ Write → BreaksOff mode limit max_depth number offset first left' moved count' out out'' err err'' error
+      → Keeps out' out'' → Keeps err' err'' → error ≡ Write → BreaksOff aim limit max_depth number offset first left' moved count' out out'' err err'' error
   flush_breaks {left'} {count'} {out''} {err''} error ended more out_kept err_kept is =
       let none = (p.last ended).0 in
       let here : (p.bytes ++ now.ahead) ++ [] ≡ p.bytes = append-nil (p.bytes ++ now.ahead) ∙ ap (λ t. p.bytes ++ t) none ∙ append-nil p.bytes in
@@ -187,24 +187,24 @@ module _ {mode : Mode} {limit max_depth number offset : ℕ} {now : Window} {fir
         read = p.bytes;
         reads = subst (λ r. Reads first left' moved count' r) here (reads_join first left left' moved count count' (p.bytes ++ now.ahead) [] p.reads more);
         size = let w = p.within in let q = p.given.place in omega arith;
-        stands = subst (StandsOver mode limit max_depth number offset first p.bytes out out'' err err'') (sym is) (begun first (p.last ended).1);
+        stands = subst (StandsOver aim limit max_depth number offset first p.bytes out out'' err err'') (sym is) (begun first (p.last ended).1);
       }
     where
-      all : BeginsFirst mode limit max_depth number offset p.bytes out out'' err err''
+      all : BeginsFirst aim limit max_depth number offset p.bytes out out'' err err''
       all = record {
         pieces = p.pieces ++ [];
         each = subst (AreMarkedPieces limit max_depth offset p.bytes) (sym (append-nil p.pieces)) (all_given p.given ended (p.last ended).0);
         told = begins_told (tells_kept p.told out_kept err_kept) [];
       }
 
-      begun : (f : Option (List ℕ)) → IfSome f (λ whole. whole ≡ p.bytes) → IfSome f (λ whole. BeginsFirst mode limit max_depth number offset whole out out'' err err'')
+      begun : (f : Option (List ℕ)) → IfSome f (λ whole. whole ≡ p.bytes) → IfSome f (λ whole. BeginsFirst aim limit max_depth number offset whole out out'' err err'')
       begun None is = tt
-      begun (Some whole) is = subst (λ w. BeginsFirst mode limit max_depth number offset w out out'' err err'') (sym is) all
+      begun (Some whole) is = subst (λ w. BeginsFirst aim limit max_depth number offset w out out'' err err'') (sym is) all
 
   -- the next block could not be read
   pub read_breaks : {left' : Option (List ℕ)} {count' : ℕ} (read : List ℕ) (error : ReadError) → Reads left left' count count' read
       → (now.ended ≡ true → error ≡ cause.Failed) → error ≢ cause.Failed → FailsAfter now.place now.ahead read error
-      → BreaksOff mode limit max_depth number offset first left' moved count' out out' err err' (run_error_of error)
+      → BreaksOff aim limit max_depth number offset first left' moved count' out out' err err' (run_error_of error)
   read_breaks {left'} {count'} read error more last other fails = by_kind error last other fails
     where
       all : Reads first left' moved count' (p.bytes ++ (now.ahead ++ read))
@@ -217,7 +217,7 @@ module _ {mode : Mode} {limit max_depth number offset : ℕ} {now : Window} {fir
       fits size h = let q = p.given.place in omega (arith, length-append p.bytes (now.ahead ++ read))
 
       by_kind : (e : ReadError) → (now.ended ≡ true → e ≡ cause.Failed) → e ≢ cause.Failed → FailsAfter now.place now.ahead read e
-          → BreaksOff mode limit max_depth number offset first left' moved count' out out' err err' (run_error_of e)
+          → BreaksOff aim limit max_depth number offset first left' moved count' out out' err err' (run_error_of e)
       by_kind cause.Read l o f = record {
         read = p.bytes ++ (now.ahead ++ read);
         reads = all;
@@ -228,7 +228,7 @@ module _ {mode : Mode} {limit max_depth number offset : ℕ} {now : Window} {fir
         read = p.bytes ++ (now.ahead ++ read);
         reads = all;
         size = fits (2 ^ 62 + 1) (omega arith);
-        stands = known first left' moved count' (p.bytes ++ (now.ahead ++ read)) (λ whole. BeginsFirst mode limit max_depth number offset whole out out' err err') all
+        stands = known first left' moved count' (p.bytes ++ (now.ahead ++ read)) (λ whole. BeginsFirst aim limit max_depth number offset whole out out' err err') all
             (λ rest end.
             let others = goes_on p.given (read ++ rest) (λ ended. absurd (both_ways now.ended (going cause.OutOfMemory l o) ended)) in
             let shape : p.bytes ++ (now.ahead ++ (read ++ rest)) ≡ (p.bytes ++ (now.ahead ++ read)) ++ rest =

@@ -6,8 +6,8 @@ use Rattle.std.proofs.lemmas.List.{append-nil}
 use Rattle.pgn_text.specs.Marks.{MarkedPiece}
 use Rattle.pgn_extract.specs.Blockwise.{Reports, AddsMark}
 use Rattle.pgn_extract.specs.Telling.{Told, AreTold, output_of, fault_line_of, output_text, fault_lines, is_faulty}
-use Rattle.pgn_extract.specs.declared.lines.Report.{Report}
-use Rattle.pgn_extract.specs.declared.settings.Mode.{Mode}
+use Rattle.pgn_extract.specs.declared.report.Report.{Report}
+use Rattle.pgn_extract.specs.Aims.{Aim}
 
 -- what goes to the output of some, and then of others
 pub output_text-append : (xs ys : List Told) → output_text (xs ++ ys) ≡ output_text xs ++ output_text ys
@@ -21,14 +21,14 @@ fault_lines-append (x ∷ xs) ys =
     ap (λ t. fault_line_of x ++ t) (fault_lines-append xs ys) ∙ sym (append_assoc (fault_line_of x) (fault_lines xs) (fault_lines ys))
 
 -- pieces are told, and others behind them
-pub told-append : (mode : Mode) (number : ℕ) (xs ys : List MarkedPiece) (first second : List Told) → AreTold mode number xs first
-    → AreTold mode (number + length xs) ys second → AreTold mode number (xs ++ ys) (first ++ second)
-told-append mode number [] ys first second none others =
+pub told-append : (aim : Aim) (number : ℕ) (xs ys : List MarkedPiece) (first second : List Told) → AreTold aim number xs first
+    → AreTold aim (number + length xs) ys second → AreTold aim number (xs ++ ys) (first ++ second)
+told-append aim number [] ys first second none others =
     let start : number + length {A = MarkedPiece} [] ≡ number = omega arith in
-    subst (λ t. AreTold mode number ys (t ++ second)) (sym none) (subst (λ n. AreTold mode n ys second) start others)
-told-append mode number (x ∷ xs) ys first second (own, rest, parted, here, more) others =
+    subst (λ t. AreTold aim number ys (t ++ second)) (sym none) (subst (λ n. AreTold aim n ys second) start others)
+told-append aim number (x ∷ xs) ys first second (own, rest, parted, here, more) others =
     let next : number + length (x ∷ xs) ≡ number + 1 + length xs = omega arith in
-    (own, rest ++ second, ap (λ t. t ++ second) parted, here, told-append mode (number + 1) xs ys rest second more (subst (λ n. AreTold mode n ys second) next others))
+    (own, rest ++ second, ap (λ t. t ++ second) parted, here, told-append aim (number + 1) xs ys rest second more (subst (λ n. AreTold aim n ys second) next others))
 
 -- a count that begins at another number
 count_from : (a : ℕ) (xs : List Told)
@@ -52,12 +52,12 @@ joined : (front one whole : List ℕ) → whole ≡ front ++ (one ++ []) → fro
 joined front one whole e = ap (λ t. front ++ t) (sym (append-nil one)) ∙ sym e
 
 -- one more piece
-pub reports_more : (mode : Mode) (old new : Report) (number here : ℕ) (pieces : List MarkedPiece) (piece : MarkedPiece) → Reports mode old number pieces
-    → here ≡ number + length pieces → AddsMark mode old new here piece → Reports mode new number (pieces ++ piece ∷ [])
-reports_more mode old new number here pieces piece reports is (told, how, adds) = record {
+pub reports_more : (aim : Aim) (old new : Report) (number here : ℕ) (pieces : List MarkedPiece) (piece : MarkedPiece) → Reports aim old number pieces
+    → here ≡ number + length pieces → AddsMark aim old new here piece → Reports aim new number (pieces ++ piece ∷ [])
+reports_more aim old new number here pieces piece reports is (told, how, adds) = record {
   tolds = reports.tolds ++ told ∷ [];
-  each = told-append mode number pieces (piece ∷ []) reports.tolds (told ∷ []) reports.each
-      (subst (λ n. AreTold mode n (piece ∷ []) (told ∷ [])) is (told, [], refl, how, refl));
+  each = told-append aim number pieces (piece ∷ []) reports.tolds (told ∷ []) reports.each
+      (subst (λ n. AreTold aim n (piece ∷ []) (told ∷ [])) is (told, [], refl, how, refl));
   output = adds.output ∙ ap (λ t. t ++ output_of told) reports.output ∙ joined _ _ _ (output_text-append reports.tolds (told ∷ []));
   faults = adds.faults ∙ ap (λ t. t ++ fault_line_of told) reports.faults ∙ joined _ _ _ (fault_lines-append reports.tolds (told ∷ []));
   same = omega (arith, reports.same, length-append reports.tolds (told ∷ []), length-append pieces (piece ∷ []));

@@ -10,7 +10,7 @@ use Rattle.pgn_extract.specs.Outcomes.{Ends, Stands, TellsComplete, BeginsAll}
 use Rattle.pgn_extract.specs.declared.outcome.RunError.{RunError}
 use Rattle.pgn_extract.specs.declared.outcome.RunError.TheVariants.{Read, Write, OutOfMemory, InputTooLong}
 use Rattle.pgn_extract.specs.declared.outcome.Summary.{Summary}
-use Rattle.pgn_extract.specs.declared.settings.Mode.{Mode}
+use Rattle.pgn_extract.specs.Aims.{Aim}
 use Rattle.pgn_extract.proofs.BegunAll.{begun_all}
 use Rattle.pgn_extract.proofs.Writing.{appends_none}
 
@@ -48,11 +48,11 @@ none_complete limit max_depth offset = record {
     nothing [] y e = sym e
     nothing (z ∷ x) y e = cc
 
-module _ (mode : Mode) (limit max_depth number offset : ℕ) where
+module _ (aim : Aim) (limit max_depth number offset : ℕ) where
   -- the whole input is told
   pub ends_whole : (first mid last : Option (List ℕ)) {out out' err err' : Option (List ℕ)} {moved count moved' : ℕ} {summary : Summary}
-      → Drops first mid moved count offset → EndsBlocks mode limit max_depth number offset mid last count moved' out out' err err' summary
-      → IfSome first (λ whole. Ends mode limit max_depth number offset whole out out' err err' summary)
+      → Drops first mid moved count offset → EndsBlocks aim limit max_depth number offset mid last count moved' out out' err err' summary
+      → IfSome first (λ whole. Ends aim limit max_depth number offset whole out out' err err' summary)
   ends_whole None mid last d e = tt
   ends_whole (Some whole) None last d e = absurd d.reads.bytes
   ends_whole (Some whole) (Some rest) last d e = record {
@@ -72,11 +72,11 @@ module _ (mode : Mode) (limit max_depth number offset : ℕ) where
 
   -- a read failed within the bytes to be dropped
   pub skip_stands : (first last : Option (List ℕ)) {moved moved' : ℕ} (out err : Option (List ℕ)) (error : RunError) → error ≡ Read → moved ≡ 0 → offset ≤ 2 ^ 62
-      → DropsSome first last moved moved' offset → IfSome first (λ whole. Stands mode limit max_depth number offset whole moved' out out err err error)
+      → DropsSome first last moved moved' offset → IfSome first (λ whole. Stands aim limit max_depth number offset whole moved' out out err err error)
   skip_stands None last out err error is zero small d = tt
   skip_stands (Some whole) None out err error is zero small d = absurd d.reads.bytes
   skip_stands (Some whole) (Some rest) {moved} {moved'} out err error is zero small d =
-      subst (Stands mode limit max_depth number offset whole moved' out out err err) (sym is) record {
+      subst (Stands aim limit max_depth number offset whole moved' out out err err) (sym is) record {
         pieces = [];
         each = subst (λ t. AreCompletePieces limit max_depth offset t []) (sym none) (none_complete limit max_depth offset);
         tolds = [];
@@ -91,8 +91,8 @@ module _ (mode : Mode) (limit max_depth number offset : ℕ) where
 
   -- what stands after an error, over the whole input
   pub stands_whole : (first mid last : Option (List ℕ)) {out out' err err' : Option (List ℕ)} {moved count moved' : ℕ} (error : RunError) → moved ≡ 0 → offset ≤ 2 ^ 62
-      → Drops first mid moved count offset → BreaksOff mode limit max_depth number offset mid last count moved' out out' err err' error
-      → IfSome first (λ whole. Stands mode limit max_depth number offset whole moved' out out' err err' error)
+      → Drops first mid moved count offset → BreaksOff aim limit max_depth number offset mid last count moved' out out' err err' error
+      → IfSome first (λ whole. Stands aim limit max_depth number offset whole moved' out out' err err' error)
   stands_whole None mid last error zero small d b = tt
   stands_whole (Some whole) None last error zero small d b = absurd d.reads.bytes
   stands_whole (Some whole) (Some rest) None error zero small d b = absurd b.reads.bytes
@@ -119,15 +119,15 @@ module _ (mode : Mode) (limit max_depth number offset : ℕ) where
           ap (λ t. drop offset (take moved' t)) shape ∙ ap (drop offset) (take_at (d.dropped ++ b.read) after moved' size)
           ∙ drop_is offset d.dropped b.read d.within none_read
 
-      begun : BeginsFirst mode limit max_depth number offset rest out out' err err'
-          → BeginsAll mode limit max_depth number offset (drop offset whole) out out' err err'
+      begun : BeginsFirst aim limit max_depth number offset rest out out' err err'
+          → BeginsAll aim limit max_depth number offset (drop offset whole) out out' err err'
       begun s =
-          begun_all mode limit max_depth number offset (drop offset whole) out out' err err'
-          (subst (λ t. BeginsFirst mode limit max_depth number offset t out out' err err') (sym kept) s)
+          begun_all aim limit max_depth number offset (drop offset whole) out out' err err'
+          (subst (λ t. BeginsFirst aim limit max_depth number offset t out out' err err') (sym kept) s)
 
-      by_kind : (e : RunError) → StandsOver mode limit max_depth number offset (Some rest) b.read out out' err err' e
-          → Stands mode limit max_depth number offset whole moved' out out' err err' e
-      by_kind Read s = subst (λ t. TellsComplete mode limit max_depth number offset t out out' err err') (sym read_part) s
+      by_kind : (e : RunError) → StandsOver aim limit max_depth number offset (Some rest) b.read out out' err err' e
+          → Stands aim limit max_depth number offset whole moved' out out' err err' e
+      by_kind Read s = subst (λ t. TellsComplete aim limit max_depth number offset t out out' err err') (sym read_part) s
       by_kind Write s = begun s
       by_kind OutOfMemory s = begun s
       by_kind InputTooLong s =
@@ -142,6 +142,6 @@ module _ (mode : Mode) (limit max_depth number offset : ℕ) where
                 ap (λ t. drop offset (take (2 ^ 62) t)) front ∙ ap (drop offset) (take_at (d.dropped ++ s.kept) (s.byte ∷ [] ++ after) (2 ^ 62) full)
                 ∙ drop_at d.dropped s.kept offset (let w = d.within in omega arith) in (
                   omega (arith, full, ap length front, length-append (d.dropped ++ s.kept) (s.byte ∷ [] ++ after)),
-                  subst (λ t. TellsComplete mode limit max_depth number offset t out out' err err') (sym part) s.told,
+                  subst (λ t. TellsComplete aim limit max_depth number offset t out out' err err') (sym part) s.told,
                 )
           ]

@@ -14,11 +14,11 @@ use Rattle.pgn_text.specs.declared.blocks.ReadError.{ReadError}
 use Rattle.pgn_text.specs.declared.blocks.ReadError.TheVariants as cause
 use Rattle.pgn_extract.specs.Outcomes.{AppendsFront, Tells, TellsComplete}
 use Rattle.pgn_extract.specs.Telling.{Told, IsListed, IsGameTold, IsTold, AreTold, output_of, fault_line_of, output_text, fault_lines, is_faulty}
-use Rattle.pgn_extract.specs.declared.lines.Report.{Report}
+use Rattle.pgn_extract.specs.declared.report.Report.{Report}
 use Rattle.pgn_extract.specs.declared.outcome.RunError.{RunError}
 use Rattle.pgn_extract.specs.declared.outcome.RunError.TheVariants.{Read, Write, OutOfMemory, InputTooLong}
 use Rattle.pgn_extract.specs.declared.outcome.Summary.{Summary}
-use Rattle.pgn_extract.specs.declared.settings.Mode.{Mode}
+use Rattle.pgn_extract.specs.Aims.{Aim}
 
 -- a body that is shown has no more bytes than the limit
 abbrev pub IsShown : ℕ → Body → Type 0
@@ -26,9 +26,9 @@ IsShown limit (Bytes shown) = length shown.now ≤ limit
 IsShown limit TooLong = Unit {0}
 
 -- the report tells the pieces, which are numbered from a number on, and counts them
-pub record Reports (mode : Mode) (report : Report) (number : ℕ) (pieces : List MarkedPiece) : Type 0 where
+pub record Reports (aim : Aim) (report : Report) (number : ℕ) (pieces : List MarkedPiece) : Type 0 where
   pub tolds : List Told
-  pub each : AreTold mode number pieces tolds
+  pub each : AreTold aim number pieces tolds
   pub output : report.output.items ≡ output_text tolds
   pub faults : report.faults.items ≡ fault_lines tolds
   pub same : length tolds ≡ length pieces
@@ -43,29 +43,29 @@ pub record AddsTold (old new : Report) (told : Told) (count : ℕ) : Type 0 wher
   pub faulty : new.faulty ≡ old.faulty + (if is_faulty told then 1 else 0)
 
 -- what the listing tells of the game that is given is added; the game isn't counted yet
-abbrev pub AddsListed : Report → Report → ℕ → ℕ → GameText → Type 0
-AddsListed old new number offset game =
-    (at : ℕ) (parts : List Part) → ShowsGame game at parts → (told : Told) × IsListed told number offset parts × AddsTold old new told 0
+abbrev pub AddsListed : Aim → Report → Report → ℕ → ℕ → GameText → Type 0
+AddsListed aim old new number offset game =
+    (at : ℕ) (parts : List Part) → ShowsGame game at parts → (told : Told) × IsListed aim told number offset parts × AddsTold old new told 0
 
 -- the same of what the mode tells
-abbrev pub AddsGame : Mode → Report → Report → ℕ → ℕ → GameText → Type 0
-AddsGame mode old new number offset game =
-    (at : ℕ) (parts : List Part) → ShowsGame game at parts → (told : Told) × IsGameTold mode number offset parts told × AddsTold old new told 0
+abbrev pub AddsGame : Aim → Report → Report → ℕ → ℕ → GameText → Type 0
+AddsGame aim old new number offset game =
+    (at : ℕ) (parts : List Part) → ShowsGame game at parts → (told : Told) × IsGameTold aim number offset parts told × AddsTold old new told 0
 
 -- what is told of the piece in the mode is added, and the piece counted
-abbrev pub AddsMark : Mode → Report → Report → ℕ → MarkedPiece → Type 0
-AddsMark mode old new number piece = (told : Told) × IsTold mode number piece told × AddsTold old new told 1
+abbrev pub AddsMark : Aim → Report → Report → ℕ → MarkedPiece → Type 0
+AddsMark aim old new number piece = (told : Told) × IsTold aim number piece told × AddsTold old new told 1
 
 -- the same, of the piece that is given
-abbrev pub AddsPiece : Mode → Report → Report → ℕ → ℕ → Piece → Type 0
-AddsPiece mode old new number offset piece =
-    (shown : spec.Piece) → IsPiece piece shown → AddsMark mode old new number (marked offset shown)
+abbrev pub AddsPiece : Aim → Report → Report → ℕ → ℕ → Piece → Type 0
+AddsPiece aim old new number offset piece =
+    (shown : spec.Piece) → IsPiece piece shown → AddsMark aim old new number (marked offset shown)
 
 -- the report tells the pieces of the block
-pub record ReportsBlock (mode : Mode) (report : Report) (limit max_depth number offset : ℕ) (block : List ℕ) : Type 0 where
+pub record ReportsBlock (aim : Aim) (report : Report) (limit max_depth number offset : ℕ) (block : List ℕ) : Type 0 where
   pub own : List MarkedPiece
   pub each : AreOfBlock limit max_depth offset block own
-  pub told : Reports mode report number own
+  pub told : Reports aim report number own
   pub few : length own ≤ length block
 
 -- the one piece of a block over the limit
@@ -73,31 +73,31 @@ abbrev pub too_long_piece : ℕ → MarkedPiece
 too_long_piece offset = record { offset = offset; kind = TooLongBlock }
 
 -- the pieces of the block are told and counted
-pub record TellsBlock (mode : Mode) (limit max_depth number offset : ℕ) (block : List ℕ) (out out' err err' : Option (List ℕ)) (summary : Summary) : Type 0 where
+pub record TellsBlock (aim : Aim) (limit max_depth number offset : ℕ) (block : List ℕ) (out out' err err' : Option (List ℕ)) (summary : Summary) : Type 0 where
   pub own : List MarkedPiece
   pub each : AreOfBlock limit max_depth offset block own
   pub tolds : List Told
-  pub told : Tells mode out out' err err' number own tolds
+  pub told : Tells aim out out' err err' number own tolds
   pub same : length tolds ≡ length own
   pub games : summary.games ≡ length own
   pub faulty : summary.faulty ≡ count_by is_faulty tolds
   pub few : length own ≤ length block
 
 -- each of the two grew by a beginning of what is told of the first of the pieces
-pub record Begins (mode : Mode) (out out' err err' : Option (List ℕ)) (number : ℕ) (pieces : List MarkedPiece) : Type 0 where
+pub record Begins (aim : Aim) (out out' err err' : Option (List ℕ)) (number : ℕ) (pieces : List MarkedPiece) : Type 0 where
   pub before : List MarkedPiece
   pub behind : List MarkedPiece
   pub parted : pieces ≡ before ++ behind
   pub tolds : List Told
-  pub each : AreTold mode number before tolds
+  pub each : AreTold aim number before tolds
   pub output : AppendsFront out out' (output_text tolds)
   pub faults : AppendsFront err err' (fault_lines tolds)
 
 -- what is told is a beginning of what is to be told of the block's pieces
-pub record BeginsBlock (mode : Mode) (limit max_depth number offset : ℕ) (block : List ℕ) (out out' err err' : Option (List ℕ)) : Type 0 where
+pub record BeginsBlock (aim : Aim) (limit max_depth number offset : ℕ) (block : List ℕ) (out out' err err' : Option (List ℕ)) : Type 0 where
   pub own : List MarkedPiece
   pub each : AreOfBlock limit max_depth offset block own
-  pub told : Begins mode out out' err err' number own
+  pub told : Begins aim out out' err err' number own
 
 -- reads dropped at most so many bytes, and fewer only at the end
 pub record Drops (left left' : Option (List ℕ)) (moved moved' most : ℕ) : Type 0 where
@@ -113,7 +113,7 @@ pub record DropsSome (left left' : Option (List ℕ)) (moved moved' most : ℕ) 
   pub within : length dropped ≤ most
 
 -- all bytes that were left are read, and their pieces told and counted
-pub record EndsBlocks (mode : Mode) (limit max_depth number offset : ℕ) (left left' : Option (List ℕ)) (moved moved' : ℕ) (out out' err err' : Option (List ℕ)) (summary : Summary) : Type 0 where
+pub record EndsBlocks (aim : Aim) (limit max_depth number offset : ℕ) (left left' : Option (List ℕ)) (moved moved' : ℕ) (out out' err err' : Option (List ℕ)) (summary : Summary) : Type 0 where
   pub read : List ℕ
   pub reads : Reads left left' moved moved' read
   pub all : IfSome left (λ whole. whole ≡ read)
@@ -121,41 +121,41 @@ pub record EndsBlocks (mode : Mode) (limit max_depth number offset : ℕ) (left 
   pub pieces : List MarkedPiece
   pub each : AreMarkedPieces limit max_depth offset read pieces
   pub tolds : List Told
-  pub told : Tells mode out out' err err' number pieces tolds
+  pub told : Tells aim out out' err err' number pieces tolds
   pub games : summary.games ≡ length pieces
   pub faulty : summary.faulty ≡ count_by is_faulty tolds
 
 -- one byte past the largest offset is read, and the pieces of the complete blocks before it are told
-pub record TellsUpToEnd (mode : Mode) (limit max_depth number offset : ℕ) (read : List ℕ) (out out' err err' : Option (List ℕ)) : Type 0 where
+pub record TellsUpToEnd (aim : Aim) (limit max_depth number offset : ℕ) (read : List ℕ) (out out' err err' : Option (List ℕ)) : Type 0 where
   pub kept : List ℕ
   pub byte : ℕ
   pub parted : read ≡ kept ++ byte ∷ []
   pub full : offset + length kept ≡ 2 ^ 62
-  pub told : TellsComplete mode limit max_depth number offset kept out out' err err'
+  pub told : TellsComplete aim limit max_depth number offset kept out out' err err'
 
 -- the same of all pieces of the bytes
-pub record BeginsFirst (mode : Mode) (limit max_depth number offset : ℕ) (bytes : List ℕ) (out out' err err' : Option (List ℕ)) : Type 0 where
+pub record BeginsFirst (aim : Aim) (limit max_depth number offset : ℕ) (bytes : List ℕ) (out out' err err' : Option (List ℕ)) : Type 0 where
   pub pieces : List MarkedPiece
   pub each : AreMarkedPieces limit max_depth offset bytes pieces
-  pub told : Begins mode out out' err err' number pieces
+  pub told : Begins aim out out' err err' number pieces
 
 -- what stands after an error, of the bytes read and those that were left
-abbrev pub StandsOver : Mode → ℕ → ℕ → ℕ → ℕ → Option (List ℕ) → List ℕ → Option (List ℕ) → Option (List ℕ) → Option (List ℕ) → Option (List ℕ) → RunError → Type 0
-StandsOver mode limit max_depth number offset left read out out' err err' Read =
-    TellsComplete mode limit max_depth number offset read out out' err err'
-StandsOver mode limit max_depth number offset left read out out' err err' InputTooLong =
-    TellsUpToEnd mode limit max_depth number offset read out out' err err'
-StandsOver mode limit max_depth number offset left read out out' err err' Write =
-    IfSome left (λ whole. BeginsFirst mode limit max_depth number offset whole out out' err err')
-StandsOver mode limit max_depth number offset left read out out' err err' OutOfMemory =
-    IfSome left (λ whole. BeginsFirst mode limit max_depth number offset whole out out' err err')
+abbrev pub StandsOver : Aim → ℕ → ℕ → ℕ → ℕ → Option (List ℕ) → List ℕ → Option (List ℕ) → Option (List ℕ) → Option (List ℕ) → Option (List ℕ) → RunError → Type 0
+StandsOver aim limit max_depth number offset left read out out' err err' Read =
+    TellsComplete aim limit max_depth number offset read out out' err err'
+StandsOver aim limit max_depth number offset left read out out' err err' InputTooLong =
+    TellsUpToEnd aim limit max_depth number offset read out out' err err'
+StandsOver aim limit max_depth number offset left read out out' err err' Write =
+    IfSome left (λ whole. BeginsFirst aim limit max_depth number offset whole out out' err err')
+StandsOver aim limit max_depth number offset left read out out' err err' OutOfMemory =
+    IfSome left (λ whole. BeginsFirst aim limit max_depth number offset whole out out' err err')
 
 -- the blocks were read and told in part, and then something failed
-pub record BreaksOff (mode : Mode) (limit max_depth number offset : ℕ) (left left' : Option (List ℕ)) (moved moved' : ℕ) (out out' err err' : Option (List ℕ)) (error : RunError) : Type 0 where
+pub record BreaksOff (aim : Aim) (limit max_depth number offset : ℕ) (left left' : Option (List ℕ)) (moved moved' : ℕ) (out out' err err' : Option (List ℕ)) (error : RunError) : Type 0 where
   pub read : List ℕ
   pub reads : Reads left left' moved moved' read
   pub size : offset + length read ≤ 2 ^ 62 + 1
-  pub stands : StandsOver mode limit max_depth number offset left read out out' err err' error
+  pub stands : StandsOver aim limit max_depth number offset left read out out' err err' error
 
 -- the error of a run for the error of its reader
 abbrev pub run_error_of : ReadError → RunError

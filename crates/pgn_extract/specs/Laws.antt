@@ -1,16 +1,16 @@
 -- What holds of the entries of every text, of its marks, and of what is reported of it.
-use Rattle.std.specs.Prelude.{◌≡◌, ◌↔◌, ◌⊎◌, ℕ, ◌+◌, ◌-◌, ◌<◌, List, [], ◌∷◌, ◌++◌, length, take, drop, count_by, Some}
+use Rattle.std.specs.Prelude.{◌≡◌, ◌↔◌, ◌⊎◌, ℕ, ◌+◌, ◌-◌, ◌<◌, List, [], ◌∷◌, ◌++◌, length, take, drop, count_by, Some, None}
 use Rattle.std.specs.List.{Contains, slice_get}
 use Rattle.pgn_text.specs.Marks.{ReadableGame, MarkedPiece, AreMarkedPieces}
 use Rattle.pgn_text.specs.Parts.{Part}
 use Rattle.pgn_game.specs.Replays.{Replay}
-use Rattle.pgn_extract.specs.Listing.{Entry, IsReplayOf, AreEntries}
+use Rattle.pgn_extract.specs.Listing.{Entry, IsReplayOf, tags_in, AreEntries}
 use Rattle.pgn_extract.specs.Resuming.{IsMarkAmong}
 use Rattle.pgn_extract.specs.Telling.{Told, AreTold, output_text, fault_lines, is_faulty}
-use Rattle.pgn_extract.specs.declared.settings.Mode.{Mode}
+use Rattle.pgn_extract.specs.Aims.{Aim, IsMet, IsEntry}
 
--- the entry names a sound game, by its place among the pieces and the offset of its first byte, and a ply of its main line
-pub record IsPlyOfGame (number : ℕ) (pieces : List MarkedPiece) (entry : Entry) : Type 0 where
+-- the entry names a sound game, by its place among the pieces and the offset of its first byte, and a ply of its main line that is listed
+pub record IsPlyOfGame (aim : Aim) (number : ℕ) (pieces : List MarkedPiece) (entry : Entry) : Type 0 where
   pub place : ℕ
   pub parts : List Part
   pub replay : Replay
@@ -18,12 +18,14 @@ pub record IsPlyOfGame (number : ℕ) (pieces : List MarkedPiece) (entry : Entry
   pub numbered : entry.number ≡ number + place
   pub is_replay : IsReplayOf parts replay
   pub within : entry.ply < length replay.positions
+  pub listed : IsEntry aim (tags_in parts) replay entry.ply
 
--- the entries of pieces are exactly the plies of the sound games among them
+-- the entries of pieces are exactly the plies of the sound games among them that are listed: within the bounds, at a position that meets the criteria,
+-- and where only the first of each game is asked for, the first such
 abbrev pub EntriesAreExact : Type 0
 EntriesAreExact =
-    (number : ℕ) (pieces : List MarkedPiece) (entries : List Entry) → AreEntries number pieces entries
-    → (entry : Entry) → (Contains entries entry ↔ IsPlyOfGame number pieces entry)
+    (aim : Aim) (number : ℕ) (pieces : List MarkedPiece) (entries : List Entry) → AreEntries aim number pieces entries
+    → (entry : Entry) → (Contains entries entry ↔ IsPlyOfGame aim number pieces entry)
 
 -- the first entry is of an earlier game, or of the same and at a lower ply
 abbrev pub IsEarlier : Entry → Entry → Type 0
@@ -36,7 +38,7 @@ Ascend (entry ∷ more) = ((later : Entry) → Contains more later → IsEarlier
 
 -- the entries of pieces stand in the order of their games and plies
 abbrev pub EntriesAscend : Type 0
-EntriesAscend = (number : ℕ) (pieces : List MarkedPiece) (entries : List Entry) → AreEntries number pieces entries → Ascend entries
+EntriesAscend = (aim : Aim) (number : ℕ) (pieces : List MarkedPiece) (entries : List Entry) → AreEntries aim number pieces entries → Ascend entries
 
 -- each piece of a text has a mark, which is one of them: its number, counted from 1, and its offset
 abbrev pub EachPieceHasAMark : Type 0
@@ -44,19 +46,33 @@ EachPieceHasAMark =
     (before : List MarkedPiece) (piece : MarkedPiece) (behind : List MarkedPiece)
     → IsMarkAmong (length before + 1) piece.offset (before ++ piece ∷ behind)
 
--- the pieces of each text are reported in one way in each mode, and only one
+-- each position of each sound game meets the criteria or does not
+abbrev pub IsDecided : Aim → Type 0
+IsDecided aim =
+    (parts : List Part) (replay : Replay) → IsReplayOf parts replay → (ply : ℕ) → ply < length replay.positions
+    → IsMet aim.criteria (tags_in parts) replay ply ⊎ (IsMet aim.criteria (tags_in parts) replay ply → ⊥)
+
+-- without criteria every position is decided
+abbrev pub NoCriteriaAreDecided : Type 0
+NoCriteriaAreDecided = (aim : Aim) → aim.criteria ≡ None → IsDecided aim
+
+-- the pieces of each text are reported in one way whatever is to be reported, where that is decided
+abbrev pub TextHasAReport : Type 0
+TextHasAReport =
+    (aim : Aim) → IsDecided aim → (limit max_depth number offset : ℕ) (text : List ℕ) (pieces : List MarkedPiece)
+    → AreMarkedPieces limit max_depth offset text pieces → (reported : List Told) × AreTold aim number pieces reported
+
+-- and in only one way
 abbrev pub TextHasOneReport : Type 0
 TextHasOneReport =
-    (mode : Mode) (limit max_depth number offset : ℕ) (text : List ℕ) (pieces : List MarkedPiece)
-    → AreMarkedPieces limit max_depth offset text pieces
-    → (reported : List Told) × AreTold mode number pieces reported
-    × ((others : List Told) → AreTold mode number pieces others → others ≡ reported)
+    (aim : Aim) (number : ℕ) (pieces : List MarkedPiece) (reported others : List Told)
+    → AreTold aim number pieces reported → AreTold aim number pieces others → others ≡ reported
 
 -- the text that begins at the offset has these pieces, which are numbered from a number on and reported so
-pub record IsTextReported (mode : Mode) (limit max_depth number offset : ℕ) (text : List ℕ) (pieces : List MarkedPiece)
+pub record IsTextReported (aim : Aim) (limit max_depth number offset : ℕ) (text : List ℕ) (pieces : List MarkedPiece)
     (reported : List Told) : Type 0 where
   pub each : AreMarkedPieces limit max_depth offset text pieces
-  pub told : AreTold mode number pieces reported
+  pub told : AreTold aim number pieces reported
 
 -- two parts of a text have its pieces, one part those before the cut and the other those behind, and what is reported of them, one behind
 -- the other, is what is reported of the whole: on the output and on standard error, and counted
@@ -72,10 +88,10 @@ pub record AreJoined (before behind first second : List MarkedPiece) (all front 
 -- from those of the first
 abbrev pub PartsJoin : Type 0
 PartsJoin =
-    (mode : Mode) (limit max_depth number offset : ℕ) (text : List ℕ)
+    (aim : Aim) (limit max_depth number offset : ℕ) (text : List ℕ)
     (before : List MarkedPiece) (piece : MarkedPiece) (behind : List MarkedPiece) (all : List Told)
-    → IsTextReported mode limit max_depth number offset text (before ++ piece ∷ behind) all
+    → IsTextReported aim limit max_depth number offset text (before ++ piece ∷ behind) all
     → (first second : List MarkedPiece) (front rest : List Told)
-    → IsTextReported mode limit max_depth number offset (take (piece.offset - offset) text) first front
-    → IsTextReported mode limit max_depth (number + length first) piece.offset (drop (piece.offset - offset) text) second rest
+    → IsTextReported aim limit max_depth number offset (take (piece.offset - offset) text) first front
+    → IsTextReported aim limit max_depth (number + length first) piece.offset (drop (piece.offset - offset) text) second rest
     → AreJoined before (piece ∷ behind) first second all front rest

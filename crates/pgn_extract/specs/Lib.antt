@@ -1,3 +1,4 @@
+pub mod Aims
 pub mod Blockwise
 pub mod Index
 pub mod Laws

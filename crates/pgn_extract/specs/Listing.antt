@@ -1,4 +1,4 @@
--- The listing of a text: the plies of the games whose main line can be replayed, each by the mark of its game.
+-- The listing of a text: plies of the games whose main line can be replayed, each by the mark of its game.
 use Rattle.std.specs.Prelude.{◌≡◌, ℕ, ◌+◌, List, [], ◌∷◌, ◌++◌, codes, decimal}
 use Rattle.chess.specs.Positions.{State}
 use Rattle.pgn_text.specs.Games.{items_of, first_tag}
@@ -7,6 +7,8 @@ use Rattle.pgn_text.specs.Parts.{Part}
 use Rattle.pgn_game.specs.Faults.{Fault, BadStart, IllegalMove, AmbiguousMove, IsFault}
 use Rattle.pgn_game.specs.Replays.{Replay, IsReplay}
 use Rattle.pgn_game.specs.Starts.{fen_tag}
+use Rattle.pgn_criteria.specs.Meeting.{Tags}
+use Rattle.pgn_extract.specs.Aims.{Aim, IsEntry}
 use Rattle.pgn_extract.specs.Index.{mark}
 
 -- an entry: a game, by its number and the offset of its first byte, and a ply of its main line
@@ -34,6 +36,21 @@ entries_from number offset ply (position ∷ more) =
 abbrev pub IsReplayOf : List Part → Replay → Type 0
 IsReplayOf parts replay = IsReplay (first_tag fen_tag parts) (items_of parts) replay
 
+-- the second list is what of the first has the fact, in its order
+pub data AreChosen (P : Entry → Type 0) : List Entry → List Entry → Type 0 where
+  none : AreChosen P [] []
+  keep : (entry : Entry) (all chosen : List Entry) → P entry → AreChosen P all chosen → AreChosen P (entry ∷ all) (entry ∷ chosen)
+  leave : (entry : Entry) (all chosen : List Entry) → (P entry → ⊥) → AreChosen P all chosen → AreChosen P (entry ∷ all) chosen
+
+-- the entries that a sound game with these tags lists, of its positions from ply 0 on
+abbrev pub AreListed : Aim → ℕ → ℕ → Tags → Replay → List Entry → Type 0
+AreListed aim number offset tags replay entries =
+    AreChosen (λ entry. IsEntry aim tags replay entry.ply) (entries_from number offset 0 replay.positions) entries
+
+-- for a name, the contents of the first tag with it among the parts of a game
+abbrev pub tags_in : List Part → Tags
+tags_in parts = λ name. first_tag name parts
+
 -- the game of these parts is faulty, and this is the fault of its main line
 abbrev pub IsFaultOf : List Part → Fault → Type 0
 IsFaultOf parts fault = IsFault (first_tag fen_tag parts) (items_of parts) fault
@@ -44,21 +61,21 @@ cause_text BadStart = codes "bad position"
 cause_text (IllegalMove word ply) = codes "illegal move " ++ word ++ codes " at ply " ++ decimal ply
 cause_text (AmbiguousMove word ply) = codes "ambiguous move " ++ word ++ codes " at ply " ++ decimal ply
 
--- the entries of a game: those of its positions from ply 0 on where it is sound, and none where it is faulty
-pub data AreGameEntries (number offset : ℕ) (parts : List Part) (entries : List Entry) : Type 0 where
-  sound : (replay : Replay) → IsReplayOf parts replay → entries ≡ entries_from number offset 0 replay.positions
-      → AreGameEntries number offset parts entries
-  faulty : (fault : Fault) → IsFaultOf parts fault → entries ≡ [] → AreGameEntries number offset parts entries
+-- the entries of a game: those that it lists where it is sound, and none where it is faulty
+pub data AreGameEntries (aim : Aim) (number offset : ℕ) (parts : List Part) (entries : List Entry) : Type 0 where
+  sound : (replay : Replay) → IsReplayOf parts replay → AreListed aim number offset (tags_in parts) replay entries
+      → AreGameEntries aim number offset parts entries
+  faulty : (fault : Fault) → IsFaultOf parts fault → entries ≡ [] → AreGameEntries aim number offset parts entries
 
 -- the entries of a piece: only a game that can be read has any
-abbrev pub ArePieceEntries : PieceKind → ℕ → ℕ → List Entry → Type 0
-ArePieceEntries (ReadableGame parts) number offset entries = AreGameEntries number offset parts entries
-ArePieceEntries UnreadableRest number offset entries = entries ≡ []
-ArePieceEntries TooLongBlock number offset entries = entries ≡ []
+abbrev pub ArePieceEntries : Aim → PieceKind → ℕ → ℕ → List Entry → Type 0
+ArePieceEntries aim (ReadableGame parts) number offset entries = AreGameEntries aim number offset parts entries
+ArePieceEntries aim UnreadableRest number offset entries = entries ≡ []
+ArePieceEntries aim TooLongBlock number offset entries = entries ≡ []
 
 -- the entries of pieces that are numbered from a number on: those of the first, and then those of the others
-abbrev pub AreEntries : ℕ → List MarkedPiece → List Entry → Type 0
-AreEntries number [] entries = entries ≡ []
-AreEntries number (piece ∷ more) entries =
+abbrev pub AreEntries : Aim → ℕ → List MarkedPiece → List Entry → Type 0
+AreEntries aim number [] entries = entries ≡ []
+AreEntries aim number (piece ∷ more) entries =
     (own : List Entry) × (rest : List Entry) × (entries ≡ own ++ rest)
-    × ArePieceEntries piece.kind number piece.offset own × AreEntries (number + 1) more rest
+    × ArePieceEntries aim piece.kind number piece.offset own × AreEntries aim (number + 1) more rest

@@ -1,5 +1,5 @@
 -- What stands on the output and on standard error once a run has ended.
-use Rattle.std.specs.Prelude.{◌≡◌, ℕ, ◌^◌, ◌<◌, ◌≤◌, List, length, take, drop, count_by, Option}
+use Rattle.std.specs.Prelude.{◌≡◌, ℕ, ◌^◌, ◌<◌, ◌≤◌, List, ◌++◌, length, take, drop, count_by, Option}
 use Rattle.std.specs.Io.KnownBytes.{Appends}
 use Rattle.pgn_text.specs.Complete.{AreCompletePieces}
 use Rattle.pgn_text.specs.Marks.{MarkedPiece, AreMarkedPieces}
@@ -9,26 +9,26 @@ use Rattle.pgn_extract.specs.Telling.{Told, AreTold, output_text, fault_lines, i
 use Rattle.pgn_extract.specs.declared.outcome.RunError.{RunError}
 use Rattle.pgn_extract.specs.declared.outcome.RunError.TheVariants.{Read, Write, OutOfMemory, InputTooLong}
 use Rattle.pgn_extract.specs.declared.outcome.Summary.{Summary}
-use Rattle.pgn_extract.specs.declared.settings.Mode.{Mode}
+use Rattle.pgn_extract.specs.Aims.{Aim}
 
 -- known bytes grow by a beginning of the bytes
 abbrev pub AppendsFront : Option (List ℕ) → Option (List ℕ) → List ℕ → Type 0
 AppendsFront old new bytes = (size : ℕ) × Appends old new (take size bytes)
 
 -- the pieces are told so in the mode, and the output and standard error grew by what is told
-pub record Tells (mode : Mode) (out out' err err' : Option (List ℕ)) (number : ℕ) (pieces : List MarkedPiece) (tolds : List Told) : Type 0 where
-  pub each : AreTold mode number pieces tolds
+pub record Tells (aim : Aim) (out out' err err' : Option (List ℕ)) (number : ℕ) (pieces : List MarkedPiece) (tolds : List Told) : Type 0 where
+  pub each : AreTold aim number pieces tolds
   pub output : Appends out out' (output_text tolds)
   pub faults : Appends err err' (fault_lines tolds)
 
 -- a run over all of the bytes of the input after the first `offset` told their pieces, and counted them; the input is no longer than the
 -- largest offset
-pub record Ends (mode : Mode) (limit max_depth number offset : ℕ) (whole : List ℕ) (out out' err err' : Option (List ℕ)) (summary : Summary) : Type 0 where
+pub record Ends (aim : Aim) (limit max_depth number offset : ℕ) (whole : List ℕ) (out out' err err' : Option (List ℕ)) (summary : Summary) : Type 0 where
   pub size : length whole ≤ 2 ^ 62
   pub pieces : List MarkedPiece
   pub each : AreMarkedPieces limit max_depth offset (drop offset whole) pieces
   pub tolds : List Told
-  pub told : Tells mode out out' err err' number pieces tolds
+  pub told : Tells aim out out' err err' number pieces tolds
   pub games : summary.games ≡ length pieces
   pub faulty : summary.faulty ≡ count_by is_faulty tolds
 
@@ -39,36 +39,41 @@ pub record Indexes (limit max_depth number offset : ℕ) (whole : List ℕ) (out
   pub indexed : Appends out out' (index number pieces)
 
 -- such a run wrote exactly the listing of the entries of the pieces
-pub record Lists (limit max_depth number offset : ℕ) (whole : List ℕ) (out out' : Option (List ℕ)) : Type 0 where
+pub record Lists (aim : Aim) (limit max_depth number offset : ℕ) (whole : List ℕ) (out out' : Option (List ℕ)) : Type 0 where
   pub pieces : List MarkedPiece
   pub each : AreMarkedPieces limit max_depth offset (drop offset whole) pieces
   pub entries : List Entry
-  pub are : AreEntries number pieces entries
+  pub are : AreEntries aim number pieces entries
   pub listed : Appends out out' (listing entries)
 
 -- the pieces of the complete blocks of some bytes are told, and nothing else
-pub record TellsComplete (mode : Mode) (limit max_depth number offset : ℕ) (bytes : List ℕ) (out out' err err' : Option (List ℕ)) : Type 0 where
+pub record TellsComplete (aim : Aim) (limit max_depth number offset : ℕ) (bytes : List ℕ) (out out' err err' : Option (List ℕ)) : Type 0 where
   pub pieces : List MarkedPiece
   pub each : AreCompletePieces limit max_depth offset bytes pieces
   pub tolds : List Told
-  pub told : Tells mode out out' err err' number pieces tolds
+  pub told : Tells aim out out' err err' number pieces tolds
 
--- each of the two grew by a beginning of what is reported of all pieces of the bytes
-pub record BeginsAll (mode : Mode) (limit max_depth number offset : ℕ) (bytes : List ℕ) (out out' err err' : Option (List ℕ)) : Type 0 where
+-- each of the two grew by a beginning of what is reported of the first pieces of the bytes, which is one of what is reported of all of them
+pub record BeginsAll (aim : Aim) (limit max_depth number offset : ℕ) (bytes : List ℕ) (out out' err err' : Option (List ℕ)) : Type 0 where
   pub pieces : List MarkedPiece
   pub each : AreMarkedPieces limit max_depth offset bytes pieces
+  pub before : List MarkedPiece
+  pub behind : List MarkedPiece
+  pub parted : pieces ≡ before ++ behind
   pub tolds : List Told
-  pub told : AreTold mode number pieces tolds
+  pub told : AreTold aim number before tolds
   pub output : AppendsFront out out' (output_text tolds)
   pub faults : AppendsFront err err' (fault_lines tolds)
+  pub whole : (all : List Told) → AreTold aim number pieces all
+      → AppendsFront out out' (output_text all) × AppendsFront err err' (fault_lines all)
 
 -- what stands after an error of a run over the input `whole`, of which it read the first `moved` bytes
-abbrev pub Stands : Mode → ℕ → ℕ → ℕ → ℕ → List ℕ → ℕ → Option (List ℕ) → Option (List ℕ) → Option (List ℕ) → Option (List ℕ) → RunError → Type 0
-Stands mode limit max_depth number offset whole moved out out' err err' Read =
-    TellsComplete mode limit max_depth number offset (drop offset (take moved whole)) out out' err err'
-Stands mode limit max_depth number offset whole moved out out' err err' InputTooLong =
-    (2 ^ 62 < length whole) × TellsComplete mode limit max_depth number offset (drop offset (take (2 ^ 62) whole)) out out' err err'
-Stands mode limit max_depth number offset whole moved out out' err err' Write =
-    BeginsAll mode limit max_depth number offset (drop offset whole) out out' err err'
-Stands mode limit max_depth number offset whole moved out out' err err' OutOfMemory =
-    BeginsAll mode limit max_depth number offset (drop offset whole) out out' err err'
+abbrev pub Stands : Aim → ℕ → ℕ → ℕ → ℕ → List ℕ → ℕ → Option (List ℕ) → Option (List ℕ) → Option (List ℕ) → Option (List ℕ) → RunError → Type 0
+Stands aim limit max_depth number offset whole moved out out' err err' Read =
+    TellsComplete aim limit max_depth number offset (drop offset (take moved whole)) out out' err err'
+Stands aim limit max_depth number offset whole moved out out' err err' InputTooLong =
+    (2 ^ 62 < length whole) × TellsComplete aim limit max_depth number offset (drop offset (take (2 ^ 62) whole)) out out' err err'
+Stands aim limit max_depth number offset whole moved out out' err err' Write =
+    BeginsAll aim limit max_depth number offset (drop offset whole) out out' err err'
+Stands aim limit max_depth number offset whole moved out out' err err' OutOfMemory =
+    BeginsAll aim limit max_depth number offset (drop offset whole) out out' err err'

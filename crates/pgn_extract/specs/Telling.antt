@@ -5,7 +5,8 @@ use Rattle.pgn_text.specs.Parts.{Part}
 use Rattle.pgn_game.specs.Faults.{Fault}
 use Rattle.pgn_game.specs.Replays.{Replay}
 use Rattle.pgn_extract.specs.Index.{fault_text, mark_line}
-use Rattle.pgn_extract.specs.Listing.{listing, entries_from, IsReplayOf, IsFaultOf, cause_text}
+use Rattle.pgn_extract.specs.Listing.{Entry, listing, AreListed, tags_in, IsReplayOf, IsFaultOf, cause_text}
+use Rattle.pgn_extract.specs.Aims.{Aim}
 use Rattle.pgn_extract.specs.declared.settings.Mode.{Mode}
 use Rattle.pgn_extract.specs.declared.settings.Mode.TheVariants as modes
 
@@ -41,30 +42,34 @@ abbrev pub fault_lines : List Told → List ℕ
 fault_lines [] = []
 fault_lines (told ∷ more) = fault_line_of told ++ fault_lines more
 
--- the game is told in the listing: where it is sound, by the lines of its entries, else by the line of its fault
-abbrev pub IsListed : Told → ℕ → ℕ → List Part → Type 0
-IsListed (SoundGame text) number offset parts =
-    (replay : Replay) × IsReplayOf parts replay × (text ≡ listing (entries_from number offset 0 replay.positions))
-IsListed (FaultyGame line) number offset parts =
+-- the game is told in the listing: where it is sound, by the lines of the entries that it lists, else by the line of its fault
+abbrev pub IsListed : Aim → Told → ℕ → ℕ → List Part → Type 0
+IsListed aim (SoundGame text) number offset parts =
+    (replay : Replay) × (entries : List Entry) × IsReplayOf parts replay × AreListed aim number offset (tags_in parts) replay entries × (text ≡ listing entries)
+IsListed aim (FaultyGame line) number offset parts =
     (fault : Fault) × IsFaultOf parts fault × (line ≡ fault_text number offset (cause_text fault))
 
--- a game that can be read is told so: in the index by its mark, in the listing as above
-abbrev pub IsGameTold : Mode → ℕ → ℕ → List Part → Told → Type 0
-IsGameTold modes.Index number offset parts told = told ≡ SoundGame (mark_line number offset)
-IsGameTold modes.List number offset parts told = IsListed told number offset parts
+-- a game that can be read is told so in a mode: in the index by its mark, in the listing as above
+abbrev pub IsToldIn : Mode → Aim → ℕ → ℕ → List Part → Told → Type 0
+IsToldIn modes.Index aim number offset parts told = told ≡ SoundGame (mark_line number offset)
+IsToldIn modes.List aim number offset parts told = IsListed aim told number offset parts
+
+-- a game that can be read is told so
+abbrev pub IsGameTold : Aim → ℕ → ℕ → List Part → Told → Type 0
+IsGameTold aim number offset parts told = IsToldIn aim.mode aim number offset parts told
 
 -- a piece is told so, by what it is: what can't be read is told in the same way in each mode
-abbrev pub IsPieceTold : PieceKind → Mode → ℕ → ℕ → Told → Type 0
-IsPieceTold (ReadableGame parts) mode number offset told = IsGameTold mode number offset parts told
-IsPieceTold UnreadableRest mode number offset told = told ≡ FaultyGame (fault_text number offset (codes "unreadable"))
-IsPieceTold TooLongBlock mode number offset told = told ≡ FaultyGame (fault_text number offset (codes "too long"))
+abbrev pub IsPieceTold : PieceKind → Aim → ℕ → ℕ → Told → Type 0
+IsPieceTold (ReadableGame parts) aim number offset told = IsGameTold aim number offset parts told
+IsPieceTold UnreadableRest aim number offset told = told ≡ FaultyGame (fault_text number offset (codes "unreadable"))
+IsPieceTold TooLongBlock aim number offset told = told ≡ FaultyGame (fault_text number offset (codes "too long"))
 
 -- the piece with this number is told so in the mode
-abbrev pub IsTold : Mode → ℕ → MarkedPiece → Told → Type 0
-IsTold mode number piece told = IsPieceTold piece.kind mode number piece.offset told
+abbrev pub IsTold : Aim → ℕ → MarkedPiece → Told → Type 0
+IsTold aim number piece told = IsPieceTold piece.kind aim number piece.offset told
 
 -- the pieces in a row, which are numbered from a number on, are told so one after the other
-abbrev pub AreTold : Mode → ℕ → List MarkedPiece → List Told → Type 0
-AreTold mode number [] tolds = tolds ≡ []
-AreTold mode number (piece ∷ more) tolds =
-    (own : Told) × (rest : List Told) × (tolds ≡ own ∷ rest) × IsTold mode number piece own × AreTold mode (number + 1) more rest
+abbrev pub AreTold : Aim → ℕ → List MarkedPiece → List Told → Type 0
+AreTold aim number [] tolds = tolds ≡ []
+AreTold aim number (piece ∷ more) tolds =
+    (own : Told) × (rest : List Told) × (tolds ≡ own ∷ rest) × IsTold aim number piece own × AreTold aim (number + 1) more rest

@@ -1,5 +1,5 @@
 //! The words of the command line, read by `clap`.
-use clap::{Arg, ArgAction, ArgMatches, Command, Error};
+use clap::{Arg, ArgAction, Command, Error, value_parser};
 use std::alloc::{AllocError, Global};
 
 /// What the words ask for, as texts.
@@ -9,6 +9,14 @@ pub struct Request<'a> {
     pub index: bool,
     /// `--list` was given.
     pub list: bool,
+    /// The path after `--criteria`.
+    pub criteria: Option<&'a str>,
+    /// The number after `--min-ply`, and 0 without it.
+    pub min_ply: u32,
+    /// The number after `--max-ply`, and the largest one without it.
+    pub max_ply: u32,
+    /// `--first` was given.
+    pub first: bool,
     /// The text after `--from`.
     pub from: Option<&'a str>,
     /// The path of the input; without it standard input is read.
@@ -17,13 +25,38 @@ pub struct Request<'a> {
 
 const ABOUT: &str = "Reads chess games in Portable Game Notation (PGN) and writes the index of the \
     file: for each game its mark N@O, its number and the offset of its first byte; or the listing: \
-    for each position of a game's main line the mark and the ply.";
+    for each position of a game's main line the mark and the ply, or for those alone that are looked for.";
 
 const AFTER_HELP: &str =
     "A game that cannot be read, or in the listing cannot be replayed, is told on standard \
     error.\n\
     Status: 0 no game was faulty, 1 a game was faulty, 2 the words were refused or a file could \
     not be opened, 3 the run failed.";
+
+/// The option for a file of criteria.
+fn criteria_option<'a>(alloc: Global) -> Arg<'a> {
+    Arg::new(alloc, "criteria")
+        .long("criteria")
+        .value_name("FILE")
+        .help("List only the positions that meet the criteria in FILE, as in --criteria mate.txt")
+}
+
+/// An option for a bound on the plies.
+fn ply_option<'a>(alloc: Global, name: &'a str, help: &'a str) -> Arg<'a> {
+    Arg::new(alloc, name)
+        .long(name)
+        .value_name("N")
+        .value_parser(value_parser!(u32))
+        .help(help)
+}
+
+/// The option for the first entry of each game.
+fn first_option<'a>(alloc: Global) -> Arg<'a> {
+    Arg::new(alloc, "first")
+        .long("first")
+        .action(ArgAction::SetTrue)
+        .help("List only the first entry of each game, as in --list --first --criteria mate.txt")
+}
 
 /// The command with its options.
 fn make_command<'a>(alloc: Global) -> Result<Command<'a>, AllocError> {
@@ -47,6 +80,14 @@ fn make_command<'a>(alloc: Global) -> Result<Command<'a>, AllocError> {
         .after_help(AFTER_HELP)
         .arg(index)?
         .arg(list)?
+        .arg(criteria_option(alloc))?
+        .arg(ply_option(
+            alloc,
+            "min-ply",
+            "List no ply below N, as in --min-ply 20; ply 0 is the starting position",
+        ))?
+        .arg(ply_option(alloc, "max-ply", "List no ply above N, as in --max-ply 40"))?
+        .arg(first_option(alloc))?
         .arg(from)?
         .arg(file)
 }
@@ -57,6 +98,10 @@ pub fn read_words<'a>(alloc: Global, words: &'a [String]) -> Result<Request<'a>,
     Ok(Request {
         index: matches.get_flag("index"),
         list: matches.get_flag("list"),
+        criteria: matches.get_str("criteria"),
+        min_ply: matches.get_one("min-ply").unwrap_or(0),
+        max_ply: matches.get_one("max-ply").unwrap_or(u32::MAX),
+        first: matches.get_flag("first"),
         from: matches.get_str("from"),
         file: matches.get_str("FILE"),
     })

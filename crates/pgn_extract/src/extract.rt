@@ -2,13 +2,14 @@
 ghost use Rattle.std.specs.Prelude.{◌≡◌, ◌↔◌, ◌⊎◌, ℕ, ◌+◌, ◌^◌, ◌<◌, ◌≤◌, false, true, List, [], length, drop, IsErrOf, IfOk, IfErr, IfSome, OnOk, OnErr};
 ghost use Rattle.std.specs.Io.KnownBytes.{Appends, Keeps};
 ghost use Rattle.pgn_text.specs.Windows.{Shows};
+ghost use Rattle.pgn_extract.specs.Aims.{aim_of};
 ghost use Rattle.pgn_extract.specs.Blockwise.{IsShown, TellsBlock, BeginsBlock, EndsBlocks, BreaksOff};
 ghost use Rattle.pgn_extract.specs.Outcomes.{AppendsFront, Ends, Indexes, Lists, Stands};
 ghost use Rattle.pgn_extract.specs.Resuming.{Resumes};
 
-use crate::lines::{Report, report_of};
 use crate::outcome::{RunError, Summary, of_read};
 use crate::put::{finish, put};
+use crate::report::{Report, report_of};
 use crate::settings::{Mode, Settings};
 use crate::skip::skip;
 use pgn_text::{Block, Blocks, Tally};
@@ -38,24 +39,24 @@ fn put_report<O: Write, E: Write>(
 }
 
 /// Writes what is told of the pieces of one block.
-fn put_block<O: Write, E: Write>(
+fn put_block<'a, O: Write, E: Write>(
     alloc: Global,
     out: &mut Tally<O>,
     err: &mut Tally<E>,
-    mode: Mode,
+    settings: &'a Settings,
     number: u64,
-    block: Block<'_>,
+    block: Block<'a>,
 ) -> Result<Summary, RunError>
     requires sound { (out.old.faulted ≡ false) × (err.old.faulted ≡ false) }
     requires number { number ≤ 2 ^ 63 }
     requires offset { block.offset ≤ 2 ^ 62 }
     requires size { IsShown 1048576 block.body }
     ensures ok { IfOk result (λ summary. (bytes : List ℕ) → Shows 1048576 block.entry.body bytes
-        → TellsBlock mode 1048576 64 number block.entry.offset bytes
+        → TellsBlock (aim_of settings.now) 1048576 64 number block.entry.offset bytes
         (O.contents out.old.inner) (O.contents out.new.inner)
         (E.contents err.old.inner) (E.contents err.new.inner) summary) }
     ensures err { OnErr result ((bytes : List ℕ) → Shows 1048576 block.entry.body bytes
-        → BeginsBlock mode 1048576 64 number block.entry.offset bytes
+        → BeginsBlock (aim_of settings.now) 1048576 64 number block.entry.offset bytes
         (O.contents out.old.inner) (O.contents out.new.inner)
         (E.contents err.old.inner) (E.contents err.new.inner)) }
     ensures only { IfErr result (λ error. (error ≡ RunError.Write) ⊎ (error ≡ RunError.OutOfMemory)) }
@@ -63,7 +64,7 @@ fn put_block<O: Write, E: Write>(
         ↔ ((out.new.faulted ≡ true) ⊎ (err.new.faulted ≡ true)) }
     ensures alone { (out.new.faulted ≡ true) × (err.new.faulted ≡ true) → ⊥ }
 {
-    let report = match report_of(alloc, mode, number, block) {
+    let report = match report_of(alloc, settings, number, block) {
         Ok(report) => report,
         Err(_) => return Err(RunError::OutOfMemory),
     };
@@ -96,23 +97,21 @@ fn finish_both<O: Write, E: Write>(out: &mut Tally<O>, err: &mut Tally<E>) -> Re
 /// Tells the pieces of the blocks that are left, and flushes the writers.
 fn run_blocks<R: Read, O: Write, E: Write>(
     alloc: Global,
-    offset: u64,
     input: &mut Tally<R>,
     out: &mut Tally<O>,
     err: &mut Tally<E>,
-    mode: Mode,
-    number: u64,
+    settings: &Settings,
 ) -> Result<Summary, RunError>
     requires sound { (input.old.faulted ≡ false) × (out.old.faulted ≡ false)
         × (err.old.faulted ≡ false) }
-    requires number { number ≤ 2 ^ 62 }
-    requires offset { offset ≤ 2 ^ 62 }
-    ensures ok { IfOk result (EndsBlocks mode 1048576 64 number offset
+    requires number { settings.now.number ≤ 2 ^ 62 }
+    requires offset { settings.now.offset ≤ 2 ^ 62 }
+    ensures ok { IfOk result (EndsBlocks (aim_of settings.now) 1048576 64 settings.now.number settings.now.offset
         (R.remaining input.old.inner) (R.remaining input.new.inner) input.old.moved input.new.moved
         (O.contents out.old.inner) (O.contents out.new.inner)
         (E.contents err.old.inner) (E.contents err.new.inner)) }
     ensures flushed { OnOk result ((out.new.flushed ≡ true) × (err.new.flushed ≡ true)) }
-    ensures err { IfErr result (BreaksOff mode 1048576 64 number offset
+    ensures err { IfErr result (BreaksOff (aim_of settings.now) 1048576 64 settings.now.number settings.now.offset
         (R.remaining input.old.inner) (R.remaining input.new.inner) input.old.moved input.new.moved
         (O.contents out.old.inner) (O.contents out.new.inner)
         (E.contents err.old.inner) (E.contents err.new.inner)) }
@@ -121,12 +120,19 @@ fn run_blocks<R: Read, O: Write, E: Write>(
         ↔ ((out.new.faulted ≡ true) ⊎ (err.new.faulted ≡ true)) }
     ensures alone { (out.new.faulted ≡ true) × (err.new.faulted ≡ true) → ⊥ }
 {
-    let mut blocks = Blocks::new(alloc, offset);
+    let mut blocks = Blocks::new(alloc, settings.offset);
     let mut games = 0;
     let mut faulty = 0;
     loop {
         match blocks.next(input) {
-            Ok(Some(block)) => match put_block(alloc, out, err, mode, number + games, block) {
+            Ok(Some(block)) => match put_block(
+                alloc,
+                out,
+                err,
+                settings,
+                settings.number + games,
+                block,
+            ) {
                 Ok(told) => {
                     games += told.games;
                     faulty += told.faulty;
@@ -159,7 +165,7 @@ pub fn run<R: Read, O: Write, E: Write>(
 
     // At `Ok` the whole input, of at most 2^62 bytes, is reported, and both writers are flushed.
     ensures ok { IfOk result (λ summary. IfSome (R.remaining input.old.inner) (λ whole.
-        Ends settings.now.mode 1048576 64 settings.now.number settings.now.offset whole
+        Ends (aim_of settings.now) 1048576 64 settings.now.number settings.now.offset whole
         (O.contents out.old.inner) (O.contents out.new.inner)
         (E.contents err.old.inner) (E.contents err.new.inner) summary)) }
     ensures flushed { OnOk result ((out.new.flushed ≡ true) × (err.new.flushed ≡ true)) }
@@ -169,19 +175,19 @@ pub fn run<R: Read, O: Write, E: Write>(
         → Indexes 1048576 64 settings.now.number settings.now.offset whole
         (O.contents out.old.inner) (O.contents out.new.inner))) }
     ensures lists { OnOk result (IfSome (R.remaining input.old.inner) (λ whole. settings.now.mode ≡ Mode.List
-        → Lists 1048576 64 settings.now.number settings.now.offset whole
+        → Lists (aim_of settings.now) 1048576 64 settings.now.number settings.now.offset whole
         (O.contents out.old.inner) (O.contents out.new.inner))) }
 
     // Begun at a mark of the whole input, the run tells exactly the rest of what a run over the whole tells.
     ensures resumes { OnOk result (IfSome (R.remaining input.old.inner) (λ whole.
-        Resumes settings.now.mode 1048576 64 settings.now.number settings.now.offset whole
+        Resumes (aim_of settings.now) 1048576 64 settings.now.number settings.now.offset whole
         (O.contents out.old.inner) (O.contents out.new.inner)
         (E.contents err.old.inner) (E.contents err.new.inner))) }
 
     // What stands after an error: a beginning of the whole report, or, where reading ended, the report of the complete blocks read.
     // And when each comes: at most one of the three has failed then.
     ensures err { IfErr result (λ error. IfSome (R.remaining input.old.inner) (λ whole.
-        Stands settings.now.mode 1048576 64 settings.now.number settings.now.offset whole input.new.moved
+        Stands (aim_of settings.now) 1048576 64 settings.now.number settings.now.offset whole input.new.moved
         (O.contents out.old.inner) (O.contents out.new.inner)
         (E.contents err.old.inner) (E.contents err.new.inner) error)) }
     ensures read_fault { IsErrOf result RunError.Read ↔ (input.new.faulted ≡ true) }
@@ -190,15 +196,7 @@ pub fn run<R: Read, O: Write, E: Write>(
     ensures alone { (out.new.faulted ≡ true) × (err.new.faulted ≡ true) → ⊥ }
 {
     match skip(input, settings.offset) {
-        Ok(()) => run_blocks(
-            alloc,
-            settings.offset,
-            input,
-            out,
-            err,
-            settings.mode,
-            settings.number,
-        ),
+        Ok(()) => run_blocks(alloc, input, out, err, settings),
         Err(error) => Err(error),
     }
 }

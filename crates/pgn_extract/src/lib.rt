@@ -4,14 +4,17 @@
 
 mod command;
 mod extract;
+mod front;
 pub mod laws;
-mod lines;
+mod listing;
 mod mark;
 mod messages;
 mod outcome;
 mod put;
+mod report;
 mod settings;
 mod skip;
+mod texts;
 mod tool;
 
 pub use extract::run;

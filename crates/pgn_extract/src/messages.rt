@@ -6,6 +6,10 @@ pub const BOTH_MODES: &str = "pgn-extract: --list and --index exclude each other
 
 pub const BAD_MARK: &str = "pgn-extract: bad mark\n";
 
+pub const CANNOT_READ_CRITERIA: &str = "pgn-extract: cannot read criteria\n";
+
+pub const CRITERIA_TOO_LONG: &str = "pgn-extract: criteria too long\n";
+
 pub const CANNOT_OPEN_INPUT: &str = "pgn-extract: cannot open input\n";
 
 pub const READ_FAILED: &str = "pgn-extract: read failed\n";

@@ -1,19 +1,28 @@
 //! What a run is to do.
+use pgn_criteria::Criteria;
 
 /// What a run writes.
 #[derive(Clone, Copy, Debug, PartialEq, Eq)]
 pub enum Mode {
     /// The mark of each readable game, on a line of its own.
     Index,
-    /// Each ply of each game whose main line can be replayed, on a line of its own.
+    /// Each entry on a line of its own: the mark of a game whose main line can be replayed, and a ply of it whose position is looked for.
     List,
 }
 
-/// What a run writes, and where in the file it begins.
-#[derive(Clone, Copy, Debug, PartialEq, Eq)]
+/// What a run writes, and where in the file it begins. With [`Mode::Index`] only `number` and `offset` have an effect.
+#[derive(Drop)]
 pub struct Settings {
     /// What is written.
     pub mode: Mode,
+    /// Which positions are looked for; without criteria, every one.
+    pub criteria: Option<Criteria>,
+    /// The least ply that is looked for. Ply 0 is the starting position.
+    pub min_ply: u32,
+    /// The largest ply that is looked for. Where it is less than the least one, none is.
+    pub max_ply: u32,
+    /// Whether of each game only the first entry is listed.
+    pub first: bool,
     /// The number of the first piece that the run meets.
     pub number: u64,
     /// How many bytes of the input are dropped first, and the offset of the first byte after them.

@@ -3,6 +3,7 @@ ghost use Rattle.std.specs.Prelude.{◌≡◌, ◌≤◌, ◌^◌, false, OnErr}
 
 use crate::command::{Request, read_words};
 use crate::extract::run;
+use crate::front::read_front;
 use crate::mark::{Mark, read_mark};
 use crate::messages;
 use crate::outcome::RunError;
@@ -10,6 +11,7 @@ use crate::put::put;
 use crate::settings::{Mode, Settings};
 use clap::Error;
 use clap::error::ErrorKind;
+use pgn_criteria::{Criteria, CriteriaError};
 use pgn_text::Tally;
 use std::alloc::{AllocError, Global};
 use std::io::{Read, Write};
@@ -18,7 +20,7 @@ use std::io::{Read, Write};
 pub trait Files {
     type Input: Read;
 
-    /// Opens the file at `path`: `Ok(None)` where it cannot be opened, an error for want of memory.
+    /// Opens the file at `path`: `Ok(None)` where it cannot be opened, an error where memory runs out.
     fn open(&mut self, path: &str) -> Result<Option<Self::Input>, AllocError>;
 
     /// Standard input.
@@ -39,8 +41,8 @@ const FAILED: u8 = 3;
 enum Refusal {
     /// The words ask for the help, which goes to standard output.
     Help(String),
-    /// `clap` refuses the words with this text.
-    Words(String),
+    /// The words, or the criteria, are refused with this text.
+    Text(String),
     /// One of the program's own refusals, with its line.
     Line(&'static str),
     OutOfMemory,
@@ -62,19 +64,18 @@ fn refused_words(alloc: Global, error: &Error) -> Refusal {
         return Refusal::OutOfMemory;
     }
     match format!(in alloc; "{error}") {
-        Ok(text) if error.use_stderr() => Refusal::Words(text),
+        Ok(text) if error.use_stderr() => Refusal::Text(text),
         Ok(text) => Refusal::Help(text),
         Err(_) => Refusal::OutOfMemory,
     }
 }
 
-/// What the words ask for: the settings of the run and the path of its input.
+/// What the words ask for.
 #[derive(Drop)]
 struct Order<'a> {
-    settings: Settings,
-    file: Option<&'a str>,
-    ghost number: { (1 ≤ settings.number) × (settings.number ≤ 2 ^ 62) },
-    ghost offset: { settings.offset ≤ 2 ^ 62 },
+    request: Request<'a>,
+    mode: Mode,
+    mark: Mark,
 }
 
 /// Reads the words and tests them in the order of the refusals: the words, the mode, the mark.
@@ -90,14 +91,10 @@ fn read_order<'a>(alloc: Global, words: &'a [String]) -> Result<Order<'a>, Refus
     let Some(mark) = mark_of(&request) else {
         return Err(Refusal::Line(messages::BAD_MARK));
     };
-    let settings = Settings {
-        mode,
-        number: mark.number,
-        offset: mark.offset,
-    };
     Ok(Order {
-        settings,
-        file: request.file,
+        request,
+        mode,
+        mark,
     })
 }
 
@@ -119,6 +116,47 @@ fn mark_of(request: &Request<'_>) -> Option<Mark> {
     }
 }
 
+/// The most bytes that are read of a file of criteria: one more than it may have.
+const CRITERIA_READ: usize = 65_537;
+
+/// The criteria in the file at the path, if one is given.
+fn read_criteria<F: Files>(
+    alloc: Global,
+    files: &mut F,
+    path: Option<&str>,
+) -> Result<Option<Criteria>, Refusal>
+where
+    F::Input: Drop,
+{
+    let Some(path) = path else {
+        return Ok(None);
+    };
+    let Some(mut input) = files.open(path)? else {
+        return Err(Refusal::Line(messages::CANNOT_READ_CRITERIA));
+    };
+    let Some(text) = read_front(alloc, &mut input, CRITERIA_READ)? else {
+        return Err(Refusal::Line(messages::CANNOT_READ_CRITERIA));
+    };
+    match Criteria::parse(alloc, &text) {
+        Ok(criteria) => Ok(Some(criteria)),
+        Err(error) => Err(refused_criteria(alloc, &error)),
+    }
+}
+
+/// The refusal of criteria.
+fn refused_criteria(alloc: Global, error: &CriteriaError) -> Refusal {
+    match error {
+        CriteriaError::TooLong => Refusal::Line(messages::CRITERIA_TOO_LONG),
+        CriteriaError::Line(number) => {
+            match format!(in alloc; "pgn-extract: criteria line {number}\n") {
+                Ok(line) => Refusal::Text(line),
+                Err(_) => Refusal::OutOfMemory,
+            }
+        }
+        CriteriaError::OutOfMemory => Refusal::OutOfMemory,
+    }
+}
+
 /// Opens the input: the file at the path, or standard input without one.
 fn open_input<F: Files>(files: &mut F, file: Option<&str>) -> Result<F::Input, Refusal> {
     let Some(path) = file else {
@@ -130,7 +168,7 @@ fn open_input<F: Files>(files: &mut F, file: Option<&str>) -> Result<F::Input, R
     }
 }
 
-/// Reads the words, opens the input and runs: the status, or what the program ends with before its run.
+/// Reads the words and the criteria, opens the input and runs: the status, or what the program ends with before its run.
 fn start<F: Files, O: Write, E: Write>(
     alloc: Global,
     words: &[String],
@@ -143,10 +181,24 @@ where
     requires { (out.old.faulted ≡ false) × (err.old.faulted ≡ false) }
     ensures { OnErr result (out.new.faulted ≡ false) }
 {
-    let order = read_order(alloc, words)?;
-    let input = open_input(files, order.file)?;
+    let Order {
+        request,
+        mode,
+        mark,
+    } = read_order(alloc, words)?;
+    let criteria = read_criteria(alloc, files, request.criteria)?;
+    let input = open_input(files, request.file)?;
+    let settings = Settings {
+        mode,
+        criteria,
+        min_ply: request.min_ply,
+        max_ply: request.max_ply,
+        first: request.first,
+        number: mark.number,
+        offset: mark.offset,
+    };
     Ok(
-        match run(alloc, &mut Tally::new(input), out, err, &order.settings) {
+        match run(alloc, &mut Tally::new(input), out, err, &settings) {
             Ok(summary) if summary.faulty == 0 => SOUND,
             Ok(_) => FAULTY,
             Err(error) => {
@@ -174,7 +226,7 @@ fn refuse<O: Write, E: Write>(refusal: Refusal, out: &mut Tally<O>, err: &mut Ta
 {
     match refusal {
         Refusal::Help(text) => help(text.as_str(), out, err),
-        Refusal::Words(text) => {
+        Refusal::Text(text) => {
             tell(err, text.as_str());
             REFUSED
         }

@@ -15,6 +15,10 @@ fn all(mode: Mode) -> Settings
 {
     Settings {
         mode,
+        criteria: None,
+        min_ply: 0,
+        max_ply: u32::MAX,
+        first: false,
         number: 1,
         offset: 0,
     }
@@ -27,6 +31,10 @@ fn rest(mode: Mode) -> Settings
 {
     Settings {
         mode,
+        criteria: None,
+        min_ply: 0,
+        max_ply: u32::MAX,
+        first: false,
         number: 2,
         offset: 22,
     }

@@ -185,10 +185,12 @@ impl Write for Page {
     }
 }
 
-/// One file, `games.pgn`, and the same text on standard input. It counts what was opened. Opening `huge.pgn` runs out of memory.
+/// A file of games, `games.pgn`, and the same text on standard input; it counts how often one of the two was opened. Beside it the criteria
+/// `wanted.txt`, a `folder` that can be opened and not read, and `huge.pgn`, at which memory runs out.
 #[derive(Drop)]
 pub struct Shelf<'a> {
     text: &'a [u8],
+    criteria: &'a [u8],
     piece: usize,
     fails: bool,
     pub opened: u32,
@@ -196,8 +198,14 @@ pub struct Shelf<'a> {
 
 impl<'a> Shelf<'a> {
     pub fn new(text: &'a [u8]) -> Self {
+        Shelf::with_criteria(text, b"")
+    }
+
+    /// A shelf with criteria.
+    pub fn with_criteria(text: &'a [u8], criteria: &'a [u8]) -> Self {
         Shelf {
             text,
+            criteria,
             piece: 8192,
             fails: false,
             opened: 0,
@@ -208,6 +216,7 @@ impl<'a> Shelf<'a> {
     pub fn failing(text: &'a [u8]) -> Self {
         Shelf {
             text,
+            criteria: b"",
             piece: 8192,
             fails: true,
             opened: 0,
@@ -230,6 +239,8 @@ impl<'a> Files for Shelf<'a> {
     fn open(&mut self, path: &str) -> Result<Option<Pieces<'a>>, AllocError> {
         match path {
             "games.pgn" => Ok(Some(self.reader())),
+            "wanted.txt" => Ok(Some(Pieces::new(self.criteria, self.piece))),
+            "folder" => Ok(Some(Pieces::failing(b"", self.piece))),
             "huge.pgn" => Err(AllocError),
             _ => Ok(None),
         }

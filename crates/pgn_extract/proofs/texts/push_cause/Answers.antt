@@ -2,7 +2,7 @@ use Rattle.std.proofs.Common.{ap}
 use Rattle.std.proofs.lemmas.Result.{on_ok_weaker}
 use Rattle.pgn_game.specs.Faults.{IllegalMove, AmbiguousMove}
 use Rattle.pgn_game.specs.Replays.{fault_of}
-use Rattle.pgn_extract.proofs.lines.push_cause.Goals as goal
+use Rattle.pgn_extract.proofs.texts.push_cause.Goals as goal
 
 pub returns-in-Illegal : goal.returns-in-Illegal
 returns-in-Illegal c =

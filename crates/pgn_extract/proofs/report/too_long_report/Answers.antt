@@ -2,10 +2,10 @@ use Rattle.std.proofs.Common.{[], ◌∷◌, refl, sym, ap, ◌∙◌, ◌++◌,
 use Rattle.std.proofs.lemmas.List.{append-nil}
 use Rattle.pgn_extract.specs.Index.{fault_text}
 use Rattle.pgn_extract.specs.Telling.{FaultyGame}
-use Rattle.pgn_extract.proofs.lines.too_long_report.Goals as goal
+use Rattle.pgn_extract.proofs.report.too_long_report.Goals as goal
 
 pub returns : goal.returns
-returns c =
+returns c = λ aim.
     let line = fault_text c.args.number c.args.offset (codes "too long") in
     record {
       tolds = FaultyGame line ∷ [];

@@ -1,16 +1,17 @@
 use Rattle.std.proofs.Common.{◌+◌, refl, ap}
 use Rattle.std.proofs.lemmas.Result.{on_ok_weaker}
+use Rattle.pgn_extract.specs.Aims.{aim_of}
 use Rattle.pgn_extract.proofs.GameTold.{piece_game, piece_unreadable}
-use Rattle.pgn_extract.proofs.lines.add_piece.Goals as goal
+use Rattle.pgn_extract.proofs.report.add_piece.Goals as goal
 
 pub returns-in-Game : goal.returns-in-Game
 returns-in-Game c =
     on_ok_weaker c.add_game.result
-    (λ adds. piece_game c.args.mode c.args.number c.args.offset (c.args.offset + c.at.result) c.args.piece.now c.in-Game.game c.in-Game.is
+    (λ adds. piece_game (aim_of c.args.settings.now) c.args.number c.args.offset (c.args.offset + c.at.result) c.args.piece.now c.in-Game.game c.in-Game.is
     (ap (λ n. c.args.offset + n) c.at.ensures) adds refl refl refl refl)
     c.add_game.ensures
 
 pub returns-in_ok-push_fault_line-in-Unreadable : goal.returns-in_ok-push_fault_line-in-Unreadable
 returns-in_ok-push_fault_line-in-Unreadable c =
-    piece_unreadable c.args.mode c.args.number c.args.offset c.args.piece.now c.in-Unreadable.at c.in-Unreadable.is
+    piece_unreadable (aim_of c.args.settings.now) c.args.number c.args.offset c.args.piece.now c.in-Unreadable.at c.in-Unreadable.is
     (record { output = refl; faults = c.in_ok-push_fault_line-in-Unreadable.ensures; games = refl; faulty = refl })

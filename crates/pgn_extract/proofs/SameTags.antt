@@ -1,0 +1,41 @@
+-- What is wanted of a game speaks of its tags by their names: where the same contents are found for each name, the same is wanted.
+use Rattle.std.proofs.Common.{◌≡◌, ℕ, List, [], ◌∷◌, Option, Some, None, sym, ◌∙◌, inl, inr}
+use Rattle.chess.specs.Positions.{State}
+use Rattle.pgn_game.specs.Replays.{Replay}
+use Rattle.pgn_criteria.specs.Meeting.{Tags, Holds, AllHold, SomeHold}
+use Rattle.pgn_criteria.specs.declared.condition.Condition.{Condition}
+use Rattle.pgn_criteria.specs.declared.condition.Condition.TheVariants.{Tag, Fen, Material, Moves, Turn, Check, Mate, Stalemate}
+use Rattle.pgn_extract.specs.Aims.{Aim, IsMet, IsWanted, IsEntry}
+
+module _ (f g : Tags) (same : (name : List ℕ) → f name ≡ g name) (replay : Replay) where
+  holds_same : (P : State) (condition : Condition (List ℕ)) → Holds f replay P condition → Holds g replay P condition
+  holds_same P (Tag name relation contents) (given, is, stands) = (given, sym (same name) ∙ is, stands)
+  holds_same P (Fen pattern) h = h
+  holds_same P (Material white black) h = h
+  holds_same P (Moves words) h = h
+  holds_same P (Turn side) h = h
+  holds_same P Check h = h
+  holds_same P Mate h = h
+  holds_same P Stalemate h = h
+
+  all_same : (P : State) (conditions : List (Condition (List ℕ))) → AllHold f replay P conditions → AllHold g replay P conditions
+  all_same P [] h = h
+  all_same P (condition ∷ more) (h, hs) = (holds_same P condition h, all_same P more hs)
+
+  some_same : (P : State) (alternatives : List (List (Condition (List ℕ)))) → SomeHold f replay P alternatives → SomeHold g replay P alternatives
+  some_same P [] h = h
+  some_same P (alternative ∷ more) (inl h) = inl (all_same P alternative h)
+  some_same P (alternative ∷ more) (inr h) = inr (some_same P more h)
+
+  met_same : (criteria : Option (List (List (Condition (List ℕ))))) (ply : ℕ) → IsMet criteria f replay ply → IsMet criteria g replay ply
+  met_same None ply h = h
+  met_same (Some criteria) ply h = record { position = h.position; here = h.here; hold = some_same h.position criteria h.hold }
+
+  pub wanted_same : (aim : Aim) (ply : ℕ) → IsWanted aim f replay ply → IsWanted aim g replay ply
+  wanted_same aim ply h = (h.0, h.1, met_same aim.criteria ply h.2)
+
+pub entry_same : (f g : Tags) → ((name : List ℕ) → f name ≡ g name) → (replay : Replay) (aim : Aim) (ply : ℕ) → IsEntry aim f replay ply → IsEntry aim g replay ply
+entry_same f g same replay aim ply h = (
+  wanted_same f g same replay aim ply h.0,
+  λ first before less wanted. h.1 first before less (wanted_same g f (λ name. sym (same name)) replay aim before wanted),
+)

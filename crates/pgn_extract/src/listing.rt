@@ -1,0 +1,65 @@
+//! Which entries of a game are listed.
+ghost use Rattle.std.specs.Prelude.{◌≡◌, ◌<◌, ◌++◌, List, length, OnOk};
+ghost use Rattle.pgn_text.specs.GameTexts.{tag_in};
+ghost use Rattle.pgn_game.specs.Replays.{IsReplay};
+ghost use Rattle.pgn_game.specs.Starts.{fen_tag};
+ghost use Rattle.pgn_criteria.specs.Meeting.{IsFirst};
+ghost use Rattle.pgn_extract.specs.Aims.{IsMet, aim_of};
+ghost use Rattle.pgn_extract.specs.Listing.{Entry, AreListed, listing};
+
+use crate::settings::Settings;
+use crate::texts::{push_entry, push_mark};
+use pgn_game::Replayed;
+use pgn_text::RawGame;
+use std::alloc::{AllocError, Global};
+
+/// The least ply from one on, up to the largest that is looked for, whose position meets the criteria.
+fn next_ply<'a>(
+    settings: &'a Settings,
+    game: &RawGame<'a>,
+    replayed: &Replayed,
+    from: u32,
+) -> Option<usize>
+    requires of_game { IsReplay (tag_in fen_tag game.now.tags) game.now.elements replayed.now }
+    ensures { IsFirst (λ ply. (ply < length replayed.now.positions)
+        × IsMet settings.now.criteria (λ name. tag_in name game.now.tags) replayed.now ply) from settings.now.max_ply result }
+{
+    match &settings.criteria {
+        Some(criteria) => criteria.first(game, replayed, from, settings.max_ply),
+        None if from <= settings.max_ply && from as usize <= replayed.plies() => {
+            Some(from as usize)
+        }
+        None => None,
+    }
+}
+
+/// The most bytes that a mark has: two numbers of at most 20 digits, and `@`.
+const MARK_ROOM: usize = 41;
+
+/// Appends the lines of the entries of a game.
+pub fn push_entries<'a>(
+    alloc: Global,
+    text: &mut Vec<u8>,
+    settings: &'a Settings,
+    number: u64,
+    offset: u64,
+    game: &RawGame<'a>,
+    replayed: &Replayed,
+) -> Result<(), AllocError>
+    requires of_game { IsReplay (tag_in fen_tag game.now.tags) game.now.elements replayed.now }
+    ensures { OnOk result ((entries : List Entry)
+        × AreListed (aim_of settings.now) number offset (λ name. tag_in name game.now.tags) replayed.now entries
+        × (text.new.items ≡ text.old.items ++ listing entries)) }
+{
+    let mut mark = Vec::with_capacity(alloc, MARK_ROOM)?;
+    push_mark(&mut mark, number, offset)?;
+    let mut from = settings.min_ply;
+    while let Some(ply) = next_ply(settings, game, replayed, from) {
+        push_entry(text, &mark, ply)?;
+        if settings.first || settings.max_ply as usize <= ply {
+            return Ok(());
+        }
+        from = ply as u32 + 1;
+    }
+    Ok(())
+}

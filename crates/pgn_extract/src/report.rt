@@ -1,0 +1,170 @@
+//! What is reported of the pieces of one block.
+ghost use Rattle.std.specs.Prelude.{◌≡◌, ℕ, List, ◌+◌, ◌^◌, ◌<◌, ◌≤◌, [], ◌∷◌, length, OnOk, IfOk};
+ghost use Rattle.pgn_text.specs.Left.{piece_place};
+ghost use Rattle.pgn_text.specs.Windows.{Shows};
+ghost use Rattle.pgn_extract.specs.Aims.{Aim, aim_of};
+ghost use Rattle.pgn_extract.specs.Blockwise.{IsShown, Reports, ReportsBlock, AddsGame, AddsListed, AddsPiece, too_long_piece};
+
+use crate::listing::push_entries;
+use crate::settings::{Mode, Settings};
+use crate::texts::{push_fault_line, push_game_fault, push_mark_line};
+use pgn_game::{Lines, replay};
+use pgn_text::{Block, Body, Piece, RawGame, games};
+use std::alloc::{AllocError, Global};
+
+/// What is reported of pieces in a row, and their counts.
+#[derive(Drop)]
+pub struct Report {
+    /// What goes to the output.
+    pub output: Vec<u8>,
+    /// What goes to standard error.
+    pub faults: Vec<u8>,
+    /// How many pieces there are.
+    pub games: u64,
+    /// How many of them are faulty.
+    pub faulty: u64,
+}
+
+impl Report {
+    /// The report on no pieces.
+    fn new(alloc: Global) -> Self
+        ensures output { result.output.items ≡ [] }
+        ensures faults { result.faults.items ≡ [] }
+        ensures counts { (result.games ≡ 0) × (result.faulty ≡ 0) }
+    {
+        Report {
+            output: Vec::new(alloc),
+            faults: Vec::new(alloc),
+            games: 0,
+            faulty: 0,
+        }
+    }
+}
+
+/// Adds what the listing reports of a game: the lines of its entries, or of its fault.
+fn add_listed<'a>(
+    alloc: Global,
+    report: &mut Report,
+    settings: &'a Settings,
+    number: u64,
+    offset: u64,
+    game: &RawGame<'a>,
+) -> Result<(), AllocError>
+    requires faulty { report.old.faulty + 1 < 2 ^ 64 }
+    ensures { OnOk result (AddsListed (aim_of settings.now) report.old report.new number offset game.now) }
+{
+    match replay(alloc, game, Lines::Main) {
+        Ok(replayed) => push_entries(
+            alloc,
+            &mut report.output,
+            settings,
+            number,
+            offset,
+            game,
+            &replayed,
+        ),
+        Err(fault) => {
+            push_game_fault(&mut report.faults, number, offset, fault)?;
+            report.faulty += 1;
+            Ok(())
+        }
+    }
+}
+
+/// Adds what is reported of a game.
+fn add_game<'a>(
+    alloc: Global,
+    report: &mut Report,
+    settings: &'a Settings,
+    number: u64,
+    offset: u64,
+    game: &RawGame<'a>,
+) -> Result<(), AllocError>
+    requires faulty { report.old.faulty + 1 < 2 ^ 64 }
+    ensures { OnOk result (AddsGame (aim_of settings.now) report.old report.new number offset game.now) }
+{
+    match settings.mode {
+        Mode::Index => push_mark_line(&mut report.output, number, offset),
+        Mode::List => add_listed(alloc, report, settings, number, offset, game),
+    }
+}
+
+/// The report on a block over the limit, which is the same whatever is to be reported.
+fn too_long_report(alloc: Global, number: u64, offset: u64) -> Result<Report, AllocError>
+    ensures { IfOk result (λ report. (aim : Aim) → Reports aim report number (too_long_piece offset ∷ [])) }
+{
+    let mut report = Report::new(alloc);
+    push_fault_line(&mut report.faults, number, offset, b"too long")?;
+    report.games = 1;
+    report.faulty = 1;
+    Ok(report)
+}
+
+/// Adds what is reported of one piece of the block that begins at the offset.
+fn add_piece<'a>(
+    alloc: Global,
+    report: &mut Report,
+    settings: &'a Settings,
+    number: u64,
+    offset: u64,
+    piece: &Piece<'a>,
+) -> Result<(), AllocError>
+    requires place { offset + piece_place piece.now < 2 ^ 64 }
+    requires counts { (report.old.games + 1 < 2 ^ 64) × (report.old.faulty + 1 < 2 ^ 64) }
+    ensures { OnOk result (AddsPiece (aim_of settings.now) report.old report.new number offset piece.now) }
+{
+    report.games += 1;
+    match piece {
+        Piece::Game(game) => {
+            let here = offset + game.at() as u64;
+            add_game(alloc, report, settings, number, here, game)
+        }
+        Piece::Unreadable { at } => {
+            let here = offset + *at as u64;
+            push_fault_line(&mut report.faults, number, here, b"unreadable")?;
+            report.faulty += 1;
+            Ok(())
+        }
+    }
+}
+
+/// The report on the pieces of a block, which are numbered from `number` on.
+fn block_report<'a>(
+    alloc: Global,
+    settings: &'a Settings,
+    number: u64,
+    offset: u64,
+    block: &'a [u8],
+) -> Result<Report, AllocError>
+    requires size { length block.now ≤ 1048576 }
+    requires number { number ≤ 2 ^ 63 }
+    requires offset { offset ≤ 2 ^ 62 }
+    ensures { IfOk result (λ report. ReportsBlock (aim_of settings.now) report 1048576 64 number offset block.now) }
+{
+    let mut report = Report::new(alloc);
+    for piece in games(alloc, block, offset == 0) {
+        let piece = piece?;
+        let here = number + report.games;
+        add_piece(alloc, &mut report, settings, here, offset, &piece)?;
+    }
+    Ok(report)
+}
+
+/// The report on the pieces of a block, which are numbered from `number` on.
+pub fn report_of<'a>(
+    alloc: Global,
+    settings: &'a Settings,
+    number: u64,
+    block: Block<'a>,
+) -> Result<Report, AllocError>
+    requires number { number ≤ 2 ^ 63 }
+    requires offset { block.offset ≤ 2 ^ 62 }
+    requires size { IsShown 1048576 block.body }
+    ensures { IfOk result (λ report. (bytes : List ℕ) → Shows 1048576 block.entry.body bytes
+        → ReportsBlock (aim_of settings.now) report 1048576 64 number block.entry.offset bytes) }
+{
+    match block.body {
+        Body::Bytes(bytes) => block_report(alloc, settings, number, block.offset, bytes),
+        Body::TooLong => too_long_report(alloc, number, block.offset),
+    }
+}

@@ -1,0 +1,111 @@
+//! What a run writes, byte by byte: marks, the lines of entries, and the lines of faulty games.
+ghost use Rattle.std.specs.Prelude.{◌≡◌, Some, [], ◌∷◌, ◌++◌, codes, decimal, OnOk};
+ghost use Rattle.pgn_game.specs.Faults.{Fault};
+ghost use Rattle.pgn_game.specs.Replays.{fault_of};
+ghost use Rattle.pgn_extract.specs.Index.{mark, mark_line, fault_text};
+ghost use Rattle.pgn_extract.specs.Listing.{cause_text};
+
+use itoa::Buffer;
+use pgn_game::GameFault;
+use std::alloc::AllocError;
+
+/// Appends the mark `N@O`.
+pub fn push_mark(text: &mut Vec<u8>, number: u64, offset: u64) -> Result<(), AllocError>
+    ensures { OnOk result (text.new.items ≡ text.old.items ++ mark number offset) }
+{
+    let mut buffer = Buffer::new();
+    text.extend_from_slice(buffer.format(number).as_bytes())?;
+    text.push(b'@')?;
+    text.extend_from_slice(buffer.format(offset).as_bytes())?;
+    Ok(())
+}
+
+/// Appends the line of a game in the index.
+pub fn push_mark_line(text: &mut Vec<u8>, number: u64, offset: u64) -> Result<(), AllocError>
+    ensures { OnOk result (text.new.items ≡ text.old.items ++ mark_line number offset) }
+{
+    push_mark(text, number, offset)?;
+    text.push(b'\n')?;
+    Ok(())
+}
+
+/// Appends the line of an entry: the mark of its game, a space and the ply.
+pub fn push_entry(text: &mut Vec<u8>, mark: &[u8], ply: usize) -> Result<(), AllocError>
+    ensures { OnOk result (text.new.items ≡ text.old.items ++ (mark.now ++ 32 ∷ decimal ply ++ 10 ∷ [])) }
+{
+    let mut buffer = Buffer::new();
+    text.extend_from_slice(mark)?;
+    text.push(b' ')?;
+    text.extend_from_slice(buffer.format(ply).as_bytes())?;
+    text.push(b'\n')?;
+    Ok(())
+}
+
+/// Appends how the line of a faulty game begins: with its mark.
+fn push_faulty_mark(text: &mut Vec<u8>, number: u64, offset: u64) -> Result<(), AllocError>
+    ensures { OnOk result (text.new.items ≡ text.old.items ++ (codes "pgn-extract: game " ++ mark number offset ++ codes ": ")) }
+{
+    text.extend_from_slice(b"pgn-extract: game ")?;
+    push_mark(text, number, offset)?;
+    text.extend_from_slice(b": ")?;
+    Ok(())
+}
+
+/// Appends the line that tells a faulty game.
+pub fn push_fault_line(
+    text: &mut Vec<u8>,
+    number: u64,
+    offset: u64,
+    cause: &[u8],
+) -> Result<(), AllocError>
+    ensures { OnOk result (text.new.items ≡ text.old.items ++ fault_text number offset cause.now) }
+{
+    push_faulty_mark(text, number, offset)?;
+    text.extend_from_slice(cause)?;
+    text.push(b'\n')?;
+    Ok(())
+}
+
+/// Appends why a move cannot be played: the kind of its fault, its word and its ply.
+fn push_move_cause(
+    text: &mut Vec<u8>,
+    kind: &[u8],
+    word: &[u8],
+    ply: usize,
+) -> Result<(), AllocError>
+    ensures { OnOk result (text.new.items ≡ text.old.items ++ (kind.now ++ word.now ++ codes " at ply " ++ decimal ply)) }
+{
+    let mut buffer = Buffer::new();
+    text.extend_from_slice(kind)?;
+    text.extend_from_slice(word)?;
+    text.extend_from_slice(b" at ply ")?;
+    text.extend_from_slice(buffer.format(ply).as_bytes())?;
+    Ok(())
+}
+
+/// Appends why a game cannot be replayed. Want of memory has no text: it is answered.
+fn push_cause(text: &mut Vec<u8>, fault: GameFault<'_>) -> Result<(), AllocError>
+    ensures { OnOk result ((told : Fault) × (fault_of fault.entry ≡ Some told) × (text.new.items ≡ text.old.items ++ cause_text told)) }
+{
+    match fault {
+        GameFault::BadPosition => text.extend_from_slice(b"bad position"),
+        GameFault::Illegal { word, ply } => push_move_cause(text, b"illegal move ", word, ply),
+        GameFault::Ambiguous { word, ply } => push_move_cause(text, b"ambiguous move ", word, ply),
+        GameFault::OutOfMemory => Err(AllocError),
+    }
+}
+
+/// Appends the line that tells a game that cannot be replayed.
+pub fn push_game_fault(
+    text: &mut Vec<u8>,
+    number: u64,
+    offset: u64,
+    fault: GameFault<'_>,
+) -> Result<(), AllocError>
+    ensures { OnOk result ((told : Fault) × (fault_of fault.entry ≡ Some told) × (text.new.items ≡ text.old.items ++ fault_text number offset (cause_text told))) }
+{
+    push_faulty_mark(text, number, offset)?;
+    push_cause(text, fault)?;
+    text.push(b'\n')?;
+    Ok(())
+}
