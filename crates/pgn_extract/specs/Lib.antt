@@ -1,8 +1,10 @@
+-- What a reader must believe, in the order in which it is best read.
 pub mod Aims
-pub mod Blockwise
 pub mod Index
-pub mod Laws
 pub mod Listing
+pub mod Telling
 pub mod Outcomes
 pub mod Resuming
-pub mod Telling
+pub mod Laws
+-- Private words: what the parts of a run do. No public contract cites them.
+pub mod Blockwise
