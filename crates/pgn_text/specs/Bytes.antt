@@ -1,5 +1,5 @@
 -- Classes of bytes, and what a longest run is. A byte is a number below 256; letters and digits are those of ASCII.
-use Rattle.std.specs.Prelude.{ℕ, Bool, true, false, not, ◌&&◌, ◌||◌, ◌==◌, nat_le, List, [], ◌∷◌}
+use Rattle.std.specs.Prelude.{ℕ, Bool, true, false, not, ◌&&◌, ◌||◌, ◌==◌, ◌-◌, nat_le, List, [], ◌∷◌, length, slice_index}
 
 -- white space: tab, line feed, vertical tab, form feed, carriage return and space
 abbrev pub is_white : ℕ → Bool
@@ -40,6 +40,10 @@ is_not_line_feed b = not (b == 10)
 -- a byte that does not end a brace comment
 abbrev pub is_not_brace : ℕ → Bool
 is_not_brace b = not (b == 125)
+
+-- the text's last byte is a line feed
+abbrev pub ends_in_line_feed : List ℕ → Bool
+ends_in_line_feed text = slice_index text (length text - 1) == 10
 
 -- the list has no element
 abbrev pub is_empty : {X : Type 0} → List X → Bool

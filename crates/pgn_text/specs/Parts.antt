@@ -1,7 +1,7 @@
 -- The parts of a text, and where each may stand (PGN 5 comments, 6 escape lines, 7 tokens, 8.1 tags, 8.2 movetext).
-use Rattle.std.specs.Prelude.{ℕ, Bool, not, ◌&&◌, ◌||◌, ◌==◌, ◌+◌, ◌*◌, ◌-◌, nat_le, List, [], ◌∷◌, ◌++◌, flat_map, length, slice_index, bytes_eq, IsTrue}
+use Rattle.std.specs.Prelude.{ℕ, Bool, not, ◌&&◌, ◌||◌, ◌==◌, ◌+◌, ◌*◌, ◌-◌, nat_le, List, [], ◌∷◌, ◌++◌, flat_map, length, bytes_eq, IsTrue}
 use Rattle.std.specs.List.{list_all}
-use Rattle.pgn_text.specs.Bytes.{is_white, is_digit, is_name_byte, is_word_byte, is_mark, is_not_line_feed, is_not_brace, is_empty, stops}
+use Rattle.pgn_text.specs.Bytes.{is_white, is_digit, is_name_byte, is_word_byte, is_mark, is_not_line_feed, is_not_brace, ends_in_line_feed, is_empty, stops}
 use Rattle.pgn_text.specs.Strings.{IsContents}
 
 -- a part of a text, with its bytes
@@ -66,7 +66,7 @@ number_of digits = number_from 0 digits
 -- mark there (`file_start` says that the block is at the start of the file)
 abbrev pub is_column_one : Bool → List ℕ → Bool
 is_column_one file_start before =
-    slice_index before (length before - 1) == 10
+    ends_in_line_feed before
     || (file_start && (bytes_eq before [] || bytes_eq before (239 ∷ 187 ∷ 191 ∷ [])))
 
 -- what a place tells a part that stands there
