@@ -1,5 +1,5 @@
 -- Whether a side has a move, and whether it is mated or stalemated, is settled where men stand on the board alone.
-use Rattle.std.proofs.Common.{Option, inl, inr}
+use Rattle.std.proofs.Common.{Option}
 use Rattle.chess.specs.Squares.{Place, IsOnBoard}
 use Rattle.chess.specs.Placements.{AreOnBoard}
 use Rattle.chess.specs.Positions.{State}

@@ -7,7 +7,7 @@ use Rattle.chess.specs.Placements.{man_at, AreOnBoard}
 use Rattle.chess.specs.Positions.{State}
 use Rattle.chess.specs.Moves.{after}
 use Rattle.chess.specs.Letters.{kind_letter, file_letter, rank_digit, square_text}
-use Rattle.chess.specs.San.{IsRival, HasRival, IsDisambiguation, IsPieceText, IsBody, IsMark, IsSan, castling_text, capture_text, pawn_text}
+use Rattle.chess.specs.San.{IsRival, HasRival, IsDisambiguation, IsPieceText, IsBody, IsMark, castling_text, capture_text, pawn_text}
 use Rattle.chess.specs.San.IsDisambiguation.{alone, by_file, by_rank, by_both}
 use Rattle.chess.specs.San.IsMark.{mate, check, quiet}
 use Rattle.chess.specs.Laws.{EachMoveHasAText}
