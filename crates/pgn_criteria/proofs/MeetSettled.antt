@@ -1,5 +1,4 @@
--- Whether a position of a game meets criteria is settled, where the criteria are good, the game has a replay and its tags hold the contents
--- of strings.
+-- Whether a position of a sound game meets criteria is settled.
 use Rattle.std.proofs.Common.{◌≡◌, ℕ, ◌+◌, List, [], ◌∷◌, Option, Some, None, refl, sym, ap, ◌∙◌, subst, inl, inr}
 use Rattle.std.specs.Prelude.{codes}
 use Rattle.std.specs.List.{slice_get}
@@ -7,22 +6,21 @@ use Rattle.chess.specs.Placements.{AreOnBoard}
 use Rattle.chess.specs.Positions.{State}
 use Rattle.chess.specs.Moves.{IsLegal}
 use Rattle.chess.specs.declared.moves.Move.{Move}
-use Rattle.chess.proofs.Settled.{Settled, settled_like, settled_both, settled_either, cases_bytes}
+use Rattle.chess.proofs.Settled.{Settled, settled_like, settled_both, settled_either, settled_held, cases_bytes}
 use Rattle.chess.proofs.Searches.{cases_side}
 use Rattle.chess.proofs.LegalSettled.{settled_check}
 use Rattle.chess.proofs.MateSettled.{settled_mate, settled_stalemate}
 use Rattle.chess.proofs.SanOnce.{one_san}
 use Rattle.chess.proofs.SanSettled.{some_san}
-use Rattle.pgn_text.specs.Strings.{IsContents}
 use Rattle.pgn_game.specs.MainLines.{main_words}
 use Rattle.pgn_game.specs.Replays.{Replay}
 use Rattle.pgn_game.proofs.OnBoard.{start_on_board, line_on_board, line_legal}
 use Rattle.pgn_criteria.specs.Meeting.{Tags, Holds, AllHold, SomeHold, Meets}
 use Rattle.pgn_criteria.specs.MoveTexts.{without_marks, FitsWord, FitsMove, FitMoves}
-use Rattle.pgn_criteria.specs.Stages.{AreLegal, IsGood, AreGood, AllGood}
+use Rattle.pgn_criteria.specs.Stages.{AreLegal}
 use Rattle.pgn_criteria.specs.Words.{words_of}
 use Rattle.pgn_criteria.specs.Comparing.{Stands}
-use Rattle.pgn_criteria.specs.Laws.{HoldContents, EachPositionMeetsOrDoesNot}
+use Rattle.pgn_criteria.specs.Laws.{EachPositionMeetsOrDoesNot}
 use Rattle.pgn_criteria.specs.declared.condition.Condition.{Condition}
 use Rattle.pgn_criteria.specs.declared.condition.Condition.TheVariants.{Tag, Fen, Material, Moves, Turn, Check, Mate, Stalemate}
 use Rattle.pgn_criteria.specs.declared.compare.Relation.{Relation}
@@ -34,14 +32,10 @@ use Rattle.pgn_criteria.proofs.StandsSettled.{settled_by, settled_stands}
 
 -- ---- tags
 
-settled_tag : (o : Option (List ℕ)) (relation : Relation) (contents : List ℕ) → ((given : List ℕ) → o ≡ Some given → IsContents given)
-    → IsContents contents → Settled ((given : List ℕ) × (o ≡ Some given) × Stands relation given contents)
-settled_tag None relation contents each good = inr (λ h. let e = h.1 in cc)
-settled_tag (Some own) relation contents each good =
-    settled_like (λ h. (own, refl, h)) (λ h. back h.0 h.1 h.2) (settled_stands relation own contents (each own refl) good)
-  where
-    back : (given : List ℕ) → Some own ≡ Some given → Stands relation given contents → Stands relation own contents
-    back given is stands = let same : own ≡ given = cc in subst (λ text. Stands relation text contents) (sym same) stands
+settled_tag : (given : Option (List ℕ)) (relation : Relation) (contents : List ℕ)
+    → Settled ((own : List ℕ) × (given ≡ Some own) × Stands relation own contents)
+settled_tag given relation contents =
+    settled_held given (λ own. Stands relation own contents) (λ own. settled_stands relation own contents)
 
 -- ---- moves
 
@@ -77,36 +71,36 @@ settled_moves replay plies (word ∷ more) on_board legal =
 
 -- ---- conditions, alternatives, criteria
 
-settled_condition : (tags : Tags) (replay : Replay) (P : State) (condition : Condition (List ℕ)) → HoldContents tags → AllOnBoard replay → AreLegal replay
-    → AreOnBoard P.men → IsGood condition → Settled (Holds tags replay P condition)
-settled_condition tags replay P (Tag name relation contents) hold all legal on_board good = settled_tag (tags name) relation contents (hold name) good
-settled_condition tags replay P (Fen pattern) hold all legal on_board good = settled_pattern P.men pattern
-settled_condition tags replay P (Material white black) hold all legal on_board good = settled_material P.men white black
-settled_condition tags replay P (Moves words) hold all legal on_board good = settled_moves replay 0 (words_of words) all legal
-settled_condition tags replay P (Turn side) hold all legal on_board good = cases_side P.turn side
-settled_condition tags replay P Check hold all legal on_board good = settled_check P.men P.turn on_board
-settled_condition tags replay P Mate hold all legal on_board good = settled_mate P on_board
-settled_condition tags replay P Stalemate hold all legal on_board good = settled_stalemate P on_board
+settled_condition : (tags : Tags) (replay : Replay) (P : State) (condition : Condition (List ℕ)) → AllOnBoard replay → AreLegal replay
+    → AreOnBoard P.men → Settled (Holds tags replay P condition)
+settled_condition tags replay P (Tag name relation contents) all legal on_board = settled_tag (tags name) relation contents
+settled_condition tags replay P (Fen pattern) all legal on_board = settled_pattern P.men pattern
+settled_condition tags replay P (Material white black) all legal on_board = settled_material P.men white black
+settled_condition tags replay P (Moves words) all legal on_board = settled_moves replay 0 (words_of words) all legal
+settled_condition tags replay P (Turn side) all legal on_board = cases_side P.turn side
+settled_condition tags replay P Check all legal on_board = settled_check P.men P.turn on_board
+settled_condition tags replay P Mate all legal on_board = settled_mate P on_board
+settled_condition tags replay P Stalemate all legal on_board = settled_stalemate P on_board
 
-settled_all : (tags : Tags) (replay : Replay) (P : State) (conditions : List (Condition (List ℕ))) → HoldContents tags → AllOnBoard replay → AreLegal replay
-    → AreOnBoard P.men → AreGood conditions → Settled (AllHold tags replay P conditions)
-settled_all tags replay P [] hold all legal on_board good = inl tt
-settled_all tags replay P (condition ∷ more) hold all legal on_board good =
-    settled_both (settled_condition tags replay P condition hold all legal on_board good.0) (settled_all tags replay P more hold all legal on_board good.1)
+settled_all : (tags : Tags) (replay : Replay) (P : State) (conditions : List (Condition (List ℕ))) → AllOnBoard replay → AreLegal replay
+    → AreOnBoard P.men → Settled (AllHold tags replay P conditions)
+settled_all tags replay P [] all legal on_board = inl tt
+settled_all tags replay P (condition ∷ more) all legal on_board =
+    settled_both (settled_condition tags replay P condition all legal on_board) (settled_all tags replay P more all legal on_board)
 
-settled_some : (tags : Tags) (replay : Replay) (P : State) (alternatives : List (List (Condition (List ℕ)))) → HoldContents tags → AllOnBoard replay
-    → AreLegal replay → AreOnBoard P.men → AllGood alternatives → Settled (SomeHold tags replay P alternatives)
-settled_some tags replay P [] hold all legal on_board good = inr (λ h. h)
-settled_some tags replay P (alternative ∷ more) hold all legal on_board good =
-    settled_either (settled_all tags replay P alternative hold all legal on_board good.0) (settled_some tags replay P more hold all legal on_board good.1)
+settled_some : (tags : Tags) (replay : Replay) (P : State) (alternatives : List (List (Condition (List ℕ)))) → AllOnBoard replay
+    → AreLegal replay → AreOnBoard P.men → Settled (SomeHold tags replay P alternatives)
+settled_some tags replay P [] all legal on_board = inr (λ h. h)
+settled_some tags replay P (alternative ∷ more) all legal on_board =
+    settled_either (settled_all tags replay P alternative all legal on_board) (settled_some tags replay P more all legal on_board)
 
 pub each_position_meets : EachPositionMeetsOrDoesNot
-each_position_meets fen items replay is tags alternatives hold good plies =
+each_position_meets fen items replay is tags alternatives plies =
     let all = line_on_board (main_words items 0) is.start replay.positions replay.played (start_on_board fen is.start is.is_start) is.line in
     let legal = line_legal (main_words items 0) is.start replay.positions replay.played is.line in
     elim (slice_get replay.positions plies) as (λ o. slice_get replay.positions plies ≡ o → Settled (Meets tags replay plies alternatives)) [
       | None ↦ λ none. inr (λ met. let here = met.here in cc)
       | Some P ↦ λ here.
           settled_by (λ r told. meets_at tags replay plies alternatives P r here told)
-          (settled_some tags replay P alternatives hold all legal (all plies P here) good)
+          (settled_some tags replay P alternatives all legal (all plies P here))
     ] refl

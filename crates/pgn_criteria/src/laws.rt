@@ -8,8 +8,7 @@ pub fn one_meaning()
     ensures answer { TextHasOneAnswer }
 {}
 
-/// Each position of a sound game meets criteria or does not, where each tag of the game holds the contents of a string and each condition
-/// on a tag compares it with such contents, as those of read criteria do. Of no other contents is there a value that could be compared.
+/// Each position of a sound game meets criteria or does not.
 pub fn met_or_not()
     ensures { EachPositionMeetsOrDoesNot }
 {}
