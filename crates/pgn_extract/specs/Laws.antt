@@ -46,20 +46,10 @@ EachPieceHasAMark =
     (before : List MarkedPiece) (piece : MarkedPiece) (behind : List MarkedPiece)
     → IsMarkAmong (length before + 1) piece.offset (before ++ piece ∷ behind)
 
--- each position of each sound game meets the criteria or does not
-abbrev pub IsDecided : Aim → Type 0
-IsDecided aim =
-    (parts : List Part) (replay : Replay) → IsReplayOf parts replay → (ply : ℕ) → ply < length replay.positions
-    → IsMet aim.criteria (tags_in parts) replay ply ⊎ (IsMet aim.criteria (tags_in parts) replay ply → ⊥)
-
--- without criteria every position is decided
-abbrev pub NoCriteriaAreDecided : Type 0
-NoCriteriaAreDecided = (aim : Aim) → aim.criteria ≡ None → IsDecided aim
-
--- the pieces of each text are reported in one way whatever is to be reported, where that is decided
+-- the pieces of each text are reported in some way, whatever is to be reported
 abbrev pub TextHasAReport : Type 0
 TextHasAReport =
-    (aim : Aim) → IsDecided aim → (limit max_depth number offset : ℕ) (text : List ℕ) (pieces : List MarkedPiece)
+    (aim : Aim) (limit max_depth number offset : ℕ) (text : List ℕ) (pieces : List MarkedPiece)
     → AreMarkedPieces limit max_depth offset text pieces → (reported : List Told) × AreTold aim number pieces reported
 
 -- and in only one way
