@@ -1,5 +1,5 @@
 -- What holds of the entries of every text, of its marks, and of what is reported of it.
-use Rattle.std.specs.Prelude.{◌≡◌, ◌↔◌, ◌⊎◌, ℕ, ◌+◌, ◌-◌, ◌<◌, List, [], ◌∷◌, ◌++◌, length, take, drop, count_by, Some, None}
+use Rattle.std.specs.Prelude.{◌≡◌, ◌↔◌, ◌⊎◌, ℕ, ◌+◌, ◌-◌, ◌<◌, List, [], ◌∷◌, ◌++◌, length, take, drop, count_by, Some}
 use Rattle.std.specs.List.{Contains, slice_get}
 use Rattle.pgn_text.specs.Marks.{ReadableGame, MarkedPiece, AreMarkedPieces}
 use Rattle.pgn_text.specs.Parts.{Part}
@@ -7,7 +7,7 @@ use Rattle.pgn_game.specs.Replays.{Replay}
 use Rattle.pgn_extract.specs.Listing.{Entry, IsReplayOf, tags_in, AreEntries}
 use Rattle.pgn_extract.specs.Resuming.{IsMarkAmong}
 use Rattle.pgn_extract.specs.Telling.{Told, AreTold, output_text, fault_lines, is_faulty}
-use Rattle.pgn_extract.specs.Aims.{Aim, IsMet, IsEntry}
+use Rattle.pgn_extract.specs.Aims.{Aim, IsEntry}
 
 -- the entry names a sound game, by its place among the pieces and the offset of its first byte, and a ply of its main line that is listed
 pub record IsPlyOfGame (aim : Aim) (number : ℕ) (pieces : List MarkedPiece) (entry : Entry) : Type 0 where
