@@ -39,6 +39,8 @@ pub mod Searches
 pub mod LegalSettled
 pub mod OnBoard
 pub mod NamedSettled
+pub mod MateSettled
+pub mod SanSettled
 pub mod RanksSettled
 pub mod FenSettled
 pub mod BoardExamples

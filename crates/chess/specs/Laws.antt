@@ -51,6 +51,10 @@ SanNamesItsMove = (P : State) (m : Move) (x : List ℕ) → IsSound P → IsLega
 abbrev pub MoveHasOneText : Type 0
 MoveHasOneText = (P : State) (m : Move) (x y : List ℕ) → IsSan P m x → IsSan P m y → x ≡ y
 
+-- and a legal move has one, in each position whose men stand on the board
+abbrev pub EachMoveHasAText : Type 0
+EachMoveHasAText = (P : State) (m : Move) → AreOnBoard P.men → IsLegal P m → (x : List ℕ) × IsSan P m x
+
 -- a text names one legal move alone, or none, or several
 abbrev pub NamesOneNoneOrSeveral : State → List ℕ → Type 0
 NamesOneNoneOrSeveral P x =

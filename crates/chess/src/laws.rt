@@ -1,6 +1,6 @@
 //! What holds of every text and position, whatever reads it. Each law is the contract of a function that does nothing.
 
-ghost use Rattle.chess.specs.Laws.{TextSpellsOnePosition, TextHasOneAnswer, SoundPositionsAreRead, FenIsReadBack, PositionHasOneText, UsualPositionIsOne, UsualPositionIsSound, MovesKeepPositionsSound, SanNamesItsMove, MoveHasOneText, EachTextNamesOneNoneOrSeveral, SpelledMenAreOnBoard, MenStayOnBoard, EachTextIsReadOrRefused};
+ghost use Rattle.chess.specs.Laws.{TextSpellsOnePosition, TextHasOneAnswer, SoundPositionsAreRead, FenIsReadBack, PositionHasOneText, UsualPositionIsOne, UsualPositionIsSound, MovesKeepPositionsSound, SanNamesItsMove, MoveHasOneText, EachMoveHasAText, EachTextNamesOneNoneOrSeveral, SpelledMenAreOnBoard, MenStayOnBoard, EachTextIsReadOrRefused};
 
 /// A text spells at most one position in FEN, and none that is refused.
 pub fn one_position()
@@ -35,6 +35,11 @@ pub fn san_is_read_back()
 /// A move has at most one text in standard algebraic notation: the one that `san` writes.
 pub fn one_text()
     ensures { MoveHasOneText }
+{}
+
+/// A legal move has a text in standard algebraic notation, in each position whose men stand on the board alone.
+pub fn a_text()
+    ensures { EachMoveHasAText }
 {}
 
 /// Each text names one legal move alone, or none, or several, in each position whose men stand on the board alone, as they do in each sound

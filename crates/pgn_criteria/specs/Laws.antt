@@ -1,6 +1,9 @@
 -- What holds of every text, whatever reads it.
-use Rattle.std.specs.Prelude.{◌≡◌, ℕ, List}
+use Rattle.std.specs.Prelude.{◌≡◌, ◌⊎◌, ℕ, List, Option}
+use Rattle.pgn_text.specs.Games.{Item}
+use Rattle.pgn_game.specs.Replays.{Replay, IsReplay}
 use Rattle.pgn_criteria.specs.Lines.{Accepts, IsRefused}
+use Rattle.pgn_criteria.specs.Meeting.{Tags, Meets}
 use Rattle.pgn_criteria.specs.declared.condition.Condition.{Condition}
 use Rattle.pgn_criteria.specs.declared.parse.CriteriaError.TheVariants.{TooLong, Line}
 
@@ -15,3 +18,10 @@ TextHasOneAnswer =
     × ((text : List ℕ) (alternatives : List (List (Condition (List ℕ)))) (number : ℕ) → Accepts text alternatives → IsRefused text (Line number) → ⊥)
     × ((text : List ℕ) (number : ℕ) → IsRefused text TooLong → IsRefused text (Line number) → ⊥)
     × ((text : List ℕ) (number other : ℕ) → IsRefused text (Line number) → IsRefused text (Line other) → number ≡ other)
+
+-- each position of a sound game meets criteria or does not
+abbrev pub EachPositionMeetsOrDoesNot : Type 0
+EachPositionMeetsOrDoesNot =
+    (fen : Option (List ℕ)) (items : List Item) (replay : Replay) → IsReplay fen items replay
+    → (tags : Tags) (alternatives : List (List (Condition (List ℕ)))) (plies : ℕ)
+    → Meets tags replay plies alternatives ⊎ (Meets tags replay plies alternatives → ⊥)

@@ -7,6 +7,7 @@ use Rattle.pgn_extract.specs.Outcomes.{AppendsFront, BeginsAll}
 use Rattle.pgn_extract.specs.Telling.{Told, AreTold, output_text, fault_lines}
 use Rattle.pgn_extract.specs.Aims.{Aim}
 use Rattle.pgn_extract.proofs.OneReport.{same_report}
+use Rattle.pgn_extract.proofs.SomeReport.{some_report}
 use Rattle.pgn_extract.proofs.Telling.{output_text-append, fault_lines-append}
 
 take_front : (size : ℕ) (xs ys : List ℕ) → take size xs ≡ take (length (take size xs)) (xs ++ ys)
@@ -32,23 +33,18 @@ pub begun_all : (aim : Aim) (limit max_depth number offset : ℕ) (bytes : List 
     → BeginsFirst aim limit max_depth number offset bytes out out' err err'
     → BeginsAll aim limit max_depth number offset bytes out out' err err'
 begun_all aim limit max_depth number offset bytes out out' err err' b =
-    let first = b.told in record {
+    let first = b.told in
+    let all = some_report aim limit max_depth number offset bytes b.pieces b.each in
+    let found = first_reported aim number first.before first.behind all.0 (subst (λ p. AreTold aim number p all.0) first.parted all.1) in
+    let same = same_report aim number first.before first.tolds found.0 first.each found.3 in
+    let whole : all.0 ≡ first.tolds ++ found.1 = found.2 ∙ ap (λ t. t ++ found.1) (sym same) in
+    let output = ap output_text whole ∙ output_text-append first.tolds found.1 in
+    let faults = ap fault_lines whole ∙ fault_lines-append first.tolds found.1 in
+    record {
       pieces = b.pieces;
       each = b.each;
-      before = first.before;
-      behind = first.behind;
-      parted = first.parted;
-      tolds = first.tolds;
-      told = first.each;
-      output = first.output;
-      faults = first.faults;
-      whole = λ all told.
-          let found = first_reported aim number first.before first.behind all (subst (λ p. AreTold aim number p all) first.parted told) in
-          let same = same_report aim number first.before first.tolds found.0 first.each found.3 in
-          let whole : all ≡ first.tolds ++ found.1 = found.2 ∙ ap (λ t. t ++ found.1) (sym same) in
-          let output = ap output_text whole ∙ output_text-append first.tolds found.1 in
-          let faults = ap fault_lines whole ∙ fault_lines-append first.tolds found.1 in (
-            subst (AppendsFront out out') (sym output) (front_longer out out' (output_text first.tolds) (output_text found.1) first.output),
-            subst (AppendsFront err err') (sym faults) (front_longer err err' (fault_lines first.tolds) (fault_lines found.1) first.faults),
-          );
+      tolds = all.0;
+      told = all.1;
+      output = subst (AppendsFront out out') (sym output) (front_longer out out' (output_text first.tolds) (output_text found.1) first.output);
+      faults = subst (AppendsFront err err') (sym faults) (front_longer err err' (fault_lines first.tolds) (fault_lines found.1) first.faults);
     }

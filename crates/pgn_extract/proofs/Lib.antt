@@ -15,6 +15,7 @@ pub mod Picks
 pub mod Resumed
 pub mod RunProgress
 pub mod SameTags
+pub mod Decided
 pub mod SomeReport
 pub mod Telling
 pub mod WholeRun

@@ -14,10 +14,10 @@ use Rattle.pgn_extract.specs.Listing.{listing, entries_from, tags_in, cause_text
 use Rattle.pgn_extract.specs.Telling.{Told, SoundGame, FaultyGame, IsToldIn, IsPieceTold, AreTold}
 use Rattle.pgn_game.specs.Replays.{Replay}
 use Rattle.pgn_criteria.specs.Meeting.{Tags}
-use Rattle.pgn_criteria.specs.declared.condition.Condition.{Condition}
 use Rattle.pgn_extract.specs.Aims.{Aim, IsMet, IsWanted, IsEntry}
-use Rattle.pgn_extract.specs.Laws.{IsDecided, NoCriteriaAreDecided, TextHasAReport}
+use Rattle.pgn_extract.specs.Laws.{TextHasAReport}
 use Rattle.pgn_extract.proofs.Chosen.{some_chosen}
+use Rattle.pgn_extract.proofs.Decided.{IsDecided, all_decided}
 use Rattle.pgn_extract.proofs.ExactEntries.{of_positions}
 use Rattle.pgn_extract.specs.declared.settings.Mode.{Mode}
 use Rattle.pgn_extract.specs.declared.settings.Mode.TheVariants as modes
@@ -140,9 +140,5 @@ all_reported aim decided number (piece ∷ more) has =
     (own.0 ∷ rest.0, (own.0, rest.0, refl, own.1, rest.1))
 
 pub some_report : TextHasAReport
-some_report aim decided limit max_depth number offset text pieces h =
-    all_reported aim decided number pieces (blocks_tagged limit max_depth offset h.blocks pieces h.each)
-
-pub no_criteria : NoCriteriaAreDecided
-no_criteria aim none parts replay is ply less =
-    inl (subst (λ (c : Option (List (List (Condition (List ℕ))))). IsMet c (tags_in parts) replay ply) (sym none) tt)
+some_report aim limit max_depth number offset text pieces h =
+    all_reported aim (all_decided aim) number pieces (blocks_tagged limit max_depth offset h.blocks pieces h.each)

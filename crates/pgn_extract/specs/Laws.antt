@@ -1,5 +1,5 @@
 -- What holds of the entries of every text, of its marks, and of what is reported of it.
-use Rattle.std.specs.Prelude.{◌≡◌, ◌↔◌, ◌⊎◌, ℕ, ◌+◌, ◌-◌, ◌<◌, List, [], ◌∷◌, ◌++◌, length, take, drop, count_by, Some, None}
+use Rattle.std.specs.Prelude.{◌≡◌, ◌↔◌, ◌⊎◌, ℕ, ◌+◌, ◌-◌, ◌<◌, List, [], ◌∷◌, ◌++◌, length, take, drop, count_by, Some}
 use Rattle.std.specs.List.{Contains, slice_get}
 use Rattle.pgn_text.specs.Marks.{ReadableGame, MarkedPiece, AreMarkedPieces}
 use Rattle.pgn_text.specs.Parts.{Part}
@@ -7,7 +7,7 @@ use Rattle.pgn_game.specs.Replays.{Replay}
 use Rattle.pgn_extract.specs.Listing.{Entry, IsReplayOf, tags_in, AreEntries}
 use Rattle.pgn_extract.specs.Resuming.{IsMarkAmong}
 use Rattle.pgn_extract.specs.Telling.{Told, AreTold, output_text, fault_lines, is_faulty}
-use Rattle.pgn_extract.specs.Aims.{Aim, IsMet, IsEntry}
+use Rattle.pgn_extract.specs.Aims.{Aim, IsEntry}
 
 -- the entry names a sound game, by its place among the pieces and the offset of its first byte, and a ply of its main line that is listed
 pub record IsPlyOfGame (aim : Aim) (number : ℕ) (pieces : List MarkedPiece) (entry : Entry) : Type 0 where
@@ -46,20 +46,10 @@ EachPieceHasAMark =
     (before : List MarkedPiece) (piece : MarkedPiece) (behind : List MarkedPiece)
     → IsMarkAmong (length before + 1) piece.offset (before ++ piece ∷ behind)
 
--- each position of each sound game meets the criteria or does not
-abbrev pub IsDecided : Aim → Type 0
-IsDecided aim =
-    (parts : List Part) (replay : Replay) → IsReplayOf parts replay → (ply : ℕ) → ply < length replay.positions
-    → IsMet aim.criteria (tags_in parts) replay ply ⊎ (IsMet aim.criteria (tags_in parts) replay ply → ⊥)
-
--- without criteria every position is decided
-abbrev pub NoCriteriaAreDecided : Type 0
-NoCriteriaAreDecided = (aim : Aim) → aim.criteria ≡ None → IsDecided aim
-
--- the pieces of each text are reported in one way whatever is to be reported, where that is decided
+-- the pieces of each text are reported in some way, whatever is to be reported
 abbrev pub TextHasAReport : Type 0
 TextHasAReport =
-    (aim : Aim) → IsDecided aim → (limit max_depth number offset : ℕ) (text : List ℕ) (pieces : List MarkedPiece)
+    (aim : Aim) (limit max_depth number offset : ℕ) (text : List ℕ) (pieces : List MarkedPiece)
     → AreMarkedPieces limit max_depth offset text pieces → (reported : List Told) × AreTold aim number pieces reported
 
 -- and in only one way

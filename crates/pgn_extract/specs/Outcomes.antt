@@ -1,5 +1,5 @@
 -- What stands on the output and on standard error once a run has ended.
-use Rattle.std.specs.Prelude.{◌≡◌, ℕ, ◌^◌, ◌<◌, ◌≤◌, List, ◌++◌, length, take, drop, count_by, Option}
+use Rattle.std.specs.Prelude.{◌≡◌, ℕ, ◌^◌, ◌<◌, ◌≤◌, List, length, take, drop, count_by, Option}
 use Rattle.std.specs.Io.KnownBytes.{Appends}
 use Rattle.pgn_text.specs.Complete.{AreCompletePieces}
 use Rattle.pgn_text.specs.Marks.{MarkedPiece, AreMarkedPieces}
@@ -53,19 +53,14 @@ pub record TellsComplete (aim : Aim) (limit max_depth number offset : ℕ) (byte
   pub tolds : List Told
   pub told : Tells aim out out' err err' number pieces tolds
 
--- each of the two grew by a beginning of what is reported of the first pieces of the bytes, which is one of what is reported of all of them
+-- each of the two grew by a beginning of what is reported of all pieces of the bytes
 pub record BeginsAll (aim : Aim) (limit max_depth number offset : ℕ) (bytes : List ℕ) (out out' err err' : Option (List ℕ)) : Type 0 where
   pub pieces : List MarkedPiece
   pub each : AreMarkedPieces limit max_depth offset bytes pieces
-  pub before : List MarkedPiece
-  pub behind : List MarkedPiece
-  pub parted : pieces ≡ before ++ behind
   pub tolds : List Told
-  pub told : AreTold aim number before tolds
+  pub told : AreTold aim number pieces tolds
   pub output : AppendsFront out out' (output_text tolds)
   pub faults : AppendsFront err err' (fault_lines tolds)
-  pub whole : (all : List Told) → AreTold aim number pieces all
-      → AppendsFront out out' (output_text all) × AppendsFront err err' (fault_lines all)
 
 -- what stands after an error of a run over the input `whole`, of which it read the first `moved` bytes
 abbrev pub Stands : Aim → ℕ → ℕ → ℕ → ℕ → List ℕ → ℕ → Option (List ℕ) → Option (List ℕ) → Option (List ℕ) → Option (List ℕ) → RunError → Type 0

@@ -1,6 +1,6 @@
 //! What holds of every text, whatever lists or reports it. Each law is the contract of a function that does nothing.
 
-ghost use Rattle.pgn_extract.specs.Laws.{EntriesAreExact, EntriesAscend, EachPieceHasAMark, TextHasAReport, TextHasOneReport, NoCriteriaAreDecided, PartsJoin};
+ghost use Rattle.pgn_extract.specs.Laws.{EntriesAreExact, EntriesAscend, EachPieceHasAMark, TextHasAReport, TextHasOneReport, PartsJoin};
 
 /// The entries of a text are exactly those plies of its sound games that are within the bounds and whose position meets the criteria, or the
 /// least such of each game; each is listed once, in the order of the games and their plies.
@@ -14,12 +14,10 @@ pub fn marks()
     ensures { EachPieceHasAMark }
 {}
 
-/// The pieces of each text are reported in only one way, and in some way where each position meets the criteria or does not; without criteria
-/// that is so.
+/// The pieces of each text are reported in some way, whatever is to be reported, and in only one.
 pub fn one_report()
     ensures some { TextHasAReport }
     ensures one { TextHasOneReport }
-    ensures decided { NoCriteriaAreDecided }
 {}
 
 /// What is reported of a text is what is reported of its parts, one behind the other, where it is cut at one of its pieces. The text begins

@@ -2,3 +2,4 @@ pub mod OneReplay
 pub mod Tags
 pub mod WalkFacts
 pub mod AnAnswer
+pub mod OnBoard

@@ -1,6 +1,6 @@
 -- The laws are lemmas.
 use Rattle.pgn_extract.proofs.OneReport.{one_report}
-use Rattle.pgn_extract.proofs.SomeReport.{some_report, no_criteria}
+use Rattle.pgn_extract.proofs.SomeReport.{some_report}
 use Rattle.pgn_extract.proofs.laws.one_report.Goals as goal
 
 pub returns-clause-some : goal.returns-clause-some
@@ -8,6 +8,3 @@ returns-clause-some c = some_report
 
 pub returns-clause-one : goal.returns-clause-one
 returns-clause-one c = one_report
-
-pub returns-clause-decided : goal.returns-clause-decided
-returns-clause-decided c = no_criteria
