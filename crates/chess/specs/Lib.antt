@@ -23,3 +23,4 @@ pub mod FenTextWords
 pub mod SanWords
 pub mod SanAnswers
 pub mod SanTextWords
+pub mod Passes
