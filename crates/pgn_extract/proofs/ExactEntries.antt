@@ -9,6 +9,7 @@ use Rattle.pgn_text.specs.Parts.{Part}
 use Rattle.pgn_text.specs.Games.{items_of, first_tag}
 use Rattle.pgn_game.specs.Laws.{GameHasOneReplay, SoundGameHasNoFault}
 use Rattle.pgn_game.specs.Replays.{Replay}
+use Rattle.pgn_game.specs.declared.replayer.Lines.TheVariants.{Main}
 use Rattle.pgn_game.specs.Starts.{fen_tag}
 use Rattle.pgn_extract.specs.Laws.{IsPlyOfGame, IsEarlier, Ascend}
 use Rattle.pgn_extract.specs.Listing.{Entry, entries_from, IsReplayOf, AreGameEntries, sound, faulty, ArePieceEntries, AreEntries}
@@ -70,11 +71,11 @@ own_ply TooLongBlock number offset own none entry has = absurd (none_within entr
 own_has : (one_replay : GameHasOneReplay) (no_fault : SoundGameHasNoFault) (number offset : ℕ) (parts : List Part) (own : List Entry) → AreGameEntries number offset parts own
     → (replay : Replay) → IsReplayOf parts replay → (ply : ℕ) → ply < length replay.positions → Contains own (entry_at number offset ply)
 own_has one_replay no_fault number offset parts own (sound first is these) replay also ply less =
-    let same : first ≡ replay = one_replay (first_tag fen_tag parts) (items_of parts) first replay is also in
+    let same : first ≡ replay = one_replay Main (first_tag fen_tag parts) (items_of parts) first replay is also in
     let here : ply < length first.positions = subst (λ (r : Replay). ply < length r.positions) (sym same) less in
     subst (λ e. Contains e (entry_at number offset ply)) (sym these) (has_ply number offset 0 first.positions ply (omega arith) (omega arith))
 own_has one_replay no_fault number offset parts own (faulty fault is none) replay also ply less =
-    absurd (no_fault (first_tag fen_tag parts) (items_of parts) fault (replay, also) is)
+    absurd (no_fault Main (first_tag fen_tag parts) (items_of parts) fault (replay, also) is)
 
 -- each entry is a ply of a sound game
 pub to_ply : (number : ℕ) (pieces : List MarkedPiece) (entries : List Entry) → AreEntries number pieces entries → (entry : Entry) → Contains entries entry

@@ -11,6 +11,7 @@ use Rattle.pgn_text.specs.declared.cut.Piece.{Piece}
 use Rattle.pgn_text.specs.declared.cut.Piece.TheVariants as given
 use Rattle.pgn_game.specs.Faults.{Fault, IsFault}
 use Rattle.pgn_game.specs.Replays.{Replay, IsReplay}
+use Rattle.pgn_game.specs.declared.replayer.Lines.TheVariants.{Main}
 use Rattle.pgn_game.specs.Starts.{fen_tag}
 use Rattle.pgn_extract.specs.Blockwise.{AddsTold, AddsListed, AddsGame, AddsMark, AddsPiece}
 use Rattle.pgn_extract.specs.Index.{fault_text, mark_line}
@@ -53,23 +54,23 @@ told_faulty old new line count adds = record {
 }
 
 -- by the listing, its replay
-pub listed_replay : {old new : Report} {number offset : ℕ} {game : GameText} (replay : Replay) → IsReplay (tag_in fen_tag game.tags) game.elements replay
+pub listed_replay : {old new : Report} {number offset : ℕ} {game : GameText} (replay : Replay) → IsReplay Main (tag_in fen_tag game.tags) game.elements replay
     → AddsOutput old new (listing (entries_from number offset 0 replay.positions)) → AddsListed old new number offset game
 listed_replay {old} {new} {number} {offset} {game} replay is adds at parts shows =
     let text = listing (entries_from number offset 0 replay.positions) in
     let of : IsReplayOf parts replay =
-    subst (λ (items : List Item). IsReplay (first_tag fen_tag parts) items replay) shows.elements
-    (subst (λ (tag : Option (List ℕ)). IsReplay tag game.elements replay) (shows.tags fen_tag) is) in
+    subst (λ (items : List Item). IsReplay Main (first_tag fen_tag parts) items replay) shows.elements
+    (subst (λ (tag : Option (List ℕ)). IsReplay Main tag game.elements replay) (shows.tags fen_tag) is) in
     (SoundGame text, (replay, of, refl), told_sound old new text adds)
 
 -- or its fault
-pub listed_fault : {old new : Report} {number offset : ℕ} {game : GameText} (fault : Fault) → IsFault (tag_in fen_tag game.tags) game.elements fault
+pub listed_fault : {old new : Report} {number offset : ℕ} {game : GameText} (fault : Fault) → IsFault Main (tag_in fen_tag game.tags) game.elements fault
     → AddsFault old new (fault_text number offset (cause_text fault)) 0 → AddsListed old new number offset game
 listed_fault {old} {new} {number} {offset} {game} fault is adds at parts shows =
     let line = fault_text number offset (cause_text fault) in
     let of : IsFaultOf parts fault =
-    subst (λ (items : List Item). IsFault (first_tag fen_tag parts) items fault) shows.elements
-    (subst (λ (tag : Option (List ℕ)). IsFault tag game.elements fault) (shows.tags fen_tag) is) in
+    subst (λ (items : List Item). IsFault Main (first_tag fen_tag parts) items fault) shows.elements
+    (subst (λ (tag : Option (List ℕ)). IsFault Main tag game.elements fault) (shows.tags fen_tag) is) in
     (FaultyGame line, (fault, of, refl), told_faulty old new line 0 adds)
 
 -- by the index, its mark

@@ -6,6 +6,7 @@ use Rattle.pgn_text.specs.Parts.{Part}
 use Rattle.pgn_game.specs.Faults.{Fault}
 use Rattle.pgn_game.specs.Laws.{GameHasOneReplay, GameHasOneFault, SoundGameHasNoFault}
 use Rattle.pgn_game.specs.Replays.{Replay}
+use Rattle.pgn_game.specs.declared.replayer.Lines.TheVariants.{Main}
 use Rattle.pgn_game.specs.Starts.{fen_tag}
 use Rattle.pgn_extract.specs.Index.{fault_text}
 use Rattle.pgn_extract.specs.Listing.{listing, entries_from, cause_text}
@@ -17,11 +18,11 @@ module _ (one_replay : GameHasOneReplay) (one_fault : GameHasOneFault) (no_fault
   -- a game in the listing
   one_listed : (a b : Told) (number offset : ℕ) (parts : List Part) → IsListed a number offset parts → IsListed b number offset parts → a ≡ b
   one_listed (SoundGame x) (SoundGame y) number offset parts (first, is, text) (second, also, other) =
-      ap SoundGame (text ∙ ap (λ (r : Replay). listing (entries_from number offset 0 r.positions)) (one_replay (first_tag fen_tag parts) (items_of parts) first second is also) ∙ sym other)
-  one_listed (SoundGame x) (FaultyGame y) number offset parts (first, is, text) (second, also, other) = absurd (no_fault (first_tag fen_tag parts) (items_of parts) second (first, is) also)
-  one_listed (FaultyGame x) (SoundGame y) number offset parts (first, is, text) (second, also, other) = absurd (no_fault (first_tag fen_tag parts) (items_of parts) first (second, also) is)
+      ap SoundGame (text ∙ ap (λ (r : Replay). listing (entries_from number offset 0 r.positions)) (one_replay Main (first_tag fen_tag parts) (items_of parts) first second is also) ∙ sym other)
+  one_listed (SoundGame x) (FaultyGame y) number offset parts (first, is, text) (second, also, other) = absurd (no_fault Main (first_tag fen_tag parts) (items_of parts) second (first, is) also)
+  one_listed (FaultyGame x) (SoundGame y) number offset parts (first, is, text) (second, also, other) = absurd (no_fault Main (first_tag fen_tag parts) (items_of parts) first (second, also) is)
   one_listed (FaultyGame x) (FaultyGame y) number offset parts (first, is, text) (second, also, other) =
-      ap FaultyGame (text ∙ ap (λ (f : Fault). fault_text number offset (cause_text f)) (one_fault (first_tag fen_tag parts) (items_of parts) first second is also) ∙ sym other)
+      ap FaultyGame (text ∙ ap (λ (f : Fault). fault_text number offset (cause_text f)) (one_fault Main (first_tag fen_tag parts) (items_of parts) first second is also) ∙ sym other)
 
   -- a piece
   one_told : (kind : PieceKind) (mode : Mode) (number offset : ℕ) (a b : Told) → IsPieceTold kind mode number offset a → IsPieceTold kind mode number offset b → a ≡ b

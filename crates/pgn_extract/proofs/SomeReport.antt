@@ -7,6 +7,7 @@ use Rattle.pgn_text.specs.Pieces.{Piece, Game, Unreadable, ArePieces}
 use Rattle.pgn_text.specs.Strings.{IsContents}
 use Rattle.pgn_text.proofs.TagStrings.{first_string}
 use Rattle.pgn_game.proofs.AnAnswer.{game_answer}
+use Rattle.pgn_game.specs.declared.replayer.Lines.TheVariants.{Main}
 use Rattle.pgn_game.specs.Starts.{fen_tag}
 use Rattle.pgn_extract.specs.Index.{fault_text, mark_line}
 use Rattle.pgn_extract.specs.Listing.{listing, entries_from, cause_text}
@@ -61,7 +62,7 @@ blocks_tagged limit max_depth offset (block ∷ more) marks h =
 game_reported : (mode : Mode) (number offset : ℕ) (parts : List Part) → IfSome (first_tag fen_tag parts) IsContents
     → (told : Told) × IsGameTold mode number offset parts told
 game_reported modes.Index number offset parts has = (SoundGame (mark_line number offset), refl)
-game_reported modes.List number offset parts has = elim (game_answer (first_tag fen_tag parts) (items_of parts) has) [
+game_reported modes.List number offset parts has = elim (game_answer Main (first_tag fen_tag parts) (items_of parts) has (λ all. absurd (cc))) [
   | inl sound ↦ (SoundGame (listing (entries_from number offset 0 sound.0.positions)), (sound.0, sound.1, refl))
   | inr faulty ↦ (FaultyGame (fault_text number offset (cause_text faulty.0)), (faulty.0, faulty.1, refl))
 ]

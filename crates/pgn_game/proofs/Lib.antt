@@ -2,3 +2,8 @@ pub mod OneReplay
 pub mod Tags
 pub mod WalkFacts
 pub mod AnAnswer
+pub mod Spelling
+pub mod RunFacts
+pub mod MainFacts
+pub mod OneWord
+pub mod OneLine

@@ -1,7 +1,9 @@
 pub mod MainLines
 pub mod Starts
+pub mod AllLines
 pub mod Faults
 pub mod Replays
 pub mod Codes
 pub mod Laws
 pub mod Walks
+pub mod LineWalks

@@ -2,20 +2,20 @@
 
 ghost use Rattle.pgn_game.specs.Laws.{EachMoveIsNamed, GameHasOneReplay, GameHasOneFault, SoundGameHasNoFault, GameHasAnAnswer};
 
-/// Each move of a main line is the only legal move that its word names in the position before it.
+/// Whichever lines are replayed, each move of the main line is the only legal move that its word names in the position before it.
 pub fn one_legal_move()
     ensures { EachMoveIsNamed }
 {}
 
-/// A game has at most one replay and at most one fault, and not both.
+/// Of the main line, and of all lines, a game has at most one replay and at most one fault, and not both.
 pub fn one_answer()
     ensures replay { GameHasOneReplay }
     ensures fault { GameHasOneFault }
     ensures not_both { SoundGameHasNoFault }
 {}
 
-/// A game has a replay or a fault, where its FEN tag holds the contents of a string, as the tag of each game of a text does. Of no other
-/// contents is there a value that could be read or refused.
+/// Of the main line, and of all lines, a game has a replay or a fault, where its FEN tag holds the contents of a string and its
+/// parentheses stand in pairs, as in each game of a text. Of no other contents is there a value that could be read or refused.
 pub fn an_answer()
     ensures { GameHasAnAnswer }
 {}

@@ -1,6 +1,7 @@
-//! Games played: the main line of a game as it stands in a file, from its start on.
+//! Games played: the lines of a game as they stand in a file, from its start on.
 #![tactic(auto)]
 
+mod all_lines;
 mod fault;
 pub mod laws;
 mod main_line;
@@ -8,7 +9,9 @@ mod naming;
 mod replayed;
 mod replayer;
 mod starting;
+mod turn;
 
 pub use fault::GameFault;
 pub use replayed::{GamePosition, Replayed};
 pub use replayer::{Lines, replay};
+pub use turn::Turn;
