@@ -4,6 +4,7 @@ mod blocks;
 mod faults;
 mod index;
 mod listing;
+mod passes;
 mod pieces;
 mod replays;
 mod support;
