@@ -7,3 +7,5 @@ pub mod RunFacts
 pub mod MainFacts
 pub mod OneWord
 pub mod OneLine
+pub mod LaidFacts
+pub mod LaidOnce

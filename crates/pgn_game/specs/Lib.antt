@@ -7,3 +7,5 @@ pub mod Codes
 pub mod Laws
 pub mod Walks
 pub mod LineWalks
+pub mod TextLines
+pub mod Pens

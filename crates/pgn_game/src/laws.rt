@@ -1,5 +1,6 @@
 //! What holds of every game, whatever replays it. Each law is the contract of a function that does nothing.
 
+ghost use Rattle.pgn_game.specs.TextLines.{TokensHaveAText, TokensHaveOneText};
 ghost use Rattle.pgn_game.specs.Laws.{EachMoveIsNamed, GameHasOneReplay, GameHasOneFault, SoundGameHasNoFault, GameHasAnAnswer};
 
 /// Whichever lines are replayed, each move of the main line is the only legal move that its word names in the position before it.
@@ -18,4 +19,10 @@ pub fn one_answer()
 /// parentheses stand in pairs, as in each game of a text. Of no other contents is there a value that could be read or refused.
 pub fn an_answer()
     ensures { GameHasAnAnswer }
+{}
+
+/// Tokens have a text in lines of each width, and only one.
+pub fn one_text()
+    ensures some { TokensHaveAText }
+    ensures one { TokensHaveOneText }
 {}
