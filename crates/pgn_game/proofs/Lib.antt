@@ -9,3 +9,4 @@ pub mod OneWord
 pub mod OneLine
 pub mod LaidFacts
 pub mod LaidOnce
+pub mod OneMovetext

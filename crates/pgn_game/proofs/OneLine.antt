@@ -21,7 +21,7 @@ own_words (ThenGlyph number rest) = own_words rest
 own_words (ThenComment text rest) = own_words rest
 own_words (ThenVariation inner rest) = own_words rest
 
-one_turn : (passes : Bool) (now : State) (word : List ℕ) (turn other : Turn) → SaysTurn passes now word turn → SaysTurn passes now word other → turn ≡ other
+pub one_turn : (passes : Bool) (now : State) (word : List ℕ) (turn other : Turn) → SaysTurn passes now word turn → SaysTurn passes now word other → turn ≡ other
 one_turn true now word (Played m) other a b = absurd a
 one_turn true now word Passed (Played n) a b = absurd b
 one_turn true now word Passed Passed a b = refl

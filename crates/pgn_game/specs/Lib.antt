@@ -9,3 +9,5 @@ pub mod Walks
 pub mod LineWalks
 pub mod TextLines
 pub mod Pens
+pub mod Comments
+pub mod Exports

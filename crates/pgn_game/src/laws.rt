@@ -1,5 +1,6 @@
 //! What holds of every game, whatever replays it. Each law is the contract of a function that does nothing.
 
+ghost use Rattle.pgn_game.specs.Exports.{MovetextHasOneList};
 ghost use Rattle.pgn_game.specs.TextLines.{TokensHaveAText, TokensHaveOneText};
 ghost use Rattle.pgn_game.specs.Laws.{EachMoveIsNamed, GameHasOneReplay, GameHasOneFault, SoundGameHasNoFault, GameHasAnAnswer};
 
@@ -25,4 +26,9 @@ pub fn an_answer()
 pub fn one_text()
     ensures some { TokensHaveAText }
     ensures one { TokensHaveOneText }
+{}
+
+/// In a style the movetext of a game that starts from a position has one list of tokens at most.
+pub fn one_movetext()
+    ensures { MovetextHasOneList }
 {}

@@ -10,9 +10,11 @@ pub mod pen;
 mod replayed;
 mod replayer;
 mod starting;
+mod style;
 mod turn;
 
 pub use fault::GameFault;
 pub use replayed::{GamePosition, Replayed};
 pub use replayer::{Lines, replay};
+pub use style::Style;
 pub use turn::Turn;
