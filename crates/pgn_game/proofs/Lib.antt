@@ -10,3 +10,4 @@ pub mod OneLine
 pub mod LaidFacts
 pub mod LaidOnce
 pub mod OneMovetext
+pub mod TurnCounts

@@ -1,11 +1,11 @@
 -- What holds of every game, whatever replays it.
-use Rattle.std.specs.Prelude.{◌≡◌, ◌⊎◌, ℕ, ◌+◌, List, Option, Some, IfSome}
+use Rattle.std.specs.Prelude.{◌≡◌, ◌⊎◌, ℕ, ◌+◌, List, [], ◌∷◌, length, Option, Some, IfSome}
 use Rattle.std.specs.List.{slice_get}
 use Rattle.chess.specs.Positions.{State}
 use Rattle.chess.specs.Moves.{after}
 use Rattle.chess.specs.San.{IsOnlyNamed}
 use Rattle.chess.specs.declared.moves.Move.{Move}
-use Rattle.pgn_text.specs.Games.{Item}
+use Rattle.pgn_text.specs.Games.{Item, MoveText, GlyphNumber, CommentText, VariationOpen, VariationClose}
 use Rattle.pgn_text.specs.GameTexts.{IsPaired}
 use Rattle.pgn_text.specs.Strings.{IsContents}
 use Rattle.pgn_game.specs.MainLines.{main_words}
@@ -46,3 +46,17 @@ abbrev pub GameHasAnAnswer : Type 0
 GameHasAnAnswer =
     (lines : Lines) (fen : Option (List ℕ)) (items : List Item) → IfSome fen IsContents → (lines ≡ All → IsPaired 0 items)
     → ((replay : Replay) × IsReplay lines fen items replay) ⊎ ((fault : Fault) × IsFault lines fen items fault)
+
+-- the number of move texts, with those of variations
+abbrev pub move_count : List Item → ℕ
+move_count [] = 0
+move_count (MoveText word ∷ items) = move_count items + 1
+move_count (GlyphNumber number ∷ items) = move_count items
+move_count (CommentText text ∷ items) = move_count items
+move_count (VariationOpen ∷ items) = move_count items
+move_count (VariationClose ∷ items) = move_count items
+
+-- where all lines are replayed, each move text has a turn
+abbrev pub EachMoveHasATurn : Type 0
+EachMoveHasATurn =
+    (fen : Option (List ℕ)) (items : List Item) (replay : Replay) → IsReplay All fen items replay → length replay.turns ≡ move_count items

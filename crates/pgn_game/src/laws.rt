@@ -2,11 +2,16 @@
 
 ghost use Rattle.pgn_game.specs.Exports.{MovetextHasOneList};
 ghost use Rattle.pgn_game.specs.TextLines.{TokensHaveAText, TokensHaveOneText};
-ghost use Rattle.pgn_game.specs.Laws.{EachMoveIsNamed, GameHasOneReplay, GameHasOneFault, SoundGameHasNoFault, GameHasAnAnswer};
+ghost use Rattle.pgn_game.specs.Laws.{EachMoveIsNamed, EachMoveHasATurn, GameHasOneReplay, GameHasOneFault, SoundGameHasNoFault, GameHasAnAnswer};
 
 /// Whichever lines are replayed, each move of the main line is the only legal move that its word names in the position before it.
 pub fn one_legal_move()
     ensures { EachMoveIsNamed }
+{}
+
+/// Where all lines are replayed, there is one turn for each move text.
+pub fn a_turn_each()
+    ensures { EachMoveHasATurn }
 {}
 
 /// Of the main line, and of all lines, a game has at most one replay and at most one fault, and not both.
