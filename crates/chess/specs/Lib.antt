@@ -22,3 +22,4 @@ pub mod FenTextWords
 pub mod SanWords
 pub mod SanAnswers
 pub mod SanTextWords
+pub mod Passes

@@ -2,3 +2,12 @@ pub mod OneReplay
 pub mod Tags
 pub mod WalkFacts
 pub mod AnAnswer
+pub mod Spelling
+pub mod RunFacts
+pub mod MainFacts
+pub mod OneWord
+pub mod OneLine
+pub mod LaidFacts
+pub mod LaidOnce
+pub mod OneMovetext
+pub mod TurnCounts

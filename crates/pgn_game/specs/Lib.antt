@@ -1,7 +1,13 @@
 pub mod MainLines
 pub mod Starts
+pub mod AllLines
 pub mod Faults
 pub mod Replays
 pub mod Codes
 pub mod Laws
 pub mod Walks
+pub mod LineWalks
+pub mod TextLines
+pub mod Pens
+pub mod Comments
+pub mod Exports
