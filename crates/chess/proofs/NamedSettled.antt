@@ -13,7 +13,7 @@ use Rattle.chess.specs.Laws.{NamesOneNoneOrSeveral, EachTextNamesOneNoneOrSevera
 use Rattle.chess.specs.CellFacts.{on_board_or_not}
 use Rattle.chess.specs.declared.man.Man.{Man}
 use Rattle.chess.specs.declared.man.Kind.{Kind}
-use Rattle.chess.specs.declared.man.Kind.TheVariants.{Queen, Rook, Bishop, Knight, Pawn}
+use Rattle.chess.specs.declared.man.Kind.TheVariants.{Pawn}
 use Rattle.chess.specs.declared.man.Wing.{Wing}
 use Rattle.chess.specs.declared.moves.Move.{Move}
 use Rattle.chess.proofs.PlaceFacts.{cases_place}
