@@ -5,6 +5,7 @@ pub mod Attacks
 pub mod Positions
 pub mod Start
 pub mod Moves
+pub mod Passes
 pub mod Letters
 pub mod San
 pub mod Fen

@@ -16,6 +16,7 @@ pub mod mailbox;
 pub mod man;
 mod move_text;
 pub mod moves;
+mod pass;
 mod play;
 pub mod position;
 mod pseudo_legal;

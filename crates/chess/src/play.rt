@@ -20,7 +20,7 @@ fn same(a: Square, b: Square) -> bool
 }
 
 /// A count goes up by one, and stays at the largest number.
-fn one_more(count: u32) -> u32
+pub(crate) fn one_more(count: u32) -> u32
     ensures { result ≡ one_more count }
 {
     count.saturating_add(1)
@@ -133,7 +133,7 @@ impl<B: Board> Position<B> {
     }
 
     /// The fullmove number after a move.
-    fn fullmove_number_after(&self) -> u32
+    pub(crate) fn fullmove_number_after(&self) -> u32
         ensures { result ≡ fullmove_number_after self.now.turn self.now.fullmove_number }
     {
         match self.side() {

@@ -11,6 +11,7 @@ mod criteria;
 mod faults;
 mod index;
 mod listing;
+mod passes;
 mod pieces;
 mod replays;
 mod support;

@@ -1,7 +1,7 @@
 //! Criteria with games, and the positions of their main lines that must meet them.
 ghost use Rattle.std.specs.Prelude.{IfOk};
 ghost use Rattle.pgn_text.specs.GameTexts.{tag_in};
-ghost use Rattle.pgn_game.specs.Replays.{IsReplay};
+ghost use Rattle.pgn_game.specs.Replays.{IsSomeReplay};
 ghost use Rattle.pgn_game.specs.Starts.{fen_tag};
 
 use crate::Criteria;
@@ -28,7 +28,7 @@ fn first_game<'a>(alloc: Global, block: &'a [u8]) -> Result<RawGame<'a>, Fail> {
 
 /// The replay of the game, which is to be sound.
 fn replayed(alloc: Global, game: &RawGame) -> Result<Replayed, Fail>
-    ensures { IfOk result (IsReplay (tag_in fen_tag game.now.tags) game.now.elements) }
+    ensures { IfOk result (IsSomeReplay (tag_in fen_tag game.now.tags) game.now.elements) }
 {
     match replay(alloc, game, Lines::Main) {
         Ok(replayed) => Ok(replayed),

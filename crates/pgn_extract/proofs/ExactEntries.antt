@@ -9,6 +9,7 @@ use Rattle.pgn_text.specs.Parts.{Part}
 use Rattle.pgn_text.specs.Games.{items_of, first_tag}
 use Rattle.pgn_game.specs.Laws.{GameHasOneReplay, SoundGameHasNoFault}
 use Rattle.pgn_game.specs.Replays.{Replay}
+use Rattle.pgn_game.specs.declared.replayer.Lines.TheVariants.{Main}
 use Rattle.pgn_game.specs.Starts.{fen_tag}
 use Rattle.pgn_extract.specs.Aims.{Aim, IsEntry}
 use Rattle.pgn_extract.proofs.Chosen.{chosen_from, chosen_all, chosen_ascend}
@@ -71,13 +72,13 @@ own_ply aim TooLongBlock number offset own none entry has = absurd (none_within 
 own_has : (one_replay : GameHasOneReplay) (no_fault : SoundGameHasNoFault) (aim : Aim) (number offset : ℕ) (parts : List Part) (own : List Entry) → AreGameEntries aim number offset parts own
     → (replay : Replay) → IsReplayOf parts replay → (ply : ℕ) → ply < length replay.positions → IsEntry aim (tags_in parts) replay ply → Contains own (entry_at number offset ply)
 own_has one_replay no_fault aim number offset parts own (sound first is these) replay also ply less listed =
-    let same : first ≡ replay = one_replay (first_tag fen_tag parts) (items_of parts) first replay is also in
+    let same : first ≡ replay = one_replay Main (first_tag fen_tag parts) (items_of parts) first replay is also in
     let here : ply < length first.positions = subst (λ (r : Replay). ply < length r.positions) (sym same) less in
     let also_listed : IsEntry aim (tags_in parts) first ply = subst (λ (r : Replay). IsEntry aim (tags_in parts) r ply) (sym same) listed in
     chosen_all (λ e. IsEntry aim (tags_in parts) first e.ply) (entries_from number offset 0 first.positions) own these (entry_at number offset ply)
     (has_ply number offset 0 first.positions ply (omega arith) (omega arith)) also_listed
 own_has one_replay no_fault aim number offset parts own (faulty fault is none) replay also ply less listed =
-    absurd (no_fault (first_tag fen_tag parts) (items_of parts) fault (replay, also) is)
+    absurd (no_fault Main (first_tag fen_tag parts) (items_of parts) fault (replay, also) is)
 
 -- each entry is a ply of a sound game
 pub to_ply : (aim : Aim) (number : ℕ) (pieces : List MarkedPiece) (entries : List Entry) → AreEntries aim number pieces entries → (entry : Entry) → Contains entries entry

@@ -11,6 +11,7 @@ use Rattle.pgn_text.specs.declared.cut.Piece.{Piece}
 use Rattle.pgn_text.specs.declared.cut.Piece.TheVariants as given
 use Rattle.pgn_game.specs.Faults.{Fault, IsFault}
 use Rattle.pgn_game.specs.Replays.{Replay, IsReplay}
+use Rattle.pgn_game.specs.declared.replayer.Lines.TheVariants.{Main}
 use Rattle.pgn_game.specs.Starts.{fen_tag}
 use Rattle.pgn_extract.specs.Blockwise.{AddsTold, AddsListed, AddsGame, AddsMark, AddsPiece}
 use Rattle.pgn_extract.specs.Index.{fault_text, mark_line}
@@ -56,12 +57,12 @@ told_faulty old new line count adds = record {
 
 -- by the listing, the entries of its replay
 pub listed_replay : (aim : Aim) {old new : Report} {number offset : ℕ} {game : GameText} (replay : Replay) (entries : List Entry)
-    → IsReplay (tag_in fen_tag game.tags) game.elements replay → AreListed aim number offset (λ name. tag_in name game.tags) replay entries
+    → IsReplay Main (tag_in fen_tag game.tags) game.elements replay → AreListed aim number offset (λ name. tag_in name game.tags) replay entries
     → AddsOutput old new (listing entries) → AddsListed aim old new number offset game
 listed_replay aim {old} {new} {number} {offset} {game} replay entries is these adds at parts shows =
     let of : IsReplayOf parts replay =
-    subst (λ (items : List Item). IsReplay (first_tag fen_tag parts) items replay) shows.elements
-    (subst (λ (tag : Option (List ℕ)). IsReplay tag game.elements replay) (shows.tags fen_tag) is) in
+    subst (λ (items : List Item). IsReplay Main (first_tag fen_tag parts) items replay) shows.elements
+    (subst (λ (tag : Option (List ℕ)). IsReplay Main tag game.elements replay) (shows.tags fen_tag) is) in
     let own = λ (name : List ℕ). tag_in name game.tags in
     let listed : AreListed aim number offset (tags_in parts) replay entries =
     chosen_by (λ entry. IsEntry aim own replay entry.ply) (λ entry. IsEntry aim (tags_in parts) replay entry.ply)
@@ -71,13 +72,13 @@ listed_replay aim {old} {new} {number} {offset} {game} replay entries is these a
     (SoundGame (listing entries), (replay, entries, of, listed, refl), told_sound old new (listing entries) adds)
 
 -- or its fault
-pub listed_fault : (aim : Aim) {old new : Report} {number offset : ℕ} {game : GameText} (fault : Fault) → IsFault (tag_in fen_tag game.tags) game.elements fault
+pub listed_fault : (aim : Aim) {old new : Report} {number offset : ℕ} {game : GameText} (fault : Fault) → IsFault Main (tag_in fen_tag game.tags) game.elements fault
     → AddsFault old new (fault_text number offset (cause_text fault)) 0 → AddsListed aim old new number offset game
 listed_fault aim {old} {new} {number} {offset} {game} fault is adds at parts shows =
     let line = fault_text number offset (cause_text fault) in
     let of : IsFaultOf parts fault =
-    subst (λ (items : List Item). IsFault (first_tag fen_tag parts) items fault) shows.elements
-    (subst (λ (tag : Option (List ℕ)). IsFault tag game.elements fault) (shows.tags fen_tag) is) in
+    subst (λ (items : List Item). IsFault Main (first_tag fen_tag parts) items fault) shows.elements
+    (subst (λ (tag : Option (List ℕ)). IsFault Main tag game.elements fault) (shows.tags fen_tag) is) in
     (FaultyGame line, (fault, of, refl), told_faulty old new line 0 adds)
 
 -- by the index, its mark

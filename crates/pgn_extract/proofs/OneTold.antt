@@ -6,6 +6,7 @@ use Rattle.pgn_text.specs.Parts.{Part}
 use Rattle.pgn_game.specs.Faults.{Fault}
 use Rattle.pgn_game.specs.Laws.{GameHasOneReplay, GameHasOneFault, SoundGameHasNoFault}
 use Rattle.pgn_game.specs.Replays.{Replay}
+use Rattle.pgn_game.specs.declared.replayer.Lines.TheVariants.{Main}
 use Rattle.pgn_game.specs.Starts.{fen_tag}
 use Rattle.pgn_extract.specs.Index.{fault_text}
 use Rattle.pgn_extract.specs.Listing.{listing, entries_from, AreListed, tags_in, cause_text}
@@ -19,15 +20,15 @@ module _ (one_replay : GameHasOneReplay) (one_fault : GameHasOneFault) (no_fault
   -- a game in the listing
   one_listed : (aim : Aim) (a b : Told) (number offset : ℕ) (parts : List Part) → IsListed aim a number offset parts → IsListed aim b number offset parts → a ≡ b
   one_listed aim (SoundGame x) (SoundGame y) number offset parts (first, xs, is, these, text) (second, ys, also, those, other) =
-      let of : second ≡ first = one_replay (first_tag fen_tag parts) (items_of parts) second first also is in
+      let of : second ≡ first = one_replay Main (first_tag fen_tag parts) (items_of parts) second first also is in
       let same : xs ≡ ys =
       one_chosen (λ entry. IsEntry aim (tags_in parts) first entry.ply) (entries_from number offset 0 first.positions) xs ys these
       (subst (λ (r : Replay). AreListed aim number offset (tags_in parts) r ys) of those) in
       ap SoundGame (text ∙ ap listing same ∙ sym other)
-  one_listed aim (SoundGame x) (FaultyGame y) number offset parts (first, xs, is, these, text) (second, also, other) = absurd (no_fault (first_tag fen_tag parts) (items_of parts) second (first, is) also)
-  one_listed aim (FaultyGame x) (SoundGame y) number offset parts (first, is, text) (second, ys, also, those, other) = absurd (no_fault (first_tag fen_tag parts) (items_of parts) first (second, also) is)
+  one_listed aim (SoundGame x) (FaultyGame y) number offset parts (first, xs, is, these, text) (second, also, other) = absurd (no_fault Main (first_tag fen_tag parts) (items_of parts) second (first, is) also)
+  one_listed aim (FaultyGame x) (SoundGame y) number offset parts (first, is, text) (second, ys, also, those, other) = absurd (no_fault Main (first_tag fen_tag parts) (items_of parts) first (second, also) is)
   one_listed aim (FaultyGame x) (FaultyGame y) number offset parts (first, is, text) (second, also, other) =
-      ap FaultyGame (text ∙ ap (λ (f : Fault). fault_text number offset (cause_text f)) (one_fault (first_tag fen_tag parts) (items_of parts) first second is also) ∙ sym other)
+      ap FaultyGame (text ∙ ap (λ (f : Fault). fault_text number offset (cause_text f)) (one_fault Main (first_tag fen_tag parts) (items_of parts) first second is also) ∙ sym other)
 
   -- a game in a mode
   one_in : (mode : Mode) (aim : Aim) (number offset : ℕ) (parts : List Part) (a b : Told) → IsToldIn mode aim number offset parts a → IsToldIn mode aim number offset parts b → a ≡ b

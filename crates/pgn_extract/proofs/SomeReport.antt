@@ -8,6 +8,7 @@ use Rattle.pgn_text.specs.Pieces.{Piece, Game, Unreadable, ArePieces}
 use Rattle.pgn_text.specs.Strings.{IsContents}
 use Rattle.pgn_text.proofs.TagStrings.{first_string}
 use Rattle.pgn_game.proofs.AnAnswer.{game_answer}
+use Rattle.pgn_game.specs.declared.replayer.Lines.TheVariants.{Main}
 use Rattle.pgn_game.specs.Starts.{fen_tag}
 use Rattle.pgn_extract.specs.Index.{fault_text, mark_line}
 use Rattle.pgn_extract.specs.Listing.{listing, entries_from, tags_in, cause_text}
@@ -114,7 +115,7 @@ entry_or_not aim tags replay ply met = elim (wanted_or_not aim tags replay ply (
 game_reported : (mode : Mode) (aim : Aim) → IsDecided aim → (number offset : ℕ) (parts : List Part) → IfSome (first_tag fen_tag parts) IsContents
     → (told : Told) × IsToldIn mode aim number offset parts told
 game_reported modes.Index aim decided number offset parts has = (SoundGame (mark_line number offset), refl)
-game_reported modes.List aim decided number offset parts has = elim (game_answer (first_tag fen_tag parts) (items_of parts) has) [
+game_reported modes.List aim decided number offset parts has = elim (game_answer Main (first_tag fen_tag parts) (items_of parts) has (λ all. absurd (cc))) [
   | inl sound ↦
       let all = entries_from number offset 0 sound.0.positions in
       let some =

@@ -6,6 +6,7 @@ use Rattle.pgn_text.specs.Marks.{PieceKind, ReadableGame, UnreadableRest, TooLon
 use Rattle.pgn_text.specs.Parts.{Part}
 use Rattle.pgn_game.specs.Faults.{Fault, BadStart, IllegalMove, AmbiguousMove, IsFault}
 use Rattle.pgn_game.specs.Replays.{Replay, IsReplay}
+use Rattle.pgn_game.specs.declared.replayer.Lines.TheVariants.{Main}
 use Rattle.pgn_game.specs.Starts.{fen_tag}
 use Rattle.pgn_criteria.specs.Meeting.{Tags}
 use Rattle.pgn_extract.specs.Aims.{Aim, IsEntry}
@@ -34,7 +35,7 @@ entries_from number offset ply (position ∷ more) =
 
 -- the game of these parts is sound, and this is the replay of its main line
 abbrev pub IsReplayOf : List Part → Replay → Type 0
-IsReplayOf parts replay = IsReplay (first_tag fen_tag parts) (items_of parts) replay
+IsReplayOf parts replay = IsReplay Main (first_tag fen_tag parts) (items_of parts) replay
 
 -- the second list is what of the first has the fact, in its order
 pub data AreChosen (P : Entry → Type 0) : List Entry → List Entry → Type 0 where
@@ -53,7 +54,7 @@ tags_in parts = λ name. first_tag name parts
 
 -- the game of these parts is faulty, and this is the fault of its main line
 abbrev pub IsFaultOf : List Part → Fault → Type 0
-IsFaultOf parts fault = IsFault (first_tag fen_tag parts) (items_of parts) fault
+IsFaultOf parts fault = IsFault Main (first_tag fen_tag parts) (items_of parts) fault
 
 -- why a game is faulty, in the words of its line
 abbrev pub cause_text : Fault → List ℕ

@@ -1,7 +1,7 @@
 //! Which entries of a game are listed.
 ghost use Rattle.std.specs.Prelude.{◌≡◌, ◌<◌, ◌++◌, List, length, OnOk};
 ghost use Rattle.pgn_text.specs.GameTexts.{tag_in};
-ghost use Rattle.pgn_game.specs.Replays.{IsReplay};
+ghost use Rattle.pgn_game.specs.Replays.{IsSomeReplay};
 ghost use Rattle.pgn_game.specs.Starts.{fen_tag};
 ghost use Rattle.pgn_criteria.specs.Meeting.{IsFirst};
 ghost use Rattle.pgn_extract.specs.Aims.{IsMet, aim_of};
@@ -20,7 +20,7 @@ fn next_ply<'a>(
     replayed: &Replayed,
     from: u32,
 ) -> Option<usize>
-    requires of_game { IsReplay (tag_in fen_tag game.now.tags) game.now.elements replayed.now }
+    requires of_game { IsSomeReplay (tag_in fen_tag game.now.tags) game.now.elements replayed.now }
     ensures { IsFirst (λ ply. (ply < length replayed.now.positions)
         × IsMet settings.now.criteria (λ name. tag_in name game.now.tags) replayed.now ply) from settings.now.max_ply result }
 {
@@ -46,7 +46,7 @@ pub fn push_entries<'a>(
     game: &RawGame<'a>,
     replayed: &Replayed,
 ) -> Result<(), AllocError>
-    requires of_game { IsReplay (tag_in fen_tag game.now.tags) game.now.elements replayed.now }
+    requires of_game { IsSomeReplay (tag_in fen_tag game.now.tags) game.now.elements replayed.now }
     ensures { OnOk result ((entries : List Entry)
         × AreListed (aim_of settings.now) number offset (λ name. tag_in name game.now.tags) replayed.now entries
         × (text.new.items ≡ text.old.items ++ listing entries)) }

@@ -3,3 +3,12 @@ pub mod Tags
 pub mod WalkFacts
 pub mod AnAnswer
 pub mod OnBoard
+pub mod Spelling
+pub mod RunFacts
+pub mod MainFacts
+pub mod OneWord
+pub mod OneLine
+pub mod LaidFacts
+pub mod LaidOnce
+pub mod OneMovetext
+pub mod TurnCounts

@@ -1,5 +1,5 @@
 -- A game is replayed in one way at most, has one fault at most, and not both.
-use Rattle.std.proofs.Common.{◌≡◌, ℕ, ◌+◌, zero, suc, List, [], ◌∷◌, refl, sym, ap, ◌∙◌, subst, inl, inr}
+use Rattle.std.proofs.Common.{◌≡◌, ℕ, ◌+◌, zero, suc, List, [], ◌∷◌, length, refl, sym, ap, ◌∙◌, subst, false, inl, inr, arith}
 use Rattle.std.specs.Prelude.{Option, Some, None}
 use Rattle.std.specs.List.{slice_get}
 use Rattle.chess.specs.Positions.{State}
@@ -12,8 +12,16 @@ use Rattle.pgn_text.proofs.Values.{one_value}
 use Rattle.pgn_text.specs.Games.{Item}
 use Rattle.pgn_game.specs.MainLines.{main_words, IsMainLine}
 use Rattle.pgn_game.specs.Starts.{IsValueOf, IsStart, IsBadStart}
-use Rattle.pgn_game.specs.Faults.{Fault, BadStart, IllegalMove, AmbiguousMove, NamesSeveral, IsRefusedWord, IsMoveFault, IsFault}
-use Rattle.pgn_game.specs.Replays.{Replay, IsReplay, IsSoundGame}
+use Rattle.pgn_game.specs.AllLines.{IsPlayed}
+use Rattle.pgn_game.specs.Faults.{Fault, IsMoveFault, IsLineFault, HasLineFault, IsFault}
+use Rattle.pgn_game.specs.Laws.{GameHasOneReplay, GameHasOneFault, SoundGameHasNoFault}
+use Rattle.pgn_game.specs.Replays.{Replay, AreTurns, IsReplay}
+use Rattle.pgn_game.specs.declared.replayer.Lines.{Lines}
+use Rattle.pgn_game.specs.declared.replayer.Lines.TheVariants.{Main, All}
+use Rattle.pgn_game.specs.declared.turn.Turn.{Turn}
+use Rattle.pgn_game.proofs.OneLine.{one_playing, one_fault_of, played_or_faulty}
+use Rattle.pgn_game.proofs.OneWord.{named_or_refused, one_refused}
+use Rattle.pgn_game.proofs.Spelling.{one_tree}
 
 -- ---- the move at a place
 
@@ -54,6 +62,18 @@ move_at start (word ∷ words) positions played (own, later, more, positions_is,
       ap (λ ps. slice_get ps (suc (suc i))) positions_is ∙ there.5,
     )
 
+-- a main line has one position more than moves
+pub line_length : (now : State) (words : List (List ℕ)) (positions : List State) (played : List Move) → IsMainLine now words positions played → length positions ≡ length played + 1
+line_length now [] positions played line =
+    let a : length positions ≡ 1 = ap length line.0 in
+    let b : length played ≡ 0 = ap length line.1 in
+    omega arith
+line_length now (word ∷ words) positions played (m, later, more, positions_is, played_is, named, rest) =
+    let a : length positions ≡ suc (length later) = ap length positions_is in
+    let b : length played ≡ suc (length more) = ap length played_is in
+    let c : length later ≡ length more + 1 = line_length (after now m) words later more rest in
+    omega arith
+
 -- ---- one main line
 
 one_move : (now : State) (word : List ℕ) (m n : Move) → IsOnlyNamed now word m → IsOnlyNamed now word n → m ≡ n
@@ -87,26 +107,6 @@ start_or_bad (Some contents) start (value, given, reads) (value2, error, given2,
 
 -- ---- one fault
 
--- a word that names one legal move alone is not refused
-named_or_refused : (now : State) (plies : ℕ) (word : List ℕ) (m : Move) (fault : Fault) → IsOnlyNamed now word m → IsRefusedWord now plies word fault → ⊥
-named_or_refused now plies word m BadStart named refused = refused
-named_or_refused now plies word m (IllegalMove told ply) named refused = refused.2 m named.named
-named_or_refused now plies word m (AmbiguousMove told ply) named refused =
-    let several : NamesSeveral now word = refused.2 in
-    several.4 (named.only several.0 several.2 ∙ sym (named.only several.1 several.3))
-
-same_told : (make : List ℕ → ℕ → Fault) (told other word : List ℕ) (ply place plies : ℕ) → told ≡ word → ply ≡ plies + 1 → other ≡ word → place ≡ plies + 1 → make told ply ≡ make other place
-same_told make told other word ply place plies a b c d = ap (λ w. make w ply) (a ∙ sym c) ∙ ap (make other) (b ∙ sym d)
-
-one_refused : (now : State) (plies : ℕ) (word : List ℕ) (fault other : Fault) → IsRefusedWord now plies word fault → IsRefusedWord now plies word other → fault ≡ other
-one_refused now plies word BadStart other a b = absurd a
-one_refused now plies word (IllegalMove told ply) BadStart a b = absurd b
-one_refused now plies word (IllegalMove told ply) (IllegalMove again place) a b = same_told IllegalMove told again word ply place plies a.0 a.1 b.0 b.1
-one_refused now plies word (IllegalMove told ply) (AmbiguousMove again place) a b = absurd (a.2 b.2.0 b.2.2)
-one_refused now plies word (AmbiguousMove told ply) BadStart a b = absurd b
-one_refused now plies word (AmbiguousMove told ply) (IllegalMove again place) a b = absurd (b.2 a.2.0 a.2.2)
-one_refused now plies word (AmbiguousMove told ply) (AmbiguousMove again place) a b = same_told AmbiguousMove told again word ply place plies a.0 a.1 b.0 b.1
-
 one_move_fault : (now : State) (plies : ℕ) (words : List (List ℕ)) (fault other : Fault) → IsMoveFault now plies words fault → IsMoveFault now plies words other → fault ≡ other
 one_move_fault now plies [] fault other a b = absurd a
 one_move_fault now plies (word ∷ words) fault other (inl a) (inl b) = one_refused now plies word fault other a b
@@ -116,13 +116,19 @@ one_move_fault now plies (word ∷ words) fault other (inr (m, named, rest)) (in
     one_move_fault (after now m) (plies + 1) words fault other rest
     (subst (λ k. IsMoveFault (after now k) (plies + 1) words other) (one_move now word n m named2 named) rest2)
 
-pub one_fault : (fen : Option (List ℕ)) (items : List Item) (fault other : Fault) → IsFault fen items fault → IsFault fen items other → fault ≡ other
-one_fault fen items fault other (inl (bad, is)) (inl (bad2, is2)) = is ∙ sym is2
-one_fault fen items fault other (inl (bad, is)) (inr (start, is_start, met)) = absurd (start_or_bad fen start is_start bad)
-one_fault fen items fault other (inr (start, is_start, met)) (inl (bad, is)) = absurd (start_or_bad fen start is_start bad)
-one_fault fen items fault other (inr (start, is_start, met)) (inr (start2, is_start2, met2)) =
-    one_move_fault start 0 (main_words items 0) fault other met
-    (subst (λ s. IsMoveFault s 0 (main_words items 0) other) (one_start fen start2 start is_start2 is_start) met2)
+one_line_fault : (lines : Lines) (start : State) (items : List Item) (fault other : Fault) → HasLineFault lines start items fault → HasLineFault lines start items other → fault ≡ other
+one_line_fault Main start items fault other met met2 = one_move_fault start 0 (main_words items 0) fault other met met2
+one_line_fault All start items fault other (line, is, met) (line2, is2, met2) =
+    let same : line2 ≡ line = one_tree line2 line (sym is2 ∙ is) in
+    one_fault_of line false start start 0 fault other met (subst (λ l. IsLineFault false start start 0 l other) same met2)
+
+pub one_fault : GameHasOneFault
+one_fault lines fen items fault other (inl (bad, is)) (inl (bad2, is2)) = is ∙ sym is2
+one_fault lines fen items fault other (inl (bad, is)) (inr (start, is_start, met)) = absurd (start_or_bad fen start is_start bad)
+one_fault lines fen items fault other (inr (start, is_start, met)) (inl (bad, is)) = absurd (start_or_bad fen start is_start bad)
+one_fault lines fen items fault other (inr (start, is_start, met)) (inr (start2, is_start2, met2)) =
+    one_line_fault lines start items fault other met
+    (subst (λ s. HasLineFault lines s items other) (one_start fen start2 start is_start2 is_start) met2)
 
 -- ---- and a game with a replay has none
 
@@ -135,25 +141,39 @@ line_or_fault now plies (word ∷ words) positions played fault (m, later, more,
     line_or_fault (after now m) (plies + 1) words later more fault rest
     (subst (λ k. IsMoveFault (after now k) (plies + 1) words fault) (one_move now word n m named2 named) met)
 
-replay_or_fault : (fen : Option (List ℕ)) (items : List Item) (replay : Replay) (fault : Fault) → IsReplay fen items replay → IsFault fen items fault → ⊥
-replay_or_fault fen items replay fault is (inl (bad, told)) = start_or_bad fen is.start is.is_start bad
-replay_or_fault fen items replay fault is (inr (start, is_start, met)) =
-    line_or_fault is.start 0 (main_words items 0) replay.positions replay.played fault is.line
-    (subst (λ s. IsMoveFault s 0 (main_words items 0) fault) (one_start fen start is.start is_start is.is_start) met)
+lines_or_fault : (lines : Lines) (start : State) (items : List Item) (positions : List State) (played : List Move) (turns : List Turn) (fault : Fault)
+    → IsMainLine start (main_words items 0) positions played → AreTurns lines start items turns → HasLineFault lines start items fault → ⊥
+lines_or_fault Main start items positions played turns fault line none met = line_or_fault start 0 (main_words items 0) positions played fault line met
+lines_or_fault All start items positions played turns fault line (tree, is, all) (tree2, is2, met) =
+    let same : tree2 ≡ tree = one_tree tree2 tree (sym is2 ∙ is) in
+    played_or_faulty tree false start start 0 turns fault all (subst (λ l. IsLineFault false start start 0 l fault) same met)
+
+replay_or_fault : (lines : Lines) (fen : Option (List ℕ)) (items : List Item) (replay : Replay) (fault : Fault) → IsReplay lines fen items replay → IsFault lines fen items fault → ⊥
+replay_or_fault lines fen items replay fault is (inl (bad, told)) = start_or_bad fen is.start is.is_start bad
+replay_or_fault lines fen items replay fault is (inr (start, is_start, met)) =
+    lines_or_fault lines is.start items replay.positions replay.played replay.turns fault is.line is.turns
+    (subst (λ s. HasLineFault lines s items fault) (one_start fen start is.start is_start is.is_start) met)
 
 -- ---- one replay
 
-same_replay : (replay other : Replay) → replay.positions ≡ other.positions → replay.played ≡ other.played → replay ≡ other
-same_replay replay other positions played i = record { positions = positions i; played = played i }
+same_replay : (replay other : Replay) → replay.positions ≡ other.positions → replay.played ≡ other.played → replay.turns ≡ other.turns → replay ≡ other
+same_replay replay other positions played turns i = record { positions = positions i; played = played i; turns = turns i }
 
-pub one_replay : (fen : Option (List ℕ)) (items : List Item) (replay other : Replay) → IsReplay fen items replay → IsReplay fen items other → replay ≡ other
-one_replay fen items replay other is is2 =
+same_turns : (lines : Lines) (start : State) (items : List Item) (turns others : List Turn) → AreTurns lines start items turns → AreTurns lines start items others → turns ≡ others
+same_turns Main start items turns others none none2 = none ∙ sym none2
+same_turns All start items turns others (line, is, all) (line2, is2, all2) =
+    let same : line2 ≡ line = one_tree line2 line (sym is2 ∙ is) in
+    one_playing line false start start turns others all (subst (λ l. IsPlayed false start start l others) same all2)
+
+pub one_replay : GameHasOneReplay
+one_replay lines fen items replay other is is2 =
     let start : is2.start ≡ is.start = one_start fen is2.start is.start is2.is_start is.is_start in
     let line2 : IsMainLine is.start (main_words items 0) other.positions other.played =
     subst (λ s. IsMainLine s (main_words items 0) other.positions other.played) start is2.line in
     let same : (replay.positions ≡ other.positions) × (replay.played ≡ other.played) =
     one_line is.start (main_words items 0) replay.positions other.positions replay.played other.played is.line line2 in
-    same_replay replay other same.0 same.1
+    let turns2 : AreTurns lines is.start items other.turns = subst (λ s. AreTurns lines s items other.turns) start is2.turns in
+    same_replay replay other same.0 same.1 (same_turns lines is.start items replay.turns other.turns is.turns turns2)
 
-pub no_fault : (fen : Option (List ℕ)) (items : List Item) (fault : Fault) → IsSoundGame fen items → IsFault fen items fault → ⊥
-no_fault fen items fault (replay, is) met = replay_or_fault fen items replay fault is met
+pub no_fault : SoundGameHasNoFault
+no_fault lines fen items fault (replay, is) met = replay_or_fault lines fen items replay fault is met

@@ -111,7 +111,7 @@ starts_fault positions depth start items fault positions_is outside faults =
     subst (λ d. MeetsFault positions d items fault) outside faults [] start positions_is
 
 -- behind the last element
-pub ends : (positions : List State) (played : List Move) (depth : ℕ) → Completes positions played depth [] (record { positions = positions; played = played })
+pub ends : (positions : List State) (played : List Move) (depth : ℕ) → Completes positions played depth [] (record { positions = positions; played = played; turns = [] })
 ends positions played depth front now parted = (now ∷ [], [], parted, sym (append-nil played), (refl, refl))
 
 -- one position and one move more

@@ -1,5 +1,5 @@
--- Replays are stored as pairs of lists, so that a type may have one as its value.
-use Rattle.std.specs.Prelude.{◌≡◌, Bool, true, false, List, Option, refl}
+-- Replays are stored as tuples of lists, so that a type may have one as its value.
+use Rattle.std.specs.Prelude.{◌≡◌, Bool, true, false, List, Option, Some, None, refl}
 use Rattle.std.specs.Coded.{Coded, coded_bool, coded_list, coded_option, coded×, code_by}
 use Rattle.chess.specs.Squares.{Place, coded_place}
 use Rattle.chess.specs.Positions.{State}
@@ -8,6 +8,8 @@ use Rattle.chess.specs.declared.man.Kind.{Kind}
 use Rattle.chess.specs.declared.man.Wing.{Wing}
 use Rattle.chess.specs.declared.man.Wing.TheVariants.{KingSide, QueenSide}
 use Rattle.chess.specs.declared.moves.Move.{Move}
+use Rattle.pgn_game.specs.declared.turn.Turn.{Turn}
+use Rattle.pgn_game.specs.declared.turn.Turn.TheVariants.{Played, Passed}
 use Rattle.pgn_game.specs.Replays.{Replay}
 
 abbrev pub is_queen_side : Wing → Bool
@@ -31,6 +33,22 @@ coded_move = code_by (Place × (Place × (Option Kind × Option Wing)))
     (λ m. (m.from, (m.to, (m.promote, m.castle))))
     (λ p. record { from = p.0; to = p.1.0; promote = p.1.1.0; castle = p.1.1.1 }) (λ _. refl)
 
+-- a turn as a move or none, which is a pass
+abbrev pub move_of : Turn → Option Move
+move_of (Played m) = Some m
+move_of Passed = None
+
+abbrev pub turn_of : Option Move → Turn
+turn_of (Some m) = Played m
+turn_of None = Passed
+
+pub turn_back : (turn : Turn) → turn_of (move_of turn) ≡ turn
+turn_back (Played m) = refl
+turn_back Passed = refl
+
+abbrev pub coded_turn : Coded Turn
+coded_turn = code_by (Option Move) (coded_option coded_move) move_of turn_of turn_back
+
 abbrev pub coded_replay : Coded Replay
-coded_replay = code_by (List State × List Move) (coded× (coded_list coded_state) (coded_list coded_move))
-    (λ r. (r.positions, r.played)) (λ p. record { positions = p.0; played = p.1 }) (λ _. refl)
+coded_replay = code_by (List State × (List Move × List Turn)) (coded× (coded_list coded_state) (coded× (coded_list coded_move) (coded_list coded_turn)))
+    (λ r. (r.positions, (r.played, r.turns))) (λ p. record { positions = p.0; played = p.1.0; turns = p.1.1 }) (λ _. refl)

@@ -1,12 +1,16 @@
 -- Why a game can't be replayed: the first fault in the order of its text.
-use Rattle.std.specs.Prelude.{◌≡◌, ◌≢◌, ◌⊎◌, ℕ, ◌+◌, List, [], ◌∷◌, Option}
-use Rattle.chess.specs.Positions.{State}
+use Rattle.std.specs.Prelude.{◌≡◌, ◌≢◌, ◌⊎◌, ℕ, ◌+◌, ◌-◌, Bool, true, false, ◌&&◌, List, [], ◌∷◌, Option}
+use Rattle.chess.specs.Positions.{State, IsCheck}
 use Rattle.chess.specs.Moves.{after}
 use Rattle.chess.specs.San.{IsNamed, IsOnlyNamed}
 use Rattle.chess.specs.declared.moves.Move.{Move}
 use Rattle.pgn_text.specs.Games.{Item}
 use Rattle.pgn_game.specs.MainLines.{main_words}
 use Rattle.pgn_game.specs.Starts.{IsStart, IsBadStart}
+use Rattle.pgn_game.specs.AllLines.{Line, LineEnd, ThenMove, ThenGlyph, ThenComment, ThenVariation, spelled, is_pass, IsTurn, after_turn, IsPlayed}
+use Rattle.pgn_game.specs.declared.turn.Turn.{Turn}
+use Rattle.pgn_game.specs.declared.replayer.Lines.{Lines}
+use Rattle.pgn_game.specs.declared.replayer.Lines.TheVariants.{Main, All}
 
 -- a fault of a game
 pub data Fault : Type 0 where
@@ -36,7 +40,38 @@ IsMoveFault now plies [] fault = ⊥
 IsMoveFault now plies (word ∷ words) fault =
     IsRefusedWord now plies word fault ⊎ ((m : Move) × IsOnlyNamed now word m × IsMoveFault (after now m) (plies + 1) words fault)
 
--- the fault of the main line of a game with these contents of its FEN tag and these elements: a refused start goes before all moves
-abbrev pub IsFault : Option (List ℕ) → List Item → Fault → Type 0
-IsFault fen items fault =
-    (IsBadStart fen × (fault ≡ BadStart)) ⊎ ((start : State) × IsStart fen start × IsMoveFault start 0 (main_words items 0) fault)
+-- the word says nothing that can be played, where it is a pass and where it is none: a pass in check is illegal
+abbrev pub RefusesTurn : Bool → State → ℕ → List ℕ → Fault → Type 0
+RefusesTurn true now plies word fault = IsCheck now.men now.turn × (fault ≡ IllegalMove word (plies + 1))
+RefusesTurn false now plies word fault = IsRefusedWord now plies word fault
+
+-- the word of a move, which stands in a variation or not, says nothing that can be played
+abbrev pub IsRefusedTurn : Bool → State → ℕ → List ℕ → Fault → Type 0
+IsRefusedTurn inside now plies word fault = RefusesTurn (inside && is_pass word) now plies word fault
+
+-- the first fault of the line with all its variations, in the order of the text: all that stands before it is played. So many plies lead to
+-- `now`, the position that the line is played from; a variation is played from `before`, to which one ply less leads
+abbrev pub IsLineFault : Bool → State → State → ℕ → Line → Fault → Type 0
+IsLineFault inside before now plies LineEnd fault = ⊥
+IsLineFault inside before now plies (ThenMove word rest) fault =
+    IsRefusedTurn inside now plies word fault
+    ⊎ ((turn : Turn) × IsTurn inside now word turn × IsLineFault inside now (after_turn now turn) (plies + 1) rest fault)
+IsLineFault inside before now plies (ThenGlyph number rest) fault = IsLineFault inside before now plies rest fault
+IsLineFault inside before now plies (ThenComment text rest) fault = IsLineFault inside before now plies rest fault
+IsLineFault inside before now plies (ThenVariation inner rest) fault =
+    IsLineFault true before before (plies - 1) inner fault
+    ⊎ ((own : List Turn) × IsPlayed true before before inner own × IsLineFault inside before now plies rest fault)
+
+-- the elements spell a line that has the fault, where it is played from the position
+abbrev pub HaveFault : State → List Item → Fault → Type 0
+HaveFault start items fault = (line : Line) × (items ≡ spelled line) × IsLineFault false start start 0 line fault
+
+-- the first fault of the lines that are replayed: of the main line, or of all lines
+abbrev pub HasLineFault : Lines → State → List Item → Fault → Type 0
+HasLineFault Main start items fault = IsMoveFault start 0 (main_words items 0) fault
+HasLineFault All start items fault = HaveFault start items fault
+
+-- the fault of these lines of a game with these contents of its FEN tag and these elements: a refused start goes before all moves
+abbrev pub IsFault : Lines → Option (List ℕ) → List Item → Fault → Type 0
+IsFault lines fen items fault =
+    (IsBadStart fen × (fault ≡ BadStart)) ⊎ ((start : State) × IsStart fen start × HasLineFault lines start items fault)

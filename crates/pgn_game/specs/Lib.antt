@@ -1,9 +1,15 @@
 -- What a reader must believe, in the order in which it is best read.
 pub mod Starts
 pub mod MainLines
+pub mod AllLines
 pub mod Faults
 pub mod Replays
+pub mod TextLines
+pub mod Comments
+pub mod Exports
 pub mod Laws
--- Private words: how a replay is stored, and what its walk keeps. No public contract cites them.
+-- Private words: how a replay is stored, and what its walks and its pen keep. No public contract cites them.
 pub mod Codes
 pub mod Walks
+pub mod LineWalks
+pub mod Pens

@@ -1,28 +1,43 @@
 -- A game that is replayed, and what the answers to a replay mean.
-use Rattle.std.specs.Prelude.{ℕ, List, Option, Some, None}
+use Rattle.std.specs.Prelude.{◌≡◌, ℕ, List, [], Option, Some, None}
 use Rattle.chess.specs.Positions.{State}
 use Rattle.chess.specs.declared.moves.Move.{Move}
 use Rattle.pgn_text.specs.Games.{Item}
 use Rattle.pgn_game.specs.MainLines.{main_words, IsMainLine}
+use Rattle.pgn_game.specs.AllLines.{ArePlayed}
 use Rattle.pgn_game.specs.Starts.{IsStart}
 use Rattle.pgn_game.specs.Faults.{Fault, BadStart, IllegalMove, AmbiguousMove}
+use Rattle.pgn_game.specs.declared.turn.Turn.{Turn}
+use Rattle.pgn_game.specs.declared.replayer.Lines.{Lines}
+use Rattle.pgn_game.specs.declared.replayer.Lines.TheVariants.{Main, All}
 use Rattle.pgn_game.specs.declared.fault.GameFault.{GameFault}
 use Rattle.pgn_game.specs.declared.fault.GameFault.TheVariants as answers
 
--- the positions of a main line from its start on, and the moves between them
+-- the positions of a main line from its start on, and the moves between them; and the turns of all lines in the order of the text
 pub record Replay : Type 0 where
   pub positions : List State
   pub played : List Move
+  pub turns : List Turn
 
--- it is the replay of the game with these contents of its FEN tag and these elements: the game is sound
-pub record IsReplay (fen : Option (List ℕ)) (items : List Item) (replay : Replay) : Type 0 where
+-- the turns of the lines that are replayed: where the main line alone is, none are kept beside its moves
+abbrev pub AreTurns : Lines → State → List Item → List Turn → Type 0
+AreTurns Main start items turns = turns ≡ []
+AreTurns All start items turns = ArePlayed start items turns
+
+-- it is the replay of these lines of the game with these contents of its FEN tag and these elements: the game is sound
+pub record IsReplay (lines : Lines) (fen : Option (List ℕ)) (items : List Item) (replay : Replay) : Type 0 where
   pub start : State
   pub is_start : IsStart fen start
   pub line : IsMainLine start (main_words items 0) replay.positions replay.played
+  pub turns : AreTurns lines start items replay.turns
 
--- there is a replay of the game
-abbrev pub IsSoundGame : Option (List ℕ) → List Item → Type 0
-IsSoundGame fen items = (replay : Replay) × IsReplay fen items replay
+-- it is the replay of the game's main line or of all its lines: either has the positions and the moves of the main line
+abbrev pub IsSomeReplay : Option (List ℕ) → List Item → Replay → Type 0
+IsSomeReplay fen items replay = (lines : Lines) × IsReplay lines fen items replay
+
+-- there is a replay of these lines of the game
+abbrev pub IsSoundGame : Lines → Option (List ℕ) → List Item → Type 0
+IsSoundGame lines fen items = (replay : Replay) × IsReplay lines fen items replay
 
 -- the fault that an answer tells: none for want of memory
 abbrev pub fault_of : GameFault → Option Fault

@@ -1,21 +1,39 @@
 //! What holds of every game, whatever replays it. Each law is the contract of a function that does nothing.
 
-ghost use Rattle.pgn_game.specs.Laws.{EachMoveIsNamed, GameHasOneReplay, GameHasOneFault, SoundGameHasNoFault, GameHasAnAnswer};
+ghost use Rattle.pgn_game.specs.Exports.{MovetextHasOneList};
+ghost use Rattle.pgn_game.specs.TextLines.{TokensHaveAText, TokensHaveOneText};
+ghost use Rattle.pgn_game.specs.Laws.{EachMoveIsNamed, EachMoveHasATurn, GameHasOneReplay, GameHasOneFault, SoundGameHasNoFault, GameHasAnAnswer};
 
-/// Each move of a main line is the only legal move that its word names in the position before it.
+/// Whichever lines are replayed, each move of the main line is the only legal move that its word names in the position before it.
 pub fn one_legal_move()
     ensures { EachMoveIsNamed }
 {}
 
-/// A game has at most one replay and at most one fault, and not both.
+/// Where all lines are replayed, there is one turn for each move text.
+pub fn a_turn_each()
+    ensures { EachMoveHasATurn }
+{}
+
+/// Of the main line, and of all lines, a game has at most one replay and at most one fault, and not both.
 pub fn one_answer()
     ensures replay { GameHasOneReplay }
     ensures fault { GameHasOneFault }
     ensures not_both { SoundGameHasNoFault }
 {}
 
-/// A game has a replay or a fault, where its FEN tag holds the contents of a string, as the tag of each game of a text does. Of no other
-/// contents is there a value that could be read or refused.
+/// Of the main line, and of all lines, a game has a replay or a fault, where its FEN tag holds the contents of a string and its
+/// parentheses stand in pairs, as in each game of a text. Of no other contents is there a value that could be read or refused.
 pub fn an_answer()
     ensures { GameHasAnAnswer }
+{}
+
+/// Tokens have a text in lines of each width, and only one.
+pub fn one_text()
+    ensures some { TokensHaveAText }
+    ensures one { TokensHaveOneText }
+{}
+
+/// In a style the movetext of a game that starts from a position has one list of tokens at most.
+pub fn one_movetext()
+    ensures { MovetextHasOneList }
 {}

@@ -1,14 +1,20 @@
-//! Games played: the main line of a game as it stands in a file, from its start on.
+//! Games played: the lines of a game as they stand in a file, from its start on.
 #![tactic(auto)]
 
+mod all_lines;
 mod fault;
 pub mod laws;
 mod main_line;
 mod naming;
+pub mod pen;
 mod replayed;
 mod replayer;
 mod starting;
+mod style;
+mod turn;
 
 pub use fault::GameFault;
 pub use replayed::{GamePosition, Replayed};
 pub use replayer::{Lines, replay};
+pub use style::Style;
+pub use turn::Turn;

@@ -117,7 +117,7 @@ pub(crate) fn play_main_line<'a>(
     elements: &[Element<'a>],
 ) -> Result<Replayed, GameFault<'a>>
     ensures { MatchResult result
-        (λ replayed. IsMainLine start (main_words (map item_of elements.now) 0) replayed.positions replayed.played)
+        (λ replayed. IsMainLine start (main_words (map item_of elements.now) 0) replayed.positions replayed.played × (replayed.turns ≡ []))
         (λ fault. IfSome (fault_of fault) (IsMoveFault start 0 (main_words (map item_of elements.now) 0))) }
 {
     let mut walk = match MainWalk::new(alloc, start, elements) {
@@ -134,5 +134,9 @@ pub(crate) fn play_main_line<'a>(
         played,
         ..
     } = walk;
-    Ok(Replayed { positions, played })
+    Ok(Replayed {
+        positions,
+        played,
+        turns: Vec::new(alloc),
+    })
 }

@@ -4,17 +4,19 @@ ghost use Rattle.std.specs.List.{slice_get};
 ghost use Rattle.pgn_game.specs.Codes.{coded_replay};
 ghost use Rattle.pgn_game.specs.Replays.{Replay};
 
+use crate::turn::Turn;
 use chess::{Mailbox, Move, Position};
 use std::marker::Model;
 
 /// The positions that games are played in.
 pub type GamePosition = Position<Mailbox>;
 
-/// The positions of a game's main line, and the moves between them.
+/// The positions of a game's main line, and the moves between them; where all lines were replayed, also the turns of all of them.
 #[derive(Drop)]
 pub struct Replayed {
     pub(crate) positions: Vec<GamePosition>,
     pub(crate) played: Vec<Move>,
+    pub(crate) turns: Vec<Turn>,
 }
 
 impl Model for Replayed {
@@ -22,7 +24,7 @@ impl Model for Replayed {
 
     ghost coded = { coded_replay };
 
-    ghost view = { λ replayed. record { positions = replayed.positions.items; played = replayed.played.items } };
+    ghost view = { λ replayed. record { positions = replayed.positions.items; played = replayed.played.items; turns = replayed.turns.items } };
 
     ghost invariant = { λ replayed. length replayed.positions.items ≡ length replayed.played.items + 1 };
 }
@@ -50,5 +52,20 @@ impl Replayed {
         ensures { slice_get self.now.played plies ≡ Some result }
     {
         self.played[plies]
+    }
+
+    /// The number of turns: where all lines were replayed, of the move texts of the game, with those of its variations; else 0.
+    pub fn turns(&self) -> usize
+        ensures { result ≡ length self.now.turns }
+    {
+        self.turns.len()
+    }
+
+    /// The turn that so many stand before, in the order of the text: a move, or in a variation a pass.
+    pub fn turn(&self, index: usize) -> Turn
+        requires { index < length self.now.turns }
+        ensures { slice_get self.now.turns index ≡ Some result }
+    {
+        self.turns[index]
     }
 }

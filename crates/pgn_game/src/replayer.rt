@@ -5,6 +5,7 @@ ghost use Rattle.pgn_game.specs.Starts.{fen_tag};
 ghost use Rattle.pgn_game.specs.Faults.{IsFault};
 ghost use Rattle.pgn_game.specs.Replays.{IsReplay, fault_of};
 
+use crate::all_lines::play_all_lines;
 use crate::fault::GameFault;
 use crate::main_line::play_main_line;
 use crate::replayed::Replayed;
@@ -17,19 +18,24 @@ use std::alloc::Global;
 pub enum Lines {
     /// The main line; what stands in variations is not looked at.
     Main,
+    /// All lines: each variation is played from the position before the move that it stands for, and `--` and `Z0` are a pass in it.
+    All,
 }
 
-/// Plays the game from its start: the position of its FEN tag, or the usual one. Each move is the only legal move that its word names;
-/// at the first word that names none or several, the game is refused for it.
+/// Plays the lines of the game from its start: the position of its FEN tag, or the usual one. Each move is the only legal move that its
+/// word names, and no pass is made in check. At the first word in the order of the text that can't be played so, the game is refused for
+/// it; the word's ply is counted along its own line, where the first move of a variation has the ply of the move that it stands for.
 pub fn replay<'a>(alloc: Global, raw: &RawGame<'a>, lines: Lines) -> Result<Replayed, GameFault<'a>>
     ensures { MatchResult result
-        (λ replayed. IsReplay (tag_in fen_tag raw.now.tags) raw.now.elements replayed)
-        (λ fault. IfSome (fault_of fault) (IsFault (tag_in fen_tag raw.now.tags) raw.now.elements)) }
+        (λ replayed. IsReplay lines (tag_in fen_tag raw.now.tags) raw.now.elements replayed)
+        (λ fault. IfSome (fault_of fault) (IsFault lines (tag_in fen_tag raw.now.tags) raw.now.elements)) }
 {
-    let Lines::Main = lines;
     let start = match starting_position(alloc, raw.tags()) {
         Ok(start) => start,
         Err(fault) => return Err(fault),
     };
-    play_main_line(alloc, start, raw.elements())
+    match lines {
+        Lines::Main => play_main_line(alloc, start, raw.elements()),
+        Lines::All => play_all_lines(alloc, &start, raw.elements()),
+    }
 }

@@ -1,7 +1,7 @@
-//! Games with the main line that they must be replayed to, or the fault that they must be refused for.
+//! Games with the main line, or the turns of all lines, that they must be replayed to, or the fault that they must be refused for.
 use super::support::first_game;
 use chess::{Move, Side, Square};
-use pgn_game::{GameFault, Lines, Replayed, replay};
+use pgn_game::{GameFault, Lines, Replayed, Turn, replay};
 use std::alloc::{AllocError, Global};
 use std::test::Fail;
 
@@ -13,11 +13,11 @@ fn goes(m: &Move, from: (u8, u8), to: (u8, u8)) -> bool {
         && Square::new(to.0, to.1) == Some(m.to)
 }
 
-/// Whether the block begins with a game of so many plies.
+/// Whether the main line of the block's first game has so many plies; no turns of other lines are kept beside it.
 fn has_plies(alloc: Global, block: &[u8], plies: usize) -> Result<bool, AllocError> {
     match first_game(alloc, block)? {
         Some(game) => match replay(alloc, &game, Lines::Main) {
-            Ok(replayed) => Ok(replayed.plies() == plies),
+            Ok(replayed) => Ok(replayed.plies() == plies && replayed.turns() == 0),
             Err(_) => Ok(false),
         },
         None => Ok(false),
@@ -49,10 +49,15 @@ fn sound_games_have_their_plies(rt: HostRuntime) -> Result<(), Fail> {
     Ok(())
 }
 
-/// Whether the block begins with a game that has this fault.
-fn has_fault(alloc: Global, block: &[u8], fault: &GameFault<'_>) -> Result<bool, AllocError> {
+/// Whether the block begins with a game that has this fault in these lines.
+fn has_fault(
+    alloc: Global,
+    block: &[u8],
+    lines: Lines,
+    fault: &GameFault<'_>,
+) -> Result<bool, AllocError> {
     match first_game(alloc, block)? {
-        Some(game) => match replay(alloc, &game, Lines::Main) {
+        Some(game) => match replay(alloc, &game, lines) {
             Ok(_) => Ok(false),
             Err(found) => Ok(found == *fault),
         },
@@ -114,7 +119,244 @@ fn faulty_games_have_their_faults(rt: HostRuntime) -> Result<(), Fail> {
         ),
     ];
     for (block, fault) in &rows {
-        assert!(rt; has_fault(rt.alloc(), block, fault)?, "{block:?}");
+        assert!(rt;
+            has_fault(rt.alloc(), block, Lines::Main, fault)?,
+            "{block:?}"
+        );
+    }
+    Ok(())
+}
+
+#[test]
+fn the_first_fault_of_all_lines_is_reported(rt: HostRuntime) -> Result<(), Fail> {
+    let rows: [(&[u8], GameFault<'static>); 14] = [
+        (
+            b"1. e4 (1. d4 Qh4) e5 *",
+            GameFault::Illegal {
+                word: b"Qh4",
+                ply: 2,
+            },
+        ),
+        (
+            b"1. e4 Z0 *",
+            GameFault::Illegal {
+                word: b"Z0",
+                ply: 2,
+            },
+        ),
+        (
+            b"1. -- *",
+            GameFault::Illegal {
+                word: b"--",
+                ply: 1,
+            },
+        ),
+        (
+            b"1. e4 e6 2. e5 d5 (2... f5 3. -- -- 4. exf6) 3. d4 *",
+            GameFault::Illegal {
+                word: b"exf6",
+                ply: 7,
+            },
+        ),
+        (
+            b"1. e4 f5 2. Qh5+ g6 (2... --) 3. Qe2 *",
+            GameFault::Illegal {
+                word: b"--",
+                ply: 4,
+            },
+        ),
+        (
+            b"1. e4 (1. Z0+) e5 *",
+            GameFault::Illegal {
+                word: b"Z0+",
+                ply: 1,
+            },
+        ),
+        (
+            b"1. e4 (1. z0) e5 *",
+            GameFault::Illegal {
+                word: b"z0",
+                ply: 1,
+            },
+        ),
+        (
+            b"1. e4 (1. Qxh8) e4 *",
+            GameFault::Illegal {
+                word: b"Qxh8",
+                ply: 1,
+            },
+        ),
+        (
+            b"1. e4 e4 (1... Qxh8) *",
+            GameFault::Illegal {
+                word: b"e4",
+                ply: 2,
+            },
+        ),
+        (
+            b"1. e4 e5 (1... c5 (1... d5 2. Qh4) 2. Nf3) 2. d4 *",
+            GameFault::Illegal {
+                word: b"Qh4",
+                ply: 3,
+            },
+        ),
+        (
+            b"1. e4 e5 (1... c5) (1... d5 2. Nf3 Ke6) 2. d4 *",
+            GameFault::Illegal {
+                word: b"Ke6",
+                ply: 4,
+            },
+        ),
+        (
+            b"1. e4 e5 (1... c5 2. d4) 2. dxc5 *",
+            GameFault::Illegal {
+                word: b"dxc5",
+                ply: 3,
+            },
+        ),
+        (
+            b"[FEN \"4k3/8/8/8/8/2N5/8/4K1N1 w - - 0 1\"]\n\n1. Kd1 (1. Ne2) *",
+            GameFault::Ambiguous {
+                word: b"Ne2",
+                ply: 1,
+            },
+        ),
+        (b"[FEN \"x\"]\n\n1. e4 (1. Qxh8) *", GameFault::BadPosition),
+    ];
+    for (block, fault) in &rows {
+        assert!(rt;
+            has_fault(rt.alloc(), block, Lines::All, fault)?,
+            "{block:?}"
+        );
+    }
+    Ok(())
+}
+
+/// A man's square by its file and rank, and the square that it goes to; `None` is a pass.
+type Step = Option<((u8, u8), (u8, u8))>;
+
+/// Whether the turn is this step.
+fn is_step(turn: &Turn, step: Step) -> bool {
+    match (turn, step) {
+        (Turn::Played(m), Some((from, to))) => goes(m, from, to),
+        (Turn::Passed, None) => true,
+        _ => false,
+    }
+}
+
+/// Whether the turns are these steps.
+fn has_steps(replayed: &Replayed, steps: &[Step]) -> bool {
+    if replayed.turns() != steps.len() {
+        return false;
+    }
+    for index in 0..steps.len() {
+        if !is_step(&replayed.turn(index), steps[index]) {
+            return false;
+        }
+    }
+    true
+}
+
+/// Whether all lines of the block's first game are these steps in the order of the text, and its main line has so many plies.
+fn has_lines(
+    alloc: Global,
+    block: &[u8],
+    plies: usize,
+    steps: &[Step],
+) -> Result<bool, AllocError> {
+    match first_game(alloc, block)? {
+        Some(game) => match replay(alloc, &game, Lines::All) {
+            Ok(replayed) => Ok(replayed.plies() == plies && has_steps(&replayed, steps)),
+            Err(_) => Ok(false),
+        },
+        None => Ok(false),
+    }
+}
+
+#[test]
+fn all_lines_have_their_turns(rt: HostRuntime) -> Result<(), Fail> {
+    let rows: [(&[u8], usize, &[Step]); 9] = [
+        (b"*", 0, &[]),
+        (
+            b"1. e4 e5 *",
+            2,
+            &[Some(((5, 2), (5, 4))), Some(((5, 7), (5, 5)))],
+        ),
+        (
+            b"1. e4 (1. -- e5) e5 *",
+            2,
+            &[
+                Some(((5, 2), (5, 4))),
+                None,
+                Some(((5, 7), (5, 5))),
+                Some(((5, 7), (5, 5))),
+            ],
+        ),
+        (
+            b"1. e4 (1. Z0 e5) e5 *",
+            2,
+            &[
+                Some(((5, 2), (5, 4))),
+                None,
+                Some(((5, 7), (5, 5))),
+                Some(((5, 7), (5, 5))),
+            ],
+        ),
+        (
+            b"1. e4 ( ) e5 *",
+            2,
+            &[Some(((5, 2), (5, 4))), Some(((5, 7), (5, 5)))],
+        ),
+        (
+            b"1. e4 {x} (1. d4 d5 $1) e5 2. Nf3 *",
+            3,
+            &[
+                Some(((5, 2), (5, 4))),
+                Some(((4, 2), (4, 4))),
+                Some(((4, 7), (4, 5))),
+                Some(((5, 7), (5, 5))),
+                Some(((7, 1), (6, 3))),
+            ],
+        ),
+        (
+            b"1. e4 (1. d4) (1. c4 c5) e5 *",
+            2,
+            &[
+                Some(((5, 2), (5, 4))),
+                Some(((4, 2), (4, 4))),
+                Some(((3, 2), (3, 4))),
+                Some(((3, 7), (3, 5))),
+                Some(((5, 7), (5, 5))),
+            ],
+        ),
+        (
+            b"1. e4 e5 (1... c5 (1... d5) 2. Nf3) 2. d4 *",
+            3,
+            &[
+                Some(((5, 2), (5, 4))),
+                Some(((5, 7), (5, 5))),
+                Some(((3, 7), (3, 5))),
+                Some(((4, 7), (4, 5))),
+                Some(((7, 1), (6, 3))),
+                Some(((4, 2), (4, 4))),
+            ],
+        ),
+        (
+            b"1. e4 f5 2. Qh5+ g6 (2... g6 3. --) 3. Qe2 *",
+            5,
+            &[
+                Some(((5, 2), (5, 4))),
+                Some(((6, 7), (6, 5))),
+                Some(((4, 1), (8, 5))),
+                Some(((7, 7), (7, 6))),
+                Some(((7, 7), (7, 6))),
+                None,
+                Some(((8, 5), (5, 2))),
+            ],
+        ),
+    ];
+    for (block, plies, steps) in rows {
+        assert!(rt; has_lines(rt.alloc(), block, plies, steps)?, "{block:?}");
     }
     Ok(())
 }

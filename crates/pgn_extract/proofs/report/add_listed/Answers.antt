@@ -3,6 +3,7 @@ use Rattle.std.specs.Prelude.{IfSome}
 use Rattle.std.proofs.lemmas.Result.{on_ok_weaker}
 use Rattle.pgn_text.specs.GameTexts.{tag_in}
 use Rattle.pgn_game.specs.Faults.{IsFault}
+use Rattle.pgn_game.specs.declared.replayer.Lines.TheVariants.{Main}
 use Rattle.pgn_game.specs.Starts.{fen_tag}
 use Rattle.pgn_extract.specs.Aims.{aim_of}
 use Rattle.pgn_extract.proofs.GameTold.{listed_replay, listed_fault}
@@ -17,5 +18,5 @@ returns-in-Ok c =
 pub returns-in_ok-push_game_fault-in-Err : goal.returns-in_ok-push_game_fault-in-Err
 returns-in_ok-push_game_fault-in-Err c =
     let told = c.in_ok-push_game_fault-in-Err.ensures in
-    listed_fault (aim_of c.args.settings.now) told.0 (subst (λ o. IfSome o (IsFault (tag_in fen_tag c.args.game.now.tags) c.args.game.now.elements)) told.1 c.in-Err.ensures)
+    listed_fault (aim_of c.args.settings.now) told.0 (subst (λ o. IfSome o (IsFault Main (tag_in fen_tag c.args.game.now.tags) c.args.game.now.elements)) told.1 c.in-Err.ensures)
     (record { output = refl; faults = told.2; games = omega arith; faulty = refl })

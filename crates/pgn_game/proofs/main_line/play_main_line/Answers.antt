@@ -1,4 +1,4 @@
-use Rattle.std.proofs.Common.{◌≡◌, ◌+◌, ◌≤◌, length, drop, map, sym, ap, subst, arith}
+use Rattle.std.proofs.Common.{◌≡◌, ◌+◌, ◌≤◌, [], length, drop, map, sym, ap, subst, arith}
 use Rattle.std.proofs.lemmas.Option.{IfSome_then}
 use Rattle.pgn_text.specs.Elements.{item_of}
 use Rattle.pgn_game.specs.Replays.{Replay, fault_of}
@@ -49,8 +49,9 @@ loop-element-preserved c =
 pub returns : goal.returns
 returns c =
     let walk = c.loop-element.walk in
-    let replay : Replay = record { positions = walk.positions.items; played = walk.played.items } in
-    c.loop-element.invariant.completes replay
+    let replay : Replay = record { positions = walk.positions.items; played = walk.played.items; turns = [] } in
+    let line = c.loop-element.invariant.completes replay
     (subst (λ items. Completes walk.positions.items walk.played.items walk.depth items replay)
     (sym (items_end c.args.elements.now c.loop-element.element-index (omega arith)))
-    (ends walk.positions.items walk.played.items walk.depth))
+    (ends walk.positions.items walk.played.items walk.depth)) in
+    (line, c.new-2.ensures.items)

@@ -1,0 +1,5 @@
+use Rattle.pgn_game.proofs.OneMovetext.{one_movetext}
+use Rattle.pgn_game.proofs.laws.one_movetext.Goals as goal
+
+pub returns : goal.returns
+returns c = one_movetext

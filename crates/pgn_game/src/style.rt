@@ -1,0 +1,16 @@
+//! How a game is written.
+
+/// How a game is written: what is kept of it, and how long its lines may be.
+#[derive(Clone, Copy, Debug, PartialEq, Eq)]
+pub struct Style {
+    /// Comments are kept.
+    pub comments: bool,
+    /// Glyphs are kept.
+    pub glyphs: bool,
+    /// Variations are kept, with all that stands in them.
+    pub variations: bool,
+    /// Of the tags beside the roster only SetUp and FEN are kept, where the game has a FEN tag.
+    pub roster_only: bool,
+    /// The largest number of bytes in a line of the movetext that has several tokens.
+    pub width: u16,
+}
