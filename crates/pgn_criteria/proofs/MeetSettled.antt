@@ -95,7 +95,7 @@ settled_some tags replay P (alternative ∷ more) all legal on_board =
     settled_either (settled_all tags replay P alternative all legal on_board) (settled_some tags replay P more all legal on_board)
 
 pub each_position_meets : EachPositionMeetsOrDoesNot
-each_position_meets fen items replay is tags alternatives plies =
+each_position_meets lines fen items replay is tags alternatives plies =
     let all = line_on_board (main_words items 0) is.start replay.positions replay.played (start_on_board fen is.start is.is_start) is.line in
     let legal = line_legal (main_words items 0) is.start replay.positions replay.played is.line in
     elim (slice_get replay.positions plies) as (λ o. slice_get replay.positions plies ≡ o → Settled (Meets tags replay plies alternatives)) [

@@ -2,6 +2,7 @@
 use Rattle.std.specs.Prelude.{◌≡◌, ◌⊎◌, ℕ, List, Option}
 use Rattle.pgn_text.specs.Games.{Item}
 use Rattle.pgn_game.specs.Replays.{Replay, IsReplay}
+use Rattle.pgn_game.specs.declared.replayer.Lines.{Lines}
 use Rattle.pgn_criteria.specs.Lines.{Accepts, IsRefused}
 use Rattle.pgn_criteria.specs.Meeting.{Tags, Meets}
 use Rattle.pgn_criteria.specs.declared.condition.Condition.{Condition}
@@ -22,6 +23,6 @@ TextHasOneAnswer =
 -- each position of a sound game meets criteria or does not
 abbrev pub EachPositionMeetsOrDoesNot : Type 0
 EachPositionMeetsOrDoesNot =
-    (fen : Option (List ℕ)) (items : List Item) (replay : Replay) → IsReplay fen items replay
+    (lines : Lines) (fen : Option (List ℕ)) (items : List Item) (replay : Replay) → IsReplay lines fen items replay
     → (tags : Tags) (alternatives : List (List (Condition (List ℕ)))) (plies : ℕ)
     → Meets tags replay plies alternatives ⊎ (Meets tags replay plies alternatives → ⊥)
