@@ -1,5 +1,5 @@
 -- Whether a position of a sound game meets criteria is settled.
-use Rattle.std.proofs.Common.{◌≡◌, ℕ, ◌+◌, List, [], ◌∷◌, Option, Some, None, refl, sym, ap, ◌∙◌, subst, inl, inr}
+use Rattle.std.proofs.Common.{◌≡◌, ℕ, ◌+◌, List, [], ◌∷◌, Option, Some, None, refl, ap, ◌∙◌, inl, inr}
 use Rattle.std.specs.Prelude.{codes}
 use Rattle.std.specs.List.{slice_get}
 use Rattle.chess.specs.Placements.{AreOnBoard}
@@ -14,7 +14,8 @@ use Rattle.chess.proofs.SanOnce.{one_san}
 use Rattle.chess.proofs.SanSettled.{some_san}
 use Rattle.pgn_game.specs.MainLines.{main_words}
 use Rattle.pgn_game.specs.Replays.{Replay}
-use Rattle.pgn_game.proofs.OnBoard.{start_on_board, line_on_board, line_legal}
+use Rattle.pgn_game.proofs.AnAnswer.{start_on_board}
+use Rattle.pgn_game.proofs.OnBoard.{line_on_board, line_legal}
 use Rattle.pgn_criteria.specs.Meeting.{Tags, Holds, AllHold, SomeHold, Meets}
 use Rattle.pgn_criteria.specs.MoveTexts.{without_marks, FitsWord, FitsMove, FitMoves}
 use Rattle.pgn_criteria.specs.Stages.{AreLegal}

@@ -99,7 +99,7 @@ start_answer (Some contents) (signs, spells, all) =
       | inr refused ↦ inr (value, refused.0, is, refused.1)
     ]
 
-start_on_board : (fen : Option (List ℕ)) (start : State) → IsStart fen start → AreOnBoard start.men
+pub start_on_board : (fen : Option (List ℕ)) (start : State) → IsStart fen start → AreOnBoard start.men
 start_on_board None start is = subst (λ (P : State). AreOnBoard P.men) (sym is) usual_kept.sound.on_board
 start_on_board (Some contents) start (value, given, read) = spelled_men_on_board value start read.spells
 

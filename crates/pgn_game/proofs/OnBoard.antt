@@ -1,25 +1,18 @@
 -- In each position of a main line men stand on the board alone, and the move that is played in it is legal.
-use Rattle.std.proofs.Common.{◌≡◌, ℕ, zero, suc, List, [], ◌∷◌, Option, Some, None, sym, ap, ◌∙◌, subst}
+use Rattle.std.proofs.Common.{◌≡◌, ℕ, zero, suc, List, [], ◌∷◌, Some, None, sym, ap, ◌∙◌, subst}
 use Rattle.std.specs.List.{slice_get}
 use Rattle.chess.specs.Placements.{AreOnBoard}
 use Rattle.chess.specs.Positions.{State}
 use Rattle.chess.specs.Moves.{after, IsLegal}
 use Rattle.chess.specs.declared.moves.Move.{Move}
-use Rattle.chess.proofs.OnBoard.{spelled_men_on_board, men_stay_on_board}
-use Rattle.chess.proofs.StartFacts.{usual_kept}
+use Rattle.chess.proofs.OnBoard.{men_stay_on_board}
 use Rattle.pgn_game.specs.MainLines.{IsMainLine}
-use Rattle.pgn_game.specs.Starts.{IsStart}
 use Rattle.pgn_game.proofs.OneReplay.{move_at}
 
 same_state : (a b : State) → Some a ≡ Some b → a ≡ b
 same_state a b is = cc
 
--- the position from which a game starts
-pub start_on_board : (fen : Option (List ℕ)) (start : State) → IsStart fen start → AreOnBoard start.men
-start_on_board None start is = subst (λ (P : State). AreOnBoard P.men) (sym is) usual_kept.sound.on_board
-start_on_board (Some contents) start (value, given, read) = spelled_men_on_board value start read.spells
-
--- each position behind it
+-- each position
 pub line_on_board : (words : List (List ℕ)) (now : State) (positions : List State) (played : List Move) → AreOnBoard now.men
     → IsMainLine now words positions played → (i : ℕ) (P : State) → slice_get positions i ≡ Some P → AreOnBoard P.men
 line_on_board [] now positions played on_board line zero P here =
