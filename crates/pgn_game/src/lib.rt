@@ -6,7 +6,6 @@ mod fault;
 pub mod laws;
 mod main_line;
 mod naming;
-pub mod pen;
 mod replayed;
 mod replayer;
 mod starting;
