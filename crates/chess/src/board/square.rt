@@ -87,6 +87,13 @@ impl Square {
         self.index
     }
 
+    /// Every square is on the board, however it was come by: a caller that asks knows it. Nothing is done.
+    pub(crate) fn known(self)
+        ensures { IsOnBoard self }
+    {
+        let _ = self.index;
+    }
+
     /// Whether the two are the same square.
     pub(crate) fn is(self, other: Square) -> bool
         ensures { IsTrue result ↔ (self ≡ other) }

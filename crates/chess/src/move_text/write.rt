@@ -19,7 +19,7 @@ pub fn san<B: Board>(position: &Position<B>, m: Move) -> ArrayString<8>
     ensures text { IsSan position.now m result.bytes }
     ensures names { IsOnlyNamed position.now result.bytes m }
 {
-    position.known(); // a text names its move in a sound position
+    position.known();
     written(position, m)
 }
 

@@ -192,7 +192,7 @@ impl<B: Board> Position<B> {
         ensures hits { HasEach (λ t. IsInReach self.now.men from t) result }
         ensures steps { HasEach (λ t. IsPawnGoal self.now from t) result }
     {
-        let _ = from.file(); // a square is on the board
+        from.known();
         let mut squares = self.reach(from);
         let side = self.side();
         let Some(next) = square_ahead(side, from) else {

@@ -162,7 +162,8 @@ impl<B: Board> Position<B> {
         if man.side != self.side() || self.is_held(self.side(), m.to) {
             return false;
         }
-        let _ = (m.from.file(), m.to.file()); // squares are on the board
+        m.from.known();
+        m.to.known();
         self.goes(man.kind, m)
     }
 }
