@@ -7,7 +7,7 @@ use Rattle.pgn_text.specs.Limits.{largest_offset}
 use Rattle.pgn_text.specs.Marks.{TooLongBlock, MarkedPiece, marked, AreOfBlock, AreMarkedPieces}
 use Rattle.pgn_text.specs.Parts.{Part}
 use Rattle.pgn_text.specs.Pieces as spec
-use Rattle.pgn_text.specs.declared.cut.Piece.{Piece}
+use Rattle.pgn_text.specs.declared.pieces.Piece.{Piece}
 use Rattle.pgn_text.specs.Tallies.{Reads}
 use Rattle.pgn_text.specs.declared.blocks.Body.{Body}
 use Rattle.pgn_text.specs.declared.blocks.Body.TheVariants.{Bytes, TooLong}

@@ -1,6 +1,6 @@
 use Rattle.pgn_text.specs.Limits.{depth_limit}
 use Rattle.pgn_text.proofs.Gives.{gives_game, gives_unreadable, gives_error}
-use Rattle.pgn_text.proofs.cut.GamesIterator.next.Goals as goal
+use Rattle.pgn_text.proofs.pieces.GamesIterator.next.Goals as goal
 
 pub returns-in-Ok-Some-clause-steps : goal.returns-in-Ok-Some-clause-steps
 returns-in-Ok-Some-clause-steps c =

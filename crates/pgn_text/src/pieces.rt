@@ -1,4 +1,4 @@
-//! A block cut into pieces.
+//! The pieces of a block.
 
 ghost use Rattle.std.specs.Prelude.{◌≡◌, ◌≤◌, false, length};
 
@@ -6,6 +6,8 @@ use crate::game::{RawGame, read_game};
 use crate::place::gap_end;
 use std::alloc::{AllocError, Global};
 use std::marker::Model;
+
+pub mod start;
 
 /// A piece of a block.
 #[derive(Drop)]
