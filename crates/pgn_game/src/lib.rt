@@ -6,6 +6,7 @@ mod fault;
 pub mod laws;
 mod main_line;
 mod naming;
+mod pen;
 mod replayed;
 mod replayer;
 mod starting;
