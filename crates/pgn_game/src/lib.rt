@@ -11,6 +11,7 @@ mod replayed;
 mod replayer;
 mod starting;
 mod style;
+mod tokens;
 mod turn;
 
 pub use fault::GameFault;
