@@ -2,6 +2,7 @@
 #![tactic(auto)]
 
 mod all_lines;
+mod comment;
 mod fault;
 pub mod laws;
 mod main_line;
