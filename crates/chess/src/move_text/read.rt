@@ -8,7 +8,7 @@ ghost use Rattle.chess.specs.declared.moves.Move.{Move};
 ghost use Rattle.chess.specs.declared.move_text.SanError.{SanError};
 
 use crate::board::{Board, Kind, Man, Side, Square, SquareSet, Wing};
-use crate::move_text::read::said::SanError;
+use crate::move_text::SanError;
 use crate::moves::Move;
 use crate::moves::castling::{king_arrives, king_leaves};
 use crate::position::Position;
