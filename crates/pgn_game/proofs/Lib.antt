@@ -12,3 +12,4 @@ pub mod LaidFacts
 pub mod LaidOnce
 pub mod OneMovetext
 pub mod TurnCounts
+pub mod TagLineFacts

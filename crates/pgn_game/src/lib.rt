@@ -10,6 +10,7 @@ mod replayed;
 mod replayer;
 mod starting;
 mod style;
+mod tag_lines;
 mod turn;
 
 pub use fault::GameFault;
