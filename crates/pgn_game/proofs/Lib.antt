@@ -13,3 +13,4 @@ pub mod LaidOnce
 pub mod OneMovetext
 pub mod TurnCounts
 pub mod TagLineFacts
+pub mod OneExport
