@@ -14,3 +14,4 @@ pub mod Walks
 pub mod LineWalks
 pub mod Pens
 pub mod CommentWords
+pub mod MovetextWalks

@@ -6,6 +6,7 @@ mod comment;
 mod fault;
 pub mod laws;
 mod main_line;
+mod movetext;
 mod naming;
 mod pen;
 mod replayed;
