@@ -16,3 +16,4 @@ pub mod PenFacts
 pub mod CommentFacts
 pub mod MovetextFacts
 pub mod MovetextLines
+pub mod SomeMovetext
