@@ -2,15 +2,19 @@
 #![tactic(auto)]
 
 mod all_lines;
+mod comment;
 mod fault;
 pub mod laws;
 mod main_line;
+mod movetext;
 mod naming;
+mod pen;
 mod replayed;
 mod replayer;
 mod starting;
 mod style;
 mod tag_lines;
+mod tokens;
 mod turn;
 
 pub use fault::GameFault;
