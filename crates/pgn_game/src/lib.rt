@@ -3,6 +3,7 @@
 
 mod all_lines;
 mod comment;
+mod exporter;
 mod fault;
 pub mod laws;
 mod main_line;
@@ -17,6 +18,7 @@ mod tag_lines;
 mod tokens;
 mod turn;
 
+pub use exporter::export;
 pub use fault::GameFault;
 pub use replayed::{GamePosition, Replayed};
 pub use replayer::{Lines, replay};
