@@ -1,12 +1,14 @@
 //! Chess by the FIDE Laws: boards, positions, legal moves, FEN and SAN. No call takes memory.
 #![tactic(auto)]
 
+pub mod bits;
 pub mod board;
 mod castling;
 pub mod direction;
 pub mod fen;
 mod fen_text;
 mod fields;
+mod fills;
 mod given;
 mod kept;
 pub mod laws;
@@ -27,6 +29,7 @@ pub mod set;
 pub mod square;
 mod start;
 
+pub use bits::Bits;
 pub use board::Board;
 pub use fen::FenError;
 pub use mailbox::Mailbox;
