@@ -28,10 +28,7 @@ fn given_position<'a>(alloc: Global, contents: &[u8]) -> Result<GamePosition, Ga
         (IsStart (Some contents.now))
         (λ fault. IfSome (fault_of fault) (λ told. IsBadStart (Some contents.now) × (told ≡ BadStart))) }
 {
-    let text = match value_of(alloc, contents) {
-        Ok(text) => text,
-        Err(_) => return Err(GameFault::OutOfMemory),
-    };
+    let text = value_of(alloc, contents)?;
     match GamePosition::from_fen(text.as_slice()) {
         Ok(position) => Ok(position),
         Err(_) => Err(GameFault::BadPosition),
