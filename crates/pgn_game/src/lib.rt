@@ -2,14 +2,17 @@
 #![tactic(auto)]
 
 mod all_lines;
+mod comment;
 mod fault;
 pub mod laws;
 mod main_line;
 mod naming;
+mod pen;
 mod replayed;
 mod replayer;
 mod starting;
 mod style;
+mod tokens;
 mod turn;
 
 pub use fault::GameFault;

@@ -1,8 +1,8 @@
-//! The pieces of a block.
+//! Where reading the pieces of a block begins.
 
 ghost use Rattle.std.specs.Prelude.{◌≡◌, false};
 
-use crate::cut::Games;
+use super::Games;
 use std::alloc::Global;
 
 /// The pieces of a block, in their order; `file_start` says that the block is at the start of the file.

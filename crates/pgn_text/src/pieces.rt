@@ -1,12 +1,13 @@
-//! A block cut into pieces.
+//! The pieces of a block.
 
 ghost use Rattle.std.specs.Prelude.{◌≡◌, ◌≤◌, false, length};
 
 use crate::game::{RawGame, read_game};
 use crate::place::gap_end;
-use crate::progress::MAX_DEPTH;
 use std::alloc::{AllocError, Global};
 use std::marker::Model;
+
+pub mod start;
 
 /// A piece of a block.
 #[derive(Drop)]
@@ -56,11 +57,11 @@ impl<'a> Iterator for Games<'a> {
     ghost use Rattle.std.specs.Iterator.{at_most};
     ghost use Rattle.std.specs.Prelude.{◌-◌, length};
     ghost use Rattle.pgn_text.specs.Left.{GivesPiece};
-    ghost use Rattle.pgn_text.specs.declared.progress.TheConstants.{MAX_DEPTH};
+    ghost use Rattle.pgn_text.specs.Limits.{depth_limit};
 
     type Item = Result<Piece<'a>, AllocError>;
 
-    ghost next_gives = { GivesPiece MAX_DEPTH };
+    ghost next_gives = { GivesPiece depth_limit };
 
     ghost remaining = { λ games. at_most (length games.block - games.at) };
 
