@@ -16,6 +16,7 @@ pub mod StartFacts
 pub mod UsualFacts
 pub mod FieldFacts
 pub mod RestFacts
+pub mod LetterFacts
 pub mod RankFacts
 pub mod CountFacts
 pub mod FenFacts

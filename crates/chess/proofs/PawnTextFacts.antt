@@ -1,4 +1,4 @@
--- How a pawn goes, as its text says it: a capture changes the file, and the file, or its absence, tells the pawn.
+-- How a pawn goes, as its text says it: a capture changes the file, and the file, or its absence, says which pawn.
 use Rattle.std.proofs.Common.{◌≡◌, ◌⊎◌, ℕ, true, false, not, ◌&&◌, inl, inr, ap, refl, sym, subst, ◌∙◌, arith, Option, Some, is_some}
 use Rattle.std.specs.Prelude.{◌==◌, if◌then◌else◌}
 use Rattle.std.proofs.lemmas.Bool.{cases_eq}

@@ -136,7 +136,7 @@ each_sign =
       ),
     )
 
--- men are told apart by kind and by side
+-- men are distinguished by kind and by side
 own_man : is_man (record { side = White; kind = King }) (Some (record { side = White; kind = King })) ≡ true
 own_man = refl
 

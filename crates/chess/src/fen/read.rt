@@ -29,7 +29,7 @@ struct FirstFields<'a> {
 
 /// What a text spells, before anything is known of its men.
 #[derive(Drop)]
-struct Draft<B: Board> {
+struct Spelled<B: Board> {
     board: B,
     turn: Side,
     rights: CastlingRights,
@@ -65,7 +65,7 @@ fn split_fields(text: &[u8]) -> Option<FirstFields>
 }
 
 /// What the text spells.
-fn read_draft<B: Board>(text: &[u8]) -> Option<Draft<B>>
+fn read_spelled<B: Board>(text: &[u8]) -> Option<Spelled<B>>
     ensures { MatchOption result ((P : State) → SpellsPosition text.now P → ⊥) (λ d. SpellsPosition text.now (record {
       men = B.men d.board;
       turn = d.turn;
@@ -93,7 +93,7 @@ fn read_draft<B: Board>(text: &[u8]) -> Option<Draft<B>>
     let Some((halfmove_clock, fullmove_number)) = read_counts(fields.rest) else {
         return None;
     };
-    Some(Draft {
+    Some(Spelled {
         board,
         turn,
         rights: kept_rights(&board, rights),
@@ -110,32 +110,32 @@ impl<B: Board> Position<B> {
         ensures answer { MatchResult result (λ p. ReadsFen text.now p) (λ e. IsRefused text.now e) }
         ensures sound { IfOk result IsSound }
     {
-        let Some(draft) = read_draft::<B>(text) else {
+        let Some(spelled) = read_spelled::<B>(text) else {
             return Err(FenError::Syntax);
         };
-        let Some(white_king) = only_king(&draft.board, Side::White) else {
+        let Some(white_king) = only_king(&spelled.board, Side::White) else {
             return Err(FenError::Kings);
         };
-        let Some(black_king) = only_king(&draft.board, Side::Black) else {
+        let Some(black_king) = only_king(&spelled.board, Side::Black) else {
             return Err(FenError::Kings);
         };
-        if has_edge_pawn(&draft.board) {
+        if has_edge_pawn(&spelled.board) {
             return Err(FenError::Pawns);
         }
-        let king = match draft.turn {
+        let king = match spelled.turn {
             Side::White => black_king,
             Side::Black => white_king,
         };
-        if draft.board.attacked(king, draft.turn) {
+        if spelled.board.attacked(king, spelled.turn) {
             return Err(FenError::InCheck);
         }
         Ok(Position {
-            board: draft.board,
-            turn: draft.turn,
-            rights: draft.rights,
-            en_passant: draft.en_passant,
-            halfmove_clock: draft.halfmove_clock,
-            fullmove_number: draft.fullmove_number,
+            board: spelled.board,
+            turn: spelled.turn,
+            rights: spelled.rights,
+            en_passant: spelled.en_passant,
+            halfmove_clock: spelled.halfmove_clock,
+            fullmove_number: spelled.fullmove_number,
             white_king,
             black_king,
         })

@@ -23,11 +23,11 @@ pub fn resolve<B: Board>(position: &Position<B>, text: &[u8]) -> Result<Move, Sa
     ensures none { IsErrOf result SanError.None ↔ ((m : Move) → IsNamed position.now text.now m → ⊥) }
     ensures several { IsErrOf result SanError.Several ↔ ((m n : Move) × IsNamed position.now text.now m × IsNamed position.now text.now n × (m ≢ n)) }
 {
-    named(position, text)
+    only_named(position, text)
 }
 
 /// The only legal move that the text names.
-fn named<B: Board>(position: &Position<B>, text: &[u8]) -> Result<Move, SanError>
+fn only_named<B: Board>(position: &Position<B>, text: &[u8]) -> Result<Move, SanError>
     ensures { IsAnswer (IsNamed position.now text.now) result }
 {
     if let Some(wing) = castling(text) {

@@ -3,7 +3,7 @@ ghost use Rattle.std.specs.Prelude.{◌≡◌, ◌↔◌, ◌+◌, ◌≤◌, �
 ghost use Rattle.arrayvec.specs.ArrayString.{array_string_len};
 ghost use Rattle.chess.specs.Placements.{man_at};
 ghost use Rattle.chess.specs.Moves.{IsLegal};
-ghost use Rattle.chess.specs.San.{IsSan, IsOnlyNamed, IsRival, IsDisambiguation, IsPieceText, IsBody, IsMark, castling_text, is_capture, capture_text, pawn_text, promotion_text};
+ghost use Rattle.chess.specs.San.{IsSan, IsOnlyNamed, IsRival, IsDisambiguation, IsPieceText, IsBody, IsCheckMark, castling_text, is_capture, capture_text, pawn_text, promotion_text};
 ghost use Rattle.chess.specs.Sets.{HoldsExactly};
 ghost use Rattle.chess.specs.SanTextWords.{Appends, HasSquare};
 
@@ -30,7 +30,7 @@ fn written<B: Board>(position: &Position<B>, m: Move) -> ArrayString<8>
 {
     let mut out = ArrayString::new();
     push_body(&mut out, position, &m, mover(position, &m));
-    push_mark(&mut out, &position.play(m));
+    push_check_mark(&mut out, &position.play(m));
     out
 }
 
@@ -43,9 +43,9 @@ fn mover<B: Board>(position: &Position<B>, m: &Move) -> Man
 }
 
 /// Appends the mark of the position after a move: `+` for check, `#` for mate.
-fn push_mark<B: Board>(out: &mut ArrayString<8>, after: &Position<B>)
+fn push_check_mark<B: Board>(out: &mut ArrayString<8>, after: &Position<B>)
     requires { array_string_len out.old < 8 }
-    ensures { Appends (IsMark after.now) out.old.bytes out.new.bytes }
+    ensures { Appends (IsCheckMark after.now) out.old.bytes out.new.bytes }
 {
     if !after.in_check() {
         return;
@@ -144,7 +144,7 @@ fn push_cross<B: Board>(out: &mut ArrayString<8>, position: &Position<B>, m: &Mo
     }
 }
 
-/// Appends what tells the man from its rivals: nothing where there is none; the file where no rival stands on it; else the rank
+/// Appends what distinguishes the man from its rivals: nothing where there is none; the file where no rival stands on it; else the rank
 /// where no rival stands on it; else both (PGN 8.2.3.4).
 fn push_origin<B: Board>(out: &mut ArrayString<8>, position: &Position<B>, m: &Move, man: Man)
     requires mover { man_at position.now.men m.now.from ≡ Some man }

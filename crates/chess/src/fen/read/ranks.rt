@@ -49,7 +49,7 @@ fn man_of(letter: u8) -> Option<Man>
 }
 
 /// What stands on each of the squares that the byte spells, and how many they are.
-fn squares_of(byte: u8) -> Option<(Option<Man>, usize)>
+fn squares_spelled(byte: u8) -> Option<(Option<Man>, usize)>
     ensures { MatchOption result ((own : List (Option Man)) → IsSquares byte own → ⊥) (λ found. IsByteOf byte found.0 found.1) }
 {
     if b'1' <= byte && byte <= b'8' {
@@ -70,7 +70,7 @@ fn read_row(text: &[u8]) -> Option<[Option<Man>; 8]>
     let mut file = 0;
     let mut rest = text;
     while let [byte, behind @ ..] = rest {
-        let Some((man, count)) = squares_of(*byte) else {
+        let Some((man, count)) = squares_spelled(*byte) else {
             return None;
         };
         if file + count > 8 {

@@ -3,12 +3,9 @@ use Rattle.std.specs.Prelude.{◌==◌}
 use Rattle.std.proofs.lemmas.Bool.{eqb-true}
 use Rattle.chess.specs.Fen.{fields_of}
 use Rattle.chess.specs.Runs.{run_of, after_run, behind_all}
+use Rattle.chess.proofs.RestFacts.{no_length}
 use Rattle.chess.proofs.FieldFacts.{fields_behind_spaces, begins_field, fields_of_run}
 use Rattle.chess.proofs.fen.read.fields.next_field.Goals as goal
-
-no_length : (rest : List ℕ) → (length rest == 0) ≡ true → rest ≡ []
-no_length [] e = refl
-no_length (b ∷ x) e = let none : length (b ∷ x) ≡ 0 = eqb-true (length (b ∷ x)) 0 e in absurd (omega arith)
 
 -- what is left behind the spaces is empty, or begins with a field
 first_field : (text rest run behind : List ℕ) → rest ≡ behind_all 32 text → (length rest == 0) ≡ false → run ≡ run_of 32 rest → behind ≡ after_run 32 rest

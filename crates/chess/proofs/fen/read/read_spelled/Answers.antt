@@ -1,6 +1,6 @@
 use Rattle.std.proofs.Common.{◌≡◌, ◌∷◌, List, ℕ, subst, sym, ◌∙◌}
 use Rattle.chess.specs.Fen.{GivesRights}
-use Rattle.chess.proofs.fen.read.read_draft.Goals as goal
+use Rattle.chess.proofs.fen.read.read_spelled.Goals as goal
 
 third : (a b d e x y z w : List ℕ) (more rest : List (List ℕ)) → (a ∷ b ∷ d ∷ e ∷ more) ≡ (x ∷ y ∷ z ∷ w ∷ rest) → d ≡ z
 third a b d e x y z w more rest same = cc

@@ -1,7 +1,7 @@
 use Rattle.std.proofs.Common.{ap, option_map}
 use Rattle.chess.specs.SanWords.{said_by}
 use Rattle.chess.proofs.NamedFacts.{named_castling, named_none, named_said}
-use Rattle.chess.proofs.move_text.read.named.Goals as goal
+use Rattle.chess.proofs.move_text.read.only_named.Goals as goal
 
 pub returns-in-Some : goal.returns-in-Some
 returns-in-Some g c = named_castling c.args.position.now c.args.text.now c.in-Some.wing _ _ c.castling.ensures c.in-Some.is c.castled.ensures

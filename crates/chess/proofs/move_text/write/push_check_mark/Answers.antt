@@ -1,8 +1,8 @@
 use Rattle.std.proofs.Common.{sym, [], ◌∷◌}
 use Rattle.std.proofs.lemmas.List.{append-nil}
-use Rattle.chess.specs.San.IsMark.{mate, check, quiet}
+use Rattle.chess.specs.San.IsCheckMark.{mate, check, quiet}
 use Rattle.chess.proofs.PlaceFacts.{true_not_false}
-use Rattle.chess.proofs.move_text.write.push_mark.Goals as goal
+use Rattle.chess.proofs.move_text.write.push_check_mark.Goals as goal
 
 pub returns-then-not-in_check : goal.returns-then-not-in_check
 returns-then-not-in_check g c =
