@@ -7,7 +7,10 @@ ghost use Rattle.chess.specs.BitWords.{AreApart, IsWordOf, IsCleared, IsBitSet, 
 ghost use Rattle.chess.specs.CellFacts.{on_board-men_of};
 ghost use Rattle.chess.specs.declared.board.man.Kind.TheVariants.{King, Knight, Pawn};
 
-use crate::board::{Board, Kind, Man, Side, Square, SquareSet, diagonal_runs, jumps, meet, near, pawn_hits, reached, straight_runs, word_of};
+use crate::board::fills::{
+    diagonal_runs, jumps, meet, near, pawn_hits, reached, straight_runs, word_of,
+};
+use crate::board::{Board, Kind, Man, Side, Square, SquareSet};
 
 /// A board of twelve words: the squares of each of White's kinds, in the order of `Kind`, then of Black's. A square's bit is its place in the order
 /// a1, b1 to h1, a2 and so on.
