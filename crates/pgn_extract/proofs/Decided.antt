@@ -16,10 +16,10 @@ IsDecidedAt criteria parts replay ply = IsMet criteria (tags_in parts) replay pl
 
 abbrev pub IsDecided : Aim → Type 0
 IsDecided aim =
-    (parts : List Part) (replay : Replay) → IsReplayOf parts replay → (ply : ℕ) → ply < length replay.positions
+    (parts : List Part) (replay : Replay) → IsReplayOf Main parts replay → (ply : ℕ) → ply < length replay.positions
     → IsDecidedAt aim.criteria parts replay ply
 
-decided_at : (criteria : Option (List (List (Condition (List ℕ))))) (parts : List Part) (replay : Replay) → IsReplayOf parts replay → (ply : ℕ)
+decided_at : (criteria : Option (List (List (Condition (List ℕ))))) (parts : List Part) (replay : Replay) → IsReplayOf Main parts replay → (ply : ℕ)
     → IsDecidedAt criteria parts replay ply
 decided_at None parts replay is ply = inl tt
 decided_at (Some criteria) parts replay is ply = each_position_meets Main (first_tag fen_tag parts) (items_of parts) replay is (tags_in parts) criteria ply

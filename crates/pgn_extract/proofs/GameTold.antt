@@ -60,7 +60,7 @@ pub listed_replay : (aim : Aim) {old new : Report} {number offset : ℕ} {game :
     → IsReplay Main (tag_in fen_tag game.tags) game.elements replay → AreListed aim number offset (λ name. tag_in name game.tags) replay entries
     → AddsOutput old new (listing entries) → AddsListed aim old new number offset game
 listed_replay aim {old} {new} {number} {offset} {game} replay entries is these adds at parts shows =
-    let of : IsReplayOf parts replay =
+    let of : IsReplayOf Main parts replay =
     subst (λ (items : List Item). IsReplay Main (first_tag fen_tag parts) items replay) shows.elements
     (subst (λ (tag : Option (List ℕ)). IsReplay Main tag game.elements replay) (shows.tags fen_tag) is) in
     let own = λ (name : List ℕ). tag_in name game.tags in
@@ -76,7 +76,7 @@ pub listed_fault : (aim : Aim) {old new : Report} {number offset : ℕ} {game : 
     → AddsFault old new (fault_text number offset (cause_text fault)) 0 → AddsListed aim old new number offset game
 listed_fault aim {old} {new} {number} {offset} {game} fault is adds at parts shows =
     let line = fault_text number offset (cause_text fault) in
-    let of : IsFaultOf parts fault =
+    let of : IsFaultOf Main parts fault =
     subst (λ (items : List Item). IsFault Main (first_tag fen_tag parts) items fault) shows.elements
     (subst (λ (tag : Option (List ℕ)). IsFault Main tag game.elements fault) (shows.tags fen_tag) is) in
     (FaultyGame line, (fault, of, refl), told_faulty old new line 0 adds)

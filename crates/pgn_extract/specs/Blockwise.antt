@@ -1,7 +1,10 @@
 -- What the parts of a run do with the bytes dropped, with one block and with the blocks in a row: the words between the code and
 -- those of `Outcomes`.
-use Rattle.std.specs.Prelude.{◌≡◌, ℕ, ◌+◌, ◌^◌, ◌<◌, ◌≤◌, List, [], ◌∷◌, ◌++◌, length, count_by, Option, IfSome, if◌then◌else◌}
-use Rattle.pgn_text.specs.GameTexts.{GameText, ShowsGame}
+use Rattle.std.specs.Prelude.{◌≡◌, ◌⊎◌, ℕ, ◌+◌, ◌^◌, ◌<◌, ◌≤◌, List, [], ◌∷◌, ◌++◌, length, count_by, Option, IfSome, if◌then◌else◌}
+use Rattle.pgn_text.specs.GameTexts.{GameText, ShowsGame, tag_in}
+use Rattle.pgn_game.specs.Exports.{IsExport}
+use Rattle.pgn_game.specs.Replays.{Replay}
+use Rattle.pgn_extract.specs.Exports.{HasEntry}
 use Rattle.pgn_text.specs.Left.{IsPiece}
 use Rattle.pgn_text.specs.Marks.{TooLongBlock, MarkedPiece, marked, AreOfBlock, AreMarkedPieces}
 use Rattle.pgn_text.specs.Parts.{Part}
@@ -13,7 +16,7 @@ use Rattle.pgn_text.specs.declared.blocks.Body.TheVariants.{Bytes, TooLong}
 use Rattle.pgn_text.specs.declared.blocks.ReadError.{ReadError}
 use Rattle.pgn_text.specs.declared.blocks.ReadError.TheVariants as cause
 use Rattle.pgn_extract.specs.Outcomes.{AppendsFront, Tells, TellsComplete}
-use Rattle.pgn_extract.specs.Telling.{Told, IsListed, IsGameTold, IsTold, AreTold, output_of, fault_line_of, output_text, fault_lines, is_faulty}
+use Rattle.pgn_extract.specs.Telling.{Told, IsListed, IsExported, IsGameTold, IsTold, AreTold, output_of, fault_line_of, output_text, fault_lines, is_faulty}
 use Rattle.pgn_extract.specs.declared.report.Report.{Report}
 use Rattle.pgn_extract.specs.declared.outcome.RunError.{RunError}
 use Rattle.pgn_extract.specs.declared.outcome.RunError.TheVariants.{Read, Write, OutOfMemory, InputTooLong}
@@ -46,6 +49,17 @@ pub record AddsTold (old new : Report) (told : Told) (count : ℕ) : Type 0 wher
 abbrev pub AddsListed : Aim → Report → Report → ℕ → ℕ → GameText → Type 0
 AddsListed aim old new number offset game =
     (at : ℕ) (parts : List Part) → ShowsGame game at parts → (told : Told) × IsListed aim told number offset parts × AddsTold old new told 0
+
+-- what is written of the game that is given: its export where it has an entry, and else nothing
+abbrev pub IsGameWritten : Aim → GameText → Replay → List ℕ → Type 0
+IsGameWritten aim game replay text =
+    (HasEntry aim (λ name. tag_in name game.tags) replay × IsExport aim.style game text)
+    ⊎ ((HasEntry aim (λ name. tag_in name game.tags) replay → ⊥) × (text ≡ []))
+
+-- the same of what the export tells
+abbrev pub AddsExported : Aim → Report → Report → ℕ → ℕ → GameText → Type 0
+AddsExported aim old new number offset game =
+    (at : ℕ) (parts : List Part) → ShowsGame game at parts → (told : Told) × IsExported aim told number offset parts × AddsTold old new told 0
 
 -- the same of what the mode tells
 abbrev pub AddsGame : Aim → Report → Report → ℕ → ℕ → GameText → Type 0

@@ -4,6 +4,7 @@ use Rattle.std.specs.List.{Contains, slice_get}
 use Rattle.pgn_text.specs.Marks.{ReadableGame, MarkedPiece, AreMarkedPieces}
 use Rattle.pgn_text.specs.Parts.{Part}
 use Rattle.pgn_game.specs.Replays.{Replay}
+use Rattle.pgn_game.specs.declared.replayer.Lines.TheVariants.{Main}
 use Rattle.pgn_extract.specs.Listing.{Entry, IsReplayOf, tags_in, AreEntries}
 use Rattle.pgn_extract.specs.Resuming.{IsMarkAmong}
 use Rattle.pgn_extract.specs.Telling.{Told, AreTold, output_text, fault_lines, is_faulty}
@@ -16,7 +17,7 @@ pub record IsPlyOfGame (aim : Aim) (number : ℕ) (pieces : List MarkedPiece) (e
   pub replay : Replay
   pub game : slice_get pieces place ≡ Some (record { offset = entry.offset; kind = ReadableGame parts })
   pub numbered : entry.number ≡ number + place
-  pub is_replay : IsReplayOf parts replay
+  pub is_replay : IsReplayOf Main parts replay
   pub within : entry.ply < length replay.positions
   pub listed : IsEntry aim (tags_in parts) replay entry.ply
 

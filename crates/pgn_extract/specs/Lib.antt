@@ -2,6 +2,7 @@
 pub mod Aims
 pub mod Index
 pub mod Listing
+pub mod Exports
 pub mod Telling
 pub mod Outcomes
 pub mod Resuming

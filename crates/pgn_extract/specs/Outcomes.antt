@@ -10,6 +10,7 @@ use Rattle.pgn_extract.specs.declared.outcome.RunError.{RunError}
 use Rattle.pgn_extract.specs.declared.outcome.RunError.TheVariants.{Read, Write, OutOfMemory, InputTooLong}
 use Rattle.pgn_extract.specs.declared.outcome.Summary.{Summary}
 use Rattle.pgn_extract.specs.Aims.{Aim}
+use Rattle.pgn_extract.specs.Exports.{AreExports}
 
 -- known bytes grow by a beginning of the bytes
 abbrev pub AppendsFront : Option (List ℕ) → Option (List ℕ) → List ℕ → Type 0
@@ -45,6 +46,14 @@ pub record Lists (aim : Aim) (limit max_depth number offset : ℕ) (whole : List
   pub entries : List Entry
   pub are : AreEntries aim number pieces entries
   pub listed : Appends out out' (listing entries)
+
+-- such a run wrote exactly the exports of the games among the pieces
+pub record Exports (aim : Aim) (limit max_depth number offset : ℕ) (whole : List ℕ) (out out' : Option (List ℕ)) : Type 0 where
+  pub pieces : List MarkedPiece
+  pub each : AreMarkedPieces limit max_depth offset (drop offset whole) pieces
+  pub text : List ℕ
+  pub are : AreExports aim pieces text
+  pub exported : Appends out out' text
 
 -- the pieces of the complete blocks of some bytes are told, and nothing else
 pub record TellsComplete (aim : Aim) (limit max_depth number offset : ℕ) (bytes : List ℕ) (out out' err err' : Option (List ℕ)) : Type 0 where

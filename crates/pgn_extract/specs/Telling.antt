@@ -4,9 +4,11 @@ use Rattle.pgn_text.specs.Marks.{PieceKind, ReadableGame, UnreadableRest, TooLon
 use Rattle.pgn_text.specs.Parts.{Part}
 use Rattle.pgn_game.specs.Faults.{Fault}
 use Rattle.pgn_game.specs.Replays.{Replay}
+use Rattle.pgn_game.specs.declared.replayer.Lines.TheVariants.{Main}
 use Rattle.pgn_extract.specs.Index.{fault_text, mark_line}
 use Rattle.pgn_extract.specs.Listing.{Entry, listing, AreListed, tags_in, IsReplayOf, IsFaultOf, cause_text}
 use Rattle.pgn_extract.specs.Aims.{Aim}
+use Rattle.pgn_extract.specs.Exports.{written_lines, IsWritten}
 use Rattle.pgn_extract.specs.declared.settings.Mode.{Mode}
 use Rattle.pgn_extract.specs.declared.settings.Mode.TheVariants as modes
 
@@ -45,14 +47,22 @@ fault_lines (told ∷ more) = fault_line_of told ++ fault_lines more
 -- the game is told in the listing: where it is sound, by the lines of the entries that it lists, else by the line of its fault
 abbrev pub IsListed : Aim → Told → ℕ → ℕ → List Part → Type 0
 IsListed aim (SoundGame text) number offset parts =
-    (replay : Replay) × (entries : List Entry) × IsReplayOf parts replay × AreListed aim number offset (tags_in parts) replay entries × (text ≡ listing entries)
+    (replay : Replay) × (entries : List Entry) × IsReplayOf Main parts replay × AreListed aim number offset (tags_in parts) replay entries × (text ≡ listing entries)
 IsListed aim (FaultyGame line) number offset parts =
-    (fault : Fault) × IsFaultOf parts fault × (line ≡ fault_text number offset (cause_text fault))
+    (fault : Fault) × IsFaultOf Main parts fault × (line ≡ fault_text number offset (cause_text fault))
 
--- a game that can be read is told so in a mode: in the index by its mark, in the listing as above
+-- the game is told in the export: where it is sound in the lines that are written, by what is written of it, else by the line of its fault
+abbrev pub IsExported : Aim → Told → ℕ → ℕ → List Part → Type 0
+IsExported aim (SoundGame text) number offset parts =
+    (replay : Replay) × IsReplayOf (written_lines aim) parts replay × IsWritten aim parts replay text
+IsExported aim (FaultyGame line) number offset parts =
+    (fault : Fault) × IsFaultOf (written_lines aim) parts fault × (line ≡ fault_text number offset (cause_text fault))
+
+-- a game that can be read is told so in a mode: in the index by its mark, in the listing and in the export as above
 abbrev pub IsToldIn : Mode → Aim → ℕ → ℕ → List Part → Told → Type 0
 IsToldIn modes.Index aim number offset parts told = told ≡ SoundGame (mark_line number offset)
 IsToldIn modes.List aim number offset parts told = IsListed aim told number offset parts
+IsToldIn modes.Export aim number offset parts told = IsExported aim told number offset parts
 
 -- a game that can be read is told so
 abbrev pub IsGameTold : Aim → ℕ → ℕ → List Part → Told → Type 0
