@@ -4,6 +4,7 @@ pub mod MainLines
 pub mod AllLines
 pub mod Faults
 pub mod Replays
+pub mod TagLines
 pub mod TextLines
 pub mod Comments
 pub mod Exports
