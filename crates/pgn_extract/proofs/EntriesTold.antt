@@ -1,12 +1,13 @@
--- What is told to the output of pieces in a row is their index, or the listing of their entries.
+-- What is told to the output of pieces in a row is their index, the listing of their entries, or the exports of their games.
 use Rattle.std.proofs.Common.{◌≡◌, ℕ, ◌+◌, List, [], ◌∷◌, ◌++◌, Option, refl, sym, ap, ◌∙◌, subst, append_assoc}
 use Rattle.std.specs.Io.KnownBytes.{Appends}
 use Rattle.pgn_text.specs.Marks.{PieceKind, ReadableGame, UnreadableRest, TooLongBlock, MarkedPiece}
 use Rattle.pgn_text.specs.Parts.{Part}
 use Rattle.pgn_extract.specs.Index.{index, index_line}
 use Rattle.pgn_extract.specs.Listing.{Entry, entry_line, listing, AreGameEntries, sound, faulty, ArePieceEntries, AreEntries}
-use Rattle.pgn_extract.specs.Outcomes.{Ends, Indexes, Lists}
-use Rattle.pgn_extract.specs.Telling.{Told, SoundGame, FaultyGame, output_of, output_text, IsListed, IsToldIn, IsPieceTold, AreTold}
+use Rattle.pgn_extract.specs.Exports.{IsGameExport, sound as exported, faulty as unexported, IsPieceExport, AreExports}
+use Rattle.pgn_extract.specs.Outcomes.{Ends, Indexes, Lists, Exports}
+use Rattle.pgn_extract.specs.Telling.{Told, SoundGame, FaultyGame, output_of, output_text, IsListed, IsExported, IsToldIn, IsPieceTold, AreTold}
 use Rattle.pgn_extract.specs.declared.outcome.Summary.{Summary}
 use Rattle.pgn_extract.specs.Aims.{Aim}
 use Rattle.pgn_extract.specs.declared.settings.Mode.TheVariants as modes
@@ -41,6 +42,31 @@ of_pieces aim lists number (piece ∷ more) tolds (told, rest, parted, is, other
       ap output_text parted ∙ ap (λ t. t ++ output_text rest) own.2 ∙ ap (λ t. listing own.0 ++ t) later.2 ∙ sym (listing-append own.0 later.0),
     )
 
+-- a game's export
+export_of_game : (aim : Aim) (told : Told) (number offset : ℕ) (parts : List Part) → IsExported aim told number offset parts → IsGameExport aim parts (output_of told)
+export_of_game aim (SoundGame text) number offset parts (replay, is, written) = exported replay is written
+export_of_game aim (FaultyGame line) number offset parts (fault, is, here) = unexported fault is refl
+
+-- a piece's export
+export_of_piece : (kind : PieceKind) (aim : Aim) → aim.mode ≡ modes.Export → (number offset : ℕ) (told : Told) → IsPieceTold kind aim number offset told
+    → IsPieceExport aim kind (output_of told)
+export_of_piece (ReadableGame parts) aim exports number offset told is =
+    export_of_game aim told number offset parts (subst (λ m. IsToldIn m aim number offset parts told) exports is)
+export_of_piece UnreadableRest aim exports number offset told is = ap output_of is
+export_of_piece TooLongBlock aim exports number offset told is = ap output_of is
+
+-- the exports of pieces in a row
+exports_of_pieces : (aim : Aim) → aim.mode ≡ modes.Export → (number : ℕ) (pieces : List MarkedPiece) (tolds : List Told) → AreTold aim number pieces tolds
+    → AreExports aim pieces (output_text tolds)
+exports_of_pieces aim exports number [] tolds none = ap output_text none
+exports_of_pieces aim exports number (piece ∷ more) tolds (told, rest, parted, is, others) = (
+  output_of told,
+  output_text rest,
+  ap output_text parted,
+  export_of_piece piece.kind aim exports number piece.offset told is,
+  exports_of_pieces aim exports (number + 1) more rest others,
+)
+
 -- a piece's line in the index
 indexed_piece : (kind : PieceKind) (aim : Aim) → aim.mode ≡ modes.Index → (number offset : ℕ) (told : Told) → IsPieceTold kind aim number offset told
     → output_of told ≡ index_line number (record { offset = offset; kind = kind })
@@ -64,6 +90,16 @@ module _ (aim : Aim) (limit max_depth number offset : ℕ) (whole : List ℕ) (o
     pieces = e.pieces;
     each = e.each;
     indexed = subst (Appends out out') (indexed_pieces aim is number e.pieces e.tolds e.told.each) e.told.output;
+  }
+
+  -- a run for the export wrote it
+  pub exports_of : aim.mode ≡ modes.Export → Exports aim limit max_depth number offset whole out out'
+  exports_of is = record {
+    pieces = e.pieces;
+    each = e.each;
+    text = output_text e.tolds;
+    are = exports_of_pieces aim is number e.pieces e.tolds e.told.each;
+    exported = e.told.output;
   }
 
   -- a run for the listing wrote it

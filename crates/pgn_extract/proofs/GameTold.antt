@@ -1,23 +1,27 @@
 -- One piece told: a game by the index, by the listing of its replay or by its fault, or bytes that are no game.
-use Rattle.std.proofs.Common.{◌≡◌, ℕ, ◌+◌, List, ◌++◌, Vec, Global, refl, sym, ap, ◌∙◌, subst, arith, codes}
+use Rattle.std.proofs.Common.{◌≡◌, ℕ, ◌+◌, List, ◌++◌, Vec, Global, refl, sym, ap, ◌∙◌, subst, arith, codes, inl, inr}
 use Rattle.std.proofs.lemmas.List.{append-nil}
 use Rattle.std.specs.Prelude.{Option, if◌then◌else◌}
-use Rattle.pgn_text.specs.GameTexts.{GameText, tag_in}
+use Rattle.pgn_text.specs.GameTexts.{GameText, IsGameText, ShowsGame, tag_in}
 use Rattle.pgn_text.specs.Games.{Item, first_tag}
 use Rattle.pgn_text.specs.Left.{IsPiece}
 use Rattle.pgn_text.specs.Marks.{marked}
+use Rattle.pgn_text.specs.Parts.{Part}
 use Rattle.pgn_text.specs.Pieces as spec
 use Rattle.pgn_text.specs.declared.cut.Piece.{Piece}
 use Rattle.pgn_text.specs.declared.cut.Piece.TheVariants as given
 use Rattle.pgn_game.specs.Faults.{Fault, IsFault}
 use Rattle.pgn_game.specs.Replays.{Replay, IsReplay}
+use Rattle.pgn_game.specs.declared.replayer.Lines.{Lines}
 use Rattle.pgn_game.specs.declared.replayer.Lines.TheVariants.{Main}
 use Rattle.pgn_game.specs.Starts.{fen_tag}
-use Rattle.pgn_extract.specs.Blockwise.{AddsTold, AddsListed, AddsGame, AddsMark, AddsPiece}
+use Rattle.pgn_extract.specs.Blockwise.{AddsTold, AddsListed, AddsExported, AddsGame, IsGameWritten, AddsMark, AddsPiece}
 use Rattle.pgn_extract.specs.Index.{fault_text, mark_line}
 use Rattle.pgn_extract.specs.Listing.{Entry, listing, entries_from, AreListed, tags_in, cause_text, IsReplayOf, IsFaultOf}
+use Rattle.pgn_extract.specs.Exports.{written_lines, IsWritten, with_entry, without_entry}
 use Rattle.pgn_extract.specs.Telling.{SoundGame, FaultyGame, output_of, fault_line_of, is_faulty, IsToldIn, IsGameTold}
 use Rattle.pgn_extract.specs.declared.report.Report.{Report}
+use Rattle.pgn_criteria.specs.Meeting.{Tags}
 use Rattle.pgn_extract.specs.Aims.{Aim, IsEntry}
 use Rattle.pgn_extract.proofs.Chosen.{chosen_by}
 use Rattle.pgn_extract.proofs.SameTags.{entry_same}
@@ -55,31 +59,60 @@ told_faulty old new line count adds = record {
   faulty = adds.faulty;
 }
 
+-- what a reader of the game sees of its lines is so of the parts
+module _ (lines : Lines) {at : ℕ} {game : GameText} {parts : List Part} (shows : ShowsGame game at parts) where
+  shown_replay : (replay : Replay) → IsReplay lines (tag_in fen_tag game.tags) game.elements replay → IsReplayOf lines parts replay
+  shown_replay replay is =
+      subst (λ (items : List Item). IsReplay lines (first_tag fen_tag parts) items replay) shows.elements
+      (subst (λ (tag : Option (List ℕ)). IsReplay lines tag game.elements replay) (shows.tags fen_tag) is)
+
+  shown_fault : (fault : Fault) → IsFault lines (tag_in fen_tag game.tags) game.elements fault → IsFaultOf lines parts fault
+  shown_fault fault is =
+      subst (λ (items : List Item). IsFault lines (first_tag fen_tag parts) items fault) shows.elements
+      (subst (λ (tag : Option (List ℕ)). IsFault lines tag game.elements fault) (shows.tags fen_tag) is)
+
 -- by the listing, the entries of its replay
 pub listed_replay : (aim : Aim) {old new : Report} {number offset : ℕ} {game : GameText} (replay : Replay) (entries : List Entry)
     → IsReplay Main (tag_in fen_tag game.tags) game.elements replay → AreListed aim number offset (λ name. tag_in name game.tags) replay entries
     → AddsOutput old new (listing entries) → AddsListed aim old new number offset game
 listed_replay aim {old} {new} {number} {offset} {game} replay entries is these adds at parts shows =
-    let of : IsReplayOf Main parts replay =
-    subst (λ (items : List Item). IsReplay Main (first_tag fen_tag parts) items replay) shows.elements
-    (subst (λ (tag : Option (List ℕ)). IsReplay Main tag game.elements replay) (shows.tags fen_tag) is) in
     let own = λ (name : List ℕ). tag_in name game.tags in
     let listed : AreListed aim number offset (tags_in parts) replay entries =
     chosen_by (λ entry. IsEntry aim own replay entry.ply) (λ entry. IsEntry aim (tags_in parts) replay entry.ply)
     (λ entry. entry_same own (tags_in parts) shows.tags replay aim entry.ply)
     (λ entry. entry_same (tags_in parts) own (λ name. sym (shows.tags name)) replay aim entry.ply)
     (entries_from number offset 0 replay.positions) entries these in
-    (SoundGame (listing entries), (replay, entries, of, listed, refl), told_sound old new (listing entries) adds)
+    (SoundGame (listing entries), (replay, entries, shown_replay Main shows replay is, listed, refl), told_sound old new (listing entries) adds)
 
 -- or its fault
 pub listed_fault : (aim : Aim) {old new : Report} {number offset : ℕ} {game : GameText} (fault : Fault) → IsFault Main (tag_in fen_tag game.tags) game.elements fault
-    → AddsFault old new (fault_text number offset (cause_text fault)) 0 → AddsListed aim old new number offset game
+    → AddsTold old new (FaultyGame (fault_text number offset (cause_text fault))) 0 → AddsListed aim old new number offset game
 listed_fault aim {old} {new} {number} {offset} {game} fault is adds at parts shows =
-    let line = fault_text number offset (cause_text fault) in
-    let of : IsFaultOf Main parts fault =
-    subst (λ (items : List Item). IsFault Main (first_tag fen_tag parts) items fault) shows.elements
-    (subst (λ (tag : Option (List ℕ)). IsFault Main tag game.elements fault) (shows.tags fen_tag) is) in
-    (FaultyGame line, (fault, of, refl), told_faulty old new line 0 adds)
+    (FaultyGame (fault_text number offset (cause_text fault)), (fault, shown_fault Main shows fault is, refl), adds)
+
+-- by the export, what is written of it
+pub exported_replay : (aim : Aim) {old new : Report} {number offset : ℕ} {game : GameText} → IsGameText game → (replay : Replay) (text : List ℕ)
+    → IsReplay (written_lines aim) (tag_in fen_tag game.tags) game.elements replay → IsGameWritten aim game replay text
+    → AddsOutput old new text → AddsExported aim old new number offset game
+exported_replay aim {old} {new} {number} {offset} {game} is_game replay text is written adds at parts shows =
+    (SoundGame text, (replay, shown_replay (written_lines aim) shows replay is, of_parts written), told_sound old new text adds)
+  where
+    own : Tags
+    own = λ name. tag_in name game.tags
+
+    of_parts : IsGameWritten aim game replay text → IsWritten aim parts replay text
+    of_parts (inl (has, export)) =
+        with_entry (has.0, has.1, entry_same own (tags_in parts) shows.tags replay aim has.0 has.2)
+        (game, is_game, record { place = refl; tags = shows.tags; elements = shows.elements; result = shows.result }, export)
+    of_parts (inr (none, empty)) =
+        without_entry (λ has. none (has.0, has.1, entry_same (tags_in parts) own (λ name. sym (shows.tags name)) replay aim has.0 has.2)) empty
+
+-- or its fault
+pub exported_fault : (aim : Aim) {old new : Report} {number offset : ℕ} {game : GameText} (fault : Fault)
+    → IsFault (written_lines aim) (tag_in fen_tag game.tags) game.elements fault
+    → AddsTold old new (FaultyGame (fault_text number offset (cause_text fault))) 0 → AddsExported aim old new number offset game
+exported_fault aim {old} {new} {number} {offset} {game} fault is adds at parts shows =
+    (FaultyGame (fault_text number offset (cause_text fault)), (fault, shown_fault (written_lines aim) shows fault is, refl), adds)
 
 -- by the index, its mark
 pub game_indexed : {old new : Report} (aim : Aim) (number offset : ℕ) (game : GameText) → aim.mode ≡ modes.Index → AddsOutput old new (mark_line number offset)
@@ -94,6 +127,13 @@ game_indexed {old} {new} aim number offset game is adds at parts shows = (
 pub game_listed : {old new : Report} (aim : Aim) (number offset : ℕ) (game : GameText) → aim.mode ≡ modes.List → AddsListed aim old new number offset game
     → AddsGame aim old new number offset game
 game_listed aim number offset game is adds at parts shows =
+    let told = adds at parts shows in
+    (told.0, subst (λ m. IsToldIn m aim number offset parts told.0) (sym is) told.1, told.2)
+
+-- by the export, what that tells
+pub game_exported : {old new : Report} (aim : Aim) (number offset : ℕ) (game : GameText) → aim.mode ≡ modes.Export → AddsExported aim old new number offset game
+    → AddsGame aim old new number offset game
+game_exported aim number offset game is adds at parts shows =
     let told = adds at parts shows in
     (told.0, subst (λ m. IsToldIn m aim number offset parts told.0) (sym is) told.1, told.2)
 

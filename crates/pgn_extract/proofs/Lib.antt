@@ -6,6 +6,8 @@ pub mod Chosen
 pub mod Dropping
 pub mod EntriesTold
 pub mod ExactEntries
+pub mod Exported
+pub mod GameExport
 pub mod GameTold
 pub mod JoinedParts
 pub mod Listed

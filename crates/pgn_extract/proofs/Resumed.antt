@@ -10,7 +10,7 @@ use Rattle.pgn_extract.specs.Resuming.{told_at_least, Resumes}
 use Rattle.pgn_extract.specs.Telling.{Told, AreTold}
 use Rattle.pgn_extract.specs.declared.outcome.Summary.{Summary}
 use Rattle.pgn_extract.specs.Aims.{Aim}
-use Rattle.pgn_extract.proofs.OneTold.{all_one_told}
+use Rattle.pgn_extract.proofs.OneReport.{same_report}
 
 -- pieces that are all numbered high enough
 at_least_all : (least number : ℕ) (tolds : List Told) → least ≤ number → told_at_least least number tolds ≡ tolds
@@ -38,24 +38,23 @@ at_least_from aim number (piece ∷ before) behind tolds (told, rest, parted, is
           ∙ ap (λ n. told_at_least n (number + 1) rest) (sym next) ∙ from.2,
     )
 
-module _ (one_replay : GameHasOneReplay) (one_fault : GameHasOneFault) (no_fault : SoundGameHasNoFault) where
-  -- what a run told of the rest is what the whole has from the mark on
-  pub resumes_of : (aim : Aim) (limit max_depth number offset : ℕ) (whole : List ℕ) (out out' err err' : Option (List ℕ)) (summary : Summary)
-      → Ends aim limit max_depth number offset whole out out' err err' summary → Resumes aim limit max_depth number offset whole out out' err err'
-  resumes_of aim limit max_depth number offset whole out out' err err' summary ends pieces all mark =
-      let rest = mark.piece ∷ mark.behind in
-      let same : ends.pieces ≡ rest = resumed_pieces limit max_depth whole mark.before mark.piece mark.behind ends.pieces
-      (subst (AreMarkedPieces limit max_depth 0 whole) mark.parted all)
-      (subst (λ o. AreMarkedPieces limit max_depth o (drop o whole) ends.pieces) mark.placed ends.each) in
-      let own : AreTold aim number rest ends.tolds = subst (λ p. AreTold aim number p ends.tolds) same ends.told.each in record {
-        tolds = ends.tolds;
-        told = record { each = own; output = ends.told.output; faults = ends.told.faults };
-        same = λ tolds told.
-            let from = at_least_from aim 1 mark.before rest tolds (subst (λ p. AreTold aim 1 p tolds) mark.parted told) in
-            all_one_told one_replay one_fault no_fault aim (length mark.before + 1) rest ends.tolds from.0
-            (subst (λ n. AreTold aim n rest ends.tolds) mark.numbered own) from.1
-            ∙ sym from.2 ∙ ap (λ n. told_at_least n 1 tolds) (sym mark.numbered);
-      }
+-- what a run told of the rest is what the whole has from the mark on
+pub resumes_of : (aim : Aim) (limit max_depth number offset : ℕ) (whole : List ℕ) (out out' err err' : Option (List ℕ)) (summary : Summary)
+    → Ends aim limit max_depth number offset whole out out' err err' summary → Resumes aim limit max_depth number offset whole out out' err err'
+resumes_of aim limit max_depth number offset whole out out' err err' summary ends pieces all mark =
+    let rest = mark.piece ∷ mark.behind in
+    let same : ends.pieces ≡ rest = resumed_pieces limit max_depth whole mark.before mark.piece mark.behind ends.pieces
+    (subst (AreMarkedPieces limit max_depth 0 whole) mark.parted all)
+    (subst (λ o. AreMarkedPieces limit max_depth o (drop o whole) ends.pieces) mark.placed ends.each) in
+    let own : AreTold aim number rest ends.tolds = subst (λ p. AreTold aim number p ends.tolds) same ends.told.each in record {
+      tolds = ends.tolds;
+      told = record { each = own; output = ends.told.output; faults = ends.told.faults };
+      same = λ tolds told.
+          let from = at_least_from aim 1 mark.before rest tolds (subst (λ p. AreTold aim 1 p tolds) mark.parted told) in
+          same_report aim (length mark.before + 1) rest ends.tolds from.0
+          (subst (λ n. AreTold aim n rest ends.tolds) mark.numbered own) from.1
+          ∙ sym from.2 ∙ ap (λ n. told_at_least n 1 tolds) (sym mark.numbered);
+    }
 
 -- a fact of an answer and of known bytes gives one of the bytes alone
 pub on_ok_some : {A E : Type 0} (r : Result A E) (o : Option (List ℕ)) (P : A → List ℕ → Type 0) (Q : List ℕ → Type 0)

@@ -31,8 +31,8 @@ IsExportOf style parts text = (game : GameText) × IsGameText game × ShowsGame 
 
 -- what is written of a sound game: its export where it has an entry, once however many it has, and else nothing
 pub data IsWritten (aim : Aim) (parts : List Part) (replay : Replay) (text : List ℕ) : Type 0 where
-  wanted : HasEntry aim (tags_in parts) replay → IsExportOf aim.style parts text → IsWritten aim parts replay text
-  unwanted : (HasEntry aim (tags_in parts) replay → ⊥) → text ≡ [] → IsWritten aim parts replay text
+  with_entry : HasEntry aim (tags_in parts) replay → IsExportOf aim.style parts text → IsWritten aim parts replay text
+  without_entry : (HasEntry aim (tags_in parts) replay → ⊥) → text ≡ [] → IsWritten aim parts replay text
 
 -- what is written of a game: nothing where it is faulty
 pub data IsGameExport (aim : Aim) (parts : List Part) (text : List ℕ) : Type 0 where

@@ -4,7 +4,7 @@ ghost use Rattle.std.specs.Io.KnownBytes.{Appends, Keeps};
 ghost use Rattle.pgn_text.specs.Windows.{Shows};
 ghost use Rattle.pgn_extract.specs.Aims.{aim_of};
 ghost use Rattle.pgn_extract.specs.Blockwise.{IsShown, TellsBlock, BeginsBlock, EndsBlocks, BreaksOff};
-ghost use Rattle.pgn_extract.specs.Outcomes.{AppendsFront, Ends, Indexes, Lists, Stands};
+ghost use Rattle.pgn_extract.specs.Outcomes.{AppendsFront, Ends, Indexes, Lists, Exports, Stands};
 ghost use Rattle.pgn_extract.specs.Resuming.{Resumes};
 
 use crate::outcome::{RunError, Summary, of_read};
@@ -170,12 +170,16 @@ pub fn run<R: Read, O: Write, E: Write>(
         (E.contents err.old.inner) (E.contents err.new.inner) summary)) }
     ensures flushed { OnOk result ((out.new.flushed ≡ true) × (err.new.flushed ≡ true)) }
 
-    // The output is then exactly the index, or the listing, of the pieces from the offset on.
+    // The output is then exactly the index, the listing, or the exports, of the pieces from the offset on.
     ensures indexes { OnOk result (IfSome (R.remaining input.old.inner) (λ whole. settings.now.mode ≡ Mode.Index
         → Indexes 1048576 64 settings.now.number settings.now.offset whole
         (O.contents out.old.inner) (O.contents out.new.inner))) }
     ensures lists { OnOk result (IfSome (R.remaining input.old.inner) (λ whole. settings.now.mode ≡ Mode.List
         → Lists (aim_of settings.now) 1048576 64 settings.now.number settings.now.offset whole
+        (O.contents out.old.inner) (O.contents out.new.inner))) }
+
+    ensures exports { OnOk result (IfSome (R.remaining input.old.inner) (λ whole. settings.now.mode ≡ Mode.Export
+        → Exports (aim_of settings.now) 1048576 64 settings.now.number settings.now.offset whole
         (O.contents out.old.inner) (O.contents out.new.inner))) }
 
     // Begun at a mark of the whole input, the run tells exactly the rest of what a run over the whole tells.

@@ -1,7 +1,5 @@
 //! What the program tells on standard error.
 
-pub const MODE_NOT_BUILT: &str = "pgn-extract: mode not built\n";
-
 pub const BOTH_MODES: &str = "pgn-extract: --list and --index exclude each other\n";
 
 pub const BAD_MARK: &str = "pgn-extract: bad mark\n";

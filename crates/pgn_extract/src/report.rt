@@ -101,6 +101,7 @@ fn add_exported<'a>(
     requires faulty { report.old.faulty + 1 < 2 ^ 64 }
     ensures { OnOk result (AddsExported (aim_of settings.now) report.old report.new number offset game.now) }
 {
+    game.known();
     match replay(alloc, game, written_lines(&settings.style)) {
         Ok(replayed) => push_export(alloc, &mut report.output, settings, game, &replayed),
         Err(fault) => add_fault(report, number, offset, fault),

@@ -12,6 +12,7 @@ use crate::settings::{Mode, Settings};
 use clap::Error;
 use clap::error::ErrorKind;
 use pgn_criteria::{Criteria, CriteriaError};
+use pgn_game::Style;
 use pgn_text::Tally;
 use std::alloc::{AllocError, Global};
 use std::io::{Read, Write};
@@ -104,7 +105,18 @@ fn mode_of(request: &Request<'_>) -> Result<Mode, &'static str> {
         (true, true) => Err(messages::BOTH_MODES),
         (true, false) => Ok(Mode::List),
         (false, true) => Ok(Mode::Index),
-        (false, false) => Err(messages::MODE_NOT_BUILT),
+        (false, false) => Ok(Mode::Export),
+    }
+}
+
+/// How games are written.
+fn style_of(request: &Request<'_>) -> Style {
+    Style {
+        comments: !request.no_comments,
+        glyphs: !request.no_glyphs,
+        variations: !request.no_variations,
+        roster_only: request.roster,
+        width: request.width,
     }
 }
 
@@ -194,6 +206,7 @@ where
         min_ply: request.min_ply,
         max_ply: request.max_ply,
         first: request.first,
+        style: style_of(&request),
         number: mark.number,
         offset: mark.offset,
     };

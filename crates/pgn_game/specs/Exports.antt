@@ -1,5 +1,5 @@
 -- The export of a game: its tags, and its movetext in standard texts (PGN 3.1, 8).
-use Rattle.std.specs.Prelude.{◌≡◌, ℕ, Bool, true, false, ◌||◌, codes, decimal, List, [], ◌∷◌, ◌++◌}
+use Rattle.std.specs.Prelude.{◌≡◌, ℕ, Bool, true, false, ◌||◌, codes, decimal, List, [], ◌∷◌, ◌++◌, Option}
 use Rattle.chess.specs.Positions.{State}
 use Rattle.chess.specs.San.{IsSan}
 use Rattle.chess.specs.declared.man.Side.{Side}
@@ -8,6 +8,9 @@ use Rattle.pgn_text.specs.Games.{Item}
 use Rattle.pgn_text.specs.GameTexts.{GameText, tag_in}
 use Rattle.pgn_game.specs.AllLines.{Line, LineEnd, ThenMove, ThenGlyph, ThenComment, ThenVariation, spelled, IsTurn, after_turn}
 use Rattle.pgn_game.specs.Comments.{comment_tokens}
+use Rattle.pgn_game.specs.Replays.{Replay, IsReplay}
+use Rattle.pgn_game.specs.declared.replayer.Lines.{Lines}
+use Rattle.pgn_game.specs.declared.replayer.Lines.TheVariants.{All}
 use Rattle.pgn_game.specs.Starts.{fen_tag, IsStart}
 use Rattle.pgn_game.specs.TagLines.{AreTagLines}
 use Rattle.pgn_game.specs.TextLines.{IsLaid}
@@ -71,3 +74,7 @@ abbrev pub MovetextHasOneList : Type 0
 MovetextHasOneList =
     (style : Style) (start : State) (items : List Item) (result : List ℕ) (tokens others : List (List ℕ))
     → AreMovetextTokens style start items result tokens → AreMovetextTokens style start items result others → tokens ≡ others
+
+-- a replay of the game that an export in the style can be made of: of all lines, where variations are written
+abbrev pub IsReplayFor : Style → Option (List ℕ) → List Item → Replay → Type 0
+IsReplayFor style fen items replay = (lines : Lines) × (style.variations ≡ true → lines ≡ All) × IsReplay lines fen items replay

@@ -2,6 +2,7 @@
 #![tactic(auto)]
 
 mod all_lines;
+mod exporter;
 mod fault;
 pub mod laws;
 mod main_line;
@@ -12,6 +13,7 @@ mod starting;
 mod style;
 mod turn;
 
+pub use exporter::export;
 pub use fault::GameFault;
 pub use replayed::{GamePosition, Replayed};
 pub use replayer::{Lines, replay};
