@@ -6,8 +6,8 @@ use Rattle.chess.specs.SquareFacts.{index_of-square_at}
 use Rattle.chess.specs.SetFacts.{square_at-index_of, on_board-square_at, same_squares, other_squares, is_in-empty}
 use Rattle.chess.specs.Sets.{Places, is_in, no_places}
 use Rattle.chess.proofs.PlaceFacts.{same_square-then}
-use Rattle.chess.specs.declared.direction.Direction.{Direction}
-use Rattle.chess.specs.declared.direction.Direction.TheVariants.{North, South, East, West, NorthEast, NorthWest, SouthEast, SouthWest}
+use Rattle.chess.specs.declared.board.direction.Direction.{Direction}
+use Rattle.chess.specs.declared.board.direction.Direction.TheVariants.{North, South, East, West, NorthEast, NorthWest, SouthEast, SouthWest}
 
 -- a square is so many steps ahead for one number of steps only
 pub one_count : (way : Direction) (j k : ℕ) (s t : Place) → IsAhead way j s t → IsAhead way k s t → j ≡ k

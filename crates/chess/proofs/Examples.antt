@@ -8,12 +8,12 @@ use Rattle.chess.specs.Moves.{HasMove, IsStalemate}
 use Rattle.chess.specs.San.{Spells, IsMark}
 use Rattle.chess.specs.San.IsMark.{mate, check, quiet}
 use Rattle.chess.specs.Fen.{fields_of, parted_at, is_shortest, number_from}
-use Rattle.chess.specs.declared.man.Man.{Man}
-use Rattle.chess.specs.declared.man.Side.TheVariants.{White, Black}
-use Rattle.chess.specs.declared.man.Kind.TheVariants.{King, Queen, Rook, Knight, Pawn}
-use Rattle.chess.specs.declared.man.Wing.TheVariants.{KingSide, QueenSide}
-use Rattle.chess.specs.declared.direction.Direction.{Direction}
-use Rattle.chess.specs.declared.direction.Direction.TheVariants.{North, South, East, West, NorthEast, NorthWest, SouthEast, SouthWest}
+use Rattle.chess.specs.declared.board.man.Man.{Man}
+use Rattle.chess.specs.declared.board.man.Side.TheVariants.{White, Black}
+use Rattle.chess.specs.declared.board.man.Kind.TheVariants.{King, Queen, Rook, Knight, Pawn}
+use Rattle.chess.specs.declared.board.man.Wing.TheVariants.{KingSide, QueenSide}
+use Rattle.chess.specs.declared.board.direction.Direction.{Direction}
+use Rattle.chess.specs.declared.board.direction.Direction.TheVariants.{North, South, East, West, NorthEast, NorthWest, SouthEast, SouthWest}
 
 -- no way leads from h4 to a5, so no rook or bishop reaches it
 h4_a5 : (way : Direction) (k : ℕ) → IsAhead way k (record { file = 8; rank = 4 }) (record { file = 1; rank = 5 }) → ⊥

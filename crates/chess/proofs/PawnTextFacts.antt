@@ -9,9 +9,9 @@ use Rattle.chess.specs.Attacks.{IsForward}
 use Rattle.chess.specs.Positions.{State, pawn_of}
 use Rattle.chess.specs.Moves.{IsPawnMove, IsSingleStep, IsDoubleStep, is_pawn, is_square, is_en_passant}
 use Rattle.chess.specs.San.{is_capture}
-use Rattle.chess.specs.declared.man.Man.{Man}
-use Rattle.chess.specs.declared.man.Side.{Side}
-use Rattle.chess.specs.declared.man.Side.TheVariants.{White, Black}
+use Rattle.chess.specs.declared.board.man.Man.{Man}
+use Rattle.chess.specs.declared.board.man.Side.{Side}
+use Rattle.chess.specs.declared.board.man.Side.TheVariants.{White, Black}
 use Rattle.chess.specs.declared.moves.Move.{Move}
 use Rattle.chess.proofs.PlaceFacts.{place_of, same_square-same, some_not_none, true_not_false}
 use Rattle.chess.proofs.GoesFacts.{IsTried}

@@ -10,11 +10,11 @@ use Rattle.chess.specs.Letters.{kind_letter, man_letter}
 use Rattle.chess.specs.Fen.{IsSquares, SpellsRank, row}
 use Rattle.chess.specs.Fen.IsSquares.{letter, step}
 use Rattle.chess.specs.FenWords.{IsByteOf, IsRow, IsPutUpTo}
-use Rattle.chess.specs.declared.man.Man.{Man}
-use Rattle.chess.specs.declared.man.Side.{Side}
-use Rattle.chess.specs.declared.man.Side.TheVariants.{White, Black}
-use Rattle.chess.specs.declared.man.Kind.{Kind}
-use Rattle.chess.specs.declared.man.Kind.TheVariants.{King, Queen, Rook, Bishop, Knight, Pawn}
+use Rattle.chess.specs.declared.board.man.Man.{Man}
+use Rattle.chess.specs.declared.board.man.Side.{Side}
+use Rattle.chess.specs.declared.board.man.Side.TheVariants.{White, Black}
+use Rattle.chess.specs.declared.board.man.Kind.{Kind}
+use Rattle.chess.specs.declared.board.man.Kind.TheVariants.{King, Queen, Rook, Bishop, Knight, Pawn}
 
 -- ---- each man has its own letter
 

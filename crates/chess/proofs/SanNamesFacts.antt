@@ -6,8 +6,8 @@ use Rattle.chess.specs.Moves.{after, IsLegal}
 use Rattle.chess.specs.Letters.{is_check_mark}
 use Rattle.chess.specs.San.{IsOnlyNamed, IsPieceText, IsBody, IsMark, IsSan, pawn_text}
 use Rattle.chess.specs.San.IsMark.{mate, check, quiet}
-use Rattle.chess.specs.declared.man.Kind.{Kind}
-use Rattle.chess.specs.declared.man.Kind.TheVariants.{King, Queen, Rook, Bishop, Knight, Pawn}
+use Rattle.chess.specs.declared.board.man.Kind.{Kind}
+use Rattle.chess.specs.declared.board.man.Kind.TheVariants.{King, Queen, Rook, Bishop, Knight, Pawn}
 use Rattle.chess.specs.declared.moves.Move.{Move}
 use Rattle.chess.proofs.SaidNamesFacts.{castling_named}
 use Rattle.chess.proofs.PieceNamesFacts.{piece_named}

@@ -6,10 +6,10 @@ use Rattle.chess.specs.Letters.{kind_letter, square_text}
 use Rattle.chess.specs.San.{IsDisambiguation, IsBody, IsMark, IsSan, capture_text}
 use Rattle.chess.specs.San.IsDisambiguation.{alone, by_file, by_rank, by_both}
 use Rattle.chess.specs.San.IsMark.{mate, check, quiet}
-use Rattle.chess.specs.declared.man.Man.{Man}
-use Rattle.chess.specs.declared.man.Kind.{Kind}
-use Rattle.chess.specs.declared.man.Kind.TheVariants.{King, Queen, Rook, Bishop, Knight, Pawn}
-use Rattle.chess.specs.declared.man.Wing.{Wing}
+use Rattle.chess.specs.declared.board.man.Man.{Man}
+use Rattle.chess.specs.declared.board.man.Kind.{Kind}
+use Rattle.chess.specs.declared.board.man.Kind.TheVariants.{King, Queen, Rook, Bishop, Knight, Pawn}
+use Rattle.chess.specs.declared.board.man.Wing.{Wing}
 use Rattle.chess.specs.declared.moves.Move.{Move}
 
 one_origin : (P : State) (m : Move) (x y : List ℕ) → IsDisambiguation P m x → IsDisambiguation P m y → x ≡ y

@@ -11,9 +11,9 @@ use Rattle.chess.specs.San.{IsRival, HasRival, IsDisambiguation, IsPieceText, Is
 use Rattle.chess.specs.San.IsDisambiguation.{alone, by_file, by_rank, by_both}
 use Rattle.chess.specs.San.IsMark.{mate, check, quiet}
 use Rattle.chess.specs.Laws.{EachMoveHasAText}
-use Rattle.chess.specs.declared.man.Kind.{Kind}
-use Rattle.chess.specs.declared.man.Kind.TheVariants.{King, Queen, Rook, Bishop, Knight, Pawn}
-use Rattle.chess.specs.declared.man.Wing.{Wing}
+use Rattle.chess.specs.declared.board.man.Kind.{Kind}
+use Rattle.chess.specs.declared.board.man.Kind.TheVariants.{King, Queen, Rook, Bishop, Knight, Pawn}
+use Rattle.chess.specs.declared.board.man.Wing.{Wing}
 use Rattle.chess.specs.declared.moves.Move.{Move}
 use Rattle.chess.proofs.OnBoard.{men_stay_on_board}
 use Rattle.chess.proofs.PlaceFacts.{cases_place}

@@ -9,7 +9,7 @@ use Rattle.chess.specs.San.{IsRival, HasRival, IsDisambiguation}
 use Rattle.chess.specs.San.IsDisambiguation.{alone, by_file, by_rank, by_both}
 use Rattle.chess.specs.Sets.{Places, is_in, no_places, HoldsExactly, IsSquaresOf, IsTakenFirst}
 use Rattle.chess.specs.SanTextWords.{Appends, HasSquare, AreRivalsSifted}
-use Rattle.chess.specs.declared.man.Man.{Man}
+use Rattle.chess.specs.declared.board.man.Man.{Man}
 use Rattle.chess.specs.declared.moves.Move.{Move}
 use Rattle.chess.proofs.LoopFacts.{sifted_start, sifted_more, left_start, left_more}
 

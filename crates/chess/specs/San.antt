@@ -6,11 +6,11 @@ use Rattle.chess.specs.Placements.{man_at}
 use Rattle.chess.specs.Positions.{State, IsCheck}
 use Rattle.chess.specs.Moves.{IsPromotionKind, taken, after, IsLegal, CanGo, IsMate}
 use Rattle.chess.specs.Letters.{kind_letter, file_letter, rank_digit, square_text, is_check_mark, is_sign}
-use Rattle.chess.specs.declared.man.Man.{Man}
-use Rattle.chess.specs.declared.man.Kind.{Kind}
-use Rattle.chess.specs.declared.man.Kind.TheVariants.{King, Queen, Rook, Bishop, Knight, Pawn}
-use Rattle.chess.specs.declared.man.Wing.{Wing}
-use Rattle.chess.specs.declared.man.Wing.TheVariants.{KingSide, QueenSide}
+use Rattle.chess.specs.declared.board.man.Man.{Man}
+use Rattle.chess.specs.declared.board.man.Kind.{Kind}
+use Rattle.chess.specs.declared.board.man.Kind.TheVariants.{King, Queen, Rook, Bishop, Knight, Pawn}
+use Rattle.chess.specs.declared.board.man.Wing.{Wing}
+use Rattle.chess.specs.declared.board.man.Wing.TheVariants.{KingSide, QueenSide}
 use Rattle.chess.specs.declared.moves.Move.{Move}
 
 -- what a move text that is not castling says

@@ -8,8 +8,8 @@ use Rattle.pgn_text.specs.Left.{IsPiece}
 use Rattle.pgn_text.specs.Marks.{marked}
 use Rattle.pgn_text.specs.Parts.{Part}
 use Rattle.pgn_text.specs.Pieces as spec
-use Rattle.pgn_text.specs.declared.cut.Piece.{Piece}
-use Rattle.pgn_text.specs.declared.cut.Piece.TheVariants as given
+use Rattle.pgn_text.specs.declared.pieces.Piece.{Piece}
+use Rattle.pgn_text.specs.declared.pieces.Piece.TheVariants as given
 use Rattle.pgn_game.specs.Faults.{Fault, IsFault}
 use Rattle.pgn_game.specs.Replays.{Replay, IsReplay}
 use Rattle.pgn_game.specs.declared.replayer.Lines.{Lines}

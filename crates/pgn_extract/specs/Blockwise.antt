@@ -1,15 +1,16 @@
 -- What the parts of a run do with the bytes dropped, with one block and with the blocks in a row: the words between the code and
 -- those of `Outcomes`.
-use Rattle.std.specs.Prelude.{◌≡◌, ◌⊎◌, ℕ, ◌+◌, ◌^◌, ◌<◌, ◌≤◌, List, [], ◌∷◌, ◌++◌, length, count_by, Option, IfSome, if◌then◌else◌}
+use Rattle.std.specs.Prelude.{◌≡◌, ◌⊎◌, ℕ, ◌+◌, ◌<◌, ◌≤◌, List, [], ◌∷◌, ◌++◌, length, count_by, Option, IfSome, if◌then◌else◌}
 use Rattle.pgn_text.specs.GameTexts.{GameText, ShowsGame, tag_in}
 use Rattle.pgn_game.specs.Exports.{IsExport}
 use Rattle.pgn_game.specs.Replays.{Replay}
 use Rattle.pgn_extract.specs.Exports.{HasEntry}
 use Rattle.pgn_text.specs.Left.{IsPiece}
+use Rattle.pgn_text.specs.Limits.{largest_offset}
 use Rattle.pgn_text.specs.Marks.{TooLongBlock, MarkedPiece, marked, AreOfBlock, AreMarkedPieces}
 use Rattle.pgn_text.specs.Parts.{Part}
 use Rattle.pgn_text.specs.Pieces as spec
-use Rattle.pgn_text.specs.declared.cut.Piece.{Piece}
+use Rattle.pgn_text.specs.declared.pieces.Piece.{Piece}
 use Rattle.pgn_text.specs.Tallies.{Reads}
 use Rattle.pgn_text.specs.declared.blocks.Body.{Body}
 use Rattle.pgn_text.specs.declared.blocks.Body.TheVariants.{Bytes, TooLong}
@@ -131,7 +132,7 @@ pub record EndsBlocks (aim : Aim) (limit max_depth number offset : ℕ) (left le
   pub read : List ℕ
   pub reads : Reads left left' moved moved' read
   pub all : IfSome left (λ whole. whole ≡ read)
-  pub size : offset + length read ≤ 2 ^ 62
+  pub size : offset + length read ≤ largest_offset
   pub pieces : List MarkedPiece
   pub each : AreMarkedPieces limit max_depth offset read pieces
   pub tolds : List Told
@@ -144,7 +145,7 @@ pub record TellsUpToEnd (aim : Aim) (limit max_depth number offset : ℕ) (read 
   pub kept : List ℕ
   pub byte : ℕ
   pub parted : read ≡ kept ++ byte ∷ []
-  pub full : offset + length kept ≡ 2 ^ 62
+  pub full : offset + length kept ≡ largest_offset
   pub told : TellsComplete aim limit max_depth number offset kept out out' err err'
 
 -- the same of all pieces of the bytes
@@ -168,7 +169,7 @@ StandsOver aim limit max_depth number offset left read out out' err err' OutOfMe
 pub record BreaksOff (aim : Aim) (limit max_depth number offset : ℕ) (left left' : Option (List ℕ)) (moved moved' : ℕ) (out out' err err' : Option (List ℕ)) (error : RunError) : Type 0 where
   pub read : List ℕ
   pub reads : Reads left left' moved moved' read
-  pub size : offset + length read ≤ 2 ^ 62 + 1
+  pub size : offset + length read ≤ largest_offset + 1
   pub stands : StandsOver aim limit max_depth number offset left read out out' err err' error
 
 -- the error of a run for the error of its reader

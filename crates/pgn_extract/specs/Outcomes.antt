@@ -1,7 +1,8 @@
 -- What stands on the output and on standard error once a run has ended.
-use Rattle.std.specs.Prelude.{◌≡◌, ℕ, ◌^◌, ◌<◌, ◌≤◌, List, length, take, drop, count_by, Option}
+use Rattle.std.specs.Prelude.{◌≡◌, ℕ, ◌<◌, ◌≤◌, List, length, take, drop, count_by, Option}
 use Rattle.std.specs.Io.KnownBytes.{Appends}
 use Rattle.pgn_text.specs.Complete.{AreCompletePieces}
+use Rattle.pgn_text.specs.Limits.{largest_offset}
 use Rattle.pgn_text.specs.Marks.{MarkedPiece, AreMarkedPieces}
 use Rattle.pgn_extract.specs.Index.{index}
 use Rattle.pgn_extract.specs.Listing.{Entry, AreEntries, listing}
@@ -25,7 +26,7 @@ pub record Tells (aim : Aim) (out out' err err' : Option (List ℕ)) (number : �
 -- a run over all of the bytes of the input after the first `offset` told their pieces, and counted them; the input is no longer than the
 -- largest offset
 pub record Ends (aim : Aim) (limit max_depth number offset : ℕ) (whole : List ℕ) (out out' err err' : Option (List ℕ)) (summary : Summary) : Type 0 where
-  pub size : length whole ≤ 2 ^ 62
+  pub size : length whole ≤ largest_offset
   pub pieces : List MarkedPiece
   pub each : AreMarkedPieces limit max_depth offset (drop offset whole) pieces
   pub tolds : List Told
@@ -76,7 +77,7 @@ abbrev pub Stands : Aim → ℕ → ℕ → ℕ → ℕ → List ℕ → ℕ →
 Stands aim limit max_depth number offset whole moved out out' err err' Read =
     TellsComplete aim limit max_depth number offset (drop offset (take moved whole)) out out' err err'
 Stands aim limit max_depth number offset whole moved out out' err err' InputTooLong =
-    (2 ^ 62 < length whole) × TellsComplete aim limit max_depth number offset (drop offset (take (2 ^ 62) whole)) out out' err err'
+    (largest_offset < length whole) × TellsComplete aim limit max_depth number offset (drop offset (take largest_offset whole)) out out' err err'
 Stands aim limit max_depth number offset whole moved out out' err err' Write =
     BeginsAll aim limit max_depth number offset (drop offset whole) out out' err err'
 Stands aim limit max_depth number offset whole moved out out' err err' OutOfMemory =

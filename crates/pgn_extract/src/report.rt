@@ -1,6 +1,7 @@
 //! What is reported of the pieces of one block.
 ghost use Rattle.std.specs.Prelude.{◌≡◌, ℕ, List, Some, ◌+◌, ◌^◌, ◌<◌, ◌≤◌, [], ◌∷◌, length, OnOk, IfOk};
 ghost use Rattle.pgn_text.specs.Left.{piece_place};
+ghost use Rattle.pgn_text.specs.Limits.{block_limit, depth_limit, largest_offset};
 ghost use Rattle.pgn_text.specs.Windows.{Shows};
 ghost use Rattle.pgn_extract.specs.Aims.{Aim, aim_of};
 ghost use Rattle.pgn_extract.specs.Blockwise.{IsShown, Reports, ReportsBlock, AddsTold, AddsGame, AddsListed, AddsExported, AddsPiece, too_long_piece};
@@ -174,10 +175,10 @@ fn block_report<'a>(
     offset: u64,
     block: &'a [u8],
 ) -> Result<Report, AllocError>
-    requires size { length block.now ≤ 1048576 }
+    requires size { length block.now ≤ block_limit }
     requires number { number ≤ 2 ^ 63 }
-    requires offset { offset ≤ 2 ^ 62 }
-    ensures { IfOk result (λ report. ReportsBlock (aim_of settings.now) report 1048576 64 number offset block.now) }
+    requires offset { offset ≤ largest_offset }
+    ensures { IfOk result (λ report. ReportsBlock (aim_of settings.now) report block_limit depth_limit number offset block.now) }
 {
     let mut report = Report::new(alloc);
     for piece in games(alloc, block, offset == 0) {
@@ -196,10 +197,10 @@ pub fn report_of<'a>(
     block: Block<'a>,
 ) -> Result<Report, AllocError>
     requires number { number ≤ 2 ^ 63 }
-    requires offset { block.offset ≤ 2 ^ 62 }
-    requires size { IsShown 1048576 block.body }
-    ensures { IfOk result (λ report. (bytes : List ℕ) → Shows 1048576 block.entry.body bytes
-        → ReportsBlock (aim_of settings.now) report 1048576 64 number block.entry.offset bytes) }
+    requires offset { block.offset ≤ largest_offset }
+    requires size { IsShown block_limit block.body }
+    ensures { IfOk result (λ report. (bytes : List ℕ) → Shows block_limit block.entry.body bytes
+        → ReportsBlock (aim_of settings.now) report block_limit depth_limit number block.entry.offset bytes) }
 {
     match block.body {
         Body::Bytes(bytes) => block_report(alloc, settings, number, block.offset, bytes),

@@ -12,3 +12,5 @@ pub mod LaidFacts
 pub mod LaidOnce
 pub mod OneMovetext
 pub mod TurnCounts
+pub mod PenFacts
+pub mod CommentFacts

@@ -2,15 +2,18 @@
 #![tactic(auto)]
 
 mod all_lines;
+mod comment;
 mod exporter;
 mod fault;
 pub mod laws;
 mod main_line;
 mod naming;
+mod pen;
 mod replayed;
 mod replayer;
 mod starting;
 mod style;
+mod tokens;
 mod turn;
 
 pub use exporter::export;

@@ -1,5 +1,5 @@
 -- The parts of a text, and where each may stand (PGN 5 comments, 6 escape lines, 7 tokens, 8.1 tags, 8.2 movetext).
-use Rattle.std.specs.Prelude.{ℕ, Bool, not, ◌&&◌, ◌||◌, ◌==◌, ◌+◌, ◌*◌, ◌-◌, nat_le, List, [], ◌∷◌, ◌++◌, flat_map, length, bytes_eq, IsTrue}
+use Rattle.std.specs.Prelude.{ℕ, Bool, not, ◌&&◌, ◌||◌, ◌+◌, ◌*◌, ◌-◌, nat_le, List, [], ◌∷◌, ◌++◌, flat_map, length, bytes_eq, IsTrue}
 use Rattle.std.specs.List.{list_all}
 use Rattle.pgn_text.specs.Bytes.{is_white, is_digit, is_name_byte, is_word_byte, is_mark, is_not_line_feed, is_not_brace, ends_in_line_feed, is_empty, stops}
 use Rattle.pgn_text.specs.Strings.{IsContents}

@@ -1,6 +1,7 @@
 -- What the parts of a call of `Blocks::next` find: the words between the code and the words of `Windows`.
-use Rattle.std.specs.Prelude.{◌≡◌, ◌≢◌, ℕ, ◌+◌, ◌-◌, ◌^◌, ◌≤◌, Bool, true, false, List, [], ◌++◌, length, drop, Option, None, Result, Ok, Err, MatchOption}
+use Rattle.std.specs.Prelude.{◌≡◌, ◌≢◌, ℕ, ◌+◌, ◌-◌, ◌≤◌, Bool, true, false, List, [], ◌++◌, length, drop, Option, None, Result, Ok, Err, MatchOption}
 use Rattle.std.specs.Io.KnownBytes.{IsAtEnd}
+use Rattle.pgn_text.specs.Limits.{largest_offset}
 use Rattle.pgn_text.specs.Cuts.{is_cut, NoCutBefore}
 use Rattle.pgn_text.specs.Tallies.{Reads}
 use Rattle.pgn_text.specs.Windows.{Window, IsCutOff, FailsAfter}
@@ -41,7 +42,7 @@ pub record FindsEnd (held held' : List ℕ) (at place : ℕ) (left left' : Optio
   pub joined : held' ≡ held ++ read
   pub found : FindsCut held' (at + 1) end
   pub last : end ≡ None → IsAtEnd left'
-  pub within : place + (length held' - at) ≤ 2 ^ 62
+  pub within : place + (length held' - at) ≤ largest_offset
 
 -- a call failed after it had read some bytes
 pub record FailsFrom (place : ℕ) (ahead : List ℕ) (left left' : Option (List ℕ)) (moved moved' : ℕ) (error : ReadError) : Type 0 where

@@ -5,23 +5,19 @@ ghost use Rattle.std.specs.Io.BufRead.{Rests};
 ghost use Rattle.std.specs.Io.KnownBytes.{IsAtEnd};
 ghost use Rattle.pgn_text.specs.Cuts.{is_cut};
 ghost use Rattle.pgn_text.specs.Held.{IsHeld};
+ghost use Rattle.pgn_text.specs.Limits.{block_limit, largest_offset};
 ghost use Rattle.pgn_text.specs.Searches.{FindsCut, FindsMore, AppendsRead, FindsEnd, FailsFrom, StepGives};
 ghost use Rattle.pgn_text.specs.Tallies.{Reads};
 ghost use Rattle.pgn_text.specs.Windows.{IsBlock, Gives, fresh_window};
 ghost use Rattle.pgn_text.specs.contracts.blocks.Blocks.{the_row};
 
+use crate::limits::{BLOCK_LIMIT, LARGEST_OFFSET};
 use crate::tally::Tally;
 use memchr::memchr;
 use std::alloc::Global;
 use std::io::Read;
 use std::marker::Model;
 use thiserror::Error;
-
-/// The most bytes that a block may have and still be given as bytes.
-const LIMIT: usize = 1_048_576;
-
-/// The largest offset that a text may reach.
-const END: u64 = 4_611_686_018_427_387_904;
 
 /// The most bytes that one read asks for.
 const CHUNK: usize = 8192;
@@ -112,7 +108,7 @@ impl Model for Blocks {
 impl Blocks {
     /// The blocks of a text whose first byte has this offset.
     pub fn new(alloc: Global, offset: u64) -> Self
-        requires { offset ≤ 2 ^ 62 }
+        requires { offset ≤ largest_offset }
         ensures { result ≡ fresh_window offset }
     {
         Blocks {
@@ -144,7 +140,7 @@ impl Blocks {
         ensures* after_borrow { sem 𝓛 (Rests the_row self.entry (λ new. (read : List ℕ)
             × Reads (R.remaining input.old.inner) (R.remaining input.new.inner)
             input.old.moved input.new.moved read
-            × Gives 1048576 self.old new (R.remaining input.new.inner) read result)) }
+            × Gives block_limit self.old new (R.remaining input.new.inner) read result)) }
     {
         match self.phase {
             Phase::Failed => return Err(ReadError::Failed),
@@ -200,10 +196,10 @@ impl Blocks {
     /// The block that ends with the bytes done with.
     fn current(&self, begin: usize) -> Block<'_>
         requires { begin ≤ length self.now.done }
-        ensures { IsBlock 1048576 self.now (drop begin self.now.done) result }
+        ensures { IsBlock block_limit self.now (drop begin self.now.done) result }
     {
         let size = self.at - begin;
-        let body = if size > LIMIT {
+        let body = if size > BLOCK_LIMIT {
             Body::TooLong
         } else {
             Body::Bytes(&self.buf[begin..self.at])
@@ -316,7 +312,7 @@ fn find_end<R: Read>(
         }
         let held = buf.len();
         from = (held.saturating_sub(EVENT_LINE.len() - 1)).max(at + 1);
-        let room = END - place - (held - at) as u64;
+        let room = LARGEST_OFFSET - place - (held - at) as u64;
         if room == 0 {
             return match is_more(input) {
                 Ok(true) => Err(ReadError::InputTooLong),
