@@ -14,3 +14,5 @@ pub mod OneMovetext
 pub mod TurnCounts
 pub mod PenFacts
 pub mod CommentFacts
+pub mod TagLineFacts
+pub mod OneExport

@@ -18,27 +18,35 @@ missing_text result name =
 abbrev pub escaped : ℕ → List ℕ
 escaped b = if (b == 34 || b == 92) then 92 ∷ b ∷ [] else (if b == 9 then 32 ∷ [] else b ∷ [])
 
--- what is written in the string of a tag with these contents, or of one that is missing: the value of the contents, empty or not
+-- the value of a string with these contents, as it stands in a string that is written
+abbrev pub IsValueText : List ℕ → List ℕ → Type 0
+IsValueText contents text = (value : List ℕ) × IsValueOf contents value × (text ≡ flat_map escaped value)
+
+-- what is written in the string of a tag: the value of its contents, empty or not, or what stands for a tag that is missing
 abbrev pub IsTagText : Option (List ℕ) → List ℕ → List ℕ → Type 0
 IsTagText None missing text = text ≡ missing
-IsTagText (Some contents) missing text = (value : List ℕ) × IsValueOf contents value × (text ≡ flat_map escaped value)
+IsTagText (Some contents) missing text = IsValueText contents text
 
 -- a tag with this name and string, and a line feed: `[Name "text"]` (PGN 8.1)
 abbrev pub tag_line : List ℕ → List ℕ → List ℕ
 tag_line name text = 91 ∷ name ++ (32 ∷ 34 ∷ text) ++ (34 ∷ 93 ∷ 10 ∷ [])
 
+-- the line of the tag with this name and these contents, or of one that is missing, in a game with this result
+abbrev pub IsLineOf : List ℕ → List ℕ → Option (List ℕ) → List ℕ → Type 0
+IsLineOf result name contents line =
+    (text : List ℕ) × IsTagText contents (missing_text result name) text × (line ≡ tag_line name text)
+
 -- the lines of the tags with these names, one below another
 abbrev pub AreLinesOf : List (List ℕ × List ℕ) → List ℕ → List (List ℕ) → List ℕ → Type 0
 AreLinesOf tags result [] lines = lines ≡ []
 AreLinesOf tags result (name ∷ names) lines =
-    (text : List ℕ) × (more : List ℕ) × IsTagText (tag_in name tags) (missing_text result name) text
-    × (lines ≡ tag_line name text ++ more) × AreLinesOf tags result names more
+    (line : List ℕ) × (more : List ℕ) × IsLineOf result name (tag_in name tags) line × (lines ≡ line ++ more) × AreLinesOf tags result names more
 
 -- the tag is none of the roster and is written beside it: with the roster alone only the tags of the start are, where the game has a FEN
 -- tag (PGN 9.7)
 abbrev pub is_beside : Style → Bool → List ℕ → Bool
 is_beside style has_fen name =
-    not (list_any (bytes_eq name) roster)
+    not (list_any (λ other. bytes_eq other name) roster)
     && (not style.roster_only || (has_fen && (bytes_eq name (codes "SetUp") || bytes_eq name fen_tag)))
 
 -- the names of the tags that are written, in their order: a game's tags ascend in the bytes of their names

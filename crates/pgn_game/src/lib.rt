@@ -14,6 +14,7 @@ mod replayer;
 mod starting;
 mod style;
 mod tokens;
+mod tag_lines;
 mod turn;
 
 pub use exporter::export;
