@@ -8,6 +8,7 @@ use Rattle.pgn_text.specs.GameTexts.{GameText, IsGameText, IsPaired, ShowsGame}
 use Rattle.pgn_text.specs.Parts.{Part, spelled}
 use Rattle.pgn_text.specs.Pieces.{Piece, Game, Unreadable, ArePieces}
 use Rattle.pgn_text.specs.Strings.{IsContents}
+use Rattle.pgn_text.proofs.ShownGame.{some_game_text}
 use Rattle.pgn_game.proofs.AnAnswer.{game_answer}
 use Rattle.pgn_game.specs.Faults.{Fault}
 use Rattle.pgn_game.specs.declared.replayer.Lines.{Lines}
@@ -24,7 +25,7 @@ use Rattle.pgn_extract.specs.Laws.{TextHasAReport}
 use Rattle.pgn_extract.proofs.Chosen.{some_chosen}
 use Rattle.pgn_extract.proofs.Decided.{IsDecided, all_decided}
 use Rattle.pgn_extract.proofs.ExactEntries.{of_positions}
-use Rattle.pgn_extract.proofs.GameExport.{some_export_of_parts, some_game_text}
+use Rattle.pgn_extract.proofs.GameExport.{some_export_of_parts}
 use Rattle.pgn_extract.specs.declared.settings.Mode.{Mode}
 use Rattle.pgn_extract.specs.declared.settings.Mode.TheVariants as modes
 
