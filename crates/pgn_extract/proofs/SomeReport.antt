@@ -17,7 +17,7 @@ use Rattle.pgn_game.specs.Starts.{fen_tag}
 use Rattle.pgn_extract.specs.Index.{fault_text, mark_line}
 use Rattle.pgn_extract.specs.Listing.{listing, entries_from, tags_in, cause_text, IsReplayOf, IsFaultOf}
 use Rattle.pgn_extract.specs.Exports.{written_lines, HasEntry, IsWritten, with_entry, without_entry}
-use Rattle.pgn_extract.specs.Telling.{Told, SoundGame, FaultyGame, IsToldIn, IsPieceTold, AreTold}
+use Rattle.pgn_extract.specs.Verdicts.{Verdict, SoundGame, FaultyGame, IsVerdictIn, IsPieceVerdict, AreVerdicts}
 use Rattle.pgn_game.specs.Replays.{Replay}
 use Rattle.pgn_criteria.specs.Meeting.{Tags}
 use Rattle.pgn_extract.specs.Aims.{Aim, IsMet, IsWanted, IsEntry}
@@ -159,7 +159,7 @@ module _ (aim : Aim) (decided : IsDecided aim) (number offset : ℕ) (parts : Li
         | inr none ↦ ([], without_entry (λ has. none has.0 has.1 has.2) refl)
       ]
 
-  game_reported : (mode : Mode) → (told : Told) × IsToldIn mode aim number offset parts told
+  game_reported : (mode : Mode) → (verdict : Verdict) × IsVerdictIn mode aim number offset parts verdict
   game_reported modes.Index = (SoundGame (mark_line number offset), refl)
   game_reported modes.List = elim (answers parts made Main) [
     | inl sound ↦
@@ -178,13 +178,13 @@ module _ (aim : Aim) (decided : IsDecided aim) (number offset : ℕ) (parts : Li
   ]
 
 piece_reported : (kind : PieceKind) (aim : Aim) → IsDecided aim → (number offset : ℕ) → IsMade kind
-    → (told : Told) × IsPieceTold kind aim number offset told
+    → (verdict : Verdict) × IsPieceVerdict kind aim number offset verdict
 piece_reported (ReadableGame parts) aim decided number offset made = game_reported aim decided number offset parts made aim.mode
 piece_reported UnreadableRest aim decided number offset made = (FaultyGame (fault_text number offset (codes "unreadable")), refl)
 piece_reported TooLongBlock aim decided number offset made = (FaultyGame (fault_text number offset (codes "too long")), refl)
 
 all_reported : (aim : Aim) → IsDecided aim → (number : ℕ) (pieces : List MarkedPiece) → AreMade pieces
-    → (reported : List Told) × AreTold aim number pieces reported
+    → (reported : List Verdict) × AreVerdicts aim number pieces reported
 all_reported aim decided number [] made = ([], refl)
 all_reported aim decided number (piece ∷ more) made =
     let own = piece_reported piece.kind aim decided number piece.offset made.0 in

@@ -1,4 +1,4 @@
-//! What the program tells on standard error.
+//! What the program writes to standard error.
 
 pub const BOTH_MODES: &str = "pgn-extract: --list and --index exclude each other\n";
 

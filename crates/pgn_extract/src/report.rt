@@ -4,10 +4,10 @@ ghost use Rattle.pgn_text.specs.Left.{piece_place};
 ghost use Rattle.pgn_text.specs.Limits.{block_limit, depth_limit, largest_offset};
 ghost use Rattle.pgn_text.specs.Windows.{Shows};
 ghost use Rattle.pgn_extract.specs.Aims.{Aim, aim_of};
-ghost use Rattle.pgn_extract.specs.Blockwise.{IsShown, Reports, ReportsBlock, AddsTold, AddsGame, AddsListed, AddsExported, AddsPiece, too_long_piece};
+ghost use Rattle.pgn_extract.specs.Blockwise.{IsShown, Reports, ReportsBlock, AddsVerdict, AddsGame, AddsListed, AddsExported, AddsPiece, too_long_piece};
 ghost use Rattle.pgn_extract.specs.Index.{fault_text};
 ghost use Rattle.pgn_extract.specs.Listing.{cause_text};
-ghost use Rattle.pgn_extract.specs.Telling.{FaultyGame};
+ghost use Rattle.pgn_extract.specs.Verdicts.{FaultyGame};
 ghost use Rattle.pgn_game.specs.Faults.{Fault};
 ghost use Rattle.pgn_game.specs.Replays.{fault_of};
 
@@ -57,7 +57,7 @@ fn add_fault(
 ) -> Result<(), AllocError>
     requires faulty { report.old.faulty + 1 < 2 ^ 64 }
     ensures { OnOk result ((own : Fault) × (fault_of fault.entry ≡ Some own)
-        × AddsTold report.old report.new (FaultyGame (fault_text number offset (cause_text own))) 0) }
+        × AddsVerdict report.old report.new (FaultyGame (fault_text number offset (cause_text own))) 0) }
 {
     push_game_fault(&mut report.faults, number, offset, fault)?;
     report.faulty += 1;

@@ -1,7 +1,7 @@
 use Rattle.std.proofs.lemmas.Result.{IfOk-weaker, IfErr-weaker}
 use Rattle.pgn_text.specs.Limits.{block_limit, depth_limit}
 use Rattle.pgn_extract.proofs.WholeRun.{ends_whole, skip_stands, stands_whole}
-use Rattle.pgn_extract.proofs.EntriesTold.{indexes_of, lists_of, exports_of}
+use Rattle.pgn_extract.proofs.ModeOutputs.{indexes_of, lists_of, exports_of}
 use Rattle.pgn_extract.proofs.Resumed.{on_ok_some, resumes_of}
 use Rattle.pgn_extract.proofs.extract.run.Goals as goal
 

@@ -7,7 +7,7 @@ use Rattle.pgn_game.specs.Replays.{IsReplay}
 use Rattle.pgn_game.specs.Starts.{fen_tag}
 use Rattle.pgn_extract.specs.Aims.{aim_of}
 use Rattle.pgn_extract.specs.Exports.{written_lines}
-use Rattle.pgn_extract.proofs.GameTold.{exported_replay, exported_fault}
+use Rattle.pgn_extract.proofs.GameVerdict.{exported_replay, exported_fault}
 use Rattle.pgn_extract.proofs.report.add_exported.Goals as goal
 
 pub returns-in-Ok : goal.returns-in-Ok

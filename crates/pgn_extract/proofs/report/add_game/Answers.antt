@@ -1,7 +1,7 @@
 use Rattle.std.proofs.Common.{refl}
 use Rattle.std.proofs.lemmas.Result.{on_ok_weaker}
 use Rattle.pgn_extract.specs.Aims.{aim_of}
-use Rattle.pgn_extract.proofs.GameTold.{game_indexed, game_listed, game_exported}
+use Rattle.pgn_extract.proofs.GameVerdict.{game_indexed, game_listed, game_exported}
 use Rattle.pgn_extract.proofs.report.add_game.Goals as goal
 
 pub returns-in-Index : goal.returns-in-Index

@@ -6,7 +6,7 @@ use Rattle.pgn_game.specs.Faults.{IsFault}
 use Rattle.pgn_game.specs.declared.replayer.Lines.TheVariants.{Main}
 use Rattle.pgn_game.specs.Starts.{fen_tag}
 use Rattle.pgn_extract.specs.Aims.{aim_of}
-use Rattle.pgn_extract.proofs.GameTold.{listed_replay, listed_fault}
+use Rattle.pgn_extract.proofs.GameVerdict.{listed_replay, listed_fault}
 use Rattle.pgn_extract.proofs.report.add_listed.Goals as goal
 
 pub returns-in-Ok : goal.returns-in-Ok
