@@ -24,7 +24,7 @@ front_longer old new xs ys front =
 first_reported : (aim : Aim) (number : ℕ) (before behind : List MarkedPiece) (all : List Verdict)
     → AreVerdicts aim number (before ++ behind) all
     → (first : List Verdict) × (later : List Verdict) × (all ≡ first ++ later) × AreVerdicts aim number before first
-first_reported aim number [] behind all written = ([], all, refl, refl)
+first_reported aim number [] behind all verdicts = ([], all, refl, refl)
 first_reported aim number (piece ∷ before) behind all (verdict, rest, parted, is, others) =
     let found = first_reported aim (number + 1) before behind rest others in
     (verdict ∷ found.0, found.1, parted ∙ ap (λ t. verdict ∷ t) found.2, (verdict, found.0, refl, is, found.3))
