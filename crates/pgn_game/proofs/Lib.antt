@@ -17,3 +17,5 @@ pub mod CommentFacts
 pub mod MovetextFacts
 pub mod MovetextLines
 pub mod SomeMovetext
+pub mod PlainTokens
+pub mod PlainLines

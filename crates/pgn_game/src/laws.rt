@@ -2,7 +2,7 @@
 
 ghost use Rattle.pgn_game.specs.Exports.{MovetextHasOneList};
 ghost use Rattle.pgn_game.specs.TextLines.{TokensHaveAText, TokensHaveOneText};
-ghost use Rattle.pgn_game.specs.Laws.{EachMoveIsNamed, EachMoveHasATurn, GameHasOneReplay, GameHasOneFault, SoundGameHasNoFault, GameHasAnAnswer, MovetextHasTokens};
+ghost use Rattle.pgn_game.specs.Laws.{EachMoveIsNamed, EachMoveHasATurn, GameHasOneReplay, GameHasOneFault, SoundGameHasNoFault, GameHasAnAnswer, MovetextHasTokens, NoLineIsMisread};
 
 /// Whichever lines are replayed, each move of the main line is the only legal move that its word names in the position before it.
 pub fn one_legal_move()
@@ -41,4 +41,9 @@ pub fn one_movetext()
 /// In each style the movetext of a game that is replayed has a list of tokens; with variations, where all lines are replayed.
 pub fn a_movetext()
     ensures { MovetextHasTokens }
+{}
+
+/// No line of a movetext is read as an escape or as an event line, whatever its comments say.
+pub fn no_line_misread()
+    ensures { NoLineIsMisread }
 {}
