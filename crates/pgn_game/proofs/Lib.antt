@@ -20,3 +20,5 @@ pub mod MovetextFacts
 pub mod MovetextLines
 pub mod SomeMovetext
 pub mod SomeExport
+pub mod PlainTokens
+pub mod PlainLines
