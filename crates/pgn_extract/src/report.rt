@@ -19,7 +19,7 @@ use pgn_game::{GameFault, Lines, replay};
 use pgn_text::{Block, Body, Piece, RawGame, games};
 use std::alloc::{AllocError, Global};
 
-/// What is reported of pieces in a row, and their counts.
+/// What is reported of pieces in a row, and their counts. One is made for a run, and filled anew for each block.
 #[derive(Drop)]
 pub struct Report {
     /// What goes to the output.
@@ -34,7 +34,7 @@ pub struct Report {
 
 impl Report {
     /// The report on no pieces.
-    fn new(alloc: Global) -> Self
+    pub fn new(alloc: Global) -> Self
         ensures output { result.output.items ≡ [] }
         ensures faults { result.faults.items ≡ [] }
         ensures counts { (result.games ≡ 0) × (result.faulty ≡ 0) }
@@ -45,6 +45,18 @@ impl Report {
             games: 0,
             faulty: 0,
         }
+    }
+
+    /// Makes it the report on no pieces; the room that it has stays.
+    fn clear(&mut self)
+        ensures output { self.new.output.items ≡ [] }
+        ensures faults { self.new.faults.items ≡ [] }
+        ensures counts { (self.new.games ≡ 0) × (self.new.faulty ≡ 0) }
+    {
+        self.output.clear();
+        self.faults.clear();
+        self.games = 0;
+        self.faulty = 0;
     }
 }
 
@@ -128,15 +140,15 @@ fn add_game<'a>(
     }
 }
 
-/// The report on a block over the limit, which is the same whatever is to be reported.
-fn too_long_report(alloc: Global, number: u64, offset: u64) -> Result<Report, AllocError>
-    ensures { IfOk result (λ report. (aim : Aim) → Reports aim report number (too_long_piece offset ∷ [])) }
+/// Reports on a block over the limit, which is the same whatever is to be reported.
+fn report_too_long(report: &mut Report, number: u64, offset: u64) -> Result<(), AllocError>
+    ensures { OnOk result ((aim : Aim) → Reports aim report.new number (too_long_piece offset ∷ [])) }
 {
-    let mut report = Report::new(alloc);
+    report.clear();
     push_fault_line(&mut report.faults, number, offset, b"too long")?;
     report.games = 1;
     report.faulty = 1;
-    Ok(report)
+    Ok(())
 }
 
 /// Adds what is reported of one piece of the block that begins at the offset.
@@ -167,43 +179,45 @@ fn add_piece<'a>(
     }
 }
 
-/// The report on the pieces of a block, which are numbered from `number` on.
-fn block_report<'a>(
+/// Reports on the pieces of a block, which are numbered from `number` on.
+fn report_pieces<'a>(
     alloc: Global,
+    report: &mut Report,
     settings: &'a Settings,
     number: u64,
     offset: u64,
     block: &'a [u8],
-) -> Result<Report, AllocError>
+) -> Result<(), AllocError>
     requires size { length block.now ≤ block_limit }
     requires number { number ≤ 2 ^ 63 }
     requires offset { offset ≤ largest_offset }
-    ensures { IfOk result (λ report. ReportsBlock (aim_of settings.now) report block_limit depth_limit number offset block.now) }
+    ensures { OnOk result (ReportsBlock (aim_of settings.now) report.new block_limit depth_limit number offset block.now) }
 {
-    let mut report = Report::new(alloc);
+    report.clear();
     for piece in games(alloc, block, offset == 0) {
         let piece = piece?;
         let here = number + report.games;
-        add_piece(alloc, &mut report, settings, here, offset, &piece)?;
+        add_piece(alloc, report, settings, here, offset, &piece)?;
     }
-    Ok(report)
+    Ok(())
 }
 
-/// The report on the pieces of a block, which are numbered from `number` on.
-pub fn report_of<'a>(
+/// Reports on a block, whose pieces are numbered from `number` on: the report is of nothing else.
+pub fn report_block<'a>(
     alloc: Global,
+    report: &mut Report,
     settings: &'a Settings,
     number: u64,
     block: Block<'a>,
-) -> Result<Report, AllocError>
+) -> Result<(), AllocError>
     requires number { number ≤ 2 ^ 63 }
     requires offset { block.offset ≤ largest_offset }
     requires size { IsShown block_limit block.body }
-    ensures { IfOk result (λ report. (bytes : List ℕ) → Shows block_limit block.entry.body bytes
-        → ReportsBlock (aim_of settings.now) report block_limit depth_limit number block.entry.offset bytes) }
+    ensures { OnOk result ((bytes : List ℕ) → Shows block_limit block.entry.body bytes
+        → ReportsBlock (aim_of settings.now) report.new block_limit depth_limit number block.entry.offset bytes) }
 {
     match block.body {
-        Body::Bytes(bytes) => block_report(alloc, settings, number, block.offset, bytes),
-        Body::TooLong => too_long_report(alloc, number, block.offset),
+        Body::Bytes(bytes) => report_pieces(alloc, report, settings, number, block.offset, bytes),
+        Body::TooLong => report_too_long(report, number, block.offset),
     }
 }
