@@ -19,3 +19,4 @@ pub mod CommentFacts
 pub mod MovetextFacts
 pub mod MovetextLines
 pub mod SomeMovetext
+pub mod AnExport

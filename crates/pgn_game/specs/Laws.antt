@@ -6,13 +6,13 @@ use Rattle.chess.specs.Moves.{after}
 use Rattle.chess.specs.San.{IsOnlyNamed}
 use Rattle.chess.specs.declared.moves.Move.{Move}
 use Rattle.pgn_text.specs.Games.{Item, MoveText, GlyphNumber, CommentText, VariationOpen, VariationClose}
-use Rattle.pgn_text.specs.GameTexts.{GameText, IsPaired}
+use Rattle.pgn_text.specs.GameTexts.{GameText, IsGameText, IsPaired, tag_in}
 use Rattle.pgn_text.specs.Strings.{IsContents}
 use Rattle.pgn_game.specs.MainLines.{main_words}
 use Rattle.pgn_game.specs.Faults.{Fault, IsFault}
 use Rattle.pgn_game.specs.Replays.{Replay, IsReplay, IsSoundGame}
 use Rattle.pgn_game.specs.Exports.{AreMovetextTokens, IsReplayFor, IsExport}
-use Rattle.pgn_game.specs.Starts.{IsStart}
+use Rattle.pgn_game.specs.Starts.{fen_tag, IsStart}
 use Rattle.pgn_game.specs.declared.replayer.Lines.{Lines}
 use Rattle.pgn_game.specs.declared.replayer.Lines.TheVariants.{All}
 use Rattle.pgn_game.specs.declared.style.Style.{Style}
@@ -74,3 +74,9 @@ MovetextHasTokens =
 -- in a style a game has one export at most
 abbrev pub GameHasOneExport : Type 0
 GameHasOneExport = (style : Style) (game : GameText) (text other : List ℕ) → IsExport style game text → IsExport style game other → text ≡ other
+
+-- in each style a game that is replayed has an export; where the style leaves variations out, a replay of the main line is enough
+abbrev pub GameHasAnExport : Type 0
+GameHasAnExport =
+    (style : Style) (game : GameText) (replay : Replay) → IsGameText game → IsReplayFor style (tag_in fen_tag game.tags) game.elements replay
+    → (text : List ℕ) × IsExport style game text

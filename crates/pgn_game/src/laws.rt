@@ -2,7 +2,7 @@
 
 ghost use Rattle.pgn_game.specs.Exports.{MovetextHasOneList};
 ghost use Rattle.pgn_game.specs.TextLines.{TokensHaveAText, TokensHaveOneText};
-ghost use Rattle.pgn_game.specs.Laws.{EachMoveIsNamed, EachMoveHasATurn, GameHasOneReplay, GameHasOneFault, SoundGameHasNoFault, GameHasAnAnswer, MovetextHasTokens, GameHasOneExport};
+ghost use Rattle.pgn_game.specs.Laws.{EachMoveIsNamed, EachMoveHasATurn, GameHasOneReplay, GameHasOneFault, SoundGameHasNoFault, GameHasAnAnswer, MovetextHasTokens, GameHasOneExport, GameHasAnExport};
 
 /// Whichever lines are replayed, each move of the main line is the only legal move that its word names in the position before it.
 pub fn one_legal_move()
@@ -46,4 +46,9 @@ pub fn a_movetext()
 /// In a style a game has one export at most.
 pub fn one_export()
     ensures { GameHasOneExport }
+{}
+
+/// In each style a game of a text that is replayed has an export; with variations, where all lines are replayed.
+pub fn an_export()
+    ensures { GameHasAnExport }
 {}
