@@ -2,20 +2,21 @@
 use Rattle.std.proofs.Common.{◌≡◌, ◌==◌, ℕ, ◌+◌, ◌≤◌, true, false, List, [], ◌∷◌, ◌++◌, map, length, refl, sym, ap, ◌∙◌, subst, arith, append_assoc, length-append, ◌⊎◌, inl, inr}
 use Rattle.std.proofs.lemmas.Bool.{both_ways}
 use Rattle.std.proofs.lemmas.List.{append-nil, map_push, length-map}
+use Rattle.pgn_text.specs.Limits.{block_limit, depth_limit}
 use Rattle.pgn_text.specs.Left.{Left, ArePiecesLeft, TakesPiece}
 use Rattle.pgn_text.specs.Marks.{marked, within as in_limit}
 use Rattle.pgn_text.specs.Pieces as spec
-use Rattle.pgn_text.specs.declared.cut.Piece.{Piece}
+use Rattle.pgn_text.specs.declared.pieces.Piece.{Piece}
 use Rattle.pgn_extract.specs.Blockwise.{Reports, ReportsBlock, AddsPiece}
 use Rattle.pgn_extract.specs.declared.report.Report.{Report}
 use Rattle.pgn_extract.specs.Aims.{Aim}
-use Rattle.pgn_extract.proofs.Telling.{reports_more}
+use Rattle.pgn_extract.proofs.VerdictFacts.{reports_more}
 
--- some pieces are given and told, and those that are left complete them
+-- some pieces are given and reported, and those that are left complete them
 pub record Listed (aim : Aim) (start now : Left) (report : Report) (number offset : ℕ) : Type 0 where
   pub done : List spec.Piece
-  pub completes : (more : List spec.Piece) → ArePiecesLeft 64 now more → ArePiecesLeft 64 start (done ++ more)
-  pub told : Reports aim report number (map (marked offset) done)
+  pub completes : (more : List spec.Piece) → ArePiecesLeft depth_limit now more → ArePiecesLeft depth_limit start (done ++ more)
+  pub written : Reports aim report number (map (marked offset) done)
   pub few : length done ≤ now.at
   pub within : now.at ≤ length now.block
   pub same : now.block ≡ start.block
@@ -23,14 +24,14 @@ pub record Listed (aim : Aim) (start now : Left) (report : Report) (number offse
 
 module _ {aim : Aim} {start now : Left} {report : Report} {number offset : ℕ} (l : Listed aim start now report number offset) where
   -- one more piece
-  pub listed_more : {next : Left} {report' : Report} {here : ℕ} (piece : Piece) → TakesPiece 64 now next piece → here ≡ number + report.games
+  pub listed_more : {next : Left} {report' : Report} {here : ℕ} (piece : Piece) → TakesPiece depth_limit now next piece → here ≡ number + report.games
       → AddsPiece aim report report' here offset piece → Listed aim start next report' number offset
   listed_more {next} {report'} {here} piece takes is adds = record {
     done = l.done ++ takes.shown ∷ [];
     completes = λ more left.
-        subst (ArePiecesLeft 64 start) (sym (append_assoc l.done (takes.shown ∷ []) more)) (l.completes (takes.shown ∷ more) (takes.completes more left));
-    told =
-        let more = reports_more aim report report' number here (map (marked offset) l.done) (marked offset takes.shown) l.told (is ∙ ap (λ n. number + n) l.told.games) (adds takes.shown takes.is) in
+        subst (ArePiecesLeft depth_limit start) (sym (append_assoc l.done (takes.shown ∷ []) more)) (l.completes (takes.shown ∷ more) (takes.completes more left));
+    written =
+        let more = reports_more aim report report' number here (map (marked offset) l.done) (marked offset takes.shown) l.written (is ∙ ap (λ n. number + n) l.written.games) (adds takes.shown takes.is) in
         subst (Reports aim report' number) (sym (map_push (marked offset) l.done takes.shown)) more;
     few = let f = l.few in let g = takes.grows in omega (arith, length-append l.done (takes.shown ∷ []));
     within = takes.within;
@@ -39,17 +40,17 @@ module _ {aim : Aim} {start now : Left} {report : Report} {number offset : ℕ} 
   }
 
   -- all of them, where none is left
-  pub listed_all : (block : List ℕ) → start ≡ record { block = block; file_start = offset == 0; at = 0; failed = false } → length block ≤ 1048576
-      → (now.failed ≡ true) ⊎ ArePiecesLeft 64 now [] → ReportsBlock aim report 1048576 64 number offset block
+  pub listed_all : (block : List ℕ) → start ≡ record { block = block; file_start = offset == 0; at = 0; failed = false } → length block ≤ block_limit
+      → (now.failed ≡ true) ⊎ ArePiecesLeft depth_limit now [] → ReportsBlock aim report block_limit depth_limit number offset block
   listed_all block is fits end = record {
     own = map (marked offset) l.done;
-    each = in_limit fits l.done (subst (λ (s : Left). ArePiecesLeft 64 s l.done) is whole) refl;
-    told = l.told;
+    each = in_limit fits l.done (subst (λ (s : Left). ArePiecesLeft depth_limit s l.done) is whole) refl;
+    written = l.written;
     few = let f = l.few in let w = l.within in omega (arith, length-map l.done (marked offset), ap length l.same, ap (λ (s : Left). length s.block) is);
   }
     where
-      whole : ArePiecesLeft 64 start l.done
+      whole : ArePiecesLeft depth_limit start l.done
       whole = elim end [
         | inl bad ↦ absurd (both_ways now.failed l.sound bad)
-        | inr left ↦ subst (ArePiecesLeft 64 start) (append-nil l.done) (l.completes [] left)
+        | inr left ↦ subst (ArePiecesLeft depth_limit start) (append-nil l.done) (l.completes [] left)
       ]

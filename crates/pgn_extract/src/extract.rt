@@ -1,10 +1,11 @@
-//! The run over an input: block by block, each told before the next is read.
+//! The run over an input: block by block, each reported before the next is read.
 ghost use Rattle.std.specs.Prelude.{◌≡◌, ◌↔◌, ◌⊎◌, ℕ, ◌+◌, ◌^◌, ◌<◌, ◌≤◌, false, true, List, [], length, drop, IsErrOf, IfOk, IfErr, IfSome, OnOk, OnErr};
 ghost use Rattle.std.specs.Io.KnownBytes.{Appends, Keeps};
+ghost use Rattle.pgn_text.specs.Limits.{block_limit, depth_limit, largest_offset};
 ghost use Rattle.pgn_text.specs.Windows.{Shows};
 ghost use Rattle.pgn_extract.specs.Aims.{aim_of};
-ghost use Rattle.pgn_extract.specs.Blockwise.{IsShown, TellsBlock, BeginsBlock, EndsBlocks, BreaksOff};
-ghost use Rattle.pgn_extract.specs.Outcomes.{AppendsFront, Ends, Indexes, Lists, Stands};
+ghost use Rattle.pgn_extract.specs.Blockwise.{IsShown, WritesBlock, BeginsBlock, EndsBlocks, BreaksOff};
+ghost use Rattle.pgn_extract.specs.Outcomes.{AppendsFront, Ends, Indexes, Lists, Exports, Stands};
 ghost use Rattle.pgn_extract.specs.Resuming.{Resumes};
 
 use crate::outcome::{RunError, Summary, of_read};
@@ -38,7 +39,7 @@ fn put_report<O: Write, E: Write>(
     }
 }
 
-/// Writes what is told of the pieces of one block.
+/// Writes what is reported of the pieces of one block.
 fn put_block<'a, O: Write, E: Write>(
     alloc: Global,
     out: &mut Tally<O>,
@@ -49,14 +50,14 @@ fn put_block<'a, O: Write, E: Write>(
 ) -> Result<Summary, RunError>
     requires sound { (out.old.faulted ≡ false) × (err.old.faulted ≡ false) }
     requires number { number ≤ 2 ^ 63 }
-    requires offset { block.offset ≤ 2 ^ 62 }
-    requires size { IsShown 1048576 block.body }
-    ensures ok { IfOk result (λ summary. (bytes : List ℕ) → Shows 1048576 block.entry.body bytes
-        → TellsBlock (aim_of settings.now) 1048576 64 number block.entry.offset bytes
+    requires offset { block.offset ≤ largest_offset }
+    requires size { IsShown block_limit block.body }
+    ensures ok { IfOk result (λ summary. (bytes : List ℕ) → Shows block_limit block.entry.body bytes
+        → WritesBlock (aim_of settings.now) block_limit depth_limit number block.entry.offset bytes
         (O.contents out.old.inner) (O.contents out.new.inner)
         (E.contents err.old.inner) (E.contents err.new.inner) summary) }
-    ensures err { OnErr result ((bytes : List ℕ) → Shows 1048576 block.entry.body bytes
-        → BeginsBlock (aim_of settings.now) 1048576 64 number block.entry.offset bytes
+    ensures err { OnErr result ((bytes : List ℕ) → Shows block_limit block.entry.body bytes
+        → BeginsBlock (aim_of settings.now) block_limit depth_limit number block.entry.offset bytes
         (O.contents out.old.inner) (O.contents out.new.inner)
         (E.contents err.old.inner) (E.contents err.new.inner)) }
     ensures only { IfErr result (λ error. (error ≡ RunError.Write) ⊎ (error ≡ RunError.OutOfMemory)) }
@@ -94,7 +95,7 @@ fn finish_both<O: Write, E: Write>(out: &mut Tally<O>, err: &mut Tally<E>) -> Re
     }
 }
 
-/// Tells the pieces of the blocks that are left, and flushes the writers.
+/// Writes what is reported of the pieces of the blocks that are left, and flushes the writers.
 fn run_blocks<R: Read, O: Write, E: Write>(
     alloc: Global,
     input: &mut Tally<R>,
@@ -105,13 +106,13 @@ fn run_blocks<R: Read, O: Write, E: Write>(
     requires sound { (input.old.faulted ≡ false) × (out.old.faulted ≡ false)
         × (err.old.faulted ≡ false) }
     requires number { settings.now.number ≤ 2 ^ 62 }
-    requires offset { settings.now.offset ≤ 2 ^ 62 }
-    ensures ok { IfOk result (EndsBlocks (aim_of settings.now) 1048576 64 settings.now.number settings.now.offset
+    requires offset { settings.now.offset ≤ largest_offset }
+    ensures ok { IfOk result (EndsBlocks (aim_of settings.now) block_limit depth_limit settings.now.number settings.now.offset
         (R.remaining input.old.inner) (R.remaining input.new.inner) input.old.moved input.new.moved
         (O.contents out.old.inner) (O.contents out.new.inner)
         (E.contents err.old.inner) (E.contents err.new.inner)) }
     ensures flushed { OnOk result ((out.new.flushed ≡ true) × (err.new.flushed ≡ true)) }
-    ensures err { IfErr result (BreaksOff (aim_of settings.now) 1048576 64 settings.now.number settings.now.offset
+    ensures err { IfErr result (BreaksOff (aim_of settings.now) block_limit depth_limit settings.now.number settings.now.offset
         (R.remaining input.old.inner) (R.remaining input.new.inner) input.old.moved input.new.moved
         (O.contents out.old.inner) (O.contents out.new.inner)
         (E.contents err.old.inner) (E.contents err.new.inner)) }
@@ -133,9 +134,9 @@ fn run_blocks<R: Read, O: Write, E: Write>(
                 settings.number + games,
                 block,
             ) {
-                Ok(told) => {
-                    games += told.games;
-                    faulty += told.faulty;
+                Ok(own) => {
+                    games += own.games;
+                    faulty += own.faulty;
                 }
                 Err(error) => return Err(error),
             },
@@ -161,33 +162,37 @@ pub fn run<R: Read, O: Write, E: Write>(
         × (err.old.faulted ≡ false) }
     requires fresh { input.old.moved ≡ 0 }
     requires number { (1 ≤ settings.now.number) × (settings.now.number ≤ 2 ^ 62) }
-    requires offset { settings.now.offset ≤ 2 ^ 62 }
+    requires offset { settings.now.offset ≤ largest_offset }
 
     // At `Ok` the whole input, of at most 2^62 bytes, is reported, and both writers are flushed.
     ensures ok { IfOk result (λ summary. IfSome (R.remaining input.old.inner) (λ whole.
-        Ends (aim_of settings.now) 1048576 64 settings.now.number settings.now.offset whole
+        Ends (aim_of settings.now) block_limit depth_limit settings.now.number settings.now.offset whole
         (O.contents out.old.inner) (O.contents out.new.inner)
         (E.contents err.old.inner) (E.contents err.new.inner) summary)) }
     ensures flushed { OnOk result ((out.new.flushed ≡ true) × (err.new.flushed ≡ true)) }
 
-    // The output is then exactly the index, or the listing, of the pieces from the offset on.
+    // The output is then exactly the index, the listing, or the exports, of the pieces from the offset on.
     ensures indexes { OnOk result (IfSome (R.remaining input.old.inner) (λ whole. settings.now.mode ≡ Mode.Index
-        → Indexes 1048576 64 settings.now.number settings.now.offset whole
+        → Indexes block_limit depth_limit settings.now.number settings.now.offset whole
         (O.contents out.old.inner) (O.contents out.new.inner))) }
     ensures lists { OnOk result (IfSome (R.remaining input.old.inner) (λ whole. settings.now.mode ≡ Mode.List
-        → Lists (aim_of settings.now) 1048576 64 settings.now.number settings.now.offset whole
+        → Lists (aim_of settings.now) block_limit depth_limit settings.now.number settings.now.offset whole
         (O.contents out.old.inner) (O.contents out.new.inner))) }
 
-    // Begun at a mark of the whole input, the run tells exactly the rest of what a run over the whole tells.
+    ensures exports { OnOk result (IfSome (R.remaining input.old.inner) (λ whole. settings.now.mode ≡ Mode.Export
+        → Exports (aim_of settings.now) block_limit depth_limit settings.now.number settings.now.offset whole
+        (O.contents out.old.inner) (O.contents out.new.inner))) }
+
+    // Begun at a mark of the whole input, the run reports exactly the rest of what a run over the whole reports.
     ensures resumes { OnOk result (IfSome (R.remaining input.old.inner) (λ whole.
-        Resumes (aim_of settings.now) 1048576 64 settings.now.number settings.now.offset whole
+        Resumes (aim_of settings.now) block_limit depth_limit settings.now.number settings.now.offset whole
         (O.contents out.old.inner) (O.contents out.new.inner)
         (E.contents err.old.inner) (E.contents err.new.inner))) }
 
     // What stands after an error: a beginning of the whole report, or, where reading ended, the report of the complete blocks read.
     // And when each comes: at most one of the three has failed then.
     ensures err { IfErr result (λ error. IfSome (R.remaining input.old.inner) (λ whole.
-        Stands (aim_of settings.now) 1048576 64 settings.now.number settings.now.offset whole input.new.moved
+        Stands (aim_of settings.now) block_limit depth_limit settings.now.number settings.now.offset whole input.new.moved
         (O.contents out.old.inner) (O.contents out.new.inner)
         (E.contents err.old.inner) (E.contents err.new.inner) error)) }
     ensures read_fault { IsErrOf result RunError.Read ↔ (input.new.faulted ≡ true) }

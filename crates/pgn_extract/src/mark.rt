@@ -1,7 +1,9 @@
 //! The mark of a game, `N@O`: its number and the offset in the file of its first byte.
 ghost use Rattle.std.specs.Prelude.{◌≤◌, ◌^◌, IfSome};
+ghost use Rattle.pgn_text.specs.Limits.{largest_offset};
 
 use memchr::memchr;
+use pgn_text::LARGEST_OFFSET;
 
 /// A game's number, counted from 1, and the offset of its first byte.
 #[derive(Clone, Copy, Debug, PartialEq, Eq)]
@@ -9,7 +11,7 @@ pub struct Mark {
     pub number: u64,
     pub offset: u64,
     ghost numbered: { (1 ≤ number) × (number ≤ 2 ^ 62) },
-    ghost placed: { offset ≤ 2 ^ 62 },
+    ghost placed: { offset ≤ largest_offset },
 }
 
 impl Mark {
@@ -21,7 +23,7 @@ impl Mark {
 }
 
 /// 2^62, the largest number and the largest offset of a mark.
-pub const MAX: u64 = 4_611_686_018_427_387_904;
+pub const MAX: u64 = LARGEST_OFFSET;
 
 /// The most decimal digits that each number of a mark may have.
 const MAX_DIGITS: usize = 19;

@@ -2,8 +2,8 @@
 use Rattle.std.specs.Prelude.{◌≡◌, ℕ, Bool, true, false, ◌||◌, codes, decimal, List, [], ◌∷◌, ◌++◌, Option}
 use Rattle.chess.specs.Positions.{State}
 use Rattle.chess.specs.San.{IsSan}
-use Rattle.chess.specs.declared.man.Side.{Side}
-use Rattle.chess.specs.declared.man.Side.TheVariants.{White, Black}
+use Rattle.chess.specs.declared.board.man.Side.{Side}
+use Rattle.chess.specs.declared.board.man.Side.TheVariants.{White, Black}
 use Rattle.pgn_text.specs.Games.{Item}
 use Rattle.pgn_text.specs.GameTexts.{GameText, tag_in}
 use Rattle.pgn_game.specs.AllLines.{Line, LineEnd, ThenMove, ThenGlyph, ThenComment, ThenVariation, spelled, IsTurn, after_turn}

@@ -1,6 +1,7 @@
 -- What contracts see of a `Blocks`, and what one call of `next` does to it.
-use Rattle.std.specs.Prelude.{◌≡◌, ◌≢◌, ℕ, ◌+◌, ◌^◌, ◌<◌, ◌≤◌, Bool, true, false, List, [], ◌∷◌, ◌++◌, length, Option, Some, None, Result, Ok, Err}
+use Rattle.std.specs.Prelude.{◌≡◌, ◌≢◌, ℕ, ◌+◌, ◌<◌, ◌≤◌, Bool, true, false, List, [], ◌∷◌, ◌++◌, length, Option, Some, None, Result, Ok, Err}
 use Rattle.std.specs.Io.KnownBytes.{IsAtEnd}
+use Rattle.pgn_text.specs.Limits.{largest_offset}
 use Rattle.pgn_text.specs.Blocks.{IsFirstBlock}
 use Rattle.pgn_text.specs.declared.blocks.Block.{Block}
 use Rattle.pgn_text.specs.declared.blocks.Body.{Body}
@@ -29,7 +30,7 @@ pub record IsCutOff (old new : Window) (left' : Option (List ℕ)) (read bytes :
   pub parted : old.ahead ++ read ≡ bytes ++ new.ahead
   pub first : (rest : List ℕ) → (new.ended ≡ true → rest ≡ []) → IsFirstBlock bytes (new.ahead ++ rest)
   pub place : new.place ≡ old.place + length bytes
-  pub within : new.place + length new.ahead ≤ 2 ^ 62
+  pub within : new.place + length new.ahead ≤ largest_offset
   pub last : new.ended ≡ true → (new.ahead ≡ []) × IsAtEnd left'
   pub more : new.ended ≡ false → new.ahead ≢ []
   pub sound : (new.failed ≡ false) × (new.over ≡ false)
@@ -37,7 +38,7 @@ pub record IsCutOff (old new : Window) (left' : Option (List ℕ)) (read bytes :
 -- what was read of the block holds no event line, up to where reading failed
 pub record IsCutShort (place : ℕ) (bytes : List ℕ) : Type 0 where
   pub uncut : IsFirstBlock bytes []
-  pub within : place + length bytes ≤ 2 ^ 62
+  pub within : place + length bytes ≤ largest_offset
 
 -- the block reaches the largest offset, and one more byte was there
 pub record IsPastEnd (place : ℕ) (ahead read : List ℕ) : Type 0 where
@@ -45,12 +46,12 @@ pub record IsPastEnd (place : ℕ) (ahead read : List ℕ) : Type 0 where
   pub byte : ℕ
   pub parted : read ≡ kept ++ byte ∷ []
   pub uncut : IsFirstBlock (ahead ++ kept) []
-  pub full : place + length (ahead ++ kept) ≡ 2 ^ 62
+  pub full : place + length (ahead ++ kept) ≡ largest_offset
 
 -- what holds of the bytes ahead and those read where a call ends with the error
 abbrev pub FailsAfter : ℕ → List ℕ → List ℕ → ReadError → Type 0
 FailsAfter place ahead read Read = IsCutShort place (ahead ++ read)
-FailsAfter place ahead read OutOfMemory = place + length (ahead ++ read) ≤ 2 ^ 62
+FailsAfter place ahead read OutOfMemory = place + length (ahead ++ read) ≤ largest_offset
 FailsAfter place ahead read InputTooLong = IsPastEnd place ahead read
 FailsAfter place ahead read Failed = read ≡ []
 

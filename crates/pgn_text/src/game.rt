@@ -6,13 +6,14 @@ ghost use Rattle.std.specs.List.Sorted.{IsStrictlySortedBy};
 ghost use Rattle.std.specs.Ordering.{nat_cmp};
 ghost use Rattle.pgn_text.specs.Elements.{item_of, tags_of};
 ghost use Rattle.pgn_text.specs.GameTexts.{GameText, HoldStrings, IsGameText, IsPaired, ShowsGame, tag_names};
+ghost use Rattle.pgn_text.specs.Limits.{depth_limit};
 ghost use Rattle.pgn_text.specs.Parts.{Part};
 ghost use Rattle.pgn_text.specs.Pieces.{NoGame};
 ghost use Rattle.pgn_text.specs.Walk.{GameTo, NoGapPartAt};
 
 use crate::draft::Draft;
 use crate::place::part_at;
-use crate::progress::{MAX_DEPTH, Progress};
+use crate::progress::Progress;
 use std::alloc::{AllocError, Global};
 use std::collections::BTreeMap;
 use std::marker::Model;
@@ -74,6 +75,13 @@ impl<'a> RawGame<'a> {
         self.elements.as_slice()
     }
 
+    /// Each game that is handed out has its tags in the order of their names, each the contents of a string, and its variations paired.
+    pub fn known(&self)
+        ensures { IsGameText self.now }
+    {
+        let _ = &self.tags;
+    }
+
     /// The result, as it stands.
     pub fn result(&self) -> &'a [u8]
         ensures { result.now ≡ self.now.result }
@@ -91,7 +99,7 @@ pub(crate) fn read_game<'a>(
 ) -> Result<Option<(RawGame<'a>, usize)>, AllocError>
     requires place { begin ≤ length block.now }
     requires outside { NoGapPartAt file_start block.now begin }
-    ensures { IfOk result (λ read. MatchOption read (NoGame MAX_DEPTH file_start (take begin block.now) (drop begin block.now)) (λ found. (parts : List Part) × GameTo MAX_DEPTH file_start block.now begin parts found.1 × ShowsGame found.0 begin parts)) }
+    ensures { IfOk result (λ read. MatchOption read (NoGame depth_limit file_start (take begin block.now) (drop begin block.now)) (λ found. (parts : List Part) × GameTo depth_limit file_start block.now begin parts found.1 × ShowsGame found.0 begin parts)) }
 {
     let mut draft = Draft::new(alloc);
     let mut progress = Progress::start();

@@ -3,25 +3,26 @@
 #![tactic(auto)]
 
 mod blocks;
+mod buffer;
 mod class;
-mod cut;
 mod draft;
 mod game;
 pub mod laws;
+mod limits;
+mod pieces;
 mod place;
 mod progress;
 mod quoted;
-mod reader;
 mod scan;
 mod tally;
 mod token;
 mod unquoted;
 
 pub use blocks::{Block, Blocks, Body, ReadError};
-pub use cut::{Games, Piece};
 pub use game::{Element, RawGame};
-pub use progress::MAX_DEPTH;
+pub use limits::{BLOCK_LIMIT, LARGEST_OFFSET, MAX_DEPTH};
+pub use pieces::start::games;
+pub use pieces::{Games, Piece};
 pub use quoted::{is_contents, value};
-pub use reader::games;
 pub use tally::Tally;
 pub use unquoted::Value;

@@ -1,12 +1,11 @@
 //! What has to be remembered of the parts of a game that were read.
 
 ghost use Rattle.std.specs.Prelude.{◌≡◌, ◌↔◌, false, true, option_map, IsTrue};
+ghost use Rattle.pgn_text.specs.Limits.{depth_limit};
 ghost use Rattle.pgn_text.specs.Reading.{KeptOpen, KeptClose, step_kept};
 
+use crate::limits::MAX_DEPTH;
 use crate::token::Token;
-
-/// How deep variations may nest.
-pub const MAX_DEPTH: usize = 64;
 
 /// How far a game has been read.
 #[derive(Clone, Copy)]
@@ -62,7 +61,7 @@ impl Progress {
     }
 
     fn opened(self) -> Option<Self>
-        ensures { option_map state_of result ≡ step_kept MAX_DEPTH (state_of self) KeptOpen }
+        ensures { option_map state_of result ≡ step_kept depth_limit (state_of self) KeptOpen }
     {
         if self.has_move && self.depth < MAX_DEPTH {
             Some(Progress {
@@ -76,7 +75,7 @@ impl Progress {
     }
 
     fn closed(self) -> Option<Self>
-        ensures { option_map state_of result ≡ step_kept MAX_DEPTH (state_of self) KeptClose }
+        ensures { option_map state_of result ≡ step_kept depth_limit (state_of self) KeptClose }
     {
         if self.depth > 0 {
             Some(Progress {
@@ -92,7 +91,7 @@ impl Progress {
     /// How far the game has been read behind one more part, if that part may stand there. A result is no such part.
     #[inline(always)]
     pub(crate) fn step(self, token: Token<'_>) -> Option<Self>
-        ensures { option_map state_of result ≡ step_kept MAX_DEPTH (state_of self) (token_of token.entry) }
+        ensures { option_map state_of result ≡ step_kept depth_limit (state_of self) (token_of token.entry) }
     {
         match token {
             Token::Gap | Token::Comment(_) => Some(self),

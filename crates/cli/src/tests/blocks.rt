@@ -116,13 +116,13 @@ fn a_fault_comes_behind_the_complete_blocks(rt: HostRuntime) -> Result<(), Fail>
 #[test]
 fn blocks_at_the_limit(rt: HostRuntime) -> Result<(), Fail> {
     let rows: [(usize, &[u8], usize, &str); 3] = [
-        (1_048_576, b"", 8192, "3+1048576 end end "),
-        (1_048_577, b"", 8192, "3+long end end "),
+        (16_777_216, b"", 8192, "3+16777216 end end "),
+        (16_777_217, b"", 8192, "3+long end end "),
         (
-            1_048_575,
+            16_777_215,
             b"\n[Event \"A\"",
             1000,
-            "3+1048576 1048579+10 end end ",
+            "3+16777216 16777219+10 end end ",
         ),
     ];
     for (spaces, rest, size, wanted) in rows {

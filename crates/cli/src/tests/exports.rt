@@ -1,4 +1,4 @@
-//! Games with the texts that they must be written as.
+//! Games with the texts that `export` must write for them: their tags, and what a style leaves out.
 use super::support::first_game;
 use pgn_game::{GameFault, Lines, Style, export, replay};
 use std::alloc::{AllocError, Global};
@@ -98,23 +98,7 @@ fn has_lines(
 
 #[test]
 fn tags_stand_in_their_order(rt: HostRuntime) -> Result<(), Fail> {
-    let rows: [(&[u8], bool, &[&str]); 6] = [
-        (
-            b"1. e4 *",
-            false,
-            &[
-                "[Event \"?\"]",
-                "[Site \"?\"]",
-                "[Date \"????.??.??\"]",
-                "[Round \"?\"]",
-                "[White \"?\"]",
-                "[Black \"?\"]",
-                "[Result \"*\"]",
-                "",
-                "1. e4 *",
-                "",
-            ],
-        ),
+    let rows: [(&[u8], bool, &[&str]); 5] = [
         (
             b"[Result \"0-1\"]\n[Black \"b\"]\n[White \"w\"]\n[Round \"1\"]\n[Date \"2001.02.03\"]\n[Site \"s\"]\n[Event \"e\"]\n\n1. e4 1-0",
             false,
@@ -229,47 +213,6 @@ fn has_movetext(
     text.extend_from_slice(text_of(alloc, lines)?.as_slice())?;
     text.push(b'\n')?;
     is_exported(alloc, block, style, text.as_slice())
-}
-
-#[test]
-fn movetext_is_written_in_standard_texts(rt: HostRuntime) -> Result<(), Fail> {
-    let rows: [(&[u8], &[&str]); 7] = [
-        (b"*", &["*"]),
-        (
-            b"1. e2-e4 e7e5 2 Ng1f3! Nb8-c6 $13 3.Bb5?! *",
-            &["1. e4 e5 2. Nf3 $1 Nc6 $13 3. Bb5 $6 *"],
-        ),
-        (
-            b"1. e4 (1. d4 d5) e5 {x} 2. Nf3 *",
-            &["1. e4 ( 1. d4 d5 ) 1... e5 {x} 2. Nf3 *"],
-        ),
-        (
-            b"1. e4 e5 (1... c5 (1... d5) 2. Nf3) 2. d4 *",
-            &["1. e4 e5 ( 1... c5 ( 1... d5 ) 2. Nf3 ) 2. d4 *"],
-        ),
-        (
-            b"1. e4 (1. Z0 e5) e5 () *",
-            &["1. e4 ( 1. -- e5 ) 1... e5 ( ) *"],
-        ),
-        (
-            b"1. e4 {a [Event \"x\"]  %b } e5 {  } 2. d4 ;c}d\n d5 *",
-            &["1. e4 {a (Event \"x\"] (%b} 1... e5 {} 2. d4 {c)d} 2... d5 *"],
-        ),
-        (
-            b"1. e4 {one two three four five six seven eight nine ten eleven twelve thirteen} e5 *",
-            &[
-                "1. e4 {one two three four five six seven eight nine ten eleven twelve thirteen}",
-                "1... e5 *",
-            ],
-        ),
-    ];
-    for (block, lines) in rows {
-        assert!(rt;
-            has_movetext(rt.alloc(), block, &WHOLE, lines)?,
-            "{block:?}"
-        );
-    }
-    Ok(())
 }
 
 #[test]

@@ -1,6 +1,6 @@
 //! The index of worked files, and where blocks end.
 use super::support::{LOST_BRACE, Row, TWO_GAMES, holds, run_over};
-use std::alloc::Global;
+use std::alloc::{AllocError, Global};
 use std::test::Fail;
 
 const ROWS: [Row; 20] = [
@@ -136,47 +136,76 @@ fn every_front_of_a_cut_file_is_reported(rt: HostRuntime) -> Result<(), Fail> {
 /// A game of 20 bytes, spaces and a line feed, and a second game.
 fn spaced_games(alloc: Global, spaces: usize) -> Result<Vec<u8>, Fail> {
     let mut text = Vec::from_slice(alloc, b"[Event \"A\"]\n\n1. e4 *")?;
-    for _ in 0..spaces {
-        text.push(b' ')?;
-    }
+    text.resize(spaces.saturating_add(20), b' ')?;
     text.extend_from_slice(b"\n[Event \"B\"]\n\n1. d4 *\n")?;
     Ok(text)
 }
 
-/// Whether the program with this word does as stated on two games with so many spaces between them.
-fn is_spaced(
-    alloc: Global,
-    word: &str,
-    spaces: usize,
-    wanted: (&[u8], &[u8], u8),
-) -> Result<bool, Fail> {
-    let (out, err, status) = wanted;
-    let end = run_over(alloc, &[word], &spaced_games(alloc, spaces)?)?;
-    Ok(end.is(out, err, status))
-}
-
 #[test]
-fn a_block_has_at_most_1048576_bytes(rt: HostRuntime) -> Result<(), Fail> {
+fn a_block_of_the_limit_is_read(rt: HostRuntime) -> Result<(), Fail> {
     let too_long = b"pgn-extract: game 1@0: too long\n";
     let rows: [(&str, usize, (&[u8], &[u8], u8)); 4] = [
-        ("--index", 1_048_555, (b"1@0\n2@1048576\n", b"", 0)),
-        ("--index", 1_048_556, (b"2@1048577\n", too_long, 1)),
-        (
-            "--list",
-            1_048_555,
-            (b"1@0 0\n1@0 1\n2@1048576 0\n2@1048576 1\n", b"", 0),
-        ),
         (
             "--list",
             1_048_556,
-            (b"2@1048577 0\n2@1048577 1\n", too_long, 1),
+            (b"1@0 0\n1@0 1\n2@1048577 0\n2@1048577 1\n", b"", 0),
         ),
+        (
+            "--list",
+            16_777_195,
+            (b"1@0 0\n1@0 1\n2@16777216 0\n2@16777216 1\n", b"", 0),
+        ),
+        (
+            "--list",
+            16_777_196,
+            (b"2@16777217 0\n2@16777217 1\n", too_long, 1),
+        ),
+        ("--index", 16_777_196, (b"2@16777217\n", too_long, 1)),
     ];
     for (word, spaces, wanted) in rows {
-        assert!(rt;
-            is_spaced(rt.alloc(), word, spaces, wanted)?,
-            "{word} {spaces}"
-        );
+        let (out, err, status) = wanted;
+        let end = run_over(rt.alloc(), &[word], &spaced_games(rt.alloc(), spaces)?)?;
+        assert!(rt; end.is(out, err, status), "{word} {spaces}");
+    }
+    Ok(())
+}
+
+#[test]
+fn a_block_of_spaces_is_a_gap(rt: HostRuntime) -> Result<(), Fail> {
+    let mut text = vec![in rt.alloc(); b' '; 3_145_728]?;
+    text.extend_from_slice(b"\n[Event \"B\"]\n\n1. d4 *\n")?;
+    let end = run_over(rt.alloc(), &["--list"], &text)?;
+    assert!(rt; end.is(b"1@3145729 0\n1@3145729 1\n", b"", 0));
+    Ok(())
+}
+
+/// A game with variations nested to the depth.
+fn nested(alloc: Global, depth: usize) -> Result<Vec<u8>, AllocError> {
+    let mut block = Vec::new(alloc);
+    block.extend_from_slice(b"e4 ")?;
+    for _ in 0..depth {
+        block.extend_from_slice(b"(e4 ")?;
+    }
+    for _ in 0..depth {
+        block.extend_from_slice(b") ")?;
+    }
+    block.push(b'*')?;
+    Ok(block)
+}
+
+#[test]
+fn variations_nest_to_a_depth(rt: HostRuntime) -> Result<(), Fail> {
+    let unreadable = b"pgn-extract: game 1@0: unreadable\n";
+    let rows: [(usize, (&[u8], &[u8], u8)); 4] = [
+        (64, (b"1@0\n", b"", 0)),
+        (65, (b"1@0\n", b"", 0)),
+        (255, (b"1@0\n", b"", 0)),
+        (256, (b"", unreadable, 1)),
+    ];
+    for (depth, wanted) in rows {
+        let (out, err, status) = wanted;
+        let end = run_over(rt.alloc(), &["--index"], &nested(rt.alloc(), depth)?)?;
+        assert!(rt; end.is(out, err, status), "{depth}");
     }
     Ok(())
 }

@@ -42,20 +42,6 @@ fn games_of_bytes(alloc: Global, front: &[u8], back: &[u8]) -> Result<usize, Fai
     Ok(count)
 }
 
-/// A game with variations nested to the depth.
-fn nested(alloc: Global, depth: usize) -> Result<Vec<u8>, AllocError> {
-    let mut block = Vec::new(alloc);
-    block.extend_from_slice(b"e4 ")?;
-    for _ in 0..depth {
-        block.extend_from_slice(b"(e4 ")?;
-    }
-    for _ in 0..depth {
-        block.extend_from_slice(b") ")?;
-    }
-    block.push(b'*')?;
-    Ok(block)
-}
-
 #[test]
 fn blocks_are_cut(rt: HostRuntime) -> Result<(), Fail> {
     let rows: [(&[u8], &str); 60] = [
@@ -139,16 +125,6 @@ fn bytes_have_their_classes(rt: HostRuntime) -> Result<(), Fail> {
         assert!(rt; is_so, "{front:?} {back:?}");
     }
     assert!(rt; is_cut(rt.alloc(), b"1. e4 * *", "game 0; game 8; ")?);
-    Ok(())
-}
-
-#[test]
-fn variations_nest_to_a_depth(rt: HostRuntime) -> Result<(), Fail> {
-    let alloc = rt.alloc();
-    for (depth, pieces) in [(64, "game 0; "), (65, "unreadable 0; ")] {
-        let block = nested(alloc, depth)?;
-        assert!(rt; is_cut(alloc, block.as_slice(), pieces)?, "{depth}");
-    }
     Ok(())
 }
 

@@ -1,11 +1,12 @@
 use Rattle.std.proofs.Common.{◌≡◌, ◌+◌, ◌-◌, ◌^◌, false}
+use Rattle.pgn_text.specs.Limits.{block_limit, depth_limit}
 use Rattle.pgn_extract.specs.Aims.{aim_of}
 use Rattle.pgn_extract.proofs.RunProgress.{Progress, turns}
 use Rattle.pgn_extract.proofs.extract.run_blocks.Given as goal
 
 abbrev pub invariant-loop-block : goal.invariant-loop-block
 invariant-loop-block g l =
-    Progress (aim_of l.settings) 1048576 64 l.settings.number l.settings.offset l.blocks (g.R.Read.remaining l.fn.input.inner) (g.R.Read.remaining l.input.inner) l.fn.input.moved l.input.moved
+    Progress (aim_of l.settings) block_limit depth_limit l.settings.number l.settings.offset l.blocks (g.R.Read.remaining l.fn.input.inner) (g.R.Read.remaining l.input.inner) l.fn.input.moved l.input.moved
     (g.O.Write.contents l.fn.out.inner) (g.O.Write.contents l.out.inner) (g.E.Write.contents l.fn.err.inner) (g.E.Write.contents l.err.inner) l.games l.faulty
     × (l.input.faulted ≡ false) × (l.out.faulted ≡ false) × (l.err.faulted ≡ false)
 
