@@ -5,11 +5,11 @@ use Rattle.chess.specs.Placements.{Placement, man_at, with_man, AreOnBoard, IsEm
 use Rattle.chess.specs.Positions.{State, rook_of, rook_from, rook_to}
 use Rattle.chess.specs.Moves.{arriving, taken, with_rook, men_after}
 use Rattle.chess.specs.CellFacts.{man_at-same, man_at-other}
-use Rattle.chess.specs.declared.man.Man.{Man}
-use Rattle.chess.specs.declared.man.Side.{Side}
-use Rattle.chess.specs.declared.man.Side.TheVariants.{White, Black}
-use Rattle.chess.specs.declared.man.Wing.{Wing}
-use Rattle.chess.specs.declared.man.Wing.TheVariants.{KingSide, QueenSide}
+use Rattle.chess.specs.declared.board.man.Man.{Man}
+use Rattle.chess.specs.declared.board.man.Side.{Side}
+use Rattle.chess.specs.declared.board.man.Side.TheVariants.{White, Black}
+use Rattle.chess.specs.declared.board.man.Wing.{Wing}
+use Rattle.chess.specs.declared.board.man.Wing.TheVariants.{KingSide, QueenSide}
 use Rattle.chess.specs.declared.moves.Move.{Move}
 use Rattle.chess.proofs.PlaceFacts.{cases_place, some_not_none}
 

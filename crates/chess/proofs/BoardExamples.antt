@@ -9,13 +9,13 @@ use Rattle.chess.specs.Attacks.{Reaches, IsOnRay, IsForward, IsNear, IsJump, IsP
 use Rattle.chess.specs.Positions.{State, king_of, pawn_of, home_rank, pawn_rank, passed_rank, has_right, king_from, king_to, rook_from, rook_to, FitsEnPassant, IsSound}
 use Rattle.chess.specs.Moves.{IsPromotion, Promotes, IsBetween, one_more, fullmove_number_after, keeps_right}
 use Rattle.chess.specs.Sets.{Places, no_places, is_in, HoldsExactly, IsTakenFirst}
-use Rattle.chess.specs.declared.man.Man.{Man}
-use Rattle.chess.specs.declared.man.Side.TheVariants.{White, Black}
-use Rattle.chess.specs.declared.man.Kind.TheVariants.{Queen, Rook, Bishop, Knight}
-use Rattle.chess.specs.declared.man.Wing.TheVariants.{KingSide, QueenSide}
-use Rattle.chess.specs.declared.man.CastlingRights.{CastlingRights}
+use Rattle.chess.specs.declared.board.man.Man.{Man}
+use Rattle.chess.specs.declared.board.man.Side.TheVariants.{White, Black}
+use Rattle.chess.specs.declared.board.man.Kind.TheVariants.{Queen, Rook, Bishop, Knight}
+use Rattle.chess.specs.declared.board.man.Wing.TheVariants.{KingSide, QueenSide}
+use Rattle.chess.specs.declared.board.man.CastlingRights.{CastlingRights}
 use Rattle.chess.specs.declared.moves.Move.{Move}
-use Rattle.chess.specs.declared.direction.Direction.TheVariants.{North, South, East, West, NorthEast, NorthWest, SouthEast, SouthWest}
+use Rattle.chess.specs.declared.board.direction.Direction.TheVariants.{North, South, East, West, NorthEast, NorthWest, SouthEast, SouthWest}
 
 abbrev at : ℕ → ℕ → Place
 at file rank = record { file = file; rank = rank }

@@ -6,8 +6,8 @@ use Rattle.std.proofs.lemmas.List.{append_assoc, append-nil, reverse-append, rev
 use Rattle.chess.specs.Letters.{is_check_mark}
 use Rattle.chess.specs.San.{castling_text, castling_with_zeros, IsCastlingText}
 use Rattle.chess.specs.SanWords.{unmarked, IsCastlingStem}
-use Rattle.chess.specs.declared.man.Wing.{Wing}
-use Rattle.chess.specs.declared.man.Wing.TheVariants.{KingSide, QueenSide}
+use Rattle.chess.specs.declared.board.man.Wing.{Wing}
+use Rattle.chess.specs.declared.board.man.Wing.TheVariants.{KingSide, QueenSide}
 
 and_first : (a b : Bool) → (a && b) ≡ true → a ≡ true
 and_first true b e = refl

@@ -5,15 +5,15 @@ use Rattle.chess.specs.Placements.{Placement, man_at}
 use Rattle.chess.specs.Attacks.{Reaches, IsOnRay}
 use Rattle.chess.specs.Positions.{State, king_from, king_to, rook_from, rook_to, IsCheck}
 use Rattle.chess.specs.Moves.{HasMove, IsStalemate}
-use Rattle.chess.specs.San.{Spells, IsMark}
-use Rattle.chess.specs.San.IsMark.{mate, check, quiet}
+use Rattle.chess.specs.San.{Spells, IsCheckMark}
+use Rattle.chess.specs.San.IsCheckMark.{mate, check, quiet}
 use Rattle.chess.specs.Fen.{fields_of, parted_at, is_shortest, number_from}
-use Rattle.chess.specs.declared.man.Man.{Man}
-use Rattle.chess.specs.declared.man.Side.TheVariants.{White, Black}
-use Rattle.chess.specs.declared.man.Kind.TheVariants.{King, Queen, Rook, Knight, Pawn}
-use Rattle.chess.specs.declared.man.Wing.TheVariants.{KingSide, QueenSide}
-use Rattle.chess.specs.declared.direction.Direction.{Direction}
-use Rattle.chess.specs.declared.direction.Direction.TheVariants.{North, South, East, West, NorthEast, NorthWest, SouthEast, SouthWest}
+use Rattle.chess.specs.declared.board.man.Man.{Man}
+use Rattle.chess.specs.declared.board.man.Side.TheVariants.{White, Black}
+use Rattle.chess.specs.declared.board.man.Kind.TheVariants.{King, Queen, Rook, Knight, Pawn}
+use Rattle.chess.specs.declared.board.man.Wing.TheVariants.{KingSide, QueenSide}
+use Rattle.chess.specs.declared.board.direction.Direction.{Direction}
+use Rattle.chess.specs.declared.board.direction.Direction.TheVariants.{North, South, East, West, NorthEast, NorthWest, SouthEast, SouthWest}
 
 -- no way leads from h4 to a5, so no rook or bishop reaches it
 h4_a5 : (way : Direction) (k : ℕ) → IsAhead way k (record { file = 8; rank = 4 }) (record { file = 1; rank = 5 }) → ⊥
@@ -121,13 +121,13 @@ a_count = refl
 -- ---- mate and stalemate
 
 -- mate is a check without a move, stalemate is neither a check nor a mate; the mark of mate is #, of another check +, and stalemate has none
-mate_marked : (P : State) → IsCheck P.men P.turn → ¬ HasMove P → IsMark P (codes "#")
+mate_marked : (P : State) → IsCheck P.men P.turn → ¬ HasMove P → IsCheckMark P (codes "#")
 mate_marked P in_check none = mate (in_check, none)
 
-check_marked : (P : State) → IsCheck P.men P.turn → HasMove P → IsMark P (codes "+")
+check_marked : (P : State) → IsCheck P.men P.turn → HasMove P → IsCheckMark P (codes "+")
 check_marked P in_check some = check in_check (λ mated. mated.1 some)
 
-stalemate_unmarked : (P : State) → IsStalemate P → IsMark P []
+stalemate_unmarked : (P : State) → IsStalemate P → IsCheckMark P []
 stalemate_unmarked P stale = quiet stale.0
 
 stalemate_has_no_move : (P : State) → IsStalemate P → HasMove P → ⊥

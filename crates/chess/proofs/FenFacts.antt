@@ -7,8 +7,8 @@ use Rattle.chess.specs.Positions.{State, king_of, IsOnlyKing, IsKept, FitsEnPass
 use Rattle.chess.specs.Fen.{SpellsPosition, HasWrongKings, HasWrongPawns, HasWrongCheck}
 use Rattle.chess.specs.FenWords.{IsEdgePawn}
 use Rattle.chess.specs.Sets.{Places, is_in, IsSquaresOf, IsTakenFirst}
-use Rattle.chess.specs.declared.man.Side.{Side}
-use Rattle.chess.specs.declared.man.Side.TheVariants.{White, Black}
+use Rattle.chess.specs.declared.board.man.Side.{Side}
+use Rattle.chess.specs.declared.board.man.Side.TheVariants.{White, Black}
 use Rattle.chess.proofs.PlaceFacts.{cases_place, opposite-opposite, true_not_false}
 use Rattle.chess.proofs.LoopFacts.{not_in, still_left, taken_none}
 

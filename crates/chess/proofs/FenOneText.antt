@@ -9,7 +9,7 @@ use Rattle.chess.specs.Letters.{man_letter}
 use Rattle.chess.specs.Fen.{IsSquares, SpellsRank, SpellRanks, IsFen, is_shortest, is_step, joined, row, side_text, or_dash, rights_letters, en_passant_text}
 use Rattle.chess.specs.Fen.IsSquares.{letter, step}
 use Rattle.chess.specs.FenTextWords.{spelled_from}
-use Rattle.chess.specs.declared.man.Man.{Man}
+use Rattle.chess.specs.declared.board.man.Man.{Man}
 
 -- a run of empty squares behind others is a longer run
 longer_run : (k n : ℕ) (more : List (Option Man)) → spelled_from k (replicate n None ++ more) ≡ spelled_from (k + n) more

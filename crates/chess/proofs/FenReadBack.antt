@@ -10,14 +10,15 @@ use Rattle.chess.specs.Letters.{man_letter}
 use Rattle.chess.specs.Positions.{State, has_right, FitsEnPassant, IsSound}
 use Rattle.chess.specs.Fen.{before_first, parted_at, without_empty, fields_of, IsSquares, SpellsRank, SpellRanks, row, side_text, right_letter, has_byte, is_distinct, is_right_letter, GivesRights, GivesEnPassant, number_from, is_digit, IsCount, SpellsPosition, ReadsFen, joined, rights_letters, or_dash, en_passant_text, IsFen}
 use Rattle.chess.specs.Fen.IsSquares.{letter, step}
-use Rattle.chess.specs.declared.man.Man.{Man}
-use Rattle.chess.specs.declared.man.Side.{Side}
-use Rattle.chess.specs.declared.man.Side.TheVariants.{White, Black}
-use Rattle.chess.specs.declared.man.Kind.{Kind}
-use Rattle.chess.specs.declared.man.Kind.TheVariants.{King, Queen, Rook, Bishop, Knight, Pawn}
-use Rattle.chess.specs.declared.man.Wing.{Wing}
-use Rattle.chess.specs.declared.man.Wing.TheVariants.{KingSide, QueenSide}
-use Rattle.chess.specs.declared.man.CastlingRights.{CastlingRights}
+use Rattle.chess.specs.declared.board.man.Man.{Man}
+use Rattle.chess.specs.declared.board.man.Side.{Side}
+use Rattle.chess.specs.declared.board.man.Side.TheVariants.{White, Black}
+use Rattle.chess.specs.declared.board.man.Kind.{Kind}
+use Rattle.chess.specs.declared.board.man.Kind.TheVariants.{King, Queen, Rook, Bishop, Knight, Pawn}
+use Rattle.chess.specs.declared.board.man.Wing.{Wing}
+use Rattle.chess.specs.declared.board.man.Wing.TheVariants.{KingSide, QueenSide}
+use Rattle.chess.specs.declared.board.man.CastlingRights.{CastlingRights}
+use Rattle.chess.proofs.LetterFacts.{letter_high}
 use Rattle.chess.proofs.SoundRead.{sound_read}
 
 -- ---- texts without a separator are found again
@@ -82,20 +83,8 @@ has_byte-append s (b ∷ x) y none other =
 other_byte : (b s : ℕ) → s ≤ 47 → 48 ≤ b → (b == s) ≡ false
 other_byte b s low high = grind (arith, nat_tests)
 
-kind_above : (kind : Kind) → 48 ≤ man_letter (record { side = White; kind = kind })
-kind_above King = omega arith
-kind_above Queen = omega arith
-kind_above Rook = omega arith
-kind_above Bishop = omega arith
-kind_above Knight = omega arith
-kind_above Pawn = omega arith
-
-letter_above : (side : Side) (kind : Kind) → 48 ≤ man_letter (record { side = side; kind = kind })
-letter_above White kind = kind_above kind
-letter_above Black kind = let above = kind_above kind in omega arith
-
 byte_above : (b : ℕ) (own : List (Option Man)) → IsSquares b own → 48 ≤ b
-byte_above _ _ (letter man) = letter_above man.side man.kind
+byte_above _ _ (letter man) = let high = letter_high man.side man.kind in omega arith
 byte_above _ _ (step n low high) = omega arith
 
 rank_free : (s : ℕ) → s ≤ 47 → (x : List ℕ) (squares : List (Option Man)) → SpellsRank x squares → has_byte s x ≡ false

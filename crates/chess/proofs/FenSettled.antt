@@ -11,12 +11,12 @@ use Rattle.chess.specs.Letters.{square_text}
 use Rattle.chess.specs.Laws.{EachTextIsReadOrRefused}
 use Rattle.chess.specs.Fen.{fields_of, SpellsMen, side_text, right_letter, has_byte, is_distinct, is_right_letter, GivesRights, GivesEnPassant, is_digit, number_from, IsCount, GiveCounts, AreAtHome, SpellsPosition, HasWrongKings, HasWrongPawns}
 use Rattle.chess.specs.declared.fen.FenError.TheVariants.{Syntax, Kings, Pawns, InCheck}
-use Rattle.chess.specs.declared.man.CastlingRights.{CastlingRights}
-use Rattle.chess.specs.declared.man.Man.{Man}
-use Rattle.chess.specs.declared.man.Side.{Side}
-use Rattle.chess.specs.declared.man.Side.TheVariants.{White, Black}
-use Rattle.chess.specs.declared.man.Wing.{Wing}
-use Rattle.chess.specs.declared.man.Wing.TheVariants.{KingSide, QueenSide}
+use Rattle.chess.specs.declared.board.man.CastlingRights.{CastlingRights}
+use Rattle.chess.specs.declared.board.man.Man.{Man}
+use Rattle.chess.specs.declared.board.man.Side.{Side}
+use Rattle.chess.specs.declared.board.man.Side.TheVariants.{White, Black}
+use Rattle.chess.specs.declared.board.man.Wing.{Wing}
+use Rattle.chess.specs.declared.board.man.Wing.TheVariants.{KingSide, QueenSide}
 use Rattle.chess.proofs.PlaceFacts.{cases_place}
 use Rattle.chess.proofs.Settled.{Settled, settled_like, settled_not, settled_both, settled_three, settled_either, settled_le, settled_true, settled_below, settled_option, cases_bytes}
 use Rattle.chess.proofs.Searches.{search_square, search_side}

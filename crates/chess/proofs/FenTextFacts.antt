@@ -9,11 +9,11 @@ use Rattle.chess.specs.Letters.{man_letter}
 use Rattle.chess.specs.Fen.{SpellsRank, SpellRanks, is_shortest, is_step, joined, row}
 use Rattle.chess.specs.Fen.IsSquares.{letter, step}
 use Rattle.chess.specs.FenTextWords.{digit_of, spelled_from, squares_from, rank_text, rank_texts, each_after}
-use Rattle.chess.specs.declared.man.Man.{Man}
-use Rattle.chess.specs.declared.man.Side.{Side}
-use Rattle.chess.specs.declared.man.Side.TheVariants.{White, Black}
-use Rattle.chess.specs.declared.man.Kind.{Kind}
-use Rattle.chess.specs.declared.man.Kind.TheVariants.{King, Queen, Rook, Bishop, Knight, Pawn}
+use Rattle.chess.specs.declared.board.man.Man.{Man}
+use Rattle.chess.specs.declared.board.man.Side.{Side}
+use Rattle.chess.specs.declared.board.man.Side.TheVariants.{White, Black}
+use Rattle.chess.specs.declared.board.man.Kind.{Kind}
+use Rattle.chess.specs.declared.board.man.Kind.TheVariants.{King, Queen, Rook, Bishop, Knight, Pawn}
 
 -- ---- lengths
 

@@ -27,6 +27,12 @@ parted_by_run separator (b ∷ x) =
       | false ↦ ap (before_first b) (parted_by_run separator x)
     ]
 
+-- the first part, and what is parted behind it
+pub first_part : (separator : ℕ) (text run rest : List ℕ) → run ≡ run_of separator text → rest ≡ after_run separator text
+    → parted_at separator text ≡ run ∷ parted_behind separator rest
+first_part separator text run rest r a =
+    parted_by_run separator text ∙ ap (λ first. first ∷ parted_behind separator (after_run separator text)) (sym r) ∙ ap (λ more. run ∷ parted_behind separator more) (sym a)
+
 -- what follows the first run begins with a separator, or is empty: as fields it is what follows that separator
 fields_behind : (text : List ℕ) → without_empty (parted_behind 32 (after_run 32 text)) ≡ fields_of (after_run 32 text)
 fields_behind [] = refl

@@ -7,11 +7,11 @@ use Rattle.chess.specs.Placements.{Placement, man_at, opposite, IsEmpty}
 use Rattle.chess.specs.Attacks.{IsForward}
 use Rattle.chess.specs.Positions.{State, king_of, rook_of, pawn_of, king_to, rook_from, rook_to, IsOnlyKing, FitsEnPassant}
 use Rattle.chess.specs.Moves.{Goes, Castles, arriving, taken, is_pawn, is_square, is_en_passant, men_after, IsPawnMove}
-use Rattle.chess.specs.declared.man.Man.{Man}
-use Rattle.chess.specs.declared.man.Side.{Side}
-use Rattle.chess.specs.declared.man.Kind.TheVariants.{King, Queen, Rook, Bishop, Knight, Pawn}
-use Rattle.chess.specs.declared.man.Wing.{Wing}
-use Rattle.chess.specs.declared.man.Wing.TheVariants.{KingSide, QueenSide}
+use Rattle.chess.specs.declared.board.man.Man.{Man}
+use Rattle.chess.specs.declared.board.man.Side.{Side}
+use Rattle.chess.specs.declared.board.man.Kind.TheVariants.{King, Queen, Rook, Bishop, Knight, Pawn}
+use Rattle.chess.specs.declared.board.man.Wing.{Wing}
+use Rattle.chess.specs.declared.board.man.Wing.TheVariants.{KingSide, QueenSide}
 use Rattle.chess.specs.declared.moves.Move.{Move}
 use Rattle.chess.proofs.PlaceFacts.{same_square-then, cases_side, same_kind, some_not_none}
 use Rattle.chess.proofs.GoesFacts.{IsTried, goes_castle, goes_promote, no_king_taken, has_arrived}

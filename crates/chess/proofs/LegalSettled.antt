@@ -7,15 +7,15 @@ use Rattle.chess.specs.Attacks.{IsClearFor, IsOnRay, IsForward, Reaches, IsAttac
 use Rattle.chess.specs.Positions.{State, king_of, home_rank, pawn_rank, has_right, king_from, king_to, rook_to, IsCheck}
 use Rattle.chess.specs.Moves.{IsDoubleStep, IsPawnMove, IsPromotionKind, IsPromotion, Promotes, IsBetween, Castles, IsKingMove, Goes, IsPseudoLegal, men_after, IsUnbarred, IsLegal}
 use Rattle.chess.specs.CellFacts.{on_board_or_not}
-use Rattle.chess.specs.declared.direction.Direction.{Direction}
-use Rattle.chess.specs.declared.direction.Direction.TheVariants.{North, South, East, West, NorthEast, NorthWest, SouthEast, SouthWest}
-use Rattle.chess.specs.declared.man.Man.{Man}
-use Rattle.chess.specs.declared.man.Side.{Side}
-use Rattle.chess.specs.declared.man.Side.TheVariants.{White, Black}
-use Rattle.chess.specs.declared.man.Kind.{Kind}
-use Rattle.chess.specs.declared.man.Kind.TheVariants.{King, Queen, Rook, Bishop, Knight, Pawn}
-use Rattle.chess.specs.declared.man.Wing.{Wing}
-use Rattle.chess.specs.declared.man.Wing.TheVariants.{KingSide, QueenSide}
+use Rattle.chess.specs.declared.board.direction.Direction.{Direction}
+use Rattle.chess.specs.declared.board.direction.Direction.TheVariants.{North, South, East, West, NorthEast, NorthWest, SouthEast, SouthWest}
+use Rattle.chess.specs.declared.board.man.Man.{Man}
+use Rattle.chess.specs.declared.board.man.Side.{Side}
+use Rattle.chess.specs.declared.board.man.Side.TheVariants.{White, Black}
+use Rattle.chess.specs.declared.board.man.Kind.{Kind}
+use Rattle.chess.specs.declared.board.man.Kind.TheVariants.{King, Queen, Rook, Bishop, Knight, Pawn}
+use Rattle.chess.specs.declared.board.man.Wing.{Wing}
+use Rattle.chess.specs.declared.board.man.Wing.TheVariants.{KingSide, QueenSide}
 use Rattle.chess.specs.declared.moves.Move.{Move}
 use Rattle.chess.proofs.AfterFacts.{after_on_board}
 use Rattle.chess.proofs.PlaceFacts.{cases_place}

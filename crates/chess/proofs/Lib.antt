@@ -1,4 +1,9 @@
 pub mod PlaceFacts
+pub mod StepFacts
+pub mod BitFacts
+pub mod HitFacts
+pub mod FillFacts
+pub mod LeaperFacts
 pub mod GoesFacts
 pub mod AfterFacts
 pub mod KingFacts
@@ -11,6 +16,7 @@ pub mod StartFacts
 pub mod UsualFacts
 pub mod FieldFacts
 pub mod RestFacts
+pub mod LetterFacts
 pub mod RankFacts
 pub mod CountFacts
 pub mod FenFacts

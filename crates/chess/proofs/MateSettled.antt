@@ -4,8 +4,8 @@ use Rattle.chess.specs.Squares.{Place, IsOnBoard}
 use Rattle.chess.specs.Placements.{AreOnBoard}
 use Rattle.chess.specs.Positions.{State}
 use Rattle.chess.specs.Moves.{IsLegal, CanGo, HasMove, IsMate, IsStalemate}
-use Rattle.chess.specs.declared.man.Kind.{Kind}
-use Rattle.chess.specs.declared.man.Wing.{Wing}
+use Rattle.chess.specs.declared.board.man.Kind.{Kind}
+use Rattle.chess.specs.declared.board.man.Wing.{Wing}
 use Rattle.chess.specs.declared.moves.Move.{Move}
 use Rattle.chess.proofs.Settled.{Settled, settled_like, settled_not, settled_both, search_option}
 use Rattle.chess.proofs.Searches.{search_square, search_wing, search_any_kind}

@@ -10,14 +10,14 @@ use Rattle.chess.specs.SanWords.{Fits, IsNext, HasNone, IsMoveSaid, IsCastlingOn
 use Rattle.chess.specs.SanAnswers.{IsAnswer}
 use Rattle.chess.specs.Sets.{Places, is_in, IsTakenFirst, IsSquaresOf}
 use Rattle.chess.specs.MoveWords.{IsLeft}
-use Rattle.chess.specs.declared.man.Man.{Man}
-use Rattle.chess.specs.declared.man.Kind.{Kind}
-use Rattle.chess.specs.declared.man.Kind.TheVariants.{King, Queen, Rook, Bishop, Knight, Pawn}
-use Rattle.chess.specs.declared.man.Wing.{Wing}
-use Rattle.chess.specs.declared.man.Wing.TheVariants.{KingSide, QueenSide}
+use Rattle.chess.specs.declared.board.man.Man.{Man}
+use Rattle.chess.specs.declared.board.man.Kind.{Kind}
+use Rattle.chess.specs.declared.board.man.Kind.TheVariants.{King, Queen, Rook, Bishop, Knight, Pawn}
+use Rattle.chess.specs.declared.board.man.Wing.{Wing}
+use Rattle.chess.specs.declared.board.man.Wing.TheVariants.{KingSide, QueenSide}
 use Rattle.chess.specs.declared.moves.Move.{Move}
-use Rattle.chess.specs.declared.san_read.SanError.{SanError}
-use Rattle.chess.specs.declared.san_read.SanError.TheVariants as errors
+use Rattle.chess.specs.declared.move_text.SanError.{SanError}
+use Rattle.chess.specs.declared.move_text.SanError.TheVariants as errors
 use Rattle.chess.proofs.PlaceFacts.{cases_place, same_square-same, true_not_false, same_side, man_of}
 use Rattle.chess.proofs.LoopFacts.{left_more}
 use Rattle.chess.proofs.GoesFacts.{goes_castle}

@@ -11,10 +11,10 @@ use Rattle.chess.specs.San.{Said, letter_text, file_text, rank_text, promotion_t
 use Rattle.chess.specs.Moves.{IsPromotionKind}
 use Rattle.chess.specs.Laws.{NamesOneNoneOrSeveral, EachTextNamesOneNoneOrSeveral}
 use Rattle.chess.specs.CellFacts.{on_board_or_not}
-use Rattle.chess.specs.declared.man.Man.{Man}
-use Rattle.chess.specs.declared.man.Kind.{Kind}
-use Rattle.chess.specs.declared.man.Kind.TheVariants.{Pawn}
-use Rattle.chess.specs.declared.man.Wing.{Wing}
+use Rattle.chess.specs.declared.board.man.Man.{Man}
+use Rattle.chess.specs.declared.board.man.Kind.{Kind}
+use Rattle.chess.specs.declared.board.man.Kind.TheVariants.{Pawn}
+use Rattle.chess.specs.declared.board.man.Wing.{Wing}
 use Rattle.chess.specs.declared.moves.Move.{Move}
 use Rattle.chess.proofs.PlaceFacts.{cases_place}
 use Rattle.chess.proofs.Settled.{Settled, settled_like, settled_both, settled_three, settled_either, settled_implies, settled_if_some, settled_not, settled_le, settled_true, settled_below, settled_held, settled_front, SearchIn, IsAny, search_any, search_both, search_bool, search_option, cases_option}

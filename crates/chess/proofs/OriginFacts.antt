@@ -1,4 +1,4 @@
--- What tells a man from its rivals leaves it alone among them.
+-- What distinguishes a man from its rivals leaves it alone among them.
 use Rattle.std.proofs.Common.{◌≡◌, ℕ, refl, subst, Option, Some, None, IfSome, List, ◌++◌}
 use Rattle.chess.specs.Squares.{Place, IsOnBoard}
 use Rattle.chess.specs.Positions.{State}

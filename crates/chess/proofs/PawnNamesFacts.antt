@@ -9,9 +9,9 @@ use Rattle.chess.specs.Moves.{IsLegal, IsPromotion, IsPromotionKind, IsPawnMove,
 use Rattle.chess.specs.Letters.{file_letter, square_text, is_check_mark}
 use Rattle.chess.specs.San.{Said, Spells, Agrees, IsOnlyNamed, is_capture, pawn_text, promotion_text}
 use Rattle.chess.specs.SanWords.{IsMoveSaid}
-use Rattle.chess.specs.declared.man.Man.{Man}
-use Rattle.chess.specs.declared.man.Kind.{Kind}
-use Rattle.chess.specs.declared.man.Kind.TheVariants.{Pawn}
+use Rattle.chess.specs.declared.board.man.Man.{Man}
+use Rattle.chess.specs.declared.board.man.Kind.{Kind}
+use Rattle.chess.specs.declared.board.man.Kind.TheVariants.{Pawn}
 use Rattle.chess.specs.declared.moves.Move.{Move}
 use Rattle.chess.proofs.PlaceFacts.{same_side, same_kind, man_of}
 use Rattle.chess.proofs.GoesFacts.{goes_promote}

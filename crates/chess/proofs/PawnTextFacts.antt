@@ -1,4 +1,4 @@
--- How a pawn goes, as its text says it: a capture changes the file, and the file, or its absence, tells the pawn.
+-- How a pawn goes, as its text says it: a capture changes the file, and the file, or its absence, says which pawn.
 use Rattle.std.proofs.Common.{◌≡◌, ◌⊎◌, ℕ, true, false, not, ◌&&◌, inl, inr, ap, refl, sym, subst, ◌∙◌, arith, Option, Some, is_some}
 use Rattle.std.specs.Prelude.{◌==◌, if◌then◌else◌}
 use Rattle.std.proofs.lemmas.Bool.{cases_eq}
@@ -9,9 +9,9 @@ use Rattle.chess.specs.Attacks.{IsForward}
 use Rattle.chess.specs.Positions.{State, pawn_of}
 use Rattle.chess.specs.Moves.{IsPawnMove, IsSingleStep, IsDoubleStep, is_pawn, is_square, is_en_passant}
 use Rattle.chess.specs.San.{is_capture}
-use Rattle.chess.specs.declared.man.Man.{Man}
-use Rattle.chess.specs.declared.man.Side.{Side}
-use Rattle.chess.specs.declared.man.Side.TheVariants.{White, Black}
+use Rattle.chess.specs.declared.board.man.Man.{Man}
+use Rattle.chess.specs.declared.board.man.Side.{Side}
+use Rattle.chess.specs.declared.board.man.Side.TheVariants.{White, Black}
 use Rattle.chess.specs.declared.moves.Move.{Move}
 use Rattle.chess.proofs.PlaceFacts.{place_of, same_square-same, some_not_none, true_not_false}
 use Rattle.chess.proofs.GoesFacts.{IsTried}

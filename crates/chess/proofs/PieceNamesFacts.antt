@@ -10,9 +10,9 @@ use Rattle.chess.specs.Moves.{IsLegal}
 use Rattle.chess.specs.Letters.{kind_letter, square_text, is_check_mark, is_sign}
 use Rattle.chess.specs.San.{Said, Spells, Agrees, IsOnlyNamed, IsRival, IsPieceText, is_capture, capture_text, file_text, rank_text}
 use Rattle.chess.specs.SanWords.{IsMoveSaid}
-use Rattle.chess.specs.declared.man.Man.{Man}
-use Rattle.chess.specs.declared.man.Kind.{Kind}
-use Rattle.chess.specs.declared.man.Kind.TheVariants.{Pawn}
+use Rattle.chess.specs.declared.board.man.Man.{Man}
+use Rattle.chess.specs.declared.board.man.Kind.{Kind}
+use Rattle.chess.specs.declared.board.man.Kind.TheVariants.{Pawn}
 use Rattle.chess.specs.declared.moves.Move.{Move}
 use Rattle.chess.proofs.PlaceFacts.{cases_place, same_kind}
 use Rattle.chess.proofs.GoesFacts.{goes_promote}

@@ -10,50 +10,8 @@ use Rattle.chess.specs.Letters.{kind_letter, man_letter}
 use Rattle.chess.specs.Fen.{IsSquares, SpellsRank, row}
 use Rattle.chess.specs.Fen.IsSquares.{letter, step}
 use Rattle.chess.specs.FenWords.{IsByteOf, IsRow, IsPutUpTo}
-use Rattle.chess.specs.declared.man.Man.{Man}
-use Rattle.chess.specs.declared.man.Side.{Side}
-use Rattle.chess.specs.declared.man.Side.TheVariants.{White, Black}
-use Rattle.chess.specs.declared.man.Kind.{Kind}
-use Rattle.chess.specs.declared.man.Kind.TheVariants.{King, Queen, Rook, Bishop, Knight, Pawn}
-
--- ---- each man has its own letter
-
-kind_by : ℕ → Kind
-kind_by n =
-    if n == 75 then King else if n == 81 then Queen else if n == 82 then Rook else if n == 66 then Bishop else if n == 78 then Knight else Pawn
-
-man_by : ℕ → Man
-man_by n = if nat_le n 90 then record { side = White; kind = kind_by n } else record { side = Black; kind = kind_by (n - 32) }
-
-man_back : (side : Side) (other : Kind) → man_by (man_letter (record { side = side; kind = other })) ≡ record { side = side; kind = other }
-unfolding man_by kind_by
-man_back White King = refl
-man_back White Queen = refl
-man_back White Rook = refl
-man_back White Bishop = refl
-man_back White Knight = refl
-man_back White Pawn = refl
-man_back Black King = refl
-man_back Black Queen = refl
-man_back Black Rook = refl
-man_back Black Bishop = refl
-man_back Black Knight = refl
-man_back Black Pawn = refl
-
-one_man : (a b : Man) → man_letter a ≡ man_letter b → a ≡ b
-one_man a b e = sym (man_back a.side a.kind) ∙ ap man_by e ∙ man_back b.side b.kind
-
-kind_high : (other : Kind) → 57 ≤ kind_letter other
-kind_high King = omega arith
-kind_high Queen = omega arith
-kind_high Rook = omega arith
-kind_high Bishop = omega arith
-kind_high Knight = omega arith
-kind_high Pawn = omega arith
-
-letter_high : (side : Side) (other : Kind) → 57 ≤ man_letter (record { side = side; kind = other })
-letter_high White other = kind_high other
-letter_high Black other = let high = kind_high other in omega arith
+use Rattle.chess.specs.declared.board.man.Man.{Man}
+use Rattle.chess.proofs.LetterFacts.{one_man, letter_high}
 
 -- ---- what a byte spells
 

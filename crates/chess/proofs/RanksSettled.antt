@@ -10,7 +10,7 @@ use Rattle.chess.specs.SetFacts.{square_at-index_of}
 use Rattle.chess.specs.Letters.{man_letter}
 use Rattle.chess.specs.Fen.{IsSquares, SpellsRank, row, SpellRanks, SpellsMen, parted_at}
 use Rattle.chess.specs.Fen.IsSquares.{letter, step}
-use Rattle.chess.specs.declared.man.Man.{Man}
+use Rattle.chess.specs.declared.board.man.Man.{Man}
 use Rattle.chess.proofs.Settled.{Settled, settled_like, settled_both, settled_three, settled_either, settled_le, settled_below}
 use Rattle.chess.proofs.Searches.{search_man}
 

@@ -4,7 +4,7 @@ use Rattle.chess.specs.Positions.{State}
 use Rattle.chess.specs.Moves.{IsLegal}
 use Rattle.chess.specs.San.{Said, Spells, IsCastlingText, Agrees, IsOnlyNamed}
 use Rattle.chess.specs.SanWords.{IsMoveSaid}
-use Rattle.chess.specs.declared.man.Wing.{Wing}
+use Rattle.chess.specs.declared.board.man.Wing.{Wing}
 use Rattle.chess.specs.declared.moves.Move.{Move}
 use Rattle.chess.proofs.NamedFacts.{castling_only, not_both}
 use Rattle.chess.proofs.SaidOnceFacts.{one_wing, one_said}

@@ -3,7 +3,7 @@ use Rattle.std.proofs.Common.{◌≡◌, ℕ, sym, ◌∙◌, Some, List, revers
 use Rattle.std.proofs.lemmas.List.{reverse-reverse}
 use Rattle.chess.specs.San.{Said, Spells, IsCastlingText}
 use Rattle.chess.specs.SanWords.{unmarked}
-use Rattle.chess.specs.declared.man.Wing.{Wing}
+use Rattle.chess.specs.declared.board.man.Wing.{Wing}
 use Rattle.chess.proofs.CastlingTextFacts.{stem_castles, castling_found}
 use Rattle.chess.proofs.NamedFacts.{some_wing}
 use Rattle.chess.proofs.SpelledParts.{said_of, said_bytes}

@@ -4,16 +4,16 @@ use Rattle.std.specs.List.{list_all}
 use Rattle.chess.specs.Positions.{State, IsSound}
 use Rattle.chess.specs.Moves.{after, IsLegal}
 use Rattle.chess.specs.Letters.{is_check_mark}
-use Rattle.chess.specs.San.{IsOnlyNamed, IsPieceText, IsBody, IsMark, IsSan, pawn_text}
-use Rattle.chess.specs.San.IsMark.{mate, check, quiet}
-use Rattle.chess.specs.declared.man.Kind.{Kind}
-use Rattle.chess.specs.declared.man.Kind.TheVariants.{King, Queen, Rook, Bishop, Knight, Pawn}
+use Rattle.chess.specs.San.{IsOnlyNamed, IsPieceText, IsBody, IsCheckMark, IsSan, pawn_text}
+use Rattle.chess.specs.San.IsCheckMark.{mate, check, quiet}
+use Rattle.chess.specs.declared.board.man.Kind.{Kind}
+use Rattle.chess.specs.declared.board.man.Kind.TheVariants.{King, Queen, Rook, Bishop, Knight, Pawn}
 use Rattle.chess.specs.declared.moves.Move.{Move}
 use Rattle.chess.proofs.SaidNamesFacts.{castling_named}
 use Rattle.chess.proofs.PieceNamesFacts.{piece_named}
 use Rattle.chess.proofs.PawnNamesFacts.{pawn_named}
 
-marks_are : (P : State) (mark : List ℕ) → IsMark P mark → list_all is_check_mark mark ≡ true
+marks_are : (P : State) (mark : List ℕ) → IsCheckMark P mark → list_all is_check_mark mark ≡ true
 marks_are P _ (mate mated) = refl
 marks_are P _ (check in_check other) = refl
 marks_are P _ (quiet calm) = refl

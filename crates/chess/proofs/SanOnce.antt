@@ -3,13 +3,13 @@ use Rattle.std.proofs.Common.{◌≡◌, ℕ, refl, sym, ap, subst, ◌∙◌, O
 use Rattle.chess.specs.Positions.{State}
 use Rattle.chess.specs.Moves.{after}
 use Rattle.chess.specs.Letters.{kind_letter, square_text}
-use Rattle.chess.specs.San.{IsDisambiguation, IsBody, IsMark, IsSan, capture_text}
+use Rattle.chess.specs.San.{IsDisambiguation, IsBody, IsCheckMark, IsSan, capture_text}
 use Rattle.chess.specs.San.IsDisambiguation.{alone, by_file, by_rank, by_both}
-use Rattle.chess.specs.San.IsMark.{mate, check, quiet}
-use Rattle.chess.specs.declared.man.Man.{Man}
-use Rattle.chess.specs.declared.man.Kind.{Kind}
-use Rattle.chess.specs.declared.man.Kind.TheVariants.{King, Queen, Rook, Bishop, Knight, Pawn}
-use Rattle.chess.specs.declared.man.Wing.{Wing}
+use Rattle.chess.specs.San.IsCheckMark.{mate, check, quiet}
+use Rattle.chess.specs.declared.board.man.Man.{Man}
+use Rattle.chess.specs.declared.board.man.Kind.{Kind}
+use Rattle.chess.specs.declared.board.man.Kind.TheVariants.{King, Queen, Rook, Bishop, Knight, Pawn}
+use Rattle.chess.specs.declared.board.man.Wing.{Wing}
 use Rattle.chess.specs.declared.moves.Move.{Move}
 
 one_origin : (P : State) (m : Move) (x y : List ℕ) → IsDisambiguation P m x → IsDisambiguation P m y → x ≡ y
@@ -30,7 +30,7 @@ one_origin P m _ _ (by_both file rank) (by_file some other) = absurd (other file
 one_origin P m _ _ (by_both file rank) (by_rank also other) = absurd (other rank)
 one_origin P m _ _ (by_both file rank) (by_both also too) = refl
 
-one_mark : (P : State) (x y : List ℕ) → IsMark P x → IsMark P y → x ≡ y
+one_mark : (P : State) (x y : List ℕ) → IsCheckMark P x → IsCheckMark P y → x ≡ y
 one_mark P _ _ (mate mated) (mate also) = refl
 one_mark P _ _ (mate mated) (check also other) = absurd (other mated)
 one_mark P _ _ (mate mated) (quiet calm) = absurd (calm mated.0)

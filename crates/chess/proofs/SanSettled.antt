@@ -7,13 +7,13 @@ use Rattle.chess.specs.Placements.{man_at, AreOnBoard}
 use Rattle.chess.specs.Positions.{State}
 use Rattle.chess.specs.Moves.{after}
 use Rattle.chess.specs.Letters.{kind_letter, file_letter, rank_digit, square_text}
-use Rattle.chess.specs.San.{IsRival, HasRival, IsDisambiguation, IsPieceText, IsBody, IsMark, castling_text, capture_text, pawn_text}
+use Rattle.chess.specs.San.{IsRival, HasRival, IsDisambiguation, IsPieceText, IsBody, IsCheckMark, castling_text, capture_text, pawn_text}
 use Rattle.chess.specs.San.IsDisambiguation.{alone, by_file, by_rank, by_both}
-use Rattle.chess.specs.San.IsMark.{mate, check, quiet}
+use Rattle.chess.specs.San.IsCheckMark.{mate, check, quiet}
 use Rattle.chess.specs.Laws.{EachMoveHasAText}
-use Rattle.chess.specs.declared.man.Kind.{Kind}
-use Rattle.chess.specs.declared.man.Kind.TheVariants.{King, Queen, Rook, Bishop, Knight, Pawn}
-use Rattle.chess.specs.declared.man.Wing.{Wing}
+use Rattle.chess.specs.declared.board.man.Kind.{Kind}
+use Rattle.chess.specs.declared.board.man.Kind.TheVariants.{King, Queen, Rook, Bishop, Knight, Pawn}
+use Rattle.chess.specs.declared.board.man.Wing.{Wing}
 use Rattle.chess.specs.declared.moves.Move.{Move}
 use Rattle.chess.proofs.OnBoard.{men_stay_on_board}
 use Rattle.chess.proofs.PlaceFacts.{cases_place}
@@ -63,7 +63,7 @@ some_body P m None Rook on_board = some_piece P m Rook on_board
 some_body P m None Bishop on_board = some_piece P m Bishop on_board
 some_body P m None Knight on_board = some_piece P m Knight on_board
 
-some_mark : (P : State) → AreOnBoard P.men → (x : List ℕ) × IsMark P x
+some_mark : (P : State) → AreOnBoard P.men → (x : List ℕ) × IsCheckMark P x
 some_mark P on_board = elim (settled_check P.men P.turn on_board) [
   | inr calm ↦ ([], quiet calm)
   | inl in_check ↦ elim (settled_mate P on_board) [

@@ -9,7 +9,7 @@ use Rattle.chess.specs.San.{IsRival, HasRival, IsDisambiguation}
 use Rattle.chess.specs.San.IsDisambiguation.{alone, by_file, by_rank, by_both}
 use Rattle.chess.specs.Sets.{Places, is_in, no_places, HoldsExactly, IsSquaresOf, IsTakenFirst}
 use Rattle.chess.specs.SanTextWords.{Appends, HasSquare, AreRivalsSifted}
-use Rattle.chess.specs.declared.man.Man.{Man}
+use Rattle.chess.specs.declared.board.man.Man.{Man}
 use Rattle.chess.specs.declared.moves.Move.{Move}
 use Rattle.chess.proofs.LoopFacts.{sifted_start, sifted_more, left_start, left_more}
 
@@ -41,7 +41,7 @@ rivals_more P m man n old new found more t test so_far taken tested put = record
   alike = left_more (λ s. man_at P.men s ≡ Some man) (λ s. ⊥) n old new t so_far.alike taken (λ clash. clash);
 }
 
--- ---- what tells a man from its rivals
+-- ---- what distinguishes a man from its rivals
 
 pub alone_is_told : (P : State) (m : Move) (set : Places) (old : List ℕ) → HoldsExactly (IsRival P m) set
     → (((s : Place) × IsOnBoard s × (is_in set s ≡ true)) → ⊥) → Appends (IsDisambiguation P m) old old

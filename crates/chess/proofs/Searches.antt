@@ -3,13 +3,13 @@ use Rattle.std.proofs.Common.{◌⊎◌, Option, inl, inr, refl, subst, sym}
 use Rattle.chess.specs.Squares.{Place, IsOnBoard, square_at, index_of}
 use Rattle.chess.specs.SetFacts.{square_at-index_of, index_of-below, on_board-square_at}
 use Rattle.chess.specs.Codes.{is_black_side, side_of, side_back, kind_bits, kind_by, kind_back}
-use Rattle.chess.specs.declared.direction.Direction.{Direction}
-use Rattle.chess.specs.declared.direction.Direction.TheVariants.{North, South, East, West, NorthEast, NorthWest, SouthEast, SouthWest}
-use Rattle.chess.specs.declared.man.Man.{Man}
-use Rattle.chess.specs.declared.man.Side.{Side}
-use Rattle.chess.specs.declared.man.Kind.{Kind}
-use Rattle.chess.specs.declared.man.Wing.{Wing}
-use Rattle.chess.specs.declared.man.Wing.TheVariants.{KingSide, QueenSide}
+use Rattle.chess.specs.declared.board.direction.Direction.{Direction}
+use Rattle.chess.specs.declared.board.direction.Direction.TheVariants.{North, South, East, West, NorthEast, NorthWest, SouthEast, SouthWest}
+use Rattle.chess.specs.declared.board.man.Man.{Man}
+use Rattle.chess.specs.declared.board.man.Side.{Side}
+use Rattle.chess.specs.declared.board.man.Kind.{Kind}
+use Rattle.chess.specs.declared.board.man.Wing.{Wing}
+use Rattle.chess.specs.declared.board.man.Wing.TheVariants.{KingSide, QueenSide}
 use Rattle.chess.specs.declared.moves.Move.{Move}
 use Rattle.chess.proofs.PlaceFacts.{cases_place}
 use Rattle.chess.proofs.Settled.{settled_like, settled_either, settled_below, Search, SearchIn, search_by, search_pair, search_bool, search_option, Cases, cases_by, cases_pair, cases_bool, cases_option}

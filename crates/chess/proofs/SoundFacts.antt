@@ -7,14 +7,14 @@ use Rattle.chess.specs.Placements.{man_at, opposite, IsEmpty}
 use Rattle.chess.specs.Attacks.{IsForward}
 use Rattle.chess.specs.Positions.{State, king_of, rook_of, pawn_of, home_rank, pawn_rank, passed_rank, has_right, king_from, rook_from, IsCheck, IsOnlyKing, IsSound, FitsEnPassant}
 use Rattle.chess.specs.Moves.{Goes, IsPromotion, Promotes, IsPawnMove, IsDoubleStep, arriving, is_pawn, men_after, keeps_right, rights_after, en_passant_after, after}
-use Rattle.chess.specs.declared.man.Man.{Man}
-use Rattle.chess.specs.declared.man.Side.{Side}
-use Rattle.chess.specs.declared.man.Side.TheVariants.{White, Black}
-use Rattle.chess.specs.declared.man.Kind.{Kind}
-use Rattle.chess.specs.declared.man.Kind.TheVariants.{Rook, Pawn}
-use Rattle.chess.specs.declared.man.Wing.{Wing}
-use Rattle.chess.specs.declared.man.Wing.TheVariants.{KingSide, QueenSide}
-use Rattle.chess.specs.declared.man.CastlingRights.{CastlingRights}
+use Rattle.chess.specs.declared.board.man.Man.{Man}
+use Rattle.chess.specs.declared.board.man.Side.{Side}
+use Rattle.chess.specs.declared.board.man.Side.TheVariants.{White, Black}
+use Rattle.chess.specs.declared.board.man.Kind.{Kind}
+use Rattle.chess.specs.declared.board.man.Kind.TheVariants.{Rook, Pawn}
+use Rattle.chess.specs.declared.board.man.Wing.{Wing}
+use Rattle.chess.specs.declared.board.man.Wing.TheVariants.{KingSide, QueenSide}
+use Rattle.chess.specs.declared.board.man.CastlingRights.{CastlingRights}
 use Rattle.chess.specs.declared.moves.Move.{Move}
 use Rattle.chess.proofs.PlaceFacts.{place_of, cases_place, same_square-same, cases_side, opposite-opposite, same_kind, some_not_none, man_of}
 use Rattle.chess.proofs.GoesFacts.{IsTried, goes_castle, has_arrived}

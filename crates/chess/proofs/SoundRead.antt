@@ -7,11 +7,11 @@ use Rattle.chess.specs.SetFacts.{square_at-index_of, index_of-below}
 use Rattle.chess.specs.Placements.{Placement, man_at, AreOnBoard}
 use Rattle.chess.specs.Positions.{State, king_of, IsOnlyKing, IsSound}
 use Rattle.chess.specs.Fen.{SpellsPosition, ReadsFen, HasWrongKings}
-use Rattle.chess.specs.declared.man.Man.{Man}
-use Rattle.chess.specs.declared.man.Side.{Side}
-use Rattle.chess.specs.declared.man.Side.TheVariants.{White, Black}
-use Rattle.chess.specs.declared.man.Kind.{Kind}
-use Rattle.chess.specs.declared.man.Kind.TheVariants.{King, Queen, Rook, Bishop, Knight, Pawn}
+use Rattle.chess.specs.declared.board.man.Man.{Man}
+use Rattle.chess.specs.declared.board.man.Side.{Side}
+use Rattle.chess.specs.declared.board.man.Side.TheVariants.{White, Black}
+use Rattle.chess.specs.declared.board.man.Kind.{Kind}
+use Rattle.chess.specs.declared.board.man.Kind.TheVariants.{King, Queen, Rook, Bishop, Knight, Pawn}
 use Rattle.chess.proofs.PlaceFacts.{same_side, same_kind, man_of}
 use Rattle.chess.proofs.FenFacts.{spelled_kept, HasKings}
 

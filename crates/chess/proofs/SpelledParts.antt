@@ -8,10 +8,10 @@ use Rattle.chess.specs.Letters.{is_check_mark, is_sign, kind_letter, file_letter
 use Rattle.chess.specs.San.{Said, Spells, letter_text, file_text, rank_text, promotion_text, IsFileOrRank}
 use Rattle.chess.specs.Moves.{IsPromotionKind}
 use Rattle.chess.specs.SanWords.{is_of, kind_of, kind_given, number_given, last_of, before_last, unmarked, before_equals, stem, behind_target_rank, behind_target, behind_sign, behind_rank, behind_file, behind_letter}
-use Rattle.chess.specs.declared.man.Kind.{Kind}
-use Rattle.chess.specs.declared.man.Kind.TheVariants.{King, Queen, Rook, Bishop, Knight, Pawn}
-use Rattle.chess.specs.declared.move_text.ByteClass.{ByteClass}
-use Rattle.chess.specs.declared.move_text.ByteClass.TheVariants.{Sign, Digit, FileLetter, KindLetter, Equals, PromotionLetter}
+use Rattle.chess.specs.declared.board.man.Kind.{Kind}
+use Rattle.chess.specs.declared.board.man.Kind.TheVariants.{King, Queen, Rook, Bishop, Knight, Pawn}
+use Rattle.chess.specs.declared.move_text.read.said.ByteClass.{ByteClass}
+use Rattle.chess.specs.declared.move_text.read.said.ByteClass.TheVariants.{Sign, Digit, FileLetter, KindLetter, Equals, PromotionLetter}
 use Rattle.chess.proofs.ReadingFacts.{given, taken_whole}
 use Rattle.chess.proofs.CastlingTextFacts.{marks_of}
 use Rattle.chess.proofs.TextParts.{Bytes, AreBytes, IsGivenOf, stem_text, turned_text, turned}

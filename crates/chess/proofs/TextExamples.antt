@@ -5,13 +5,13 @@ use Rattle.chess.specs.Letters.{kind_letter, man_letter, square_text, is_sign, i
 use Rattle.chess.specs.San.{Spells, promotion_text, IsFileOrRank, castling_text, castling_with_zeros, IsCastlingText, kind_said}
 use Rattle.chess.specs.Fen.{fields_of, parted_at, is_step, SpellsRank, side_text, right_letter, has_byte, is_distinct, GivesRights, GivesEnPassant, is_digit, IsCount, GiveCounts, joined, rights_letters, or_dash, en_passant_text}
 use Rattle.chess.specs.Fen.IsSquares.{letter, step}
-use Rattle.chess.specs.declared.man.Side.{Side}
-use Rattle.chess.specs.declared.man.Side.TheVariants.{White, Black}
-use Rattle.chess.specs.declared.man.Kind.TheVariants.{King, Queen, Rook, Bishop, Knight, Pawn}
+use Rattle.chess.specs.declared.board.man.Side.{Side}
+use Rattle.chess.specs.declared.board.man.Side.TheVariants.{White, Black}
+use Rattle.chess.specs.declared.board.man.Kind.TheVariants.{King, Queen, Rook, Bishop, Knight, Pawn}
 use Rattle.chess.specs.Positions.{has_right}
-use Rattle.chess.specs.declared.man.Wing.{Wing}
-use Rattle.chess.specs.declared.man.Wing.TheVariants.{KingSide, QueenSide}
-use Rattle.chess.specs.declared.man.CastlingRights.{CastlingRights}
+use Rattle.chess.specs.declared.board.man.Wing.{Wing}
+use Rattle.chess.specs.declared.board.man.Wing.TheVariants.{KingSide, QueenSide}
+use Rattle.chess.specs.declared.board.man.CastlingRights.{CastlingRights}
 
 abbrev at : ℕ → ℕ → Place
 at file rank = record { file = file; rank = rank }

@@ -6,8 +6,8 @@ use Rattle.std.proofs.lemmas.List.{append_assoc, reverse-append}
 use Rattle.std.proofs.lemmas.Bool.Decides.{nat_tests}
 use Rattle.chess.specs.Letters.{is_check_mark}
 use Rattle.chess.specs.SanWords.{is_of, last_of, before_last, unmarked, before_equals, stem, behind_target_rank, behind_sign, behind_rank, behind_file, behind_letter}
-use Rattle.chess.specs.declared.move_text.ByteClass.{ByteClass}
-use Rattle.chess.specs.declared.move_text.ByteClass.TheVariants.{Sign, Digit, FileLetter, KindLetter, Equals, PromotionLetter}
+use Rattle.chess.specs.declared.move_text.read.said.ByteClass.{ByteClass}
+use Rattle.chess.specs.declared.move_text.read.said.ByteClass.TheVariants.{Sign, Digit, FileLetter, KindLetter, Equals, PromotionLetter}
 use Rattle.chess.proofs.ReadingFacts.{BeginsOtherwise, given, taken_given, begins_given}
 use Rattle.chess.proofs.CastlingTextFacts.{marks_off}
 

@@ -5,11 +5,11 @@ use Rattle.chess.specs.Placements.{Placement, man_at, AreOnBoard}
 use Rattle.chess.specs.CellFacts.{same_men, on_board_or_not}
 use Rattle.chess.specs.Positions.{State, pawn_of, home_rank, pawn_rank, has_right}
 use Rattle.chess.specs.Start.{usual_piece, usual_man, usual_men, IsUsualMen, IsUsual, usual}
-use Rattle.chess.specs.declared.man.Man.{Man}
-use Rattle.chess.specs.declared.man.Side.{Side}
-use Rattle.chess.specs.declared.man.Side.TheVariants.{White, Black}
-use Rattle.chess.specs.declared.man.Wing.{Wing}
-use Rattle.chess.specs.declared.man.Wing.TheVariants.{KingSide, QueenSide}
+use Rattle.chess.specs.declared.board.man.Man.{Man}
+use Rattle.chess.specs.declared.board.man.Side.{Side}
+use Rattle.chess.specs.declared.board.man.Side.TheVariants.{White, Black}
+use Rattle.chess.specs.declared.board.man.Wing.{Wing}
+use Rattle.chess.specs.declared.board.man.Wing.TheVariants.{KingSide, QueenSide}
 use Rattle.chess.proofs.StartFacts.{usual_at, usual_on}
 
 -- a square of a file on a rank

@@ -5,10 +5,10 @@ use Rattle.chess.specs.Attacks.{IsForward}
 use Rattle.chess.specs.Positions.{State}
 use Rattle.chess.specs.Moves.{CanGo, HasMove, IsLegal}
 use Rattle.chess.specs.MoveWords.{IsMover, CanMove, IsPawnGoal, IsSquareAhead, CanPromote}
-use Rattle.chess.specs.declared.man.Side.{Side}
-use Rattle.chess.specs.declared.man.Side.TheVariants.{White, Black}
-use Rattle.chess.specs.declared.man.Kind.{Kind}
-use Rattle.chess.specs.declared.man.Kind.TheVariants.{King, Queen, Rook, Bishop, Knight, Pawn}
+use Rattle.chess.specs.declared.board.man.Side.{Side}
+use Rattle.chess.specs.declared.board.man.Side.TheVariants.{White, Black}
+use Rattle.chess.specs.declared.board.man.Kind.{Kind}
+use Rattle.chess.specs.declared.board.man.Kind.TheVariants.{King, Queen, Rook, Bishop, Knight, Pawn}
 use Rattle.chess.proofs.PlaceFacts.{man_of}
 
 -- a man of the side to move stands where a legal move begins

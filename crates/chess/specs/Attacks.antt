@@ -1,13 +1,13 @@
 -- Which squares a man attacks (Laws 3.1 to 3.8).
 use Rattle.std.specs.Prelude.{◌≡◌, ◌⊎◌, ℕ, ◌+◌, ◌<◌, ◌≤◌, Some}
 use Rattle.chess.specs.Squares.{Place, IsOnBoard, IsStraight, IsAhead, gap}
-use Rattle.chess.specs.declared.direction.Direction.{Direction}
+use Rattle.chess.specs.declared.board.direction.Direction.{Direction}
 use Rattle.chess.specs.Placements.{Placement, man_at, IsEmpty}
-use Rattle.chess.specs.declared.man.Man.{Man}
-use Rattle.chess.specs.declared.man.Side.{Side}
-use Rattle.chess.specs.declared.man.Side.TheVariants.{White, Black}
-use Rattle.chess.specs.declared.man.Kind.{Kind}
-use Rattle.chess.specs.declared.man.Kind.TheVariants.{King, Queen, Rook, Bishop, Knight, Pawn}
+use Rattle.chess.specs.declared.board.man.Man.{Man}
+use Rattle.chess.specs.declared.board.man.Side.{Side}
+use Rattle.chess.specs.declared.board.man.Side.TheVariants.{White, Black}
+use Rattle.chess.specs.declared.board.man.Kind.{Kind}
+use Rattle.chess.specs.declared.board.man.Kind.TheVariants.{King, Queen, Rook, Bishop, Knight, Pawn}
 
 -- no man stands on the squares that are fewer than so many steps ahead
 abbrev pub IsClearFor : Placement → Direction → Place → ℕ → Type 0

@@ -11,7 +11,7 @@ use Rattle.chess.specs.Placements.{Placement, no_men, man_at, with_man}
 use Rattle.std.specs.Prelude.{replicate}
 use Rattle.std.proofs.lemmas.List.{get_or-replicate, get_or_past, length-replicate}
 use Rattle.chess.specs.Cells.{first_men, men_of, cell_of}
-use Rattle.chess.specs.declared.man.Man.{Man}
+use Rattle.chess.specs.declared.board.man.Man.{Man}
 
 -- the man on the square that was changed, and on any other
 pub man_at-same : (p : Placement) (s : Place) (man : Option Man) → man_at (with_man p s man) s ≡ man

@@ -2,7 +2,7 @@
 use Rattle.std.specs.Prelude.{ℕ, zero, suc, List, Option, None, get_or}
 use Rattle.chess.specs.Squares.{square_at}
 use Rattle.chess.specs.Placements.{Placement, no_men, with_man}
-use Rattle.chess.specs.declared.man.Man.{Man}
+use Rattle.chess.specs.declared.board.man.Man.{Man}
 
 -- the men on the first n squares
 unfoldable pub first_men : (ℕ → Option Man) → ℕ → Placement

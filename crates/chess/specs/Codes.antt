@@ -5,12 +5,12 @@ use Rattle.std.specs.FinMap.{code}
 use Rattle.chess.specs.Squares.{Place, coded_place}
 use Rattle.chess.specs.Placements.{Placement}
 use Rattle.chess.specs.Positions.{State}
-use Rattle.chess.specs.declared.man.Man.{Man}
-use Rattle.chess.specs.declared.man.Side.{Side}
-use Rattle.chess.specs.declared.man.Side.TheVariants.{White, Black}
-use Rattle.chess.specs.declared.man.Kind.{Kind}
-use Rattle.chess.specs.declared.man.Kind.TheVariants.{King, Queen, Rook, Bishop, Knight, Pawn}
-use Rattle.chess.specs.declared.man.CastlingRights.{CastlingRights}
+use Rattle.chess.specs.declared.board.man.Man.{Man}
+use Rattle.chess.specs.declared.board.man.Side.{Side}
+use Rattle.chess.specs.declared.board.man.Side.TheVariants.{White, Black}
+use Rattle.chess.specs.declared.board.man.Kind.{Kind}
+use Rattle.chess.specs.declared.board.man.Kind.TheVariants.{King, Queen, Rook, Bishop, Knight, Pawn}
+use Rattle.chess.specs.declared.board.man.CastlingRights.{CastlingRights}
 
 abbrev pub is_black_side : Side → Bool
 is_black_side White = false

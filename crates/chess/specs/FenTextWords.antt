@@ -3,7 +3,7 @@ use Rattle.std.specs.Prelude.{ℕ, zero, suc, ◌+◌, Bool, List, [], ◌∷◌
 use Rattle.chess.specs.Placements.{Placement, man_at}
 use Rattle.chess.specs.Letters.{man_letter}
 use Rattle.chess.specs.Fen.{row}
-use Rattle.chess.specs.declared.man.Man.{Man}
+use Rattle.chess.specs.declared.board.man.Man.{Man}
 
 -- the digit of a run of empty squares, or nothing
 abbrev pub digit_of : ℕ → List ℕ

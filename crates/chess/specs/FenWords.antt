@@ -5,8 +5,8 @@ use Rattle.chess.specs.Placements.{Placement, man_at}
 use Rattle.chess.specs.Positions.{pawn_of}
 use Rattle.std.specs.List.{list_all}
 use Rattle.chess.specs.Fen.{IsSquares, SpellsRank, is_digit, number_from}
-use Rattle.chess.specs.declared.man.Man.{Man}
-use Rattle.chess.specs.declared.man.Side.{Side}
+use Rattle.chess.specs.declared.board.man.Man.{Man}
+use Rattle.chess.specs.declared.board.man.Side.{Side}
 
 -- the byte spells so many squares, each with that man or none, and nothing else
 pub record IsByteOf (b : ℕ) (man : Option Man) (count : ℕ) : Type 0 where

@@ -6,9 +6,9 @@ use Rattle.chess.specs.Attacks.{Reaches, IsForward}
 use Rattle.chess.specs.Positions.{State, home_rank, king_to}
 use Rattle.chess.specs.Moves.{IsBetween, CanGo, IsLegal, IsPromotion}
 use Rattle.chess.specs.Sets.{Places, is_in}
-use Rattle.chess.specs.declared.man.Side.{Side}
-use Rattle.chess.specs.declared.man.Kind.{Kind}
-use Rattle.chess.specs.declared.man.Wing.{Wing}
+use Rattle.chess.specs.declared.board.man.Side.{Side}
+use Rattle.chess.specs.declared.board.man.Kind.{Kind}
+use Rattle.chess.specs.declared.board.man.Wing.{Wing}
 use Rattle.chess.specs.declared.moves.Move.{Move}
 
 -- a man of that kind, of the side to move, stands on the square

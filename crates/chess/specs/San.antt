@@ -6,11 +6,11 @@ use Rattle.chess.specs.Placements.{man_at}
 use Rattle.chess.specs.Positions.{State, IsCheck}
 use Rattle.chess.specs.Moves.{IsPromotionKind, taken, after, IsLegal, CanGo, IsMate}
 use Rattle.chess.specs.Letters.{kind_letter, file_letter, rank_digit, square_text, is_check_mark, is_sign}
-use Rattle.chess.specs.declared.man.Man.{Man}
-use Rattle.chess.specs.declared.man.Kind.{Kind}
-use Rattle.chess.specs.declared.man.Kind.TheVariants.{King, Queen, Rook, Bishop, Knight, Pawn}
-use Rattle.chess.specs.declared.man.Wing.{Wing}
-use Rattle.chess.specs.declared.man.Wing.TheVariants.{KingSide, QueenSide}
+use Rattle.chess.specs.declared.board.man.Man.{Man}
+use Rattle.chess.specs.declared.board.man.Kind.{Kind}
+use Rattle.chess.specs.declared.board.man.Kind.TheVariants.{King, Queen, Rook, Bishop, Knight, Pawn}
+use Rattle.chess.specs.declared.board.man.Wing.{Wing}
+use Rattle.chess.specs.declared.board.man.Wing.TheVariants.{KingSide, QueenSide}
 use Rattle.chess.specs.declared.moves.Move.{Move}
 
 -- what a move text that is not castling says
@@ -112,7 +112,7 @@ pub record IsRival (P : State) (m : Move) (s : Place) : Type 0 where
 abbrev pub HasRival : State → Move → (Place → Type 0) → Type 0
 HasRival P m Asked = (s : Place) × IsRival P m s × Asked s
 
--- what tells the man from its rivals: nothing where there is none; the file where no rival stands on it; else the rank where no rival
+-- what distinguishes the man from its rivals: nothing where there is none; the file where no rival stands on it; else the rank where no rival
 -- stands on it; else both (PGN 8.2.3.4)
 pub data IsDisambiguation (P : State) (m : Move) : List ℕ → Type 0 where
   alone : ¬ HasRival P m (λ s. Unit {0}) → IsDisambiguation P m []
@@ -132,7 +132,7 @@ capture_text P m = if is_capture P m then 120 ∷ [] else []
 abbrev pub pawn_text : State → Move → List ℕ
 pawn_text P m = (if is_capture P m then file_letter m.from.file ∷ 120 ∷ [] else []) ++ (square_text m.to ++ promotion_text true m.promote)
 
--- the text of a piece's move without its mark: its letter, what tells it from its rivals, x for a capture, the square (PGN 8.2.3.2 to 8.2.3.4)
+-- the text of a piece's move without its mark: its letter, what distinguishes it from its rivals, x for a capture, the square (PGN 8.2.3.2 to 8.2.3.4)
 abbrev pub IsPieceText : State → Move → Kind → List ℕ → Type 0
 IsPieceText P m kind x = (origin : List ℕ) × IsDisambiguation P m origin × (x ≡ kind_letter kind ∷ (origin ++ (capture_text P m ++ square_text m.to)))
 
@@ -147,10 +147,10 @@ IsBody P m None Bishop x = IsPieceText P m Bishop x
 IsBody P m None Knight x = IsPieceText P m Knight x
 
 -- the mark behind a move, of the position after it: # for mate, + for a check that is no mate, else none, also for stalemate (PGN 8.2.3.5)
-pub data IsMark (P : State) : List ℕ → Type 0 where
-  mate : IsMate P → IsMark P (35 ∷ [])
-  check : IsCheck P.men P.turn → ¬ IsMate P → IsMark P (43 ∷ [])
-  quiet : ¬ IsCheck P.men P.turn → IsMark P []
+pub data IsCheckMark (P : State) : List ℕ → Type 0 where
+  mate : IsMate P → IsCheckMark P (35 ∷ [])
+  check : IsCheck P.men P.turn → ¬ IsMate P → IsCheckMark P (43 ∷ [])
+  quiet : ¬ IsCheck P.men P.turn → IsCheckMark P []
 
 -- the standard text of a legal move
 pub record IsSan (P : State) (m : Move) (x : List ℕ) : Type 0 where
@@ -159,5 +159,5 @@ pub record IsSan (P : State) (m : Move) (x : List ℕ) : Type 0 where
   pub body : List ℕ
   pub body_is : IsBody P m m.castle man.kind body
   pub mark : List ℕ
-  pub mark_is : IsMark (after P m) mark
+  pub mark_is : IsCheckMark (after P m) mark
   pub text : x ≡ body ++ mark

@@ -1,8 +1,8 @@
 -- The answers to a search for the only move that has a fact.
 use Rattle.std.specs.Prelude.{◌≡◌, ◌≢◌, Result, Ok, Err}
 use Rattle.chess.specs.declared.moves.Move.{Move}
-use Rattle.chess.specs.declared.san_read.SanError.{SanError}
-use Rattle.chess.specs.declared.san_read.SanError.TheVariants.{None, Several}
+use Rattle.chess.specs.declared.move_text.SanError.{SanError}
+use Rattle.chess.specs.declared.move_text.SanError.TheVariants.{None, Several}
 
 -- the only move that has the fact; or none has it; or two have it
 abbrev pub IsAnswer : (Move → Type 0) → Result Move SanError → Type 0

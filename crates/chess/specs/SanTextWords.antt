@@ -6,7 +6,7 @@ use Rattle.chess.specs.Positions.{State}
 use Rattle.chess.specs.San.{IsRival}
 use Rattle.chess.specs.Sets.{Places, is_in}
 use Rattle.chess.specs.MoveWords.{IsSifted, IsLeft}
-use Rattle.chess.specs.declared.man.Man.{Man}
+use Rattle.chess.specs.declared.board.man.Man.{Man}
 use Rattle.chess.specs.declared.moves.Move.{Move}
 
 -- a text that has the fact was appended

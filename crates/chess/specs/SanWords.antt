@@ -6,14 +6,14 @@ use Rattle.chess.specs.Moves.{IsLegal}
 use Rattle.chess.specs.Letters.{is_check_mark, is_sign}
 use Rattle.chess.specs.San.{Said, Spells, Agrees, kind_said, castling_text, castling_with_zeros}
 use Rattle.chess.specs.Sets.{Places, is_in}
-use Rattle.chess.specs.declared.man.Kind.{Kind}
-use Rattle.chess.specs.declared.man.Kind.TheVariants.{King, Queen, Rook, Bishop, Knight, Pawn}
-use Rattle.chess.specs.declared.man.Side.{Side}
-use Rattle.chess.specs.declared.man.Wing.{Wing}
+use Rattle.chess.specs.declared.board.man.Kind.{Kind}
+use Rattle.chess.specs.declared.board.man.Kind.TheVariants.{King, Queen, Rook, Bishop, Knight, Pawn}
+use Rattle.chess.specs.declared.board.man.Side.{Side}
+use Rattle.chess.specs.declared.board.man.Wing.{Wing}
 use Rattle.chess.specs.declared.moves.Move.{Move}
-use Rattle.chess.specs.declared.move_text.ByteClass.{ByteClass}
-use Rattle.chess.specs.declared.move_text.ByteClass.TheVariants.{Sign, Digit, FileLetter, KindLetter, Equals, PromotionLetter}
-use Rattle.chess.specs.declared.move_text.SaidMove.{SaidMove}
+use Rattle.chess.specs.declared.move_text.read.said.ByteClass.{ByteClass}
+use Rattle.chess.specs.declared.move_text.read.said.ByteClass.TheVariants.{Sign, Digit, FileLetter, KindLetter, Equals, PromotionLetter}
+use Rattle.chess.specs.declared.move_text.read.said.SaidMove.{SaidMove}
 
 -- the kind of that letter
 abbrev pub kind_of : ℕ → Option Kind

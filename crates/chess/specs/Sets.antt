@@ -6,7 +6,7 @@ use Rattle.std.specs.FinSet.{FinSet, empty, insert, contains, len, code}
 use Rattle.chess.specs.Squares.{Place, IsOnBoard, place_cmp, square_at, index_of, same_square, coded_place}
 use Rattle.chess.specs.Placements.{Placement, man_at}
 use Rattle.chess.specs.Attacks.{IsInReach}
-use Rattle.chess.specs.declared.man.Man.{Man}
+use Rattle.chess.specs.declared.board.man.Man.{Man}
 
 -- a set of squares
 abbrev pub Places : Type 0

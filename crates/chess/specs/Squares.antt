@@ -2,8 +2,8 @@
 use Rattle.std.specs.Prelude.{◌≡◌, ℕ, ◌+◌, ◌-◌, ◌*◌, ◌/◌, ◌%◌, ◌≤◌, Bool, ◌&&◌, ◌==◌, refl}
 use Rattle.std.specs.Ordering.{nat_cmp, ordering_then}
 use Rattle.std.specs.declared.cmp.Ordering.{Ordering}
-use Rattle.chess.specs.declared.direction.Direction.{Direction}
-use Rattle.chess.specs.declared.direction.Direction.TheVariants.{North, South, East, West, NorthEast, NorthWest, SouthEast, SouthWest}
+use Rattle.chess.specs.declared.board.direction.Direction.{Direction}
+use Rattle.chess.specs.declared.board.direction.Direction.TheVariants.{North, South, East, West, NorthEast, NorthWest, SouthEast, SouthWest}
 use Rattle.std.specs.Coded.{Coded, coded_ℕ, coded×, code_by}
 
 -- a file and a rank: file 1 is a, rank 1 is White's home rank

@@ -4,12 +4,12 @@ use Rattle.chess.specs.Squares.{Place, square_at}
 use Rattle.chess.specs.Placements.{Placement, man_at, AreOnBoard, IsEmpty}
 use Rattle.chess.specs.Cells.{men_of}
 use Rattle.chess.specs.Positions.{State, pawn_of, home_rank, pawn_rank, has_right}
-use Rattle.chess.specs.declared.man.Man.{Man}
-use Rattle.chess.specs.declared.man.Side.{Side}
-use Rattle.chess.specs.declared.man.Wing.{Wing}
-use Rattle.chess.specs.declared.man.Side.TheVariants.{White, Black}
-use Rattle.chess.specs.declared.man.Kind.{Kind}
-use Rattle.chess.specs.declared.man.Kind.TheVariants.{King, Queen, Rook, Bishop, Knight}
+use Rattle.chess.specs.declared.board.man.Man.{Man}
+use Rattle.chess.specs.declared.board.man.Side.{Side}
+use Rattle.chess.specs.declared.board.man.Wing.{Wing}
+use Rattle.chess.specs.declared.board.man.Side.TheVariants.{White, Black}
+use Rattle.chess.specs.declared.board.man.Kind.{Kind}
+use Rattle.chess.specs.declared.board.man.Kind.TheVariants.{King, Queen, Rook, Bishop, Knight}
 
 -- the piece of a file: rooks in the corners, then knights, bishops, the queen on the d-file and the king on the e-file
 abbrev pub usual_piece : ℕ → Kind

@@ -4,9 +4,20 @@ ghost use Rattle.chess.specs.Placements.{Placement, no_men, man_at, with_man, Ar
 ghost use Rattle.chess.specs.Attacks.{IsAttacked};
 ghost use Rattle.chess.specs.Sets.{IsReachOf, IsSquaresOf};
 
-use crate::man::{Man, Side};
-use crate::set::SquareSet;
-use crate::square::Square;
+mod bits;
+mod direction;
+mod fills;
+mod mailbox;
+mod man;
+mod set;
+mod square;
+
+pub use bits::Bits;
+pub use direction::Direction;
+pub use mailbox::Mailbox;
+pub use man::{CastlingRights, Kind, Man, Side, Wing};
+pub use set::SquareSet;
+pub use square::Square;
 
 /// A board: which man stands on which square. Contracts see the map from squares to men alone.
 pub trait Board: Copy {

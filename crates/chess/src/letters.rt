@@ -3,8 +3,7 @@ ghost use Rattle.std.specs.Prelude.{◌≡◌, ◌+◌, ◌≤◌, ◌<◌, ◌+
 ghost use Rattle.arrayvec.specs.ArrayString.{array_string_len};
 ghost use Rattle.chess.specs.Letters.{kind_letter, man_letter, square_text};
 
-use crate::man::{Kind, Man, Side};
-use crate::square::Square;
+use crate::board::{Kind, Man, Side, Square};
 use arrayvec::ArrayString;
 
 /// The letter of a kind, in upper case.

@@ -1,39 +1,19 @@
 //! Chess by the FIDE Laws: boards, positions, legal moves, FEN and SAN. No call takes memory.
 #![tactic(auto)]
 
-pub mod board;
-mod castling;
-pub mod direction;
-pub mod fen;
-mod fen_text;
-mod fields;
-mod given;
-mod kept;
+mod board;
+mod fen;
 pub mod laws;
-mod legal;
 mod letters;
-pub mod mailbox;
-pub mod man;
 mod move_text;
-pub mod moves;
-mod pass;
-mod play;
-pub mod position;
-mod pseudo_legal;
-mod ranks;
-pub mod san_read;
-pub mod san_write;
-pub mod set;
-pub mod square;
+mod moves;
+mod position;
 mod start;
 
-pub use board::Board;
+pub use board::{
+    Bits, Board, CastlingRights, Direction, Kind, Mailbox, Man, Side, Square, SquareSet, Wing,
+};
 pub use fen::FenError;
-pub use mailbox::Mailbox;
-pub use man::{Kind, Man, Side, Wing};
+pub use move_text::{SanError, resolve, san};
 pub use moves::Move;
 pub use position::Position;
-pub use san_read::{SanError, resolve};
-pub use san_write::san;
-pub use set::SquareSet;
-pub use square::Square;

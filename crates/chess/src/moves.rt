@@ -1,6 +1,11 @@
 //! Moves.
-use crate::man::{Kind, Wing};
-use crate::square::Square;
+use crate::board::{Kind, Square, Wing};
+
+pub(crate) mod castling;
+mod legal;
+mod pass;
+mod play;
+mod pseudo_legal;
 
 /// A move. In castling `from` and `to` are the king's squares.
 #[derive(Clone, Copy, Debug, PartialEq, Eq)]

@@ -6,10 +6,7 @@ ghost use Rattle.chess.specs.Positions.{State, IsSound, IsOnlyKing, IsCheck, has
 ghost use Rattle.chess.specs.Moves.{is_square};
 ghost use Rattle.chess.specs.Sets.{IsReachOf, IsSquaresOf};
 
-use crate::board::Board;
-use crate::man::{CastlingRights, Man, Side, Wing};
-use crate::set::SquareSet;
-use crate::square::Square;
+use crate::board::{Board, CastlingRights, Man, Side, Square, SquareSet, Wing};
 use std::marker::Model;
 
 /// A position. Contracts see the men, the side to move, the castling rights, the en passant square and the two counts; every

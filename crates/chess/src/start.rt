@@ -3,10 +3,8 @@ ghost use Rattle.std.specs.Prelude.{◌≡◌};
 ghost use Rattle.chess.specs.Positions.{IsSound};
 ghost use Rattle.chess.specs.Start.{usual_piece, usual_man, usual_men, usual};
 
-use crate::board::Board;
-use crate::man::{CastlingRights, Kind, Man, Side};
+use crate::board::{Board, CastlingRights, Kind, Man, Side, Square};
 use crate::position::Position;
-use crate::square::Square;
 
 /// The piece that stands on the file at first.
 fn usual_piece(file: u8) -> Kind

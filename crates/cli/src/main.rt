@@ -15,7 +15,7 @@ use std::{env, io, rt};
 /// How many bytes of output are gathered before they are written.
 const OUTPUT_BUFFER: usize = 65_536;
 
-/// Ends with a line on standard error; a fault in telling it is ignored.
+/// Ends with a line on standard error; a fault in writing it is ignored.
 fn end_with(rt: &impl Eprint, line: &str, status: u8) -> ExitCode {
     let _ = rt.eprint(line);
     ExitCode::from(status)

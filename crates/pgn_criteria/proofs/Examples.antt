@@ -3,9 +3,9 @@ use Rattle.std.proofs.Common.{◌≡◌, ◌≤◌, List, [], ◌∷◌, Option,
 use Rattle.std.specs.declared.cmp.Ordering.TheVariants as order
 use Rattle.chess.specs.Fen.{IsSquares}
 use Rattle.chess.specs.Fen.IsSquares.{letter, step}
-use Rattle.chess.specs.declared.man.Man.{Man}
-use Rattle.chess.specs.declared.man.Side.TheVariants.{White, Black}
-use Rattle.chess.specs.declared.man.Kind.TheVariants.{King, Queen, Pawn, Rook}
+use Rattle.chess.specs.declared.board.man.Man.{Man}
+use Rattle.chess.specs.declared.board.man.Side.TheVariants.{White, Black}
+use Rattle.chess.specs.declared.board.man.Kind.TheVariants.{King, Queen, Pawn, Rook}
 use Rattle.pgn_text.specs.Strings.{Single, Escaped}
 use Rattle.pgn_criteria.specs.Comparing.{number_in, order_of, Stands}
 use Rattle.pgn_criteria.specs.Patterns.{CanBeSplit}
@@ -136,7 +136,7 @@ each_sign =
       ),
     )
 
--- men are told apart by kind and by side
+-- men are distinguished by kind and by side
 own_man : is_man (record { side = White; kind = King }) (Some (record { side = White; kind = King })) ≡ true
 own_man = refl
 

@@ -1,9 +1,9 @@
 -- What the definitions say of lines that every reader can check.
 use Rattle.std.proofs.Common.{◌≡◌, List, [], ◌∷◌, ◌++◌, refl, inl, inr, arith, codes}
 use Rattle.chess.specs.Fen.{parted_at}
-use Rattle.chess.specs.declared.man.Kind.{Kind}
-use Rattle.chess.specs.declared.man.Kind.TheVariants.{King, Queen, Rook, Bishop, Knight, Pawn}
-use Rattle.chess.specs.declared.man.Side.TheVariants.{White}
+use Rattle.chess.specs.declared.board.man.Kind.{Kind}
+use Rattle.chess.specs.declared.board.man.Kind.TheVariants.{King, Queen, Rook, Bishop, Knight, Pawn}
+use Rattle.chess.specs.declared.board.man.Side.TheVariants.{White}
 use Rattle.pgn_text.specs.Strings.{Single}
 use Rattle.pgn_criteria.specs.Lines.{SpellsCondition, SpellsLimits, IsLimitIn, a_word, and_words, IsLine, Accepts, alternatives_of}
 use Rattle.pgn_criteria.specs.Lines.SpellsLimit.{one, exactly, at_least, at_most, any}

@@ -2,9 +2,9 @@
 use Rattle.std.proofs.Common.{ℕ, inl, inr}
 use Rattle.std.proofs.lemmas.Bool.{cases_eq}
 use Rattle.chess.specs.Placements.{Placement}
-use Rattle.chess.specs.declared.man.Side.{Side}
-use Rattle.chess.specs.declared.man.Side.TheVariants.{White, Black}
-use Rattle.chess.specs.declared.man.Kind.{Kind}
+use Rattle.chess.specs.declared.board.man.Side.{Side}
+use Rattle.chess.specs.declared.board.man.Side.TheVariants.{White, Black}
+use Rattle.chess.specs.declared.board.man.Kind.{Kind}
 use Rattle.chess.proofs.Settled.{Settled, settled_not, settled_both, settled_le}
 use Rattle.chess.proofs.Searches.{search_kind}
 use Rattle.pgn_criteria.specs.Materials.{Allows, count_of, limit_of, FitsSide, FitsMaterial}

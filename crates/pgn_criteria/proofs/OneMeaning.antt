@@ -3,10 +3,10 @@ use Rattle.std.proofs.Common.{◌≡◌, ◌≤◌, ℕ, List, [], ◌∷◌, �
 use Rattle.std.specs.Prelude.{codes, ◌+◌, ◌==◌, if◌then◌else◌}
 use Rattle.std.proofs.lemmas.List.{append_cancel_right}
 use Rattle.chess.specs.Fen.{parted_at}
-use Rattle.chess.specs.declared.man.Side.{Side}
-use Rattle.chess.specs.declared.man.Side.TheVariants.{White, Black}
-use Rattle.chess.specs.declared.man.Kind.{Kind}
-use Rattle.chess.specs.declared.man.Kind.TheVariants.{King, Queen, Rook, Bishop, Knight, Pawn}
+use Rattle.chess.specs.declared.board.man.Side.{Side}
+use Rattle.chess.specs.declared.board.man.Side.TheVariants.{White, Black}
+use Rattle.chess.specs.declared.board.man.Kind.{Kind}
+use Rattle.chess.specs.declared.board.man.Kind.TheVariants.{King, Queen, Rook, Bishop, Knight, Pawn}
 use Rattle.pgn_criteria.specs.Reading.{run_of, behind_word, core_of}
 use Rattle.pgn_criteria.specs.Materials.{limit_of}
 use Rattle.pgn_criteria.specs.Lines.{SpellsCondition, SpellsLimits, Spells, IsLine, AreLines, side_text, relation_text, alternatives_of, IsFirstBad}

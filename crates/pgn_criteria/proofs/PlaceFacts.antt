@@ -11,7 +11,7 @@ use Rattle.std.proofs.lemmas.Nat.Bits.{bit_at-zero, bit_at-pow_other, bit_at_set
 use Rattle.std.specs.Int.{trailing_zeros}
 use mir.Val.{bits}
 use mir.Syntax.{w16}
-use Rattle.chess.specs.declared.man.Man.{Man}
+use Rattle.chess.specs.declared.board.man.Man.{Man}
 use Rattle.pgn_criteria.specs.Patterns.{CanBeSplit}
 use Rattle.pgn_criteria.specs.Items.{IsOf, Fits, item_of, Has, IsBehind, Ends, Goes}
 use Rattle.pgn_criteria.specs.declared.rank.Class.{Class}

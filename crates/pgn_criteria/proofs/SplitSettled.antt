@@ -3,7 +3,7 @@ use Rattle.std.proofs.Common.{◌≡◌, ◌⊎◌, ℕ, ◌-◌, List, [], ◌�
 use Rattle.std.proofs.lemmas.Bool.{cases_eq}
 use Rattle.chess.specs.Placements.{Placement}
 use Rattle.chess.specs.Fen.{row, parted_at}
-use Rattle.chess.specs.declared.man.Man.{Man}
+use Rattle.chess.specs.declared.board.man.Man.{Man}
 use Rattle.chess.proofs.Settled.{Settled, settled_like, settled_both, settled_three, settled_either, settled_le, settled_held, cases_option}
 use Rattle.chess.proofs.Searches.{cases_side, cases_man}
 use Rattle.pgn_criteria.specs.Patterns.{IsStretch, CanBeSplit, FitRanks, FitsPattern}

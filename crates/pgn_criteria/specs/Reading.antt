@@ -2,7 +2,7 @@
 use Rattle.std.specs.Prelude.{ℕ, ◌-◌, ◌++◌, ◌==◌, if◌then◌else◌, List, [], ◌∷◌, reverse, IsTrue, map}
 use Rattle.chess.specs.Fen.{is_digit, is_distinct}
 use Rattle.chess.specs.Letters.{kind_letter}
-use Rattle.chess.specs.declared.man.Kind.{Kind}
+use Rattle.chess.specs.declared.board.man.Kind.{Kind}
 use Rattle.pgn_criteria.specs.Words.{is_blank}
 use Rattle.pgn_criteria.specs.declared.material.Limit.{Limit}
 use Rattle.pgn_criteria.specs.declared.material.Limit.TheVariants.{Exactly, AtLeast, AtMost, AnyNumber}

@@ -4,9 +4,9 @@ use Rattle.std.specs.Coded.{Coded, coded_bool, coded_list, coded_option, coded×
 use Rattle.chess.specs.Squares.{Place, coded_place}
 use Rattle.chess.specs.Positions.{State}
 use Rattle.chess.specs.Codes.{coded_state, coded_kind}
-use Rattle.chess.specs.declared.man.Kind.{Kind}
-use Rattle.chess.specs.declared.man.Wing.{Wing}
-use Rattle.chess.specs.declared.man.Wing.TheVariants.{KingSide, QueenSide}
+use Rattle.chess.specs.declared.board.man.Kind.{Kind}
+use Rattle.chess.specs.declared.board.man.Wing.{Wing}
+use Rattle.chess.specs.declared.board.man.Wing.TheVariants.{KingSide, QueenSide}
 use Rattle.chess.specs.declared.moves.Move.{Move}
 use Rattle.pgn_game.specs.declared.turn.Turn.{Turn}
 use Rattle.pgn_game.specs.declared.turn.Turn.TheVariants.{Played, Passed}

@@ -28,13 +28,13 @@ NamesNone now word = (m : Move) → IsNamed now word m → ⊥
 abbrev pub NamesSeveral : State → List ℕ → Type 0
 NamesSeveral now word = (m n : Move) × IsNamed now word m × IsNamed now word n × (m ≢ n)
 
--- the word, played from a position to which so many plies lead, is told as this fault: its own ply is one more
+-- the word, played from a position to which so many plies lead, is reported as this fault: its own ply is one more
 abbrev pub IsRefusedWord : State → ℕ → List ℕ → Fault → Type 0
 IsRefusedWord now plies word BadStart = ⊥
-IsRefusedWord now plies word (IllegalMove told ply) = (told ≡ word) × (ply ≡ plies + 1) × NamesNone now word
-IsRefusedWord now plies word (AmbiguousMove told ply) = (told ≡ word) × (ply ≡ plies + 1) × NamesSeveral now word
+IsRefusedWord now plies word (IllegalMove reported ply) = (reported ≡ word) × (ply ≡ plies + 1) × NamesNone now word
+IsRefusedWord now plies word (AmbiguousMove reported ply) = (reported ≡ word) × (ply ≡ plies + 1) × NamesSeveral now word
 
--- the first word that does not name exactly one legal move is told: those before it are played
+-- the first word that does not name exactly one legal move is reported: those before it are played
 abbrev pub IsMoveFault : State → ℕ → List (List ℕ) → Fault → Type 0
 IsMoveFault now plies [] fault = ⊥
 IsMoveFault now plies (word ∷ words) fault =

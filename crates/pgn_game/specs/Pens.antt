@@ -1,7 +1,8 @@
 -- Tokens written one behind another, in lines: what a writer that stands in some column adds. Nothing but the proof of the writer cites
 -- these.
-use Rattle.std.specs.Prelude.{ℕ, ◌+◌, Bool, true, false, List, [], ◌∷◌, ◌++◌, length, nat_le}
+use Rattle.std.specs.Prelude.{◌≡◌, ℕ, ◌+◌, Bool, true, false, List, [], ◌∷◌, ◌++◌, length, nat_le}
 use Rattle.pgn_game.specs.TextLines.{IsLaid}
+use Rattle.pgn_game.specs.declared.pen.Pen.{Pen}
 
 -- a token behind another one: after a space where it is within the width, else in the next line
 abbrev pub parted : Bool → List ℕ → List ℕ
@@ -25,6 +26,11 @@ abbrev pub behind_tokens : ℕ → Bool → ℕ → List (List ℕ) → List ℕ
 behind_tokens width true column tokens = added width column tokens
 behind_tokens width false column [] = []
 behind_tokens width false column (token ∷ tokens) = token ++ added width (length token) tokens
+
+-- a pen that wrote these tokens behind what stood there, whatever follows them
+abbrev pub HasPut : Pen → Pen → List ℕ → List ℕ → List (List ℕ) → Type 0
+HasPut old new before after tokens =
+    (more : List (List ℕ)) → after ++ behind_tokens new.width new.begun new.column more ≡ before ++ behind_tokens old.width old.begun old.column (tokens ++ more)
 
 -- what is added is a text in lines
 abbrev pub AddedIsLaid : Type 0

@@ -39,7 +39,7 @@ IsSomeReplay fen items replay = (lines : Lines) × IsReplay lines fen items repl
 abbrev pub IsSoundGame : Lines → Option (List ℕ) → List Item → Type 0
 IsSoundGame lines fen items = (replay : Replay) × IsReplay lines fen items replay
 
--- the fault that an answer tells: none for want of memory
+-- the fault that an answer reports: none where memory ran out
 abbrev pub fault_of : GameFault → Option Fault
 fault_of answers.BadPosition = Some BadStart
 fault_of (answers.Illegal word ply) = Some (IllegalMove word.now ply)

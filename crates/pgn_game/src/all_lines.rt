@@ -73,10 +73,7 @@ fn turn_of<'a>(
             None => Err(GameFault::Illegal { word, ply }),
         };
     }
-    let m = match named(position, word, ply) {
-        Ok(m) => m,
-        Err(fault) => return Err(fault),
-    };
+    let m = named(position, word, ply)?;
     let next = after_move(position, &m);
     Ok((Turn::Played(m), next))
 }
@@ -137,13 +134,8 @@ impl LinesWalk {
     {
         let inside = self.is_inside();
         let ply = self.line.plies + 1;
-        let (turn, next) = match turn_of(&self.line.now, inside, word, ply) {
-            Ok(answer) => answer,
-            Err(fault) => return Err(fault),
-        };
-        if let Err(_) = self.keep(inside, turn) {
-            return Err(GameFault::OutOfMemory);
-        }
+        let (turn, next) = turn_of(&self.line.now, inside, word, ply)?;
+        self.keep(inside, turn)?;
         self.line.before = mem::replace(&mut self.line.now, next);
         self.line.plies = ply;
         Ok(())
@@ -177,14 +169,8 @@ impl LinesWalk {
         ensures within { OnOk result ((n : ℕ) → AreWithin n self.old → AreWithin (n + 1) self.new) }
     {
         match element {
-            Element::Move(word) => match self.turn(word) {
-                Ok(()) => Ok(()),
-                Err(fault) => Err(fault),
-            },
-            Element::Open => match self.open() {
-                Ok(()) => Ok(()),
-                Err(_) => Err(GameFault::OutOfMemory),
-            },
+            Element::Move(word) => self.turn(word),
+            Element::Open => Ok(self.open()?),
             Element::Close => {
                 if let Some(line) = self.outer.pop() {
                     self.line = line;
@@ -242,9 +228,7 @@ fn play_elements<'a>(
 {
     let mut walk = LinesWalk::new(alloc, start);
     for element in elements {
-        if let Err(fault) = walk.step(*element) {
-            return Err(fault);
-        }
+        walk.step(*element)?;
     }
     Ok(walk)
 }
@@ -261,12 +245,6 @@ pub(crate) fn play_all_lines<'a>(
         × ArePlayed start.now (map item_of elements.now) replayed.turns)
         (λ fault. IfSome (fault_of fault) (HaveFault start.now (map item_of elements.now))) }
 {
-    let walk = match play_elements(alloc, start, elements) {
-        Ok(walk) => walk,
-        Err(fault) => return Err(fault),
-    };
-    match walk.finish() {
-        Ok(replayed) => Ok(replayed),
-        Err(_) => Err(GameFault::OutOfMemory),
-    }
+    let walk = play_elements(alloc, start, elements)?;
+    Ok(walk.finish()?)
 }

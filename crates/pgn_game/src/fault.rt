@@ -1,4 +1,8 @@
 //! Why a game can't be replayed.
+ghost use Rattle.std.specs.Prelude.{◌≡◌};
+ghost use Rattle.pgn_game.specs.declared.fault.GameFault.TheVariants.{OutOfMemory};
+
+use std::alloc::AllocError;
 
 /// Why a game can't be replayed. A word is a slice of the block that the game stands in.
 #[derive(Clone, Copy, Debug, PartialEq, Eq)]
@@ -21,4 +25,12 @@ pub enum GameFault<'a> {
     },
     /// Memory was refused.
     OutOfMemory,
+}
+
+impl<'a> From<AllocError> for GameFault<'a> {
+    ghost from_gives = { λ _ fault. fault ≡ OutOfMemory };
+
+    fn from(_: AllocError) -> Self {
+        GameFault::OutOfMemory
+    }
 }

@@ -79,14 +79,9 @@ impl MainWalk {
         ensures played { OnOk result (HasStepped self.old self.new (MoveText word.now)) }
         ensures stuck { IfErr result (λ fault. IsStuck self.old (MoveText word.now) fault) }
     {
-        let m = match named(self.last(), word, self.positions.len()) {
-            Ok(m) => m,
-            Err(fault) => return Err(fault),
-        };
-        match self.advance(&m) {
-            Ok(()) => Ok(()),
-            Err(_) => Err(GameFault::OutOfMemory),
-        }
+        let m = named(self.last(), word, self.positions.len())?;
+        self.advance(&m)?;
+        Ok(())
     }
 
     /// Plays the element, if it is a move of the main line.
@@ -120,14 +115,9 @@ pub(crate) fn play_main_line<'a>(
         (λ replayed. IsMainLine start (main_words (map item_of elements.now) 0) replayed.positions replayed.played × (replayed.turns ≡ []))
         (λ fault. IfSome (fault_of fault) (IsMoveFault start 0 (main_words (map item_of elements.now) 0))) }
 {
-    let mut walk = match MainWalk::new(alloc, start, elements) {
-        Ok(walk) => walk,
-        Err(_) => return Err(GameFault::OutOfMemory),
-    };
+    let mut walk = MainWalk::new(alloc, start, elements)?;
     for element in elements {
-        if let Err(fault) = walk.step(*element) {
-            return Err(fault);
-        }
+        walk.step(*element)?;
     }
     let MainWalk {
         positions,

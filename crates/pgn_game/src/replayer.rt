@@ -30,10 +30,7 @@ pub fn replay<'a>(alloc: Global, raw: &RawGame<'a>, lines: Lines) -> Result<Repl
         (λ replayed. IsReplay lines (tag_in fen_tag raw.now.tags) raw.now.elements replayed)
         (λ fault. IfSome (fault_of fault) (IsFault lines (tag_in fen_tag raw.now.tags) raw.now.elements)) }
 {
-    let start = match starting_position(alloc, raw.tags()) {
-        Ok(start) => start,
-        Err(fault) => return Err(fault),
-    };
+    let start = starting_position(alloc, raw.tags())?;
     match lines {
         Lines::Main => play_main_line(alloc, start, raw.elements()),
         Lines::All => play_all_lines(alloc, &start, raw.elements()),

@@ -26,12 +26,9 @@ fn given_position<'a>(alloc: Global, contents: &[u8]) -> Result<GamePosition, Ga
     requires { IsContents contents.now }
     ensures { MatchResult result
         (IsStart (Some contents.now))
-        (λ fault. IfSome (fault_of fault) (λ told. IsBadStart (Some contents.now) × (told ≡ BadStart))) }
+        (λ fault. IfSome (fault_of fault) (λ reported. IsBadStart (Some contents.now) × (reported ≡ BadStart))) }
 {
-    let text = match value_of(alloc, contents) {
-        Ok(text) => text,
-        Err(_) => return Err(GameFault::OutOfMemory),
-    };
+    let text = value_of(alloc, contents)?;
     match GamePosition::from_fen(text.as_slice()) {
         Ok(position) => Ok(position),
         Err(_) => Err(GameFault::BadPosition),
@@ -46,7 +43,7 @@ pub(crate) fn starting_position<'a>(
     requires { HoldStrings (tags_of tags.now) }
     ensures { MatchResult result
         (IsStart (tag_in fen_tag (tags_of tags.now)))
-        (λ fault. IfSome (fault_of fault) (λ told. IsBadStart (tag_in fen_tag (tags_of tags.now)) × (told ≡ BadStart))) }
+        (λ fault. IfSome (fault_of fault) (λ reported. IsBadStart (tag_in fen_tag (tags_of tags.now)) × (reported ≡ BadStart))) }
 {
     let name: &[u8] = b"FEN";
     match tags.get(&name) {

@@ -2,7 +2,7 @@
 use Rattle.std.proofs.Common.{◌≡◌, ◌≢◌, ℕ, zero, suc, ◌<◌, ◌≤◌, Bool, true, false, List, [], ◌∷◌, ◌++◌, Option, Some, None, length, IsTrue, refl, sym, ap, ◌∙◌, ◌⊎◌, inl, inr, arith, append_assoc, append-nil, length-append}
 use Rattle.std.specs.List.{list_all}
 use Rattle.std.proofs.lemmas.Bool.{false≢true, and_parts, and_from, not_from_false, cases_Bool, cases_eq}
-use Rattle.pgn_text.specs.Parts.{Part, place_of, Stands, spelled, spelled_part}
+use Rattle.pgn_text.specs.Parts.{Part, standing_of, Stands, spelled, spelled_part}
 use Rattle.pgn_text.specs.Games.{is_gap_part, is_result, begins_outside_gap, IsGame}
 use Rattle.pgn_text.specs.Steps.{State, start, step}
 use Rattle.pgn_text.specs.Pieces.{IsGap, IsLongestGap, NoGame, Piece, Game, Unreadable, ArePieces}
@@ -26,7 +26,7 @@ module _ (max_depth : ℕ) (file_start : Bool) where
       ((parts : List Part) (after : List ℕ) → Reads max_depth file_start before text s parts after → ⊥)
 
   nothing_reads : (before text : List ℕ) (s : State)
-      → ((p : Part) (rest : List ℕ) → text ≡ spelled_part p ++ rest → Stands (place_of file_start before) p rest → ⊥)
+      → ((p : Part) (rest : List ℕ) → text ≡ spelled_part p ++ rest → Stands (standing_of file_start before) p rest → ⊥)
       → (parts : List Part) (after : List ℕ) → Reads max_depth file_start before text s parts after → ⊥
   nothing_reads before text s none [] after h = h.leads
   nothing_reads before text s none (p ∷ more) after h =
@@ -34,7 +34,7 @@ module _ (max_depth : ℕ) (file_start : Bool) where
 
   -- a part that is no result
   reading_on : (before text : List ℕ) (s : State) (p : Part) (rest : List ℕ)
-      → text ≡ spelled_part p ++ rest → Stands (place_of file_start before) p rest → is_result p ≡ false
+      → text ≡ spelled_part p ++ rest → Stands (standing_of file_start before) p rest → is_result p ≡ false
       → (next : Option State) → step max_depth s p ≡ next
       → ((t : State) → Reading (before ++ spelled_part p) rest t)
       → Reading before text s
@@ -59,7 +59,7 @@ module _ (max_depth : ℕ) (file_start : Bool) where
       → Reading before text s
   unfolding Reading
   reading zero before text s l = absurd (omega arith)
-  reading (suc fuel) before text s l = elim (part_or_none (place_of file_start before) text) [
+  reading (suc fuel) before text s l = elim (part_or_none (standing_of file_start before) text) [
     | inl found ↦
         let p = found.0 in let rest = found.1 in let e = found.2 in let h = found.3 in
         elim (cases_Bool (is_result p)) [
@@ -70,7 +70,7 @@ module _ (max_depth : ℕ) (file_start : Bool) where
           ]
           | inr r ↦ reading_on before text s p rest e h r (step max_depth s p) refl (λ t.
               reading fuel (before ++ spelled_part p) rest t (shorter text (spelled_part p) rest fuel e
-              (part_has_byte (place_of file_start before) p rest h) l))
+              (part_has_byte (standing_of file_start before) p rest h) l))
         ]
     | inr none ↦ inr (nothing_reads before text s none)
   ]
@@ -80,7 +80,7 @@ module _ (max_depth : ℕ) (file_start : Bool) where
 module _ (file_start : Bool) where
   -- a part of a gap, and a longest gap behind it
   gap_more : (before : List ℕ) (p : Part) (gap : List Part) (after rest : List ℕ)
-      → is_gap_part p ≡ true → rest ≡ spelled gap ++ after → Stands (place_of file_start before) p rest
+      → is_gap_part p ≡ true → rest ≡ spelled gap ++ after → Stands (standing_of file_start before) p rest
       → IsLongestGap file_start (before ++ spelled_part p) gap after → IsLongestGap file_start before (p ∷ gap) after
   gap_more before p gap after rest g e h l = record {
     is_gap = record {
@@ -95,7 +95,7 @@ module _ (file_start : Bool) where
           → IsGap file_start before other rest' → length (spelled other) ≤ length (spelled (p ∷ gap))
       longest [] rest' f k = omega arith
       longest (q ∷ other) rest' f k =
-          let one = one_part (place_of file_start before) q p (spelled other ++ rest') rest k.stand.0 h
+          let one = one_part (standing_of file_start before) q p (spelled other ++ rest') rest k.stand.0 h
           (sym (append_assoc (spelled_part q) (spelled other) rest') ∙ f ∙ append_assoc (spelled_part p) (spelled gap)
           after ∙ ap (λ x. spelled_part p ++ x) (sym e)) in
           let only = and_parts (is_gap_part q) (list_all is_gap_part other) k.only in
@@ -112,13 +112,13 @@ module _ (file_start : Bool) where
   pub gap_exists : (fuel : ℕ) (before text : List ℕ) → length text < fuel
       → (gap : List Part) × (after : List ℕ) × (text ≡ spelled gap ++ after) × IsLongestGap file_start before gap after
   gap_exists zero before text l = absurd (omega arith)
-  gap_exists (suc fuel) before text l = elim (part_or_none (place_of file_start before) text) [
+  gap_exists (suc fuel) before text l = elim (part_or_none (standing_of file_start before) text) [
     | inl found ↦
         let p = found.0 in let rest = found.1 in let e = found.2 in let h = found.3 in
         elim (cases_Bool (is_gap_part p)) [
           | inl g ↦
               let more = gap_exists fuel (before ++ spelled_part p) rest (shorter text (spelled_part p) rest fuel e
-              (part_has_byte (place_of file_start before) p rest h) l) in (
+              (part_has_byte (standing_of file_start before) p rest h) l) in (
                 p ∷ more.0,
                 more.1,
                 e ∙ ap (λ x. spelled_part p ++ x) more.2 ∙ sym (append_assoc (spelled_part p)
@@ -130,7 +130,7 @@ module _ (file_start : Bool) where
             text,
             refl,
             empty_gap file_start before text (λ q rest' f k j.
-                let one = one_part (place_of file_start before) q p rest' rest j h (sym f ∙ e) in
+                let one = one_part (standing_of file_start before) q p rest' rest j h (sym f ∙ e) in
                 false≢true (sym g ∙ ap is_gap_part (sym one.0) ∙ k)),
           )
         ]

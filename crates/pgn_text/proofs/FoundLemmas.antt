@@ -6,13 +6,13 @@ use Rattle.std.specs.List.{list_all, starts_with}
 use Rattle.std.proofs.lemmas.Bool.{and_parts, and_from, or_parts, not-false, eqb-true, cond_both, not_from_false}
 use Rattle.pgn_text.specs.Bytes.{is_white, is_digit, is_name_byte, is_word_byte, is_mark, is_plain, is_not_line_feed, is_not_brace, is_empty}
 use Rattle.pgn_text.specs.Strings.{Sign, Single, Escaped, spelled_sign, is_sign, IsContents}
-use Rattle.pgn_text.specs.Parts.{Part, ByteOrderMark, Brace, Line, EscapeLine, Tag, Word, Star, Dot, Glyph, Marks, Open, Close, Place, Stands, spelled_part, number_of}
+use Rattle.pgn_text.specs.Parts.{Part, ByteOrderMark, Brace, Line, EscapeLine, Tag, Word, Star, Dot, Glyph, Marks, Open, Close, Standing, Stands, spelled_part, number_of}
 use Rattle.pgn_text.specs.Reading.{run_of, after_run, rest_behind, brace_front, mark_front, gap_front, with_byte, contents_front, tag_end, tag_string, tag_name, tag_front, is_glyph, glyph_front, game_front, part_front}
 use Rattle.pgn_text.proofs.Fronts.{run-append-after, list_all-run, stops-after_run}
 use Rattle.pgn_text.proofs.PartLemmas.{tag_regroup, stands-read}
 
 -- what is found at the front of the text, if anything is, may stand there
-abbrev pub IsFound : Place → List ℕ → Option (Part × List ℕ) → Type 0
+abbrev pub IsFound : Standing → List ℕ → Option (Part × List ℕ) → Type 0
 IsFound place text None = Unit {0}
 IsFound place text (Some found) = (text ≡ spelled_part found.0 ++ found.1) × Stands place found.0 found.1
 
@@ -27,7 +27,7 @@ rest_behind-is w (b ∷ t) rest is =
     let both : ((b == w) ≡ true) × (t ≡ rest) = some_if (b == w) t rest is in
     ap (λ x. x ∷ t) (eqb-true b w both.0) ∙ ap (λ xs. w ∷ xs) both.1
 
-brace_go : (place : Place) (text : List ℕ) (o : Option (List ℕ)) → rest_behind 125 (after_run is_not_brace text) ≡ o → IsFound place (123 ∷ text) (option_map (λ rest. (Brace (run_of is_not_brace text), rest)) o)
+brace_go : (place : Standing) (text : List ℕ) (o : Option (List ℕ)) → rest_behind 125 (after_run is_not_brace text) ≡ o → IsFound place (123 ∷ text) (option_map (λ rest. (Brace (run_of is_not_brace text), rest)) o)
 brace_go place text None is = tt
 brace_go place text (Some rest) is = (
   ap (λ (xs : List ℕ). 123 ∷ xs) (run-append-after is_not_brace text
@@ -44,29 +44,29 @@ begins_mark (a ∷ b ∷ t) is =
     let more : (nat_eq 191 b ≡ true) × (true ≡ true) = and_parts _ _ parts.1 in
     ap (λ x. x ∷ b ∷ t) (sym (eqb-true 187 a parts.0)) ∙ ap (λ x. 187 ∷ x ∷ t) (sym (eqb-true 191 b more.0))
 
-mark-found : (place : Place) (text : List ℕ) → place.file_start ≡ true → IsFound place (239 ∷ text) (mark_front text)
+mark-found : (place : Standing) (text : List ℕ) → place.file_start ≡ true → IsFound place (239 ∷ text) (mark_front text)
 mark-found place text at_start =
     cond_both (starts_with nat_eq text (187 ∷ 191 ∷ [])) (Some (ByteOrderMark, drop 2 text)) None (IsFound place (239 ∷ text))
     (λ is. (ap (λ (xs : List ℕ). 239 ∷ xs) (begins_mark text is), at_start))
     (λ _. tt)
 
 -- what was found behind a byte that is the given one
-at_byte : (place : Place) (b w : ℕ) (rest : List ℕ) (o : Option (Part × List ℕ)) → (b == w) ≡ true → IsFound place (w ∷ rest) o → IsFound place (b ∷ rest) o
+at_byte : (place : Standing) (b w : ℕ) (rest : List ℕ) (o : Option (Part × List ℕ)) → (b == w) ≡ true → IsFound place (w ∷ rest) o → IsFound place (b ∷ rest) o
 at_byte place b w rest o is found = subst (λ x. IsFound place (x ∷ rest) o) (sym (eqb-true b w is)) found
 
-line_found : (place : Place) (text : List ℕ) → IsFound place (59 ∷ text) (Some (Line (run_of is_not_line_feed text), after_run is_not_line_feed text))
+line_found : (place : Standing) (text : List ℕ) → IsFound place (59 ∷ text) (Some (Line (run_of is_not_line_feed text), after_run is_not_line_feed text))
 line_found place text = (
   ap (λ (xs : List ℕ). 59 ∷ xs) (run-append-after is_not_line_feed text),
   (list_all-run is_not_line_feed text, stops-after_run is_not_line_feed text),
 )
 
-escape_found : (place : Place) (text : List ℕ) → place.column_one ≡ true → IsFound place (37 ∷ text) (Some (EscapeLine (run_of is_not_line_feed text), after_run is_not_line_feed text))
+escape_found : (place : Standing) (text : List ℕ) → place.column_one ≡ true → IsFound place (37 ∷ text) (Some (EscapeLine (run_of is_not_line_feed text), after_run is_not_line_feed text))
 escape_found place text column_one = (
   ap (λ (xs : List ℕ). 37 ∷ xs) (run-append-after is_not_line_feed text),
   (column_one, list_all-run is_not_line_feed text, stops-after_run is_not_line_feed text),
 )
 
-pub gap-found : (place : Place) (text : List ℕ) → IsFound place text (gap_front place text)
+pub gap-found : (place : Standing) (text : List ℕ) → IsFound place text (gap_front place text)
 gap-found place [] = tt
 gap-found place (b ∷ rest) =
     cond_both (is_white b) _ _ (IsFound place (b ∷ rest)) (λ e. (refl, e)) (λ _.
@@ -121,13 +121,13 @@ contents-sound false (b ∷ rest) =
     (contents_front false rest) (contents-sound false rest)))
 
 -- what is known of a tag up to its string
-record Begun (place : Place) (first name second : List ℕ) : Type 0 where
+record Begun (place : Standing) (first name second : List ℕ) : Type 0 where
   whites : IsTrue (list_all is_white first)
   some : IsTrue (not (is_empty name))
   names : IsTrue (list_all is_name_byte name)
   more_whites : IsTrue (list_all is_white second)
 
-tag_end-found : (place : Place) (first name second contents : List ℕ) → Begun place first name second → IsContents contents → (text : List ℕ) (o : Option (List ℕ)) → rest_behind 93 (after_run is_white text) ≡ o
+tag_end-found : (place : Standing) (first name second contents : List ℕ) → Begun place first name second → IsContents contents → (text : List ℕ) (o : Option (List ℕ)) → rest_behind 93 (after_run is_white text) ≡ o
     → IsFound place (91 ∷ (first ++ (name ++ (second ++ (34 ∷ (contents ++ (34 ∷ text))))))) (option_map (λ rest. (Tag first name second contents (run_of is_white text), rest)) o)
 tag_end-found place first name second contents begun spelt text None is = tt
 tag_end-found place first name second contents begun spelt text (Some rest) is =
@@ -138,28 +138,28 @@ tag_end-found place first name second contents begun spelt text (Some rest) is =
       (begun.whites, begun.some, begun.names, begun.more_whites, spelt, list_all-run is_white text),
     )
 
-tag_close-found : (place : Place) (first name second contents : List ℕ) → Begun place first name second → IsContents contents → (text : List ℕ) (o : Option (List ℕ)) → rest_behind 34 text ≡ o
+tag_close-found : (place : Standing) (first name second contents : List ℕ) → Begun place first name second → IsContents contents → (text : List ℕ) (o : Option (List ℕ)) → rest_behind 34 text ≡ o
     → IsFound place (91 ∷ (first ++ (name ++ (second ++ (34 ∷ (contents ++ text)))))) (option_and_then (λ rest. tag_end first name second contents rest) o)
 tag_close-found place first name second contents begun spelt text None is = tt
 tag_close-found place first name second contents begun spelt text (Some rest) is =
     subst (λ xs. IsFound place (91 ∷ (first ++ (name ++ (second ++ (34 ∷ (contents ++ xs)))))) (tag_end first name second contents rest)) (sym (rest_behind-is 34 text rest is))
     (tag_end-found place first name second contents begun spelt rest (rest_behind 93 (after_run is_white rest)) refl)
 
-tag_contents-found : (place : Place) (first name second : List ℕ) → Begun place first name second → (text : List ℕ) (o : Option (List ℕ × List ℕ)) → IsRead false text o
+tag_contents-found : (place : Standing) (first name second : List ℕ) → Begun place first name second → (text : List ℕ) (o : Option (List ℕ × List ℕ)) → IsRead false text o
     → IsFound place (91 ∷ (first ++ (name ++ (second ++ (34 ∷ text))))) (option_and_then (λ found. option_and_then (λ rest. tag_end first name second found.0 rest) (rest_behind 34 found.1)) o)
 tag_contents-found place first name second begun text None read = tt
 tag_contents-found place first name second begun text (Some found) (spelt, parted) =
     subst (λ xs. IsFound place (91 ∷ (first ++ (name ++ (second ++ (34 ∷ xs))))) (option_and_then (λ rest. tag_end first name second found.0 rest) (rest_behind 34 found.1))) (sym parted)
     (tag_close-found place first name second found.0 begun spelt found.1 (rest_behind 34 found.1) refl)
 
-tag_string-found : (place : Place) (first name second : List ℕ) → Begun place first name second → (text : List ℕ) (o : Option (List ℕ)) → rest_behind 34 text ≡ o
+tag_string-found : (place : Standing) (first name second : List ℕ) → Begun place first name second → (text : List ℕ) (o : Option (List ℕ)) → rest_behind 34 text ≡ o
     → IsFound place (91 ∷ (first ++ (name ++ (second ++ text)))) (option_and_then (λ behind. option_and_then (λ found. option_and_then (λ rest. tag_end first name second found.0 rest) (rest_behind 34 found.1)) (contents_front false behind)) o)
 tag_string-found place first name second begun text None is = tt
 tag_string-found place first name second begun text (Some behind) is =
     subst (λ xs. IsFound place (91 ∷ (first ++ (name ++ (second ++ xs)))) (option_and_then (λ found. option_and_then (λ rest. tag_end first name second found.0 rest) (rest_behind 34 found.1)) (contents_front false behind))) (sym (rest_behind-is 34 text behind is))
     (tag_contents-found place first name second begun behind (contents_front false behind) (contents-sound false behind))
 
-tag_name-found : (place : Place) (first text : List ℕ) → IsTrue (list_all is_white first) → IsFound place (91 ∷ (first ++ text)) (tag_name first text)
+tag_name-found : (place : Standing) (first text : List ℕ) → IsTrue (list_all is_white first) → IsFound place (91 ∷ (first ++ text)) (tag_name first text)
 tag_name-found place first text whites =
     let name : List ℕ = run_of is_name_byte text in
     let behind : List ℕ = after_run is_name_byte text in
@@ -173,12 +173,12 @@ tag_name-found place first text whites =
     (record { whites = whites; some = not_from_false _ some; names = list_all-run is_name_byte text; more_whites = list_all-run is_white behind })
     string (rest_behind 34 string) refl))
 
-pub tag-found : (place : Place) (text : List ℕ) → IsFound place (91 ∷ text) (tag_front text)
+pub tag-found : (place : Standing) (text : List ℕ) → IsFound place (91 ∷ text) (tag_front text)
 tag-found place text =
     subst (λ xs. IsFound place (91 ∷ xs) (tag_front text)) (sym (run-append-after is_white text))
     (tag_name-found place (run_of is_white text) (after_run is_white text) (list_all-run is_white text))
 
-glyph-found : (place : Place) (text : List ℕ) → IsFound place (36 ∷ text) (glyph_front text)
+glyph-found : (place : Standing) (text : List ℕ) → IsFound place (36 ∷ text) (glyph_front text)
 glyph-found place text =
     cond_both (is_glyph (run_of is_digit text)) (Some (Glyph (run_of is_digit text), after_run is_digit text)) None (IsFound place (36 ∷ text))
     (λ is.
@@ -189,17 +189,17 @@ glyph-found place text =
     ))
     (λ _. tt)
 
-word_found : (place : Place) (b : ℕ) (rest : List ℕ) → is_word_byte b ≡ true → IsFound place (b ∷ rest) (Some (Word (run_of is_word_byte (b ∷ rest)), after_run is_word_byte (b ∷ rest)))
+word_found : (place : Standing) (b : ℕ) (rest : List ℕ) → is_word_byte b ≡ true → IsFound place (b ∷ rest) (Some (Word (run_of is_word_byte (b ∷ rest)), after_run is_word_byte (b ∷ rest)))
 word_found place b rest is =
     let some : IsTrue (not (is_empty (run_of is_word_byte (b ∷ rest)))) = rw is refl in
     (run-append-after is_word_byte (b ∷ rest), (some, list_all-run is_word_byte (b ∷ rest), stops-after_run is_word_byte (b ∷ rest)))
 
-marks_found : (place : Place) (b : ℕ) (rest : List ℕ) → is_mark b ≡ true → IsFound place (b ∷ rest) (Some (Marks (run_of is_mark (b ∷ rest)), after_run is_mark (b ∷ rest)))
+marks_found : (place : Standing) (b : ℕ) (rest : List ℕ) → is_mark b ≡ true → IsFound place (b ∷ rest) (Some (Marks (run_of is_mark (b ∷ rest)), after_run is_mark (b ∷ rest)))
 marks_found place b rest is =
     let some : IsTrue (not (is_empty (run_of is_mark (b ∷ rest)))) = rw is refl in
     (run-append-after is_mark (b ∷ rest), (some, list_all-run is_mark (b ∷ rest), stops-after_run is_mark (b ∷ rest)))
 
-pub game-found : (place : Place) (text : List ℕ) → IsFound place text (game_front text)
+pub game-found : (place : Standing) (text : List ℕ) → IsFound place text (game_front text)
 game-found place [] = tt
 game-found place (b ∷ rest) =
     cond_both (is_word_byte b) _ _ (IsFound place (b ∷ rest)) (λ e. word_found place b rest e) (λ _.
@@ -212,25 +212,25 @@ game-found place (b ∷ rest) =
     cond_both (b == 91) _ _ (IsFound place (b ∷ rest)) (λ e. at_byte place b 91 rest (tag_front rest) e (tag-found place rest)) (λ _.
     tt))))))))
 
-found_either : (place : Place) (text : List ℕ) (o p : Option (Part × List ℕ)) → IsFound place text o → IsFound place text p → IsFound place text (option_or o p)
+found_either : (place : Standing) (text : List ℕ) (o p : Option (Part × List ℕ)) → IsFound place text o → IsFound place text p → IsFound place text (option_or o p)
 found_either place text None p first second = second
 found_either place text (Some found) p first second = first
 
 -- what is read at the front of a text may stand there
-pub part-found : (place : Place) (text : List ℕ) → IsFound place text (part_front place text)
+pub part-found : (place : Standing) (text : List ℕ) → IsFound place text (part_front place text)
 part-found place text = found_either place text (gap_front place text) (game_front text) (gap-found place text) (game-found place text)
 
 -- a part that is read may stand there
-pub read-stands : (place : Place) (text : List ℕ) (p : Part) (rest : List ℕ) → part_front place text ≡ Some (p, rest) → (text ≡ spelled_part p ++ rest) × Stands place p rest
+pub read-stands : (place : Standing) (text : List ℕ) (p : Part) (rest : List ℕ) → part_front place text ≡ Some (p, rest) → (text ≡ spelled_part p ++ rest) × Stands place p rest
 read-stands place text p rest is = subst (IsFound place text) is (part-found place text)
 
 -- at the front of a text a part stands, or none does
-or_none : (place : Place) (text : List ℕ) (o : Option (Part × List ℕ)) → part_front place text ≡ o → ((p : Part) × (rest : List ℕ) × (text ≡ spelled_part p ++ rest) × Stands place p rest) ⊎ ((p : Part) (rest : List ℕ) → text ≡ spelled_part p ++ rest → Stands place p rest → ⊥)
+or_none : (place : Standing) (text : List ℕ) (o : Option (Part × List ℕ)) → part_front place text ≡ o → ((p : Part) × (rest : List ℕ) × (text ≡ spelled_part p ++ rest) × Stands place p rest) ⊎ ((p : Part) (rest : List ℕ) → text ≡ spelled_part p ++ rest → Stands place p rest → ⊥)
 or_none place text (Some found) is =
     let stands : (text ≡ spelled_part found.0 ++ found.1) × Stands place found.0 found.1 = read-stands place text found.0 found.1 is in
     inl (found.0, found.1, stands.0, stands.1)
 or_none place text None is =
     inr (λ p rest parted stands. let read : part_front place text ≡ Some (p, rest) = ap (part_front place) parted ∙ stands-read place p rest stands in cc)
 
-pub part_or_none : (place : Place) (text : List ℕ) → ((p : Part) × (rest : List ℕ) × (text ≡ spelled_part p ++ rest) × Stands place p rest) ⊎ ((p : Part) (rest : List ℕ) → text ≡ spelled_part p ++ rest → Stands place p rest → ⊥)
+pub part_or_none : (place : Standing) (text : List ℕ) → ((p : Part) × (rest : List ℕ) × (text ≡ spelled_part p ++ rest) × Stands place p rest) ⊎ ((p : Part) (rest : List ℕ) → text ≡ spelled_part p ++ rest → Stands place p rest → ⊥)
 part_or_none place text = or_none place text (part_front place text) refl

@@ -143,7 +143,7 @@ word_tells max_depth s t number result true e =
 word_tells max_depth s t true result false e = (refl, within max_depth (in_movetext s) t cc)
 word_tells max_depth s t false result false e = cc
 
--- what a step tells of its part, and that it keeps within the limit
+-- what a step says of its part, and that it keeps within the limit
 step_tells : (max_depth : ℕ) (s t : State) (p : Part) → step max_depth s p ≡ Some t
     → (is_tag p ≡ true → s.in_tags ≡ true) × (is_meant p ≡ true) × (is_open p ≡ true → s.has_move ≡ true) ×
     (s.depth ≤ max_depth → t.depth ≤ max_depth)

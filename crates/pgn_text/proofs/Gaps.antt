@@ -3,7 +3,7 @@ use Rattle.std.proofs.Common.{◌≡◌, ℕ, ◌<◌, ◌≤◌, Bool, true, fa
 use Rattle.std.specs.Prelude.{IsTrue}
 use Rattle.std.specs.List.{list_all}
 use Rattle.std.proofs.lemmas.Bool.{and_parts, and_from}
-use Rattle.pgn_text.specs.Parts.{Part, Stands, AllStand, place_of, spelled_part, spelled}
+use Rattle.pgn_text.specs.Parts.{Part, Stands, AllStand, standing_of, spelled_part, spelled}
 use Rattle.pgn_text.specs.Games.{is_gap_part}
 use Rattle.pgn_text.specs.Pieces.{IsGap, IsLongestGap}
 use Rattle.pgn_text.specs.Walk.{PartAt, GapPartAt, NoGapPartAt, GapTo, LongestGapTo}
@@ -12,7 +12,7 @@ use Rattle.pgn_text.proofs.Halfway.{stands_join, before_more, spelled-append}
 
 -- each part that stands behind these bytes is none of a gap
 abbrev pub NoGapPart : Bool → List ℕ → List ℕ → Type 0
-NoGapPart f before after = (part : Part) (rest : List ℕ) → after ≡ spelled_part part ++ rest → Stands (place_of f before) part rest → is_gap_part part ≡ false
+NoGapPart f before after = (part : Part) (rest : List ℕ) → after ≡ spelled_part part ++ rest → Stands (standing_of f before) part rest → is_gap_part part ≡ false
 
 -- no gap reaches further than one behind which no part of a gap stands
 no_longer : (f : Bool) (before : List ℕ) (gap : List Part) (after : List ℕ) → AllStand f before gap after → NoGapPart f (before ++ spelled gap) after
@@ -28,7 +28,7 @@ no_longer f before (q ∷ qs) after stand none (p ∷ ps) rest same others only 
     let regrouped : spelled_part p ++ (spelled ps ++ rest) ≡ spelled_part q ++ (spelled qs ++ after) =
     sym (append_assoc (spelled_part p) (spelled ps) rest) ∙ same ∙ append_assoc (spelled_part q) (spelled qs) after in
     let one : (p ≡ q) × (spelled ps ++ rest ≡ spelled qs ++ after) =
-    one_part (place_of f before) p q (spelled ps ++ rest) (spelled qs ++ after) others.0 stand.0 regrouped in
+    one_part (standing_of f before) p q (spelled ps ++ rest) (spelled qs ++ after) others.0 stand.0 regrouped in
     let behind : AllStand f (before ++ spelled_part q) ps rest = subst (λ x. AllStand f (before ++ spelled_part x) ps rest) one.0 others.1 in
     let none_behind : NoGapPart f ((before ++ spelled_part q) ++ spelled qs) after = rw (← (append_assoc before (spelled_part q) (spelled qs))) at none in
     let less : length (spelled ps) ≤ length (spelled qs) = no_longer f (before ++ spelled_part q) qs after stand.1 none_behind ps rest one.1 behind parts.1 in
@@ -59,7 +59,7 @@ gap_more f block begin at end to more =
       is_gap = record {
         stand = stands_join f (take begin block) to.gap (more.part ∷ []) (drop end block)
             (subst (AllStand f (take begin block) to.gap) (sym one) to.is_gap.stand)
-            (subst (λ xs. Stands (place_of f xs) more.part (drop end block)) before found.stands, tt);
+            (subst (λ xs. Stands (standing_of f xs) more.part (drop end block)) before found.stands, tt);
         only = all_push to.gap more.part to.is_gap.only more.is_gap;
       };
       parted = to.parted ∙ ap (λ xs. spelled to.gap ++ xs) (found.parted)

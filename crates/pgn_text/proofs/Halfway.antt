@@ -2,7 +2,7 @@
 use Rattle.std.proofs.Common.{◌≡◌, ◌≢◌, ℕ, Bool, true, false, List, [], ◌∷◌, ◌++◌, Some, None, IsTrue, MatchBool, refl, sym, ap, subst, ◌∙◌, inl, inr, append_assoc, append-nil}
 use Rattle.std.proofs.lemmas.List.Concat.{flat_map-append}
 use Rattle.std.proofs.lemmas.Bool.{MatchBool-at_true, MatchBool-at_false, cases_Bool}
-use Rattle.pgn_text.specs.Parts.{Part, place_of, Stands, AllStand, spelled, spelled_part}
+use Rattle.pgn_text.specs.Parts.{Part, standing_of, Stands, AllStand, spelled, spelled_part}
 use Rattle.pgn_text.specs.Games.{is_result, begins_outside_gap, IsGame}
 use Rattle.pgn_text.specs.Steps.{State, start, step, Leads}
 use Rattle.pgn_text.proofs.GameLeads.{game_leads, game_from}
@@ -45,7 +45,7 @@ module _ (max_depth : ℕ) (file_start : Bool) where
     pub leads : Leads max_depth s parts
 
   pub reads_more : (before text : List ℕ) (s t : State) (p : Part) (rest : List ℕ) (parts : List Part) (after : List ℕ)
-      → text ≡ spelled_part p ++ rest → Stands (place_of file_start before) p rest → is_result p ≡ false
+      → text ≡ spelled_part p ++ rest → Stands (standing_of file_start before) p rest → is_result p ≡ false
       → step max_depth s p ≡ Some t → Reads (before ++ spelled_part p) rest t parts after
       → Reads before text s (p ∷ parts) after
   reads_more before text s t p rest parts after parted stands r steps h = record {
@@ -56,7 +56,7 @@ module _ (max_depth : ℕ) (file_start : Bool) where
 
   -- a result outside all variations is a reading by itself
   pub reads_end : (before text : List ℕ) (s : State) (p : Part) (rest : List ℕ)
-      → text ≡ spelled_part p ++ rest → Stands (place_of file_start before) p rest → is_result p ≡ true → s.depth ≡ 0
+      → text ≡ spelled_part p ++ rest → Stands (standing_of file_start before) p rest → is_result p ≡ true → s.depth ≡ 0
       → Reads before text s (p ∷ []) rest
   reads_end before text s p rest parted stands r zero = record {
     parted = parted ∙ ap (λ l. l ++ rest) (sym (append-nil (spelled_part p)));
@@ -75,11 +75,11 @@ module _ (max_depth : ℕ) (file_start : Bool) where
 
   -- the part that stands at the place is a reading's first
   pub reads_first : (before text : List ℕ) (s : State) (p : Part) (rest : List ℕ) (parts : List Part) (after : List ℕ)
-      → text ≡ spelled_part p ++ rest → Stands (place_of file_start before) p rest
+      → text ≡ spelled_part p ++ rest → Stands (standing_of file_start before) p rest
       → Reads before text s parts after → BeginsWith before s p rest parts after
   reads_first before text s p rest [] after parted stands h = absurd h.leads
   reads_first before text s p rest (q ∷ more) after parted stands h =
-      let one = one_part (place_of file_start before) q p (spelled more ++ after) rest h.stand.0 stands
+      let one = one_part (standing_of file_start before) q p (spelled more ++ after) rest h.stand.0 stands
       (sym (append_assoc (spelled_part q) (spelled more) after) ∙ sym h.parted ∙ parted) in
       let leads = subst (λ r. MatchBool (is_result r) ((s.depth ≡ 0) × (more ≡ []))
       ((next : State) × (step max_depth s r ≡ Some next) × Leads max_depth next more)) one.0 h.leads in
@@ -160,7 +160,7 @@ module _ (max_depth : ℕ) (file_start : Bool) where
   -- behind one part more
   pub halfway_more : (before text : List ℕ) (done : List Part) (s t : State) (p : Part) (behind rest : List ℕ)
       → Halfway before text done s behind → behind ≡ spelled_part p ++ rest
-      → Stands (place_of file_start (before ++ spelled done)) p rest → is_result p ≡ false → step max_depth s p ≡ Some t
+      → Stands (standing_of file_start (before ++ spelled done)) p rest → is_result p ≡ false → step max_depth s p ≡ Some t
       → Halfway before text (done ++ p ∷ []) t rest
   halfway_more before text done s t p behind rest h parted stands r steps =
       let place = before_more before done p in record {
@@ -180,7 +180,7 @@ module _ (max_depth : ℕ) (file_start : Bool) where
   -- at a result outside all variations the reading ends
   pub halfway_end : (before text : List ℕ) (done : List Part) (s : State) (p : Part) (behind rest : List ℕ)
       → Halfway before text done s behind → behind ≡ spelled_part p ++ rest
-      → Stands (place_of file_start (before ++ spelled done)) p rest → is_result p ≡ true → s.depth ≡ 0
+      → Stands (standing_of file_start (before ++ spelled done)) p rest → is_result p ≡ true → s.depth ≡ 0
       → Reads before text start (done ++ p ∷ []) rest
   halfway_end before text done s p behind rest h parted stands r zero =
       h.sound (p ∷ []) rest (reads_end (before ++ spelled done) behind s p rest parted stands r zero)
@@ -188,7 +188,7 @@ module _ (max_depth : ℕ) (file_start : Bool) where
   -- at a part that may not follow there is no reading
   pub halfway_stuck : (before text : List ℕ) (done : List Part) (s : State) (p : Part) (behind rest : List ℕ)
       → Halfway before text done s behind → behind ≡ spelled_part p ++ rest
-      → Stands (place_of file_start (before ++ spelled done)) p rest → (is_result p ≡ true → s.depth ≢ 0)
+      → Stands (standing_of file_start (before ++ spelled done)) p rest → (is_result p ≡ true → s.depth ≢ 0)
       → (is_result p ≡ false → step max_depth s p ≡ None) → (parts : List Part) (after : List ℕ)
       → Reads before text start parts after → ⊥
   halfway_stuck before text done s p behind rest h parted stands deep stuck parts after k =
@@ -203,7 +203,7 @@ module _ (max_depth : ℕ) (file_start : Bool) where
   pub halfway_none : (before text : List ℕ) (done : List Part) (s : State) (behind : List ℕ)
       → Halfway before text done s behind
       → ((p : Part) (rest : List ℕ) → behind ≡ spelled_part p ++ rest → Stands
-      (place_of file_start (before ++ spelled done)) p rest → ⊥)
+      (standing_of file_start (before ++ spelled done)) p rest → ⊥)
       → (parts : List Part) (after : List ℕ) → Reads before text start parts after → ⊥
   halfway_none before text done s behind h none parts after k =
       let all = h.complete parts after k in nothing all.0 all.2

@@ -1,4 +1,4 @@
--- What a game keeps of a part tells what the part does.
+-- What a game keeps of a part says what the part does.
 use Rattle.std.proofs.Common.{◌≡◌, ℕ, Bool, true, false, List, [], ◌∷◌, ◌++◌, refl, sym, ap, ◌∙◌, inl, inr, append-nil, arith}
 use Rattle.std.specs.Prelude.{Some, None, codes, bytes_eq, nat_eq, ◌&&◌, if◌then◌else◌, IsTrue}
 use Rattle.std.proofs.lemmas.Bool.{or_cases, or_left, or_from, and_parts, and_left, and_right}

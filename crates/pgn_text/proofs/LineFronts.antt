@@ -7,7 +7,7 @@ use Rattle.std.proofs.lemmas.Bool.{and_parts, and_from, false≢true, or_cases}
 use Rattle.std.proofs.lemmas.Bool.Decides.{nat_tests}
 use Rattle.std.proofs.lemmas.List.Folds.{list_all-append}
 use Rattle.pgn_text.specs.Bytes.{is_white}
-use Rattle.pgn_text.specs.Parts.{Part, ByteOrderMark, White, Brace, Line, EscapeLine, Word, Star, Place, place_of, Stands, AllStand, spelled, spelled_part}
+use Rattle.pgn_text.specs.Parts.{Part, ByteOrderMark, White, Brace, Line, EscapeLine, Word, Star, Standing, standing_of, Stands, AllStand, spelled, spelled_part}
 use Rattle.pgn_text.specs.Games.{is_gap_part, is_result, is_result_word, EachFrom, IsGame}
 use Rattle.pgn_text.specs.Blocks.{event_line, IsFirstBlock}
 use Rattle.pgn_text.proofs.OneBlocks.{empty_first}
@@ -103,7 +103,7 @@ first_byte [] = 0
 first_byte (b ∷ u) = b
 
 -- no part of a gap begins with a bracket, as the line does
-gap_byte : (place : Place) (p : Part) (after x y : List ℕ) → is_gap_part p ≡ true → Stands place p after
+gap_byte : (place : Standing) (p : Part) (after x y : List ℕ) → is_gap_part p ≡ true → Stands place p after
     → spelled_part p ++ x ≡ 91 ∷ y → ⊥
 gap_byte place ByteOrderMark after x y g h e = omega (arith, ap first_byte e)
 gap_byte place (White b) after x y g h e =
@@ -121,7 +121,7 @@ pub gap_line : (file_start : Bool) (before : List ℕ) (gap : List Part) (after 
 gap_line file_start before [] after tail stand only some e = some refl
 gap_line file_start before (p ∷ back) after tail stand only some e =
     let first = (and_parts (is_gap_part p) (list_all is_gap_part back) only).0 in
-    gap_byte (place_of file_start before) p (spelled back ++ after) (spelled back ++ tail) _ first stand.0
+    gap_byte (standing_of file_start before) p (spelled back ++ after) (spelled back ++ tail) _ first stand.0
     (sym (append_assoc (spelled_part p) (spelled back) tail) ∙ sym e)
 
 -- no text with a game in it is one

@@ -1,6 +1,6 @@
 -- A block has one list of pieces at most.
 use Rattle.std.proofs.Common.{◌≡◌, ◌≢◌, ℕ, Bool, List, [], ◌∷◌, ◌++◌, length, take, drop, refl, sym, ap, ◌∙◌, append-nil, le_antisymm, take_at, drop_at}
-use Rattle.pgn_text.specs.Parts.{Part, place_of, spelled, spelled_part}
+use Rattle.pgn_text.specs.Parts.{Part, standing_of, spelled, spelled_part}
 use Rattle.pgn_text.specs.Games.{IsGame}
 use Rattle.pgn_text.specs.Pieces.{IsLongestGap, Piece, Game, Unreadable, ArePieces}
 use Rattle.pgn_text.proofs.PartLemmas.{part_has_byte}
@@ -28,7 +28,7 @@ pub game_has_byte : (max_depth : ℕ) (file_start : Bool) (before : List ℕ) (p
     → IsGame max_depth file_start before parts after → spelled parts ≢ []
 game_has_byte max_depth file_start before [] after g e = let b = g.begins in cc
 game_has_byte max_depth file_start before (p ∷ parts) after g e =
-    part_has_byte (place_of file_start before) p (spelled parts ++ after) g.stand.0 (no_bytes (spelled_part p)
+    part_has_byte (standing_of file_start before) p (spelled parts ++ after) g.stand.0 (no_bytes (spelled_part p)
     (spelled parts) e)
 
 -- a longest gap to the end leaves no game and nothing unreadable

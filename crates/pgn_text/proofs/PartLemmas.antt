@@ -6,7 +6,7 @@ use Rattle.std.specs.List.{list_all}
 use Rattle.std.proofs.lemmas.Bool.{and_parts, not-true, not_from_false}
 use Rattle.pgn_text.specs.Bytes.{is_white, is_digit, is_name_byte, is_word_byte, is_mark, is_plain, is_not_line_feed, is_not_brace, is_empty, stops}
 use Rattle.pgn_text.specs.Strings.{Sign, Single, Escaped, spelled_sign, is_sign, IsContents}
-use Rattle.pgn_text.specs.Parts.{Part, ByteOrderMark, White, Brace, Line, EscapeLine, Tag, Word, Star, Dot, Glyph, Marks, Open, Close, Place, Stands, spelled_part}
+use Rattle.pgn_text.specs.Parts.{Part, ByteOrderMark, White, Brace, Line, EscapeLine, Tag, Word, Star, Dot, Glyph, Marks, Open, Close, Standing, Stands, spelled_part}
 use Rattle.pgn_text.specs.Reading.{gap_front, with_byte, contents_front, tag_end, tag_string, tag_front, game_front, part_front, kept_found}
 use Rattle.pgn_text.proofs.Fronts.{run_of-append, after_run-append}
 use Rattle.pgn_text.proofs.Classes.{is_white-word, brace-word, semicolon-word, percent-word, order_mark-word, is_white-mark, brace-mark, semicolon-mark, percent-mark, order_mark-mark, is_word_byte-mark, dot-mark, dollar-mark, is_name_byte-white, is_white-name}
@@ -16,11 +16,11 @@ kept-or None b = refl
 kept-or (Some found) b = refl
 
 -- behind a word's byte, or a mark, no gap part stands
-no_gap-word : (place : Place) (b : ℕ) (rest : List ℕ) → is_word_byte b ≡ true → gap_front place (b ∷ rest) ≡ None
+no_gap-word : (place : Standing) (b : ℕ) (rest : List ℕ) → is_word_byte b ≡ true → gap_front place (b ∷ rest) ≡ None
 no_gap-word place b rest word =
     rw (is_white-word b word, brace-word b word, semicolon-word b word, percent-word b word, order_mark-word b word) refl
 
-no_gap-mark : (place : Place) (b : ℕ) (rest : List ℕ) → is_mark b ≡ true → gap_front place (b ∷ rest) ≡ None
+no_gap-mark : (place : Standing) (b : ℕ) (rest : List ℕ) → is_mark b ≡ true → gap_front place (b ∷ rest) ≡ None
 no_gap-mark place b rest mark =
     rw (is_white-mark b mark, brace-mark b mark, semicolon-mark b mark, percent-mark b mark, order_mark-mark b mark) refl
 
@@ -87,7 +87,7 @@ pub tag_regroup : (first name second contents third after : List ℕ)
 tag_regroup first name second contents third after = simp append_assoc
 
 -- a part that may stand at the place is the one that is read there
-pub stands-read : (place : Place) (p : Part) (after : List ℕ) → Stands place p after → part_front place (spelled_part p ++ after) ≡ Some (p, after)
+pub stands-read : (place : Standing) (p : Part) (after : List ℕ) → Stands place p after → part_front place (spelled_part p ++ after) ≡ Some (p, after)
 stands-read place ByteOrderMark after at_start = rw at_start refl
 stands-read place (White b) after white = rw white refl
 stands-read place (Brace text) after inside =
@@ -123,12 +123,12 @@ some_pair p q after rest same =
     (ap (λ o. (found o).0) same, ap (λ o. (found o).1) same)
 
 -- at one place at most one part stands
-pub one_part : (place : Place) (p q : Part) (after rest : List ℕ) → Stands place p after → Stands place q rest → spelled_part p ++ after ≡ spelled_part q ++ rest → (p ≡ q) × (after ≡ rest)
+pub one_part : (place : Standing) (p q : Part) (after rest : List ℕ) → Stands place p after → Stands place q rest → spelled_part p ++ after ≡ spelled_part q ++ rest → (p ≡ q) × (after ≡ rest)
 one_part place p q after rest stands others same =
     some_pair p q after rest (sym (stands-read place p after stands) ∙ ap (part_front place) same ∙ stands-read place q rest others)
 
 -- each part has a byte
-pub part_has_byte : (place : Place) (p : Part) (after : List ℕ) → Stands place p after → spelled_part p ≢ []
+pub part_has_byte : (place : Standing) (p : Part) (after : List ℕ) → Stands place p after → spelled_part p ≢ []
 part_has_byte place ByteOrderMark after stands e = cc
 part_has_byte place (White b) after stands e = cc
 part_has_byte place (Brace text) after stands e = cc

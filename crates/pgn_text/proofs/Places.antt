@@ -6,7 +6,7 @@ use Rattle.std.specs.Option.{option_or}
 use Rattle.std.proofs.lemmas.Bool.{cond_both}
 use Rattle.std.proofs.lemmas.List.{take-append-drop, length-take-le, take_at, drop_at, nil_from_length}
 use Rattle.pgn_text.specs.Bytes.{is_white, is_word_byte, is_mark, is_digit, is_name_byte, is_not_brace, is_empty}
-use Rattle.pgn_text.specs.Parts.{Part, Tag, Brace, Place, Stands, spelled_part, place_of}
+use Rattle.pgn_text.specs.Parts.{Part, Tag, Brace, Standing, Stands, spelled_part, standing_of}
 use Rattle.pgn_text.specs.Games.{is_gap_part}
 use Rattle.pgn_text.specs.Reading.{Kept, kept, kept_found, part_front, gap_front, game_front, rest_behind, run_of, after_run, tag_front, is_glyph, tag_string, tag_end, contents_front}
 use Rattle.pgn_text.specs.Walk.{PartAt, KeptAt, NothingAt, GapPartAt, NoGapPartAt}
@@ -15,7 +15,7 @@ use Rattle.pgn_text.proofs.FoundLemmas.{IsFound, gap-found, read-stands}
 
 -- a part that stands in a block ends at a place of the block
 pub part_placed : (f : Bool) (block : List ℕ) (at : ℕ) (part : Part) (rest : List ℕ) → at ≤ length block
-    → drop at block ≡ spelled_part part ++ rest → Stands (place_of f (take at block)) part rest → PartAt f block at part (length block - length rest)
+    → drop at block ≡ spelled_part part ++ rest → Stands (standing_of f (take at block)) part rest → PartAt f block at part (length block - length rest)
 part_placed f block at part rest below parted stands =
     let front : length (take at block) ≡ at = length-take-le at block below in
     let whole : block ≡ (take at block ++ spelled_part part) ++ rest =
@@ -29,10 +29,10 @@ part_placed f block at part rest below parted stands =
     ap (drop (length block - length rest)) whole ∙ drop_at (take at block ++ spelled_part part) rest (length block - length rest) end in
     let before : take (length block - length rest) block ≡ take at block ++ spelled_part part =
     ap (take (length block - length rest)) whole ∙ take_at (take at block ++ spelled_part part) rest (length block - length rest) end in
-    let has_byte : length (spelled_part part) ≡ 0 → ⊥ = λ none. part_has_byte (place_of f (take at block)) part rest stands (nil_from_length (spelled_part part) none) in
+    let has_byte : length (spelled_part part) ≡ 0 → ⊥ = λ none. part_has_byte (standing_of f (take at block)) part rest stands (nil_from_length (spelled_part part) none) in
     record {
       parted = parted ∙ ap (λ xs. spelled_part part ++ xs) (sym behind);
-      stands = subst (Stands (place_of f (take at block)) part) (sym behind) stands;
+      stands = subst (Stands (standing_of f (take at block)) part) (sym behind) stands;
       passed = before;
       forward = omega arith;
       within = omega arith;
@@ -50,14 +50,14 @@ none_back : (o : Option (Part × List ℕ)) → None ≡ option_map kept_found o
 none_back None is = refl
 none_back (Some found) is = absurd (cc)
 
-pub nothing_at : (f : Bool) (block : List ℕ) (at : ℕ) (place : Place) (text : List ℕ) → place ≡ place_of f (take at block) → text ≡ drop at block → None ≡ option_map kept_found (part_front place text) → NothingAt f block at
+pub nothing_at : (f : Bool) (block : List ℕ) (at : ℕ) (place : Standing) (text : List ℕ) → place ≡ standing_of f (take at block) → text ≡ drop at block → None ≡ option_map kept_found (part_front place text) → NothingAt f block at
 nothing_at f block at place text place_is text_is none part rest parted stands =
     let read : part_front place text ≡ Some (part, rest) =
-    rw (place_is, text_is, parted) (stands-read (place_of f (take at block)) part rest stands) in
+    rw (place_is, text_is, parted) (stands-read (standing_of f (take at block)) part rest stands) in
     let empty : part_front place text ≡ None = none_back (part_front place text) none in
     cc
 
-pub kept_at : (f : Bool) (block : List ℕ) (at : ℕ) (place : Place) (text : List ℕ) → place ≡ place_of f (take at block) → text ≡ drop at block → at ≤ length block
+pub kept_at : (f : Bool) (block : List ℕ) (at : ℕ) (place : Standing) (text : List ℕ) → place ≡ standing_of f (take at block) → text ≡ drop at block → at ≤ length block
     → (token : Kept) (rest : List ℕ) → Some (token, rest) ≡ option_map kept_found (part_front place text) → KeptAt f block at token (length block - length rest)
 kept_at f block at place text place_is text_is below token rest is =
     let back : (part : Part) × (part_front place text ≡ Some (part, rest)) × (kept part ≡ token) = kept_back (part_front place text) token rest is in
@@ -69,7 +69,7 @@ kept_at f block at place text place_is text_is below token rest is =
     }
 
 -- what is left behind a part is no longer than the block
-pub rest_within : (f : Bool) (block : List ℕ) (at : ℕ) (place : Place) (text : List ℕ) → text ≡ drop at block
+pub rest_within : (f : Bool) (block : List ℕ) (at : ℕ) (place : Standing) (text : List ℕ) → text ≡ drop at block
     → (o : Option (Part × List ℕ)) → IsFound place text o → (token : Kept) (rest : List ℕ) → Some (token, rest) ≡ option_map kept_found o → length rest ≤ length block
 rest_within f block at place text text_is o found token rest is =
     let back : (part : Part) × (o ≡ Some (part, rest)) × (kept part ≡ token) = kept_back o token rest is in
@@ -96,7 +96,7 @@ kind_then_both : (v : Bool) (o : Option (List ℕ × List ℕ)) (g : List ℕ ×
 kind_then_both v None g all = tt
 kind_then_both v (Some found) g all = all found
 
-pub gap_kind : (place : Place) (text : List ℕ) → IsKind true (gap_front place text)
+pub gap_kind : (place : Standing) (text : List ℕ) → IsKind true (gap_front place text)
 gap_kind place [] = tt
 gap_kind place (b ∷ rest) =
     cond_both (is_white b) _ _ (IsKind true) (λ _. refl) (λ _.
@@ -140,18 +140,18 @@ game_kind (b ∷ rest) =
     tt))))))))
 
 -- where no gap part is read, what is read is none
-gap_none : (place : Place) (text : List ℕ) (o : Option (Part × List ℕ)) → gap_front place text ≡ o → o ≡ None → (part : Part) (rest : List ℕ) → part_front place text ≡ Some (part, rest) → is_gap_part part ≡ false
+gap_none : (place : Standing) (text : List ℕ) (o : Option (Part × List ℕ)) → gap_front place text ≡ o → o ≡ None → (part : Part) (rest : List ℕ) → part_front place text ≡ Some (part, rest) → is_gap_part part ≡ false
 gap_none place text o is none part rest read =
     let game : game_front text ≡ Some (part, rest) = ap (λ g. option_or g (game_front text)) (sym (is ∙ none)) ∙ read in
     subst (IsKind false) game (game_kind text)
 
-pub no_gap_at : (f : Bool) (block : List ℕ) (at : ℕ) (place : Place) (text : List ℕ) → place ≡ place_of f (take at block) → text ≡ drop at block → None ≡ option_map kept_found (gap_front place text) → NoGapPartAt f block at
+pub no_gap_at : (f : Bool) (block : List ℕ) (at : ℕ) (place : Standing) (text : List ℕ) → place ≡ standing_of f (take at block) → text ≡ drop at block → None ≡ option_map kept_found (gap_front place text) → NoGapPartAt f block at
 no_gap_at f block at place text place_is text_is none part rest parted stands =
     let read : part_front place text ≡ Some (part, rest) =
-    rw (place_is, text_is, parted) (stands-read (place_of f (take at block)) part rest stands) in
+    rw (place_is, text_is, parted) (stands-read (standing_of f (take at block)) part rest stands) in
     gap_none place text (gap_front place text) refl (none_back (gap_front place text) none) part rest read
 
-pub gap_part_is : (f : Bool) (block : List ℕ) (at : ℕ) (place : Place) (text : List ℕ) → place ≡ place_of f (take at block) → text ≡ drop at block → at ≤ length block
+pub gap_part_is : (f : Bool) (block : List ℕ) (at : ℕ) (place : Standing) (text : List ℕ) → place ≡ standing_of f (take at block) → text ≡ drop at block → at ≤ length block
     → (token : Kept) (rest : List ℕ) → Some (token, rest) ≡ option_map kept_found (gap_front place text) → GapPartAt f block at (length block - length rest)
 gap_part_is f block at place text place_is text_is below token rest is =
     let back : (part : Part) × (gap_front place text ≡ Some (part, rest)) × (kept part ≡ token) = kept_back (gap_front place text) token rest is in

@@ -4,7 +4,7 @@ use Rattle.std.specs.Prelude.{Option, Some, None, IsTrue}
 use Rattle.std.specs.Option.{option_or}
 use Rattle.std.proofs.lemmas.Bool.{not_from_false}
 use Rattle.std.proofs.lemmas.List.{length-take-le, take_at}
-use Rattle.pgn_text.specs.Parts.{Part, Stands, place_of, spelled_part, spelled}
+use Rattle.pgn_text.specs.Parts.{Part, Stands, standing_of, spelled_part, spelled}
 use Rattle.pgn_text.specs.Games.{Item, is_result, begins_outside_gap, items_of, first_tag, result_of}
 use Rattle.pgn_text.specs.GameTexts.{IsPaired}
 use Rattle.pgn_text.specs.Pieces.{NoGame}
@@ -40,8 +40,8 @@ read_start max_depth f block begin state tags elements within is_start no_tags n
 }
 
 -- where a part stands, it stands behind the parts that were read
-stands_behind : (f : Bool) (before there : List ℕ) (done : List Part) (part : Part) (rest : List ℕ) → there ≡ before ++ spelled done → Stands (place_of f there) part rest → Stands (place_of f (before ++ spelled done)) part rest
-stands_behind f before there done part rest passed stands = subst (λ xs. Stands (place_of f xs) part rest) passed stands
+stands_behind : (f : Bool) (before there : List ℕ) (done : List Part) (part : Part) (rest : List ℕ) → there ≡ before ++ spelled done → Stands (standing_of f there) part rest → Stands (standing_of f (before ++ spelled done)) part rest
+stands_behind f before there done part rest passed stands = subst (λ xs. Stands (standing_of f xs) part rest) passed stands
 
 -- behind one more part
 pub read_more : (max_depth : ℕ) (f : Bool) (block : List ℕ) (begin at end : ℕ) (state next : State) (tags more_tags : List ℕ → Option (List ℕ)) (elements more_elements : List Item) (token : Kept)
@@ -52,7 +52,7 @@ read_more max_depth f block begin at end state next tags more_tags elements more
     let found : PartAt f block at here.part end = here.found in
     let no_end : is_result here.part ≡ false = is_result-kept here.part ∙ ap is_kept_result here.keeps ∙ no_result in
     let goes : step max_depth state here.part ≡ Some next = step-kept max_depth state here.part ∙ ap (step_kept max_depth state) here.keeps ∙ steps in
-    let stands : Stands (place_of f (take begin block ++ spelled read.done)) here.part (drop end block) =
+    let stands : Stands (standing_of f (take begin block ++ spelled read.done)) here.part (drop end block) =
     stands_behind f (take begin block) (take at block) read.done here.part (drop end block) read.passed found.stands in
     record {
       done = read.done ++ here.part ∷ [];
@@ -77,7 +77,7 @@ pub read_nothing : (max_depth : ℕ) (f : Bool) (block : List ℕ) (begin at : �
 read_nothing max_depth f block begin at state tags elements read nothing =
     no_game max_depth f (take begin block) (drop begin block)
     (halfway_none max_depth f (take begin block) (drop begin block) read.done state (drop at block) read.halfway
-    (λ part rest parted stands. nothing part rest parted (subst (λ xs. Stands (place_of f xs) part rest) (sym read.passed) stands)))
+    (λ part rest parted stands. nothing part rest parted (subst (λ xs. Stands (standing_of f xs) part rest) (sym read.passed) stands)))
 
 -- where a part stands that may not follow there is no game
 pub read_stuck : (max_depth : ℕ) (f : Bool) (block : List ℕ) (begin at end : ℕ) (state : State) (tags : List ℕ → Option (List ℕ)) (elements : List Item) (token : Kept)
@@ -129,7 +129,7 @@ read_end max_depth f block begin at end state tags elements token read outside h
     let found : PartAt f block at here.part end = here.found in
     let result : is_result here.part ≡ true = is_result-kept here.part ∙ ap is_kept_result here.keeps ∙ is in
     let kept_is : kept here.part ≡ KeptResult = here.keeps ∙ kept_result token is in
-    let stands : Stands (place_of f (take begin block ++ spelled read.done)) here.part (drop end block) =
+    let stands : Stands (standing_of f (take begin block ++ spelled read.done)) here.part (drop end block) =
     stands_behind f (take begin block) (take at block) read.done here.part (drop end block) read.passed found.stands in
     let reads : Reads max_depth f (take begin block) (drop begin block) start (read.done ++ here.part ∷ []) (drop end block) =
     halfway_end max_depth f (take begin block) (drop begin block) read.done state here.part (drop at block) (drop end block) read.halfway found.parted stands result closed in

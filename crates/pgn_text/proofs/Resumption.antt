@@ -6,7 +6,7 @@ use Rattle.std.proofs.lemmas.List.{get_or-append-add, nil_from_length}
 use Rattle.std.proofs.lemmas.List.Folds.{list_all-append}
 use Rattle.std.proofs.lemmas.Bool.Decides.{nat_tests}
 use Rattle.pgn_text.specs.Bytes.{is_white, is_word_byte, is_mark, is_empty}
-use Rattle.pgn_text.specs.Parts.{Part, ByteOrderMark, White, Brace, Line, EscapeLine, Tag, Word, Star, Dot, Glyph, Marks, Open, Close, Place, place_of, is_column_one, Stands, AllStand, spelled, spelled_part}
+use Rattle.pgn_text.specs.Parts.{Part, ByteOrderMark, White, Brace, Line, EscapeLine, Tag, Word, Star, Dot, Glyph, Marks, Open, Close, Standing, standing_of, is_column_one, Stands, AllStand, spelled, spelled_part}
 use Rattle.pgn_text.specs.Games.{is_gap_part, begins_outside_gap, IsGame}
 use Rattle.pgn_text.specs.Pieces.{IsGap, IsLongestGap, NoGame, Piece, Game, Unreadable, ArePieces}
 use Rattle.pgn_text.proofs.PartLemmas.{part_has_byte}
@@ -40,7 +40,7 @@ last_byte x b bs =
 
 -- behind a byte of the piece the place is the same as without what stands before the piece
 same_place : (file_start : Bool) (before : List ℕ) (b : ℕ) (bs : List ℕ) → IsClear file_start before
-    → place_of file_start (before ++ b ∷ bs) ≡ place_of false (b ∷ bs)
+    → standing_of file_start (before ++ b ∷ bs) ≡ standing_of false (b ∷ bs)
 unfolding IsClear
 same_place file_start before b bs clear =
     let starts : (file_start && is_empty (before ++ b ∷ bs)) ≡ false = rw (is_empty-append before b bs)
@@ -58,7 +58,7 @@ pub stand_there : (file_start : Bool) (before : List ℕ) (z : List ℕ) (parts 
 stand_there file_start before [] parts after clear some h = absurd (some refl)
 stand_there file_start before (b ∷ bs) [] after clear some h = tt
 stand_there file_start before (b ∷ bs) (p ∷ back) after clear some h = (
-  subst (λ (place : Place). Stands place p (spelled back ++ after)) (same_place file_start before b bs clear) h.0,
+  subst (λ (place : Standing). Stands place p (spelled back ++ after)) (same_place file_start before b bs clear) h.0,
   stand_there file_start before (b ∷ (bs ++ spelled_part p)) back after clear (λ e. cc)
       (rw (append_assoc before (b ∷ bs) (spelled_part p)) at h.1),
 )
@@ -68,7 +68,7 @@ pub stand_back : (file_start : Bool) (before : List ℕ) (z : List ℕ) (parts :
 stand_back file_start before [] parts after clear some h = absurd (some refl)
 stand_back file_start before (b ∷ bs) [] after clear some h = tt
 stand_back file_start before (b ∷ bs) (p ∷ back) after clear some h = (
-  subst (λ (place : Place). Stands place p (spelled back ++ after)) (sym (same_place file_start before b bs clear)) h.0,
+  subst (λ (place : Standing). Stands place p (spelled back ++ after)) (sym (same_place file_start before b bs clear)) h.0,
   rw (append_assoc before (b ∷ bs) (spelled_part p)) (stand_back file_start before (b ∷ (bs ++ spelled_part p)) back
       after clear (λ e. cc) h.1),
 )
@@ -76,7 +76,7 @@ stand_back file_start before (b ∷ bs) (p ∷ back) after clear some h = (
 -- ---- at the mark itself
 
 -- a part that is none of a gap stands at any place
-pub stands_elsewhere : (here there : Place) (p : Part) (after : List ℕ) → is_gap_part p ≡ false → Stands here p after
+pub stands_elsewhere : (here there : Standing) (p : Part) (after : List ℕ) → is_gap_part p ≡ false → Stands here p after
     → Stands there p after
 stands_elsewhere here there ByteOrderMark after g h = cc
 stands_elsewhere here there (White b) after g h = cc
@@ -93,7 +93,7 @@ stands_elsewhere here there Open after g h = h
 stands_elsewhere here there Close after g h = h
 
 -- what stands at the start of a resumed block stands at any place
-pub stands_anywhere : (there : Place) (p : Part) (after : List ℕ) → Stands (place_of false []) p after
+pub stands_anywhere : (there : Standing) (p : Part) (after : List ℕ) → Stands (standing_of false []) p after
     → Stands there p after
 stands_anywhere there ByteOrderMark after h = absurd (false≢true h)
 stands_anywhere there (White b) after h = h
@@ -134,9 +134,9 @@ pub game_there : (max_depth : ℕ) (file_start : Bool) (before : List ℕ) (part
 game_there max_depth file_start before [] after clear g = let b = g.begins in cc
 game_there max_depth file_start before (p ∷ back) after clear g =
     game_at max_depth file_start false before [] (p ∷ back) after g (
-      stands_elsewhere (place_of file_start before) (place_of false []) p (spelled back ++ after)
+      stands_elsewhere (standing_of file_start before) (standing_of false []) p (spelled back ++ after)
           (first_outside p back g.begins) g.stand.0,
-      stand_there file_start before (spelled_part p) back after clear (part_has_byte (place_of file_start before) p
+      stand_there file_start before (spelled_part p) back after clear (part_has_byte (standing_of file_start before) p
           (spelled back ++ after) g.stand.0) g.stand.1,
     )
 
@@ -146,18 +146,18 @@ pub game_back : (max_depth : ℕ) (file_start : Bool) (before : List ℕ) (parts
 game_back max_depth file_start before [] after clear g = let b = g.begins in cc
 game_back max_depth file_start before (p ∷ back) after clear g =
     game_at max_depth false file_start [] before (p ∷ back) after g (
-      stands_elsewhere (place_of false []) (place_of file_start before) p (spelled back ++ after)
+      stands_elsewhere (standing_of false []) (standing_of file_start before) p (spelled back ++ after)
           (first_outside p back g.begins) g.stand.0,
-      stand_back file_start before (spelled_part p) back after clear (part_has_byte (place_of false []) p
+      stand_back file_start before (spelled_part p) back after clear (part_has_byte (standing_of false []) p
           (spelled back ++ after) g.stand.0) g.stand.1,
     )
 
 -- where the longest gap is empty no part of a gap stands
 pub no_gap_part : (file_start : Bool) (before text : List ℕ) → IsLongestGap file_start before [] text
     → (p : Part) (rest : List ℕ) → text ≡ spelled_part p ++ rest → is_gap_part p ≡ true
-    → Stands (place_of file_start before) p rest → ⊥
+    → Stands (standing_of file_start before) p rest → ⊥
 no_gap_part file_start before text l p rest e g h =
-    part_has_byte (place_of file_start before) p rest h
+    part_has_byte (standing_of file_start before) p rest h
     (nil_from_length (spelled_part p) (omega (
       arith,
       l.longest (p ∷ []) rest (rw append-nil (sym e))
@@ -168,7 +168,7 @@ no_gap_part file_start before text l p rest e g h =
 -- and where none stands the longest gap is empty
 pub empty_gap : (file_start : Bool) (before text : List ℕ)
     → ((p : Part) (rest : List ℕ) → text ≡ spelled_part p ++ rest → is_gap_part p ≡ true → Stands
-    (place_of file_start before) p rest → ⊥)
+    (standing_of file_start before) p rest → ⊥)
     → IsLongestGap file_start before [] text
 empty_gap file_start before text none = record {
   is_gap = record { stand = tt; only = refl };
@@ -187,7 +187,7 @@ pub no_gap_there : (file_start : Bool) (before text : List ℕ) → IsLongestGap
     → IsLongestGap false [] [] text
 no_gap_there file_start before text l =
     empty_gap false [] text (λ p rest e g h. no_gap_part file_start before text l p rest e g
-    (stands_anywhere (place_of file_start before) p rest h))
+    (stands_anywhere (standing_of file_start before) p rest h))
 
 -- behind a longest gap the longest gap is empty
 pub gap_spent : (file_start : Bool) (before : List ℕ) (gap : List Part) (text : List ℕ)
@@ -199,7 +199,7 @@ gap_spent file_start before gap text l = empty_gap file_start (before ++ spelled
     let bytes = spelled-append gap (p ∷ []) in
     let long = l.longest (gap ++ p ∷ []) rest (rw (bytes, append-nil, append_assoc, ← e) refl)
     (record { stand = stand; only = only }) in
-    part_has_byte (place_of file_start (before ++ spelled gap)) p rest h
+    part_has_byte (standing_of file_start (before ++ spelled gap)) p rest h
     (nil_from_length (spelled_part p) (omega (
       arith,
       long,
@@ -338,7 +338,7 @@ white_byte : (c : ℕ) → is_white c ≡ true → (c == 239) ≡ false
 white_byte c e = grind (arith, nat_tests)
 
 -- behind a first part it is
-pub clear_behind : (file_start : Bool) (p : Part) (after x : List ℕ) → Stands (place_of file_start []) p after
+pub clear_behind : (file_start : Bool) (p : Part) (after x : List ℕ) → Stands (standing_of file_start []) p after
     → IsClear file_start (spelled_part p ++ x)
 clear_behind file_start ByteOrderMark after x h = mark_behind file_start x
 clear_behind file_start (White c) after x h = other_byte file_start c x (white_byte c h)

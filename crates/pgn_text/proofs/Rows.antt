@@ -1,6 +1,6 @@
 -- Worked rows of the definitions.
 use Rattle.std.proofs.Common.{◌≡◌, true, false, List, [], ◌∷◌, codes, refl, sym, ap, ◌∙◌}
-use Rattle.pgn_text.specs.Parts.{Part, White, Word, Star, Dot, Open, Close, spelled, place_of}
+use Rattle.pgn_text.specs.Parts.{Part, White, Word, Star, Dot, Open, Close, spelled, standing_of}
 use Rattle.pgn_text.specs.Games.{IsGame}
 use Rattle.pgn_text.specs.Pieces.{NoGame}
 use Rattle.pgn_text.specs.Steps.{start}
@@ -44,6 +44,6 @@ third_none parts after e g = halfway_stuck 64 false [] (codes "(1. e4) *") [] st
 fourth_none : NoGame 64 true (32 ∷ []) (codes "%x *")
 fourth_none parts after e g = halfway_none 64 true (32 ∷ []) (codes "%x *") [] start (codes "%x *")
     (halfway_start 64 true (32 ∷ []) (codes "%x *"))
-    (λ p rest f h. (let k = sym (stands-read (place_of true (32 ∷ [])) p rest h)
-    ∙ ap (part_front (place_of true (32 ∷ []))) (sym f) in cc))
+    (λ p rest f h. (let k = sym (stands-read (standing_of true (32 ∷ [])) p rest h)
+    ∙ ap (part_front (standing_of true (32 ∷ []))) (sym f) in cc))
     parts after (game_reads 64 true (32 ∷ []) (codes "%x *") parts after e g)

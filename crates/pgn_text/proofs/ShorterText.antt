@@ -3,7 +3,7 @@ use Rattle.std.proofs.Common.{ℕ, Bool, List, [], ◌∷◌, ◌++◌, length, 
 use Rattle.std.specs.List.{list_all}
 use Rattle.std.proofs.lemmas.Bool.{false≢true, not-true}
 use Rattle.pgn_text.specs.Bytes.{stops}
-use Rattle.pgn_text.specs.Parts.{Part, ByteOrderMark, White, Brace, Line, EscapeLine, Tag, Word, Star, Dot, Glyph, Marks, Open, Close, Place, place_of, Stands, AllStand, spelled, spelled_part}
+use Rattle.pgn_text.specs.Parts.{Part, ByteOrderMark, White, Brace, Line, EscapeLine, Tag, Word, Star, Dot, Glyph, Marks, Open, Close, Standing, standing_of, Stands, AllStand, spelled, spelled_part}
 use Rattle.pgn_text.specs.Games.{is_gap_part, IsGame}
 use Rattle.pgn_text.specs.Pieces.{IsGap, IsLongestGap}
 use Rattle.pgn_text.proofs.Gaps.{longest_gap}
@@ -13,7 +13,7 @@ stops_front : (test : ℕ → Bool) (u v : List ℕ) → IsTrue (stops test (u +
 stops_front test [] v h = refl
 stops_front test (b ∷ u) v h = h
 
-stands_front : (place : Place) (p : Part) (u v : List ℕ) → Stands place p (u ++ v) → Stands place p u
+stands_front : (place : Standing) (p : Part) (u v : List ℕ) → Stands place p (u ++ v) → Stands place p u
 stands_front place ByteOrderMark u v h = h
 stands_front place (White b) u v h = h
 stands_front place (Brace text) u v h = h
@@ -32,7 +32,7 @@ all_front : (file_start : Bool) (before : List ℕ) (parts : List Part) (u v : L
     → AllStand file_start before parts (u ++ v) → AllStand file_start before parts u
 all_front file_start before [] u v h = tt
 all_front file_start before (p ∷ back) u v h = (
-  stands_front (place_of file_start before) p (spelled back ++ u) v (rw (append_assoc (spelled back) u v) h.0),
+  stands_front (standing_of file_start before) p (spelled back ++ u) v (rw (append_assoc (spelled back) u v) h.0),
   all_front file_start (before ++ spelled_part p) back u v h.1,
 )
 
@@ -59,7 +59,7 @@ gap_front max_depth file_start before gap (p ∷ back) u v is game =
     let after = spelled (p ∷ back) ++ u in
     let stand = all_front file_start before gap after v (rw (append_assoc (spelled (p ∷ back)) u v) is.stand) in
     longest_gap file_start before gap after (record { stand = stand; only = is.only }) (λ part rest e h.
-    let same = one_part (place_of file_start (before ++ spelled gap)) p part (spelled back ++ u) rest game.stand.0 h
+    let same = one_part (standing_of file_start (before ++ spelled gap)) p part (spelled back ++ u) rest game.stand.0 h
     (sym (append_assoc (spelled_part p) (spelled back) u) ∙ e) in
     ap is_gap_part (sym same.0) ∙ not-true (is_gap_part p) game.begins)
 

@@ -69,19 +69,19 @@ is_column_one file_start before =
     ends_in_line_feed before
     || (file_start && (bytes_eq before [] || bytes_eq before (239 ∷ 187 ∷ 191 ∷ [])))
 
--- what a place tells a part that stands there
-pub record Place : Type 0 where
-  -- it is the start of the file
+-- how a part stands in a text, as far as it matters to the part
+pub record Standing : Type 0 where
+  -- at the start of the file
   pub file_start : Bool
-  -- it is in column one
+  -- in column one
   pub column_one : Bool
 
--- the place behind these bytes of a block
-abbrev pub place_of : Bool → List ℕ → Place
-place_of file_start before = record { file_start = file_start && is_empty before; column_one = is_column_one file_start before }
+-- how a part stands behind these bytes of a block
+abbrev pub standing_of : Bool → List ℕ → Standing
+standing_of file_start before = record { file_start = file_start && is_empty before; column_one = is_column_one file_start before }
 
--- the part may stand at the place, with those bytes after it
-abbrev pub Stands : Place → Part → List ℕ → Type 0
+-- the part may stand so, with those bytes after it
+abbrev pub Stands : Standing → Part → List ℕ → Type 0
 -- a byte order mark only at the start of the file
 Stands place ByteOrderMark after = IsTrue place.file_start
 Stands place (White b) after = IsTrue (is_white b)
@@ -114,5 +114,5 @@ Stands place Close after = Unit {0}
 abbrev pub AllStand : Bool → List ℕ → List Part → List ℕ → Type 0
 AllStand file_start before [] after = Unit {0}
 AllStand file_start before (part ∷ back) after =
-    Stands (place_of file_start before) part (spelled back ++ after)
+    Stands (standing_of file_start before) part (spelled back ++ after)
     × AllStand file_start (before ++ spelled_part part) back after

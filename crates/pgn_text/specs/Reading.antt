@@ -3,7 +3,7 @@ use Rattle.std.specs.Prelude.{ℕ, Bool, true, false, not, ◌&&◌, ◌||◌, �
 use Rattle.std.specs.List.{starts_with}
 use Rattle.std.specs.Option.{option_or}
 use Rattle.pgn_text.specs.Bytes.{is_white, is_digit, is_name_byte, is_word_byte, is_mark, is_plain, is_not_line_feed, is_not_brace, is_empty, is_letter, begins}
-use Rattle.pgn_text.specs.Parts.{Part, ByteOrderMark, White, Brace, Line, EscapeLine, Tag, Word, Star, Dot, Glyph, Marks, Open, Close, Place, number_of}
+use Rattle.pgn_text.specs.Parts.{Part, ByteOrderMark, White, Brace, Line, EscapeLine, Tag, Word, Star, Dot, Glyph, Marks, Open, Close, Standing, number_of}
 use Rattle.pgn_text.specs.Games.{is_number, is_result_word, is_move_text, Item, MoveText, GlyphNumber, CommentText, VariationOpen, VariationClose, glyphs_of_marks}
 use Rattle.pgn_text.specs.Steps.{State, in_movetext}
 
@@ -32,7 +32,7 @@ abbrev pub mark_front : List ℕ → Option (Part × List ℕ)
 mark_front text = if starts_with nat_eq text (187 ∷ 191 ∷ []) then Some (ByteOrderMark, drop 2 text) else None
 
 -- the part of a gap at the front of the text
-abbrev pub gap_front : Place → List ℕ → Option (Part × List ℕ)
+abbrev pub gap_front : Standing → List ℕ → Option (Part × List ℕ)
 gap_front place [] = None
 gap_front place (b ∷ rest) =
     if is_white b then Some (White b, rest)
@@ -101,7 +101,7 @@ game_front (b ∷ rest) =
     else None)))))))
 
 -- the part at the front of the text, which stands at the place
-abbrev pub part_front : Place → List ℕ → Option (Part × List ℕ)
+abbrev pub part_front : Standing → List ℕ → Option (Part × List ℕ)
 part_front place text = option_or (gap_front place text) (game_front text)
 
 -- what a game keeps of a part

@@ -3,7 +3,7 @@ use Rattle.std.specs.Prelude.{◌≡◌, ℕ, ◌+◌, ◌-◌, ◌^◌, ◌<◌
 use Rattle.std.specs.Io.KnownBytes.{Consumes}
 
 -- a reader or a writer, whether a call to it has failed, how many bytes it moved, and whether its last call was a good flush
-pub record Told (T : Type 0) : Type 0 where
+pub record Tallied (T : Type 0) : Type 0 where
   pub inner : T
   pub faulted : Bool
   pub moved : ℕ

@@ -2,13 +2,13 @@
 use Rattle.std.specs.Prelude.{ℕ, Bool, List}
 use Rattle.std.specs.Borrow.{Bor}
 use Rattle.pgn_text.specs.Bytes.{is_white, is_digit, is_name_byte, is_word_byte, is_mark}
-use Rattle.pgn_text.specs.Parts.{Place as PlaceOf}
+use Rattle.pgn_text.specs.Parts.{Standing as StandingOf}
 use Rattle.pgn_text.specs.Reading.{Kept, KeptGap, KeptComment, KeptTag, KeptMove, KeptNumber, KeptResult, KeptStray, KeptDot, KeptGlyph, KeptMarks, KeptOpen, KeptClose}
 use Rattle.pgn_text.specs.Steps.{State}
 use Rattle.pgn_text.specs.declared.class.Class.{Class}
 use Rattle.pgn_text.specs.declared.class.Class.TheVariants.{White, Digit, Name, Word, Mark}
 use Rattle.pgn_text.specs.declared.progress.Progress.{Progress}
-use Rattle.pgn_text.specs.declared.scan.Place.{Place}
+use Rattle.pgn_text.specs.declared.scan.Standing.{Standing}
 use Rattle.pgn_text.specs.declared.token.Token.{Token}
 use Rattle.pgn_text.specs.declared.token.Token.TheVariants.{Gap, Comment, Tag, Move, Number, Result, Stray, Dot, Glyph, Marks, Open, Close}
 
@@ -39,9 +39,9 @@ token_of Close = KeptClose
 abbrev pub found_of : Token × Bor (List ℕ) → Kept × List ℕ
 found_of found = (token_of found.0, found.1.now)
 
--- a place, as the definitions see it
-abbrev pub place_view : Place → PlaceOf
-place_view place = record { file_start = place.file_start; column_one = place.column_one }
+-- how a part stands, as the definitions see it
+abbrev pub standing_view : Standing → StandingOf
+standing_view place = record { file_start = place.file_start; column_one = place.column_one }
 
 -- the list behind a slice
 abbrev pub now_of : Bor (List ℕ) → List ℕ

@@ -1,6 +1,6 @@
 -- Parts at places of a block: what the functions of `place` answer.
 use Rattle.std.specs.Prelude.{◌≡◌, ℕ, Bool, false, ◌<◌, ◌≤◌, List, ◌++◌, length, take, drop, IsTrue}
-use Rattle.pgn_text.specs.Parts.{Part, Stands, place_of, spelled_part, spelled}
+use Rattle.pgn_text.specs.Parts.{Part, Stands, standing_of, spelled_part, spelled}
 use Rattle.pgn_text.specs.Games.{is_gap_part, IsGame}
 use Rattle.pgn_text.specs.Pieces.{IsGap, IsLongestGap}
 use Rattle.pgn_text.specs.Reading.{Kept, kept}
@@ -8,7 +8,7 @@ use Rattle.pgn_text.specs.Reading.{Kept, kept}
 -- the part stands at the place `at` of the block and reaches to the place `end`
 pub record PartAt (file_start : Bool) (block : List ℕ) (at : ℕ) (part : Part) (end : ℕ) : Type 0 where
   pub parted : drop at block ≡ spelled_part part ++ drop end block
-  pub stands : Stands (place_of file_start (take at block)) part (drop end block)
+  pub stands : Stands (standing_of file_start (take at block)) part (drop end block)
   pub passed : take end block ≡ take at block ++ spelled_part part
   pub forward : at < end
   pub within : end ≤ length block
@@ -21,7 +21,7 @@ pub record KeptAt (file_start : Bool) (block : List ℕ) (at : ℕ) (token : Kep
 
 -- no part stands at the place
 abbrev pub NothingAt : Bool → List ℕ → ℕ → Type 0
-NothingAt file_start block at = (part : Part) (rest : List ℕ) → drop at block ≡ spelled_part part ++ rest → Stands (place_of file_start (take at block)) part rest → ⊥
+NothingAt file_start block at = (part : Part) (rest : List ℕ) → drop at block ≡ spelled_part part ++ rest → Stands (standing_of file_start (take at block)) part rest → ⊥
 
 -- a part of a gap stands at the place and reaches to the other
 pub record GapPartAt (file_start : Bool) (block : List ℕ) (at end : ℕ) : Type 0 where
@@ -31,7 +31,7 @@ pub record GapPartAt (file_start : Bool) (block : List ℕ) (at end : ℕ) : Typ
 
 -- each part that stands at the place is none of a gap
 abbrev pub NoGapPartAt : Bool → List ℕ → ℕ → Type 0
-NoGapPartAt file_start block at = (part : Part) (rest : List ℕ) → drop at block ≡ spelled_part part ++ rest → Stands (place_of file_start (take at block)) part rest → is_gap_part part ≡ false
+NoGapPartAt file_start block at = (part : Part) (rest : List ℕ) → drop at block ≡ spelled_part part ++ rest → Stands (standing_of file_start (take at block)) part rest → is_gap_part part ≡ false
 
 -- a gap at the place `begin` of the block reaches to the place `end`
 pub record GapTo (file_start : Bool) (block : List ℕ) (begin end : ℕ) : Type 0 where

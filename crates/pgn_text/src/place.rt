@@ -1,11 +1,11 @@
 //! Parts at places of a block.
 
 ghost use Rattle.std.specs.Prelude.{◌≡◌, ◌≤◌, length, take, drop, MatchOption};
-ghost use Rattle.pgn_text.specs.Parts.{is_column_one as is_in_column_one, place_of};
-ghost use Rattle.pgn_text.specs.Tokens.{place_view, token_of};
+ghost use Rattle.pgn_text.specs.Parts.{is_column_one as is_in_column_one, standing_of};
+ghost use Rattle.pgn_text.specs.Tokens.{standing_view, token_of};
 ghost use Rattle.pgn_text.specs.Walk.{KeptAt, NothingAt, GapPartAt, NoGapPartAt, LongestGapTo};
 
-use crate::scan::{Found, Place, gap_part, part};
+use crate::scan::{Found, Standing, gap_part, part};
 use crate::token::Token;
 
 const BYTE_ORDER_MARK: [u8; 3] = [0xEF, 0xBB, 0xBF];
@@ -19,15 +19,15 @@ fn is_column_one(before: &[u8], file_start: bool) -> bool
         || (file_start && (before.is_empty() || before == BYTE_ORDER_MARK.as_slice()))
 }
 
-/// What the place tells a part that stands there.
+/// How a part stands at the place.
 #[inline(always)]
 #[tactic(auto, using(crate::proofs::Runs::is_empty_length))]
-fn place_at(block: &[u8], at: usize, file_start: bool) -> Place
+fn standing_at(block: &[u8], at: usize, file_start: bool) -> Standing
     requires { at ≤ length block.now }
-    ensures { place_view result ≡ place_of file_start (take at block.now) }
+    ensures { standing_view result ≡ standing_of file_start (take at block.now) }
 {
     let before = &block[..at];
-    Place {
+    Standing {
         file_start: file_start && before.is_empty(),
         column_one: is_column_one(before, file_start),
     }
@@ -39,7 +39,7 @@ pub(crate) fn part_at(block: &[u8], at: usize, file_start: bool) -> Option<(Toke
     requires { at ≤ length block.now }
     ensures { MatchOption result (NothingAt file_start block.now at) (λ found. KeptAt file_start block.now at (token_of found.0) found.1) }
 {
-    let Some((token, rest)) = part(&block[at..], place_at(block, at, file_start)) else {
+    let Some((token, rest)) = part(&block[at..], standing_at(block, at, file_start)) else {
         return None;
     };
     Some((token, block.len() - rest.len()))
@@ -51,7 +51,7 @@ fn gap_part_at(block: &[u8], at: usize, file_start: bool) -> Option<usize>
     requires { at ≤ length block.now }
     ensures { MatchOption result (NoGapPartAt file_start block.now at) (λ end. GapPartAt file_start block.now at end) }
 {
-    let Some((_, rest)) = gap_part(&block[at..], place_at(block, at, file_start)) else {
+    let Some((_, rest)) = gap_part(&block[at..], standing_at(block, at, file_start)) else {
         return None;
     };
     Some(block.len() - rest.len())

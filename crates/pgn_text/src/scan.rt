@@ -4,19 +4,19 @@ ghost use Rattle.std.specs.Prelude.{◌≡◌, ◌≤◌, length, if◌then◌el
 ghost use Rattle.pgn_text.specs.Bytes.{is_not_line_feed};
 ghost use Rattle.pgn_text.specs.Parts.{EscapeLine, Line, number_of};
 ghost use Rattle.pgn_text.specs.Reading.{run_of, after_run, rest_behind, brace_front, mark_front, gap_front, tag_front, is_glyph, glyph_front, game_front, part_front, kept_found};
-ghost use Rattle.pgn_text.specs.Tokens.{found_of, now_of, place_view};
+ghost use Rattle.pgn_text.specs.Tokens.{found_of, now_of, standing_view};
 
 use crate::class::{Class, is_in, run};
 use crate::quoted::contents;
 use crate::token::{Token, word_token};
 use memchr::memchr;
 
-/// What a place tells a part that stands there.
+/// How a part stands in a text, as far as it matters to the part.
 #[derive(Clone, Copy)]
-pub(crate) struct Place {
-    /// It is the start of the file.
+pub(crate) struct Standing {
+    /// At the start of the file.
     pub(crate) file_start: bool,
-    /// It is in column one.
+    /// In column one.
     pub(crate) column_one: bool,
 }
 
@@ -102,8 +102,8 @@ fn byte_order_mark(text: &[u8], file_start: bool) -> Option<Found<'_>>
 
 /// The part of a gap at the front of the text.
 #[inline(always)]
-pub(crate) fn gap_part(text: &[u8], place: Place) -> Option<Found<'_>>
-    ensures { option_map found_of result ≡ option_map kept_found (gap_front (place_view place) text.now) }
+pub(crate) fn gap_part(text: &[u8], place: Standing) -> Option<Found<'_>>
+    ensures { option_map found_of result ≡ option_map kept_found (gap_front (standing_view place) text.now) }
 {
     let Some((first, rest)) = text.split_first() else {
         return None;
@@ -201,8 +201,8 @@ pub(crate) fn game_part(text: &[u8]) -> Option<Found<'_>>
 
 /// The part at the front of the text.
 #[inline(always)]
-pub(crate) fn part(text: &[u8], place: Place) -> Option<Found<'_>>
-    ensures { option_map found_of result ≡ option_map kept_found (part_front (place_view place) text.now) }
+pub(crate) fn part(text: &[u8], place: Standing) -> Option<Found<'_>>
+    ensures { option_map found_of result ≡ option_map kept_found (part_front (standing_view place) text.now) }
 {
     match gap_part(text, place) {
         Some(found) => Some(found),

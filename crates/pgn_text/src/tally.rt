@@ -2,7 +2,7 @@
 ghost use Rattle.std.specs.Prelude.{◌≡◌, ◌||◌, Bool, true, false, is_ok, is_err};
 ghost use Rattle.std.specs.Io.{ReadsAtMost, WritesAtMost};
 ghost use Rattle.std.specs.Io.KnownBytes.{Keeps, ReadConsumes, WriteAppends};
-ghost use Rattle.pgn_text.specs.Tallies.{Told, moved_by, takes_nothing};
+ghost use Rattle.pgn_text.specs.Tallies.{Tallied, moved_by, takes_nothing};
 
 use std::io;
 use std::io::{Read, Write};
@@ -19,7 +19,7 @@ pub struct Tally<T> {
 }
 
 impl<T> Model for Tally<T> {
-    ghost Value = { Told T };
+    ghost Value = { Tallied T };
 
     ghost view = { λ t. record {
       inner = t.inner;

@@ -2,7 +2,7 @@
 ghost use Rattle.std.specs.Prelude.{◌≡◌, ◌≢◌, ◌↔◌, ◌≤◌, ◌<◌, [], ℕ, List, length, IsTrue, MatchOption, Option};
 ghost use Rattle.chess.specs.Fen.{has_byte};
 ghost use Rattle.chess.specs.Letters.{kind_letter};
-ghost use Rattle.chess.specs.declared.man.Kind.{Kind};
+ghost use Rattle.chess.specs.declared.board.man.Kind.{Kind};
 ghost use Rattle.pgn_criteria.specs.Lines.{SpellsCondition, SpellsLimits};
 ghost use Rattle.pgn_criteria.specs.Reading.{AreEntries, digit_limit, first_limit, limit_behind};
 ghost use Rattle.pgn_criteria.specs.declared.material.Limits.{Limits};

@@ -1,6 +1,6 @@
 use Rattle.std.proofs.Common.{rules, ◌≢◌, ℕ, List}
 use Rattle.std.specs.Prelude.{codes, Option, Some, None, MatchOption}
-use Rattle.chess.specs.declared.man.Side.{Side}
+use Rattle.chess.specs.declared.board.man.Side.{Side}
 use Rattle.pgn_criteria.specs.Lines.{SpellsCondition}
 use Rattle.pgn_criteria.specs.Stages.{seen}
 use Rattle.pgn_criteria.specs.declared.compare.Relation.{Relation}

@@ -1,5 +1,6 @@
 use Rattle.std.proofs.Common.{◌+◌, ◌≤◌, ◌∷◌, ◌++◌, [], reverse, drop, map, refl, sym, subst, append-nil, arith}
 use Rattle.std.proofs.lemmas.Option.{IfSome_then}
+use Rattle.std.proofs.lemmas.Result.{err_from_is_err_and}
 use Rattle.pgn_text.specs.Elements.{item_of}
 use Rattle.pgn_game.specs.LineWalks.{RunsOn, StopsOn, MainOn, main_now}
 use Rattle.pgn_game.specs.Replays.{fault_of}
@@ -7,20 +8,21 @@ use Rattle.pgn_game.proofs.MainFacts.{runs_begin, stops_begin, main_begin, withi
 use Rattle.pgn_game.proofs.WalkFacts.{items_step, items_end}
 use Rattle.pgn_game.proofs.all_lines.play_elements.Goals as goal
 
-pub returns-in-Err : goal.returns-in-Err
-returns-in-Err c =
+pub returns-in_err-step : goal.returns-in_err-step
+returns-in_err-step c =
     let walk = c.loop-element.walk in
     let i = c.loop-element.element-index in
-    IfSome_then (fault_of c.in-Err.fault) (c.in-Err.ensures.stuck (map item_of (drop (i + 1) c.args.elements.now)))
+    let p = err_from_is_err_and c.from_residual.result c.from_residual.ensures.1 in
+    rw (p.1, p.2) (IfSome_then _ (c.in_err-step.ensures.stuck (map item_of (drop (i + 1) c.args.elements.now)))
     (λ fault met. c.loop-element.invariant.stops fault
-    (subst (λ items. StopsOn walk items fault) (sym (items_step c.args.elements.now i _ (omega arith))) met))
+    (subst (λ items. StopsOn walk items fault) (sym (items_step c.args.elements.now i _ (omega arith))) met)))
 
 pub loop-element-preserved : goal.loop-element-preserved
 loop-element-preserved c =
     let walk = c.loop-element.walk in
     let i = c.loop-element.element-index in
     let items = map item_of (drop (i + 1) c.args.elements.now) in
-    let stepped = c.in_default.ensures in
+    let stepped = c.in_ok-step.ensures in
     record {
       runs = λ turns on. c.loop-element.invariant.runs turns
           (subst (λ xs. RunsOn walk xs turns) (sym (items_step c.args.elements.now i _ (omega arith))) (stepped.played items turns on));

@@ -12,9 +12,9 @@ use Rattle.pgn_game.proofs.replayer.replay.Goals as goal
 
 pub returns-in-Main : goal.returns-in-Main
 returns-in-Main c =
-    let start = c.in-Ok.start in
+    let start = c.in_ok-start.start in
     let fen = tag_in fen_tag c.args.raw.now.tags in
-    let is_start = subst (λ tags. IsStart (tag_in fen_tag tags) start) c.tags.ensures.tags c.in-Ok.ensures in
+    let is_start = subst (λ tags. IsStart (tag_in fen_tag tags) start) c.tags.ensures.tags c.in_ok-start.ensures in
     subst (λ lines. MatchResult c.play_main_line.result (IsReplay lines fen c.args.raw.now.elements) (λ fault. IfSome (fault_of fault) (IsFault lines fen c.args.raw.now.elements)))
     (sym c.in-Main.is)
     (MatchResult-weaker c.play_main_line.result c.play_main_line.ensures
@@ -29,9 +29,9 @@ returns-in-Main c =
 
 pub returns-in-All : goal.returns-in-All
 returns-in-All c =
-    let start = c.in-Ok.start in
+    let start = c.in_ok-start.start in
     let fen = tag_in fen_tag c.args.raw.now.tags in
-    let is_start = subst (λ tags. IsStart (tag_in fen_tag tags) start) c.tags.ensures.tags c.in-Ok.ensures in
+    let is_start = subst (λ tags. IsStart (tag_in fen_tag tags) start) c.tags.ensures.tags c.in_ok-start.ensures in
     let elements = c.elements-in-All.ensures.elements in
     subst (λ lines. MatchResult c.play_all_lines.result (IsReplay lines fen c.args.raw.now.elements) (λ fault. IfSome (fault_of fault) (IsFault lines fen c.args.raw.now.elements)))
     (sym c.in-All.is)

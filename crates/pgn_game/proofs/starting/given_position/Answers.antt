@@ -5,10 +5,10 @@ use Rattle.pgn_game.proofs.starting.given_position.Goals as goal
 pub returns : goal.returns
 returns c = (
   (
-    c.in-Ok.text.items,
-    c.in-Err-from_fen.field-0,
-    c.in-Ok.ensures,
-    subst (λ text. IsRefused text c.in-Err-from_fen.field-0) c.as_slice.ensures.value c.in-Err-from_fen.ensures.answer,
+    c.in_ok-text.text.items,
+    c.in-Err.field-0,
+    c.in_ok-text.ensures,
+    subst (λ text. IsRefused text c.in-Err.field-0) c.as_slice.ensures.value c.in-Err.ensures.answer,
   ),
   refl,
 )

@@ -1,6 +1,6 @@
 use Rattle.chess.specs.Placements.{opposite}
 use Rattle.chess.specs.Positions.{State, IsOnlyKing}
-use Rattle.chess.specs.declared.man.Side.TheVariants.{White, Black}
+use Rattle.chess.specs.declared.board.man.Side.TheVariants.{White, Black}
 use Rattle.chess.proofs.FenFacts.{HasKings, right_kings, wrong_pawns, right_pawns, enemy_white, enemy_black, wrong_check, right_check, spelled_kept}
 use Rattle.chess.proofs.position.Position.from_fen.Goals as goal
 use Rattle.chess.proofs.position.Position.from_fen.Goals.{in-White, in-Black}
@@ -13,14 +13,14 @@ returns-in_default-only_king-2 g c = record { answer = (_, c.in-Some.ensures, (B
 
 pub returns-then-has_edge_pawn : goal.returns-then-has_edge_pawn
 returns-then-has_edge_pawn g c =
-    let draft = c.in-Some.draft in
+    let spelled = c.in-Some.spelled in
     let P : State = record {
-      men = g.B.Board.men draft.board;
-      turn = draft.turn;
-      rights = draft.rights;
-      en_passant = draft.en_passant;
-      halfmove_clock = draft.halfmove_clock;
-      fullmove_number = draft.fullmove_number;
+      men = g.B.Board.men spelled.board;
+      turn = spelled.turn;
+      rights = spelled.rights;
+      en_passant = spelled.en_passant;
+      halfmove_clock = spelled.halfmove_clock;
+      fullmove_number = spelled.fullmove_number;
     } in
     let white = c.in-Some-only_king in
     let black = c.in-Some-only_king-2 in
@@ -37,21 +37,21 @@ returns-then-has_edge_pawn g c =
 
 pub returns-then-attacked : goal.returns-then-attacked
 returns-then-attacked g c =
-    let draft = c.in-Some.draft in
+    let spelled = c.in-Some.spelled in
     let P : State = record {
-      men = g.B.Board.men draft.board;
-      turn = draft.turn;
-      rights = draft.rights;
-      en_passant = draft.en_passant;
-      halfmove_clock = draft.halfmove_clock;
-      fullmove_number = draft.fullmove_number;
+      men = g.B.Board.men spelled.board;
+      turn = spelled.turn;
+      rights = spelled.rights;
+      en_passant = spelled.en_passant;
+      halfmove_clock = spelled.halfmove_clock;
+      fullmove_number = spelled.fullmove_number;
     } in
     let white = c.in-Some-only_king in
     let black = c.in-Some-only_king-2 in
-    let king = c.match-draft.king in
+    let king = c.match-spelled.king in
     let kings : HasKings P white.white_king black.black_king =
     record { white_only = white.ensures; black_only = black.ensures } in
-    let enemy : IsOnlyKing P.men (opposite P.turn) king = elim c.match-draft.branch [
+    let enemy : IsOnlyKing P.men (opposite P.turn) king = elim c.match-spelled.branch [
       | in-White w ↦ enemy_white P white.white_king black.black_king king kings w.in-White.is w.king-is
       | in-Black w ↦ enemy_black P white.white_king black.black_king king kings w.in-Black.is w.king-is
     ] in record {
@@ -67,21 +67,21 @@ returns-then-attacked g c =
 
 pub invariant_of-result : goal.invariant_of-result
 invariant_of-result g c =
-    let draft = c.in-Some.draft in
+    let spelled = c.in-Some.spelled in
     let P : State = record {
-      men = g.B.Board.men draft.board;
-      turn = draft.turn;
-      rights = draft.rights;
-      en_passant = draft.en_passant;
-      halfmove_clock = draft.halfmove_clock;
-      fullmove_number = draft.fullmove_number;
+      men = g.B.Board.men spelled.board;
+      turn = spelled.turn;
+      rights = spelled.rights;
+      en_passant = spelled.en_passant;
+      halfmove_clock = spelled.halfmove_clock;
+      fullmove_number = spelled.fullmove_number;
     } in
     let white = c.in-Some-only_king in
     let black = c.in-Some-only_king-2 in
-    let king = c.match-draft.king in
+    let king = c.match-spelled.king in
     let kings : HasKings P white.white_king black.black_king =
     record { white_only = white.ensures; black_only = black.ensures } in
-    let enemy : IsOnlyKing P.men (opposite P.turn) king = elim c.match-draft.branch [
+    let enemy : IsOnlyKing P.men (opposite P.turn) king = elim c.match-spelled.branch [
       | in-White w ↦ enemy_white P white.white_king black.black_king king kings w.in-White.is w.king-is
       | in-Black w ↦ enemy_black P white.white_king black.black_king king kings w.in-Black.is w.king-is
     ] in

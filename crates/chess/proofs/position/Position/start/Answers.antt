@@ -3,7 +3,7 @@ use Rattle.chess.specs.Squares.{Place}
 use Rattle.chess.specs.Placements.{Placement}
 use Rattle.chess.specs.Positions.{State, IsKept, IsSound, king_from}
 use Rattle.chess.specs.Start.{usual}
-use Rattle.chess.specs.declared.man.Side.TheVariants.{White}
+use Rattle.chess.specs.declared.board.man.Side.TheVariants.{White}
 use Rattle.chess.proofs.StartFacts.{usual_kept}
 use Rattle.chess.proofs.position.Position.start.Goals as goal
 

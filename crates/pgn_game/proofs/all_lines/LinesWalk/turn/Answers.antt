@@ -8,11 +8,11 @@ returns-clause-turned c =
     let old = c.args.self.now in
     let new = c.keep.new.self in
     record {
-      turn = c.in-Ok.answer.0;
-      is_turn = subst (λ b. IsTurn b old.line.now c.args.word.now c.in-Ok.answer.0) c.is_inside-inside.ensures c.in-Ok.ensures.0;
+      turn = c.in_ok-turn.turn;
+      is_turn = subst (λ b. IsTurn b old.line.now c.args.word.now c.in_ok-turn.turn) c.is_inside-inside.ensures c.in_ok-turn.ensures.0;
       turns = search rules;
       line = search rules;
       outer = search rules;
-      main = subst (λ b. Keeps b old.positions.items new.positions.items old.played.items new.played.items old.line.now c.in-Ok.answer.0)
-          c.is_inside-inside.ensures c.in_default.ensures.main;
+      main = subst (λ b. Keeps b old.positions.items new.positions.items old.played.items new.played.items old.line.now c.in_ok-turn.turn)
+          c.is_inside-inside.ensures c.in_ok-keep.ensures.main;
     }

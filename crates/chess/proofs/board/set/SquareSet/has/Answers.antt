@@ -1,0 +1,12 @@
+use Rattle.std.proofs.Common.{sym, ap, ◌∙◌, nat_eq}
+use Rattle.chess.specs.Sets.{is_in, has_bit}
+use Rattle.chess.specs.SetFacts.{is_in-places_of}
+use Rattle.chess.proofs.board.set.SquareSet.has.Goals as goal
+use Rattle.std.proofs.lemmas.Nat.Bits.{shr_and_one}
+
+pub returns : goal.returns
+returns c =
+    ap (λ n. nat_eq n 1) (shr_and_one c.self.inside.word c.index.result)
+    ∙ ap (λ n. has_bit c.self.inside.word n) c.index.ensures.place
+    ∙ sym (is_in-places_of (has_bit c.self.inside.word) c.args.square c.index.ensures.on_board)
+    ∙ ap (λ set. is_in set c.args.square) c.self.view_is

@@ -1,0 +1,5 @@
+use Rattle.chess.specs.SetFacts.{empty_word}
+use Rattle.chess.proofs.board.set.SquareSet.new.Goals as goal
+
+pub returns : goal.returns
+returns c = empty_word

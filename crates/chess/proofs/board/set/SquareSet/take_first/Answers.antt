@@ -1,0 +1,40 @@
+use Rattle.std.proofs.Common.{arith, refl, sym, ap, ◌∙◌, ◌≡◌, true, false, nat_eq, w64}
+use Rattle.std.proofs.lemmas.Bool.Decides.{nat_tests}
+use Rattle.chess.specs.SquareFacts.{index_of-square_at}
+use Rattle.chess.specs.Squares.{Place, IsOnBoard, same_square, index_of, square_at}
+use Rattle.chess.specs.Sets.{is_in, places_of, has_bit}
+use Rattle.chess.specs.SetFacts.{is_in-places_of, on_board-places_of, empty_word}
+use Rattle.chess.proofs.SetBits.{clear_bit}
+use Rattle.chess.proofs.board.set.SquareSet.take_first.Goals as goal
+use Rattle.std.proofs.lemmas.Nat.Bits.{bit_at-trailing_zeros}
+use Rattle.std.specs.Int.{trailing_zeros}
+use Rattle.std.proofs.lemmas.Bool.{cases_lt}
+use Rattle.std.proofs.Common.{inl, inr, not, ◌&&◌}
+
+pub returns-then-word-eq0 : goal.returns-then-word-eq0
+returns-then-word-eq0 c =
+    let zero : c.self.inside.word ≡ 0 = grind (arith, nat_tests, c.if-word-eq0.true) in
+    (sym c.self.view_is ∙ ap (λ n. places_of (has_bit n)) zero ∙ empty_word, refl)
+
+pub returns : goal.returns
+returns c =
+    let word = c.self.inside.word in
+    let at = trailing_zeros w64 word in
+    let found = bit_at-trailing_zeros w64 word (omega (arith, c.if-word-eq0.false)) c.self.invariant in
+    let square : c.of_index.result ≡ square_at at = c.of_index.ensures.square in
+    let place : index_of c.of_index.result ≡ at = ap index_of square ∙ index_of-square_at at found.0 in
+    let shown : (s : Place) → IsOnBoard s → is_in c.args.self.now s ≡ has_bit word (index_of s) = λ s on_board.
+    ap (λ set. is_in set s) (sym c.self.view_is) ∙ is_in-places_of (has_bit word) s on_board in (
+      c.of_index.ensures.on_board,
+      shown c.of_index.result c.of_index.ensures.on_board ∙ ap (has_bit word) place ∙ ap (λ n. nat_eq n 1) found.1,
+      (λ s here. elim (cases_lt (index_of s) at) [
+        | inl less ↦
+            let on_board = on_board-places_of (has_bit word) s (ap (λ set. is_in set s) c.self.view_is ∙ here) in
+            let none : true ≡ false = sym here ∙ shown s on_board ∙ ap (λ n. nat_eq n 1) (found.2 (index_of s) less) in cc
+        | inr more ↦ omega arith
+      ]),
+      (λ s.
+          clear_bit word at s found.0
+          ∙ ap (λ set. is_in set s && not (same_square s (square_at at))) c.self.view_is
+          ∙ ap (λ (t : Place). is_in c.args.self.now s && not (same_square s t)) (sym square)),
+    )

@@ -1,0 +1,11 @@
+use Rattle.std.proofs.Common.{◌≡◌, ◌∷◌, List, ℕ, subst, sym, ◌∙◌}
+use Rattle.chess.specs.Fen.{GivesRights}
+use Rattle.chess.proofs.fen.read.read_spelled.Goals as goal
+
+third : (a b d e x y z w : List ℕ) (more rest : List (List ℕ)) → (a ∷ b ∷ d ∷ e ∷ more) ≡ (x ∷ y ∷ z ∷ w ∷ rest) → d ≡ z
+third a b d e x y z w more rest same = cc
+
+pub returns-in_default-read_rights : goal.returns-in_default-read_rights
+returns-in_default-read_rights g c P spelled =
+    let same = third _ _ _ _ _ _ _ _ _ _ (sym spelled.fields ∙ c.in-Some.ensures) in
+    c.in_default-read_rights.ensures spelled.given_rights (subst (λ x. GivesRights x spelled.given_rights) same spelled.rights_given)

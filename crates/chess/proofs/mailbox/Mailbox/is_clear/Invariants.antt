@@ -1,7 +1,0 @@
-use Rattle.std.proofs.Common.{◌≤◌}
-use Rattle.chess.specs.Cells.{cells_men}
-use Rattle.chess.specs.Attacks.{IsClearFor}
-use Rattle.chess.proofs.mailbox.Mailbox.is_clear.Given as goal
-
-abbrev pub invariant-loop-step : goal.invariant-loop-step
-invariant-loop-step l = record { clear : IsClearFor (cells_men l.self.cells) l.way l.from l.step; low : 1 ≤ l.step }

@@ -1,7 +1,0 @@
-use Rattle.chess.specs.Cells.{cells_men}
-use Rattle.chess.specs.Attacks.{IsHitFrom}
-use Rattle.chess.proofs.BoardFacts.{IsNoneYet}
-use Rattle.chess.proofs.mailbox.MailboxBoard.attacked.Given as goal
-
-abbrev pub invariant-loop-index : goal.invariant-loop-index
-invariant-loop-index l = IsNoneYet (λ s. IsHitFrom (cells_men l.self.cells) l.side s l.square) l.index

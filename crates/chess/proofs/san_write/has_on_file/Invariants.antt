@@ -1,6 +1,0 @@
-use Rattle.std.proofs.Common.{◌≡◌, ◌≤◌, ◌<◌, false, ℕ}
-use Rattle.chess.specs.Sets.{is_in}
-use Rattle.chess.proofs.san_write.has_on_file.Given as goal
-
-abbrev pub invariant-loop-rank : goal.invariant-loop-rank
-invariant-loop-rank l = (n : ℕ) → 1 ≤ n → n < l.rank → is_in l.squares (record { file = l.square.file; rank = n }) ≡ false

@@ -1,5 +1,0 @@
-use Rattle.chess.specs.SetFacts.{empty_word}
-use Rattle.chess.proofs.set.SquareSet.new.Goals as goal
-
-pub returns : goal.returns
-returns c = empty_word

@@ -1,0 +1,219 @@
+//! The plain board: 64 cells, and attacks as the Laws say them.
+ghost use Rattle.std.specs.Prelude.{◌≡◌, ◌↔◌, ◌<◌, ◌≤◌, IsTrue, Some, None, length, replicate};
+ghost use Rattle.chess.specs.declared.board.direction.Direction.{Direction};
+ghost use Rattle.chess.specs.Squares.{IsStraight, gap};
+ghost use Rattle.chess.specs.Placements.{man_at};
+ghost use Rattle.chess.specs.Attacks.{IsOnRay, IsClearFor, IsNear, IsJump, IsPawnHit, Reaches, IsForward, IsHitFrom};
+ghost use Rattle.chess.specs.Sets.{HoldsExactly};
+ghost use Rattle.chess.specs.Cells.{cells_men, cell_of};
+ghost use Rattle.chess.specs.CellFacts.{on_board-men_of};
+
+use crate::board::{Board, Direction, Kind, Man, Side, Square, SquareSet};
+
+/// A board of 64 cells, in the order a1, b1 to h1, a2 and so on.
+#[derive(Clone, Copy, Debug)]
+pub struct Mailbox {
+    cells: [Option<Man>; 64],
+    ghost full: { length cells ≡ 64 },
+}
+
+impl Board for Mailbox {
+    ghost men = { λ b. cells_men b.cells };
+
+    fn empty() -> Self {
+        Mailbox { cells: no_cells() }
+    }
+
+    fn at(&self, square: Square) -> Option<Man> {
+        self.man(square)
+    }
+
+    fn put(&mut self, square: Square, man: Option<Man>) {
+        self.cells[square.index() as usize] = man;
+    }
+
+    fn attacked(&self, square: Square, side: Side) -> bool {
+        for index in 0u8..64 {
+            if self.is_hit_from(Square::of_index(index), square, side) {
+                return true;
+            }
+        }
+        false
+    }
+
+    fn reach(&self, square: Square) -> SquareSet {
+        match self.man(square) {
+            Some(man) => self.reached(man, square),
+            None => SquareSet::new(),
+        }
+    }
+
+    fn squares_of(&self, man: Man) -> SquareSet {
+        let mut set = SquareSet::new();
+        for index in 0u8..64 {
+            let square = Square::of_index(index);
+            set.insert_if(square, self.holds(square, man));
+        }
+        set
+    }
+
+    ghost on_board = { λ b s man here. on_board-men_of (cell_of b.cells) s man here };
+}
+
+/// Cells that hold no man.
+fn no_cells() -> [Option<Man>; 64]
+    ensures cells { result ≡ replicate 64 None }
+    ensures full { length result ≡ 64 }
+{
+    [None; 64]
+}
+
+/// How far two numbers are apart.
+fn distance(a: u8, b: u8) -> u8
+    ensures { result ≡ gap a b }
+{
+    if a < b { b - a } else { a - b }
+}
+
+/// Whether the square is a neighbouring one (Laws 3.8.1).
+fn is_near(from: Square, to: Square) -> bool
+    ensures { IsTrue result ↔ IsNear from to }
+{
+    let files = distance(from.file(), to.file());
+    let ranks = distance(from.rank(), to.rank());
+    files <= 1 && ranks <= 1 && (files == 1 || ranks == 1)
+}
+
+/// Whether the square is a knight's jump away (Laws 3.6).
+fn is_jump(from: Square, to: Square) -> bool
+    ensures { IsTrue result ↔ IsJump from to }
+{
+    let files = distance(from.file(), to.file());
+    let ranks = distance(from.rank(), to.rank());
+    (files == 1 && ranks == 2) || (files == 2 && ranks == 1)
+}
+
+/// Whether a pawn of the side attacks the square (Laws 3.7.3).
+fn is_pawn_hit(side: Side, from: Square, to: Square) -> bool
+    ensures { IsTrue result ↔ IsPawnHit side from to }
+{
+    distance(from.file(), to.file()) == 1 && side.is_forward(from.rank(), to.rank())
+}
+
+impl Mailbox {
+    /// The man on a square, or none.
+    fn man(&self, square: Square) -> Option<Man>
+        ensures { result ≡ man_at (cells_men self.now.cells) square }
+    {
+        let place = square.index() as usize;
+        self.cells[place]
+    }
+
+    /// Whether that man stands on the square.
+    fn holds(&self, square: Square, man: Man) -> bool
+        ensures { IsTrue result ↔ (man_at (cells_men self.now.cells) square ≡ Some man) }
+    {
+        self.man(square) == Some(man)
+    }
+
+    /// Whether no man stands on the squares that are fewer than so many steps ahead.
+    fn is_clear(&self, way: Direction, from: Square, steps: u8) -> bool
+        requires { steps ≤ 8 }
+        ensures { IsTrue result ↔ IsClearFor (cells_men self.now.cells) way from steps }
+    {
+        for step in 1..steps {
+            let Some(square) = way.ahead(from, step) else {
+                continue;
+            };
+            if self.man(square).is_some() {
+                return false;
+            }
+        }
+        true
+    }
+
+    /// Whether the second square is on a ray from the first along the way.
+    fn runs(&self, way: Direction, from: Square, to: Square) -> bool
+        ensures { IsTrue result ↔ IsOnRay (cells_men self.now.cells) way from to }
+    {
+        let files = distance(from.file(), to.file());
+        let ranks = distance(from.rank(), to.rank());
+        let steps = if files < ranks { ranks } else { files };
+        if steps == 0 || way.ahead(from, steps) != Some(to) {
+            return false;
+        }
+        self.is_clear(way, from, steps)
+    }
+
+    /// Whether the square is on a straight ray.
+    fn runs_straight(&self, from: Square, to: Square) -> bool
+        ensures { IsTrue result ↔ ((way : Direction) × IsStraight way × IsOnRay (cells_men self.now.cells) way from to) }
+    {
+        if from.file() == to.file() {
+            return if from.rank() < to.rank() {
+                self.runs(Direction::North, from, to)
+            } else {
+                self.runs(Direction::South, from, to)
+            };
+        }
+        if from.rank() != to.rank() {
+            return false;
+        }
+        if from.file() < to.file() {
+            self.runs(Direction::East, from, to)
+        } else {
+            self.runs(Direction::West, from, to)
+        }
+    }
+
+    /// Whether the square is on a diagonal ray.
+    fn runs_diagonally(&self, from: Square, to: Square) -> bool
+        ensures { IsTrue result ↔ ((way : Direction) × (¬ IsStraight way) × IsOnRay (cells_men self.now.cells) way from to) }
+    {
+        if distance(from.file(), to.file()) != distance(from.rank(), to.rank()) {
+            return false;
+        }
+        match (from.file() < to.file(), from.rank() < to.rank()) {
+            (true, true) => self.runs(Direction::NorthEast, from, to),
+            (false, true) => self.runs(Direction::NorthWest, from, to),
+            (true, false) => self.runs(Direction::SouthEast, from, to),
+            (false, false) => self.runs(Direction::SouthWest, from, to),
+        }
+    }
+
+    /// Whether a man like this on the first square attacks the second.
+    fn reaches(&self, man: Man, from: Square, to: Square) -> bool
+        ensures { IsTrue result ↔ Reaches (cells_men self.now.cells) man.side man.kind from to }
+    {
+        match man.kind {
+            Kind::King => is_near(from, to),
+            Kind::Queen => self.runs_straight(from, to) || self.runs_diagonally(from, to),
+            Kind::Rook => self.runs_straight(from, to),
+            Kind::Bishop => self.runs_diagonally(from, to),
+            Kind::Knight => is_jump(from, to),
+            Kind::Pawn => is_pawn_hit(man.side, from, to),
+        }
+    }
+
+    /// The squares that a man like this attacks from the square.
+    fn reached(&self, man: Man, from: Square) -> SquareSet
+        ensures { HoldsExactly (Reaches (cells_men self.now.cells) man.side man.kind from) result }
+    {
+        let mut set = SquareSet::new();
+        for index in 0u8..64 {
+            let target = Square::of_index(index);
+            set.insert_if(target, self.reaches(man, from, target));
+        }
+        set
+    }
+
+    /// Whether a man of the side on the first square attacks the second.
+    fn is_hit_from(&self, from: Square, to: Square, side: Side) -> bool
+        ensures { IsTrue result ↔ IsHitFrom (cells_men self.now.cells) side from to }
+    {
+        match self.man(from) {
+            Some(man) => man.side == side && self.reaches(man, from, to),
+            None => false,
+        }
+    }
+}

@@ -1,0 +1,103 @@
+//! Sets of squares.
+ghost use Rattle.std.specs.Prelude.{◌≡◌, ◌&&◌, ◌||◌, ◌↔◌, ◌<◌, ◌≤◌, IsTrue, IsSome, Some, None, true};
+ghost use Rattle.chess.specs.Squares.{Place, IsOnBoard, same_square, index_of};
+ghost use Rattle.chess.specs.Sets.{is_in, has_bit, no_places, size_of, HoldsExactly, IsTakenFirst};
+
+use crate::board::Square;
+use std::marker::Model;
+
+/// A set of squares.
+#[derive(Debug, Drop)]
+pub struct SquareSet {
+    word: u64,
+}
+
+impl Model for SquareSet {
+    ghost use Rattle.std.specs.Prelude.{◌<◌, ◌^◌};
+    ghost use Rattle.chess.specs.Sets.{Places, coded_places, places_of, has_bit};
+
+    ghost Value = { Places };
+
+    ghost coded = { coded_places };
+
+    ghost view = { λ s. places_of (has_bit s.word) };
+
+    ghost invariant = { λ s. s.word < 2 ^ 64 };
+}
+
+impl SquareSet {
+    /// The set without squares.
+    pub(crate) fn new() -> Self
+        ensures { result ≡ no_places }
+    {
+        SquareSet { word: 0 }
+    }
+
+    /// The set of the squares of a word: bit 0 is a1, bit 1 is b1, and so on to h1, a2 and h8.
+    pub(crate) fn of_word(word: u64) -> Self
+        ensures { HoldsExactly (λ (s : Place). has_bit word (index_of s) ≡ true) result }
+    {
+        SquareSet { word }
+    }
+
+    /// Puts a square into the set.
+    pub(crate) fn insert(&mut self, square: Square)
+        ensures { (s : Place) → is_in self.new s ≡ (same_square square s || is_in self.old s) }
+    {
+        self.word |= 1u64 << square.index();
+    }
+
+    /// Puts a square into the set if that is so.
+    pub(crate) fn insert_if(&mut self, square: Square, is_so: bool)
+        ensures { (s : Place) → is_in self.new s ≡ ((is_so && same_square square s) || is_in self.old s) }
+    {
+        if is_so {
+            self.insert(square);
+        }
+    }
+
+    /// Whether the square is in the set.
+    pub fn has(&self, square: Square) -> bool
+        ensures { result ≡ is_in self.now square }
+    {
+        (self.word >> square.index()) & 1 == 1
+    }
+
+    /// Whether no square is in the set.
+    pub fn is_empty(&self) -> bool
+        ensures { IsTrue result ↔ (self.now ≡ no_places) }
+    {
+        self.word == 0
+    }
+
+    /// Whether some square is in the set.
+    pub(crate) fn has_some(&self) -> bool
+        ensures { IsTrue result ↔ ((s : Place) × IsOnBoard s × (is_in self.now s ≡ true)) }
+    {
+        self.word != 0
+    }
+
+    /// How many squares are in the set.
+    pub fn count(&self) -> u32
+        ensures { result ≡ size_of self.now }
+    {
+        let mut count = 0;
+        for index in 0u8..64 {
+            count += ((self.word >> index) & 1) as u32;
+        }
+        count
+    }
+
+    /// Takes out the first square in the order a1, b1 to h1, a2 and so on: `None` where there is none.
+    pub(crate) fn take_first(&mut self) -> Option<Square>
+        ensures { IsTakenFirst self.old self.new result }
+    {
+        let word = self.word;
+        if word == 0 {
+            return None;
+        }
+        let place = word.trailing_zeros() as u8;
+        self.word &= !(1u64 << place);
+        Some(Square::of_index(place))
+    }
+}

@@ -1,0 +1,164 @@
+//! Moves named by their texts (PGN 8.2.3).
+ghost use Rattle.std.specs.Prelude.{◌≡◌, ◌≢◌, ◌↔◌, IfOk, IfSome, IsErrOf, IsTrue, MatchOption, None};
+ghost use Rattle.chess.specs.declared.board.man.Kind.TheVariants.{Pawn};
+ghost use Rattle.chess.specs.San.{IsNamed, IsOnlyNamed, kind_said};
+ghost use Rattle.chess.specs.SanWords.{castling_on, said_by, move_from, Fits, IsNext, HasNone, IsCastlingOn, IsMoveSaid};
+ghost use Rattle.chess.specs.SanAnswers.{IsAnswer};
+ghost use Rattle.chess.specs.declared.moves.Move.{Move};
+ghost use Rattle.chess.specs.declared.move_text.SanError.{SanError};
+
+use crate::board::{Board, Kind, Man, Side, Square, SquareSet, Wing};
+use crate::move_text::SanError;
+use crate::moves::Move;
+use crate::moves::castling::{king_arrives, king_leaves};
+use crate::position::Position;
+
+mod said;
+
+use said::{SaidMove, castling, read_said};
+
+/// The only legal move that the text names. No memory is needed.
+pub fn resolve<B: Board>(position: &Position<B>, text: &[u8]) -> Result<Move, SanError>
+    ensures ok { IfOk result (λ m. IsOnlyNamed position.now text.now m) }
+    ensures none { IsErrOf result SanError.None ↔ ((m : Move) → IsNamed position.now text.now m → ⊥) }
+    ensures several { IsErrOf result SanError.Several ↔ ((m n : Move) × IsNamed position.now text.now m × IsNamed position.now text.now n × (m ≢ n)) }
+{
+    only_named(position, text)
+}
+
+/// The only legal move that the text names.
+fn only_named<B: Board>(position: &Position<B>, text: &[u8]) -> Result<Move, SanError>
+    ensures { IsAnswer (IsNamed position.now text.now) result }
+{
+    if let Some(wing) = castling(text) {
+        return castled(position, wing);
+    }
+    let Some(said) = read_said(text) else {
+        return Err(SanError::None);
+    };
+    moved(position, &said)
+}
+
+/// Castling on the wing, if it is legal.
+fn castled<B: Board>(position: &Position<B>, wing: Wing) -> Result<Move, SanError>
+    ensures { IsAnswer (IsCastlingOn position.now wing) result }
+{
+    let side = position.side();
+    if !position.is_legal(castling_move(side, wing)) {
+        return Err(SanError::None);
+    }
+    Ok(castling_move(side, wing))
+}
+
+/// The side's castling on the wing.
+fn castling_move(side: Side, wing: Wing) -> Move
+    ensures { result ≡ castling_on side wing }
+{
+    Move {
+        from: king_leaves(side),
+        to: king_arrives(side, wing),
+        promote: None,
+        castle: Some(wing),
+    }
+}
+
+/// The only legal move that agrees with what is said.
+fn moved<B: Board>(position: &Position<B>, said: &SaidMove) -> Result<Move, SanError>
+    ensures { IsAnswer (IsMoveSaid position.now (said_by said.now)) result }
+{
+    let squares = position.squares_of(Man {
+        side: position.side(),
+        kind: said.kind(),
+    });
+    let Some((from, rest)) = next_origin(position, said, squares) else {
+        return Err(SanError::None);
+    };
+    if next_origin(position, said, rest).is_some() {
+        return Err(SanError::Several);
+    }
+    Ok(said.from(from))
+}
+
+/// The first square of the set whose man may make the move that is said, and the squares behind it.
+fn next_origin<B: Board>(
+    position: &Position<B>,
+    said: &SaidMove,
+    squares: SquareSet,
+) -> Option<(Square, SquareSet)>
+    ensures { MatchOption result (HasNone (Fits position.now (said_by said.now)) squares)
+        (λ found. IsNext (Fits position.now (said_by said.now)) squares found.1 found.0) }
+{
+    let mut left = squares;
+    for step in 0u8..64 {
+        let Some(from) = left.take_first() else {
+            return None;
+        };
+        if fits(position, said, from) {
+            return Some((from, left));
+        }
+    }
+    None
+}
+
+/// Whether the man on the square may make the move that is said: the file and the rank are tried before its legality.
+fn fits<B: Board>(position: &Position<B>, said: &SaidMove, from: Square) -> bool
+    ensures { IsTrue result ↔ Fits position.now (said_by said.now) from }
+{
+    if !agrees(said.file, from.file()) {
+        return false;
+    }
+    if !agrees(said.rank, from.rank()) {
+        return false;
+    }
+    if !said.keeps_file(from) {
+        return false;
+    }
+    position.is_legal(said.from(from))
+}
+
+/// Whether the number is the one given, if one is given.
+fn agrees(given: Option<u8>, number: u8) -> bool
+    ensures { IsTrue result ↔ IfSome given (λ n. number ≡ n) }
+{
+    match given {
+        Some(n) => number == n,
+        None => true,
+    }
+}
+
+impl SaidMove {
+    /// The kind of man that is spoken of: a pawn without a letter.
+    fn kind(&self) -> Kind
+        ensures { result ≡ kind_said self.now.letter }
+    {
+        match self.letter {
+            Some(kind) => kind,
+            None => Kind::Pawn,
+        }
+    }
+
+    /// The move from the square that is spoken of.
+    fn from(&self, from: Square) -> Move
+        ensures { result ≡ move_from (said_by self.now) from }
+    {
+        Move {
+            from,
+            to: self.target,
+            promote: self.promote,
+            castle: None,
+        }
+    }
+
+    /// Whether a pawn without a given file stays on its file.
+    fn keeps_file(&self, from: Square) -> bool
+        ensures { IsTrue result ↔ (kind_said self.now.letter ≡ Pawn → self.now.file ≡ None → from.file ≡ self.now.target.file) }
+    {
+        if self.kind() != Kind::Pawn {
+            return true;
+        }
+        if self.file.is_some() {
+            return true;
+        }
+        from.file() == self.target.file()
+    }
+}

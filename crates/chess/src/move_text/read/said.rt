@@ -1,0 +1,209 @@
+//! What a move text says, read from its end (PGN 8.2.3).
+ghost use Rattle.std.specs.Prelude.{◌≡◌, ◌↔◌, reverse, Some, IsTrue};
+ghost use Rattle.chess.specs.San.{IsCastlingText};
+ghost use Rattle.chess.specs.SanWords.{IsReadSaid, IsCastlingStem, kind_given, number_given, kind_of, is_of, last_of, before_last, unmarked, before_equals, stem, behind_target_rank, behind_sign, behind_rank, behind_file, behind_letter};
+ghost use Rattle.chess.specs.declared.board.man.Wing.{Wing};
+ghost use Rattle.chess.specs.declared.move_text.read.said.ByteClass.TheVariants.{Digit, FileLetter, KindLetter, PromotionLetter};
+
+use crate::board::{Kind, Square, Wing};
+
+/// What a move text that is not castling says.
+#[derive(Drop)]
+pub(crate) struct SaidMove {
+    pub(crate) letter: Option<Kind>,
+    pub(crate) file: Option<u8>,
+    pub(crate) rank: Option<u8>,
+    pub(crate) target: Square,
+    pub(crate) promote: Option<Kind>,
+}
+
+/// The classes of the bytes of a move text.
+#[derive(Clone, Copy, Debug, PartialEq, Eq)]
+enum ByteClass {
+    Sign,
+    Digit,
+    FileLetter,
+    KindLetter,
+    Equals,
+    PromotionLetter,
+}
+
+/// The bytes of a move text by their places.
+#[derive(Drop)]
+struct Parts<'a> {
+    promotion: Option<u8>,
+    target_rank: Option<u8>,
+    target_file: Option<u8>,
+    rank: Option<u8>,
+    file: Option<u8>,
+    letter: Option<u8>,
+    rest: &'a [u8],
+}
+
+/// The kind of that letter.
+fn kind_of(byte: u8) -> Option<Kind>
+    ensures { result ≡ kind_of byte }
+{
+    match byte {
+        b'K' => Some(Kind::King),
+        b'Q' => Some(Kind::Queen),
+        b'R' => Some(Kind::Rook),
+        b'B' => Some(Kind::Bishop),
+        b'N' => Some(Kind::Knight),
+        b'P' => Some(Kind::Pawn),
+        _ => None,
+    }
+}
+
+/// Whether the byte is of the class.
+fn is_of(class: ByteClass, byte: u8) -> bool
+    ensures { result ≡ is_of class byte }
+{
+    match class {
+        ByteClass::Sign => byte == b'x' || byte == b':' || byte == b'-',
+        ByteClass::Digit => b'0' < byte && byte < b'9',
+        ByteClass::FileLetter => b'`' < byte && byte < b'i',
+        ByteClass::KindLetter => kind_of(byte).is_some(),
+        ByteClass::Equals => byte == b'=',
+        ByteClass::PromotionLetter => (byte == b'Q' || byte == b'R')
+            || (byte == b'B' || byte == b'N'),
+    }
+}
+
+/// The last byte of a text if it is of the class, and the text before it.
+fn take_last(class: ByteClass, text: &[u8]) -> (Option<u8>, &[u8])
+    ensures byte { result.0 ≡ last_of class (reverse text.now) }
+    ensures rest { reverse result.1.now ≡ before_last class (reverse text.now) }
+{
+    if let [before @ .., last] = text
+        && is_of(class, *last)
+    {
+        return (Some(*last), before);
+    }
+    (None, text)
+}
+
+/// The text without the marks of check and mate at its end.
+fn unmarked(text: &[u8]) -> &[u8]
+    ensures { reverse result.now ≡ unmarked (reverse text.now) }
+{
+    let mut rest = text;
+    while let [before @ .., last] = rest
+        && (*last == b'+' || *last == b'#')
+    {
+        rest = before;
+    }
+    rest
+}
+
+/// The text before a promotion and its `=`.
+fn before_equals(promotion: Option<u8>, text: &[u8]) -> &[u8]
+    ensures { reverse result.now ≡ before_equals promotion (reverse text.now) }
+{
+    match promotion {
+        Some(_) => take_last(ByteClass::Equals, text).1,
+        None => text,
+    }
+}
+
+/// The bytes of a text by their places, from its end.
+fn split_parts(text: &[u8]) -> Parts<'_>
+    ensures promotion { result.promotion ≡ last_of PromotionLetter (unmarked (reverse text.now)) }
+    ensures target_rank { result.target_rank ≡ last_of Digit (stem (reverse text.now)) }
+    ensures target_file { result.target_file ≡ last_of FileLetter (behind_target_rank (reverse text.now)) }
+    ensures rank { result.rank ≡ last_of Digit (behind_sign (reverse text.now)) }
+    ensures file { result.file ≡ last_of FileLetter (behind_rank (reverse text.now)) }
+    ensures letter { result.letter ≡ last_of KindLetter (behind_file (reverse text.now)) }
+    ensures rest { reverse result.rest.now ≡ behind_letter (reverse text.now) }
+{
+    let (promotion, rest) = take_last(ByteClass::PromotionLetter, unmarked(text));
+    let (target_rank, rest) = take_last(ByteClass::Digit, before_equals(promotion, rest));
+    let (target_file, rest) = take_last(ByteClass::FileLetter, rest);
+    let (_, rest) = take_last(ByteClass::Sign, rest);
+    let (rank, rest) = take_last(ByteClass::Digit, rest);
+    let (file, rest) = take_last(ByteClass::FileLetter, rest);
+    let (letter, rest) = take_last(ByteClass::KindLetter, rest);
+    Parts {
+        promotion,
+        target_rank,
+        target_file,
+        rank,
+        file,
+        letter,
+        rest,
+    }
+}
+
+/// The kind of the letter, if one is given.
+fn kind_given(letter: Option<u8>) -> Option<Kind>
+    ensures { result ≡ kind_given letter }
+{
+    match letter {
+        Some(byte) => kind_of(byte),
+        None => None,
+    }
+}
+
+/// The number that a byte writes from that one on, if it is given.
+fn number_given(byte: Option<u8>, zero: u8) -> Option<u8>
+    ensures { result ≡ number_given byte zero }
+{
+    match byte {
+        Some(byte) => Some(byte.saturating_sub(zero)),
+        None => None,
+    }
+}
+
+/// What the text says, if it is a move text that is not castling.
+pub(crate) fn read_said(text: &[u8]) -> Option<SaidMove>
+    ensures { IsReadSaid text.now result }
+{
+    let parts = split_parts(text);
+    if !parts.rest.is_empty() {
+        return None;
+    }
+    let (Some(file), Some(rank)) = (parts.target_file, parts.target_rank) else {
+        return None;
+    };
+    let Some(target) = Square::new(file.saturating_sub(b'`'), rank.saturating_sub(b'0')) else {
+        return None;
+    };
+    Some(SaidMove {
+        letter: kind_given(parts.letter),
+        file: number_given(parts.file, b'`'),
+        rank: number_given(parts.rank, b'0'),
+        target,
+        promote: kind_given(parts.promotion),
+    })
+}
+
+/// Whether the two texts are the same.
+fn is_text(text: &[u8], other: &[u8]) -> bool
+    ensures { IsTrue result ↔ (text.now ≡ other.now) }
+{
+    text == other
+}
+
+/// Whether the text, without marks, is that of castling on the wing.
+fn is_castling(wing: Wing, stem: &[u8]) -> bool
+    ensures { IsTrue result ↔ IsCastlingStem wing stem.now }
+{
+    match wing {
+        Wing::KingSide => is_text(stem, b"O-O") || is_text(stem, b"0-0"),
+        Wing::QueenSide => is_text(stem, b"O-O-O") || is_text(stem, b"0-0-0"),
+    }
+}
+
+/// The wing on which the text castles.
+pub(crate) fn castling(text: &[u8]) -> Option<Wing>
+    ensures { (wing : Wing) → IsCastlingText wing text.now ↔ (result ≡ Some wing) }
+{
+    let stem = unmarked(text);
+    if is_castling(Wing::KingSide, stem) {
+        return Some(Wing::KingSide);
+    }
+    if is_castling(Wing::QueenSide, stem) {
+        return Some(Wing::QueenSide);
+    }
+    None
+}

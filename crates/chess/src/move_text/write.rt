@@ -1,0 +1,219 @@
+//! The text of a move in standard algebraic notation (PGN 8.2.3).
+ghost use Rattle.std.specs.Prelude.{◌≡◌, ◌↔◌, ◌+◌, ◌≤◌, ◌<◌, ◌++◌, Some, IsTrue, true};
+ghost use Rattle.arrayvec.specs.ArrayString.{array_string_len};
+ghost use Rattle.chess.specs.Placements.{man_at};
+ghost use Rattle.chess.specs.Moves.{IsLegal};
+ghost use Rattle.chess.specs.San.{IsSan, IsOnlyNamed, IsRival, IsDisambiguation, IsPieceText, IsBody, IsCheckMark, castling_text, is_capture, capture_text, pawn_text, promotion_text};
+ghost use Rattle.chess.specs.Sets.{HoldsExactly};
+ghost use Rattle.chess.specs.SanTextWords.{Appends, HasSquare};
+
+use crate::board::{Board, Kind, Man, Square, SquareSet, Wing};
+use crate::letters::{kind_letter, push_byte, push_square};
+use crate::moves::Move;
+use crate::position::Position;
+use arrayvec::ArrayString;
+
+/// The text of a legal move in standard algebraic notation; it names that move and no other. No memory is needed.
+pub fn san<B: Board>(position: &Position<B>, m: Move) -> ArrayString<8>
+    requires { IsLegal position.now m }
+    ensures text { IsSan position.now m result.bytes }
+    ensures names { IsOnlyNamed position.now result.bytes m }
+{
+    position.known();
+    written(position, m)
+}
+
+/// The text of a legal move.
+fn written<B: Board>(position: &Position<B>, m: Move) -> ArrayString<8>
+    requires { IsLegal position.now m }
+    ensures { IsSan position.now m result.bytes }
+{
+    let mut out = ArrayString::new();
+    push_body(&mut out, position, &m, mover(position, &m));
+    push_check_mark(&mut out, &position.play(m));
+    out
+}
+
+/// The man that moves.
+fn mover<B: Board>(position: &Position<B>, m: &Move) -> Man
+    requires { IsLegal position.now m.now }
+    ensures { man_at position.now.men m.now.from ≡ Some result }
+{
+    position.at(m.from).unwrap()
+}
+
+/// Appends the mark of the position after a move: `+` for check, `#` for mate.
+fn push_check_mark<B: Board>(out: &mut ArrayString<8>, after: &Position<B>)
+    requires { array_string_len out.old < 8 }
+    ensures { Appends (IsCheckMark after.now) out.old.bytes out.new.bytes }
+{
+    if !after.in_check() {
+        return;
+    }
+    if after.has_move() {
+        push_byte(out, b'+');
+        return;
+    }
+    push_byte(out, b'#');
+}
+
+/// Appends the text of a move without its mark.
+fn push_body<B: Board>(out: &mut ArrayString<8>, position: &Position<B>, m: &Move, man: Man)
+    requires mover { man_at position.now.men m.now.from ≡ Some man }
+    requires room { array_string_len out.old ≤ 1 }
+    ensures text { Appends (IsBody position.now m.now m.now.castle man.kind) out.old.bytes out.new.bytes }
+    ensures short { array_string_len out.new ≤ array_string_len out.old + 7 }
+{
+    if let Some(wing) = m.castle {
+        push_castling(out, wing);
+        return;
+    }
+    if man.kind == Kind::Pawn {
+        push_pawn_move(out, position, m);
+        return;
+    }
+    push_piece_move(out, position, m, man);
+}
+
+/// Appends the text of castling.
+fn push_castling(out: &mut ArrayString<8>, wing: Wing)
+    requires { array_string_len out.old ≤ 3 }
+    ensures text { out.new.bytes ≡ out.old.bytes ++ castling_text wing }
+    ensures short { array_string_len out.new ≤ array_string_len out.old + 5 }
+{
+    match wing {
+        Wing::KingSide => out.push_str("O-O"),
+        Wing::QueenSide => out.push_str("O-O-O"),
+    }
+}
+
+/// Whether the move takes a man, also en passant.
+fn is_capture<B: Board>(position: &Position<B>, m: &Move) -> bool
+    ensures { result ≡ is_capture position.now m.now }
+{
+    position.at(position.taken(m)).is_some()
+}
+
+/// Appends a pawn's move.
+fn push_pawn_move<B: Board>(out: &mut ArrayString<8>, position: &Position<B>, m: &Move)
+    requires { array_string_len out.old ≤ 2 }
+    ensures text { out.new.bytes ≡ out.old.bytes ++ pawn_text position.now m.now }
+    ensures short { array_string_len out.new ≤ array_string_len out.old + 6 }
+{
+    if is_capture(position, m) {
+        push_byte(out, b'a' - 1 + m.from.file());
+        push_byte(out, b'x');
+    }
+    push_square(out, m.to);
+    push_promotion(out, m.promote);
+}
+
+/// Appends what a pawn becomes, if it becomes anything.
+fn push_promotion(out: &mut ArrayString<8>, promote: Option<Kind>)
+    requires { array_string_len out.old ≤ 6 }
+    ensures text { out.new.bytes ≡ out.old.bytes ++ promotion_text true promote }
+    ensures short { array_string_len out.new ≤ array_string_len out.old + 2 }
+{
+    if let Some(kind) = promote {
+        push_byte(out, b'=');
+        push_byte(out, kind_letter(kind));
+    }
+}
+
+/// Appends the move of a piece.
+fn push_piece_move<B: Board>(out: &mut ArrayString<8>, position: &Position<B>, m: &Move, man: Man)
+    requires mover { man_at position.now.men m.now.from ≡ Some man }
+    requires room { array_string_len out.old ≤ 2 }
+    ensures text { Appends (IsPieceText position.now m.now man.kind) out.old.bytes out.new.bytes }
+    ensures short { array_string_len out.new ≤ array_string_len out.old + 6 }
+{
+    push_byte(out, kind_letter(man.kind));
+    push_origin(out, position, m, man);
+    push_cross(out, position, m);
+    push_square(out, m.to);
+}
+
+/// Appends `x` for a capture.
+fn push_cross<B: Board>(out: &mut ArrayString<8>, position: &Position<B>, m: &Move)
+    requires { array_string_len out.old < 8 }
+    ensures text { out.new.bytes ≡ out.old.bytes ++ capture_text position.now m.now }
+    ensures short { array_string_len out.new ≤ array_string_len out.old + 1 }
+{
+    if is_capture(position, m) {
+        push_byte(out, b'x');
+    }
+}
+
+/// Appends what distinguishes the man from its rivals: nothing where there is none; the file where no rival stands on it; else the rank
+/// where no rival stands on it; else both (PGN 8.2.3.4).
+fn push_origin<B: Board>(out: &mut ArrayString<8>, position: &Position<B>, m: &Move, man: Man)
+    requires mover { man_at position.now.men m.now.from ≡ Some man }
+    requires room { array_string_len out.old ≤ 6 }
+    ensures text { Appends (IsDisambiguation position.now m.now) out.old.bytes out.new.bytes }
+    ensures short { array_string_len out.new ≤ array_string_len out.old + 2 }
+{
+    let rivals = rivals(position, m, man);
+    if !rivals.has_some() {
+        return;
+    }
+    if !has_on_file(&rivals, m.from) {
+        push_byte(out, b'a' - 1 + m.from.file());
+        return;
+    }
+    if !has_on_rank(&rivals, m.from) {
+        push_byte(out, b'0' + m.from.rank());
+        return;
+    }
+    push_square(out, m.from);
+}
+
+/// The squares of the other men of the same kind and side that have a legal move to the same square.
+fn rivals<B: Board>(position: &Position<B>, m: &Move, man: Man) -> SquareSet
+    requires { man_at position.now.men m.now.from ≡ Some man }
+    ensures { HoldsExactly (IsRival position.now m.now) result }
+{
+    let mut left = position.squares_of(man);
+    let mut found = SquareSet::new();
+    for step in 0u8..64 {
+        let Some(from) = left.take_first() else {
+            return found;
+        };
+        found.insert_if(from, is_rival(position, m, from));
+    }
+    found
+}
+
+/// Whether a man like the one that moves is another one and has a legal move to the same square.
+fn is_rival<B: Board>(position: &Position<B>, m: &Move, from: Square) -> bool
+    requires { man_at position.now.men from ≡ man_at position.now.men m.now.from }
+    ensures { IsTrue result ↔ IsRival position.now m.now from }
+{
+    if from.is(m.from) {
+        return false;
+    }
+    position.can_go(from, m.to)
+}
+
+/// Whether a square of the set is on the file of that square.
+fn has_on_file(squares: &SquareSet, square: Square) -> bool
+    ensures { IsTrue result ↔ HasSquare squares.now (λ s. s.file ≡ square.file) }
+{
+    for rank in 1u8..9 {
+        if squares.has(Square::at(square.file(), rank)) {
+            return true;
+        }
+    }
+    false
+}
+
+/// Whether a square of the set is on the rank of that square.
+fn has_on_rank(squares: &SquareSet, square: Square) -> bool
+    ensures { IsTrue result ↔ HasSquare squares.now (λ s. s.rank ≡ square.rank) }
+{
+    for file in 1u8..9 {
+        if squares.has(Square::at(file, square.rank())) {
+            return true;
+        }
+    }
+    false
+}

@@ -1,0 +1,255 @@
+//! Legal moves (Laws 3.9.2, 3.8.2.2), the squares that they reach, and whether there is one.
+ghost use Rattle.std.specs.Prelude.{◌↔◌, IsTrue, Some, None};
+ghost use Rattle.chess.specs.Attacks.{IsInReach};
+ghost use Rattle.chess.specs.Positions.{IsCheck};
+ghost use Rattle.chess.specs.Moves.{IsBarred, IsUnbarred, men_after, IsPseudoLegal, IsLegal, CanGo, HasMove};
+ghost use Rattle.chess.specs.MoveWords.{CanGoPlainly, CanPromote, CanCastle, CanLeave, CanMove, HasEach, IsPawnGoal, IsCastlingGoal};
+ghost use Rattle.chess.specs.Sets.{HoldsExactly};
+
+use crate::board::{Board, Kind, Man, Square, SquareSet, Wing};
+use crate::moves::Move;
+use crate::moves::castling::{king_arrives, king_leaves, rank_of_pieces, rook_arrives};
+use crate::moves::pseudo_legal::square_ahead;
+use crate::position::Position;
+
+impl<B: Board> Position<B> {
+    /// Whether the move is legal.
+    pub fn is_legal(&self, m: Move) -> bool
+        ensures { IsTrue result ↔ IsLegal self.now m }
+    {
+        if !self.is_pseudo_legal(&m) {
+            return false;
+        }
+        self.is_unbarred(m.castle) && !self.leaves_check(&m)
+    }
+
+    /// The squares to which some legal move goes from the square.
+    pub fn targets(&self, square: Square) -> SquareSet
+        ensures { HoldsExactly (λ t. CanGo self.now square t) result }
+    {
+        let mut left = self.candidates(square);
+        let mut found = SquareSet::new();
+        for step in 0u8..64 {
+            let Some(to) = left.take_first() else {
+                return found;
+            };
+            found.insert_if(to, self.can_go(square, to));
+        }
+        found
+    }
+
+    /// Whether the side to move has a legal move.
+    pub fn has_move(&self) -> bool
+        ensures { IsTrue result ↔ HasMove self.now }
+    {
+        if self.can_move(Kind::Pawn) {
+            return true;
+        }
+        if self.can_move(Kind::Knight) {
+            return true;
+        }
+        if self.can_move(Kind::Bishop) {
+            return true;
+        }
+        if self.can_move(Kind::Rook) {
+            return true;
+        }
+        if self.can_move(Kind::Queen) {
+            return true;
+        }
+        if self.can_move(Kind::King) {
+            return true;
+        }
+        false
+    }
+
+    /// Whether castling on the wing is barred by an attack.
+    fn is_barred(&self, wing: Wing) -> bool
+        ensures { IsTrue result ↔ IsBarred self.now wing }
+    {
+        let side = self.side();
+        let enemy = side.opposite();
+        self.attacked(king_leaves(side), enemy)
+            || self.attacked(rook_arrives(side, wing), enemy)
+            || self.attacked(king_arrives(side, wing), enemy)
+    }
+
+    /// Whether the move is no castling that is barred.
+    fn is_unbarred(&self, castle: Option<Wing>) -> bool
+        ensures { IsTrue result ↔ IsUnbarred self.now castle }
+    {
+        match castle {
+            None => true,
+            Some(wing) => !self.is_barred(wing),
+        }
+    }
+
+    /// Whether the own king is attacked after the move.
+    fn leaves_check(&self, m: &Move) -> bool
+        requires { IsPseudoLegal self.now m.now }
+        ensures { IsTrue result ↔ IsCheck (men_after self.now m.now) self.now.turn }
+    {
+        let side = self.side();
+        let king = self.king_after(m, side);
+        self.board_after(m).attacked(king, side.opposite())
+    }
+
+    /// Whether some legal move goes from the one square to the other.
+    pub(crate) fn can_go(&self, from: Square, to: Square) -> bool
+        ensures { IsTrue result ↔ CanGo self.now from to }
+    {
+        if self.can_go_plainly(from, to) {
+            return true;
+        }
+        if self.can_promote(from, to) {
+            return true;
+        }
+        self.can_castle(from, to)
+    }
+
+    /// Whether a legal move without promotion and castling goes so.
+    fn can_go_plainly(&self, from: Square, to: Square) -> bool
+        ensures { IsTrue result ↔ CanGoPlainly self.now from to }
+    {
+        self.is_legal(Move {
+            from,
+            to,
+            promote: None,
+            castle: None,
+        })
+    }
+
+    /// Whether a pawn may go so and become a piece of that kind.
+    fn can_become(&self, from: Square, to: Square, kind: Kind) -> bool
+        ensures { IsTrue result ↔ IsLegal self.now (record { from = from; to = to; promote = Some kind; castle = None }) }
+    {
+        self.is_legal(Move {
+            from,
+            to,
+            promote: Some(kind),
+            castle: None,
+        })
+    }
+
+    /// Whether a legal move that promotes goes so.
+    fn can_promote(&self, from: Square, to: Square) -> bool
+        ensures { IsTrue result ↔ CanPromote self.now from to }
+    {
+        if to.rank() != rank_of_pieces(self.side().opposite()) {
+            return false;
+        }
+        if self.can_become(from, to, Kind::Queen) {
+            return true;
+        }
+        if self.can_become(from, to, Kind::Rook) {
+            return true;
+        }
+        if self.can_become(from, to, Kind::Bishop) {
+            return true;
+        }
+        self.can_become(from, to, Kind::Knight)
+    }
+
+    /// Whether castling on the wing goes so.
+    fn can_castle_on(&self, from: Square, to: Square, wing: Wing) -> bool
+        ensures { IsTrue result ↔ IsLegal self.now (record { from = from; to = to; promote = None; castle = Some wing }) }
+    {
+        self.is_legal(Move {
+            from,
+            to,
+            promote: None,
+            castle: Some(wing),
+        })
+    }
+
+    /// Whether castling goes so.
+    fn can_castle(&self, from: Square, to: Square) -> bool
+        ensures { IsTrue result ↔ CanCastle self.now from to }
+    {
+        if !from.is(king_leaves(self.side())) {
+            return false;
+        }
+        self.can_castle_on(from, to, Wing::KingSide)
+            || self.can_castle_on(from, to, Wing::QueenSide)
+    }
+
+    /// Squares among which are all those to which a legal move goes from the square.
+    fn candidates(&self, from: Square) -> SquareSet
+        ensures { HasEach (λ t. CanGo self.now from t) result }
+    {
+        let Some(man) = self.at(from) else {
+            return SquareSet::new();
+        };
+        match man.kind {
+            Kind::Pawn => self.pawn_candidates(from),
+            Kind::King => self.king_candidates(from),
+            Kind::Queen | Kind::Rook | Kind::Bishop | Kind::Knight => self.reach(from),
+        }
+    }
+
+    /// The squares that the man on the square attacks, and those one and two ranks forward.
+    fn pawn_candidates(&self, from: Square) -> SquareSet
+        ensures hits { HasEach (λ t. IsInReach self.now.men from t) result }
+        ensures steps { HasEach (λ t. IsPawnGoal self.now from t) result }
+    {
+        from.known();
+        let mut squares = self.reach(from);
+        let side = self.side();
+        let Some(next) = square_ahead(side, from) else {
+            return squares;
+        };
+        squares.insert(next);
+        let Some(second) = square_ahead(side, next) else {
+            return squares;
+        };
+        squares.insert(second);
+        squares
+    }
+
+    /// The squares that the man on the square attacks, and those to which the king castles.
+    fn king_candidates(&self, from: Square) -> SquareSet
+        ensures hits { HasEach (λ t. IsInReach self.now.men from t) result }
+        ensures castling { HasEach (λ t. IsCastlingGoal self.now t) result }
+    {
+        let mut squares = self.reach(from);
+        let side = self.side();
+        squares.insert(king_arrives(side, Wing::KingSide));
+        squares.insert(king_arrives(side, Wing::QueenSide));
+        squares
+    }
+
+    /// Whether some legal move leaves the square.
+    fn can_leave(&self, from: Square) -> bool
+        ensures { IsTrue result ↔ CanLeave self.now from }
+    {
+        let mut left = self.candidates(from);
+        for step in 0u8..64 {
+            let Some(to) = left.take_first() else {
+                return false;
+            };
+            if self.can_go(from, to) {
+                return true;
+            }
+        }
+        false
+    }
+
+    /// Whether a man of that kind, of the side to move, has a legal move.
+    fn can_move(&self, kind: Kind) -> bool
+        ensures { IsTrue result ↔ CanMove self.now kind }
+    {
+        let mut left = self.squares_of(Man {
+            side: self.side(),
+            kind,
+        });
+        for step in 0u8..64 {
+            let Some(from) = left.take_first() else {
+                return false;
+            };
+            if self.can_leave(from) {
+                return true;
+            }
+        }
+        false
+    }
+}

@@ -1,0 +1,178 @@
+//! The position after a move (Laws 3.7, 3.8; PGN 16.1.3.3 to 16.1.3.6).
+ghost use Rattle.std.specs.Prelude.{◌≡◌};
+ghost use Rattle.chess.specs.Squares.{same_square};
+ghost use Rattle.chess.specs.Positions.{IsSound, IsOnlyKing};
+ghost use Rattle.chess.specs.Moves.{is_pawn, is_en_passant, taken, arriving, men_after, keeps_right, rights_after, en_passant_after, one_more, halfmove_clock_after, fullmove_number_after, after, IsPseudoLegal, IsLegal};
+ghost use Rattle.chess.specs.Placements.{opposite};
+
+use crate::board::{Board, CastlingRights, Kind, Man, Side, Square, Wing};
+use crate::moves::Move;
+use crate::moves::castling::{king_leaves, rook_arrives, rook_leaves};
+use crate::position::Position;
+
+/// Whether the two are the same square.
+fn same(a: Square, b: Square) -> bool
+    ensures { result ≡ same_square a b }
+{
+    a.is(b)
+}
+
+/// A count goes up by one, and stays at the largest number.
+pub(crate) fn one_more(count: u32) -> u32
+    ensures { result ≡ one_more count }
+{
+    count.saturating_add(1)
+}
+
+/// Whether that is a pawn.
+fn is_pawn(man: Option<Man>) -> bool
+    ensures { result ≡ is_pawn man }
+{
+    match man {
+        Some(man) => man.kind == Kind::Pawn,
+        None => false,
+    }
+}
+
+impl<B: Board> Position<B> {
+    /// Whether the move is a capture en passant.
+    fn is_en_passant(&self, m: &Move) -> bool
+        ensures { result ≡ is_en_passant self.now m.now }
+    {
+        self.passes(m.to) && m.from.file() != m.to.file() && is_pawn(self.at(m.from))
+    }
+
+    /// The square of the man that the move takes, if it takes one.
+    pub(crate) fn taken(&self, m: &Move) -> Square
+        ensures { result ≡ taken self.now m.now }
+    {
+        if self.is_en_passant(m) {
+            return Square::at(m.to.file(), m.from.rank());
+        }
+        m.to
+    }
+
+    /// The man that arrives: the one that moves, or what the pawn becomes.
+    fn arriving(&self, m: &Move) -> Option<Man>
+        ensures { result ≡ arriving self.now m.now.promote m.now.from }
+    {
+        match m.promote {
+            None => self.at(m.from),
+            Some(kind) => Some(Man {
+                side: self.side(),
+                kind,
+            }),
+        }
+    }
+
+    /// The board after the move.
+    pub(crate) fn board_after(&self, m: &Move) -> B
+        ensures { B.men result ≡ men_after self.now m.now }
+    {
+        let side = self.side();
+        let mut board = self.board();
+        board.put(self.taken(m), None);
+        board.put(m.from, None);
+        board.put(m.to, self.arriving(m));
+        if let Some(wing) = m.castle {
+            board.put(rook_leaves(side, wing), None);
+            board.put(
+                rook_arrives(side, wing),
+                Some(Man {
+                    side,
+                    kind: Kind::Rook,
+                }),
+            );
+        }
+        board
+    }
+
+    /// Whether the right is still held after the move.
+    fn keeps_right(&self, m: &Move, side: Side, wing: Wing) -> bool
+        ensures { result ≡ keeps_right self.now.rights m.now side wing }
+    {
+        self.has_right(side, wing)
+            && !same(m.from, king_leaves(side))
+            && !same(m.from, rook_leaves(side, wing))
+            && !same(m.to, rook_leaves(side, wing))
+    }
+
+    /// The castling rights after the move.
+    fn rights_after(&self, m: &Move) -> CastlingRights
+        ensures { result ≡ rights_after self.now.rights m.now }
+    {
+        CastlingRights {
+            white_king_side: self.keeps_right(m, Side::White, Wing::KingSide),
+            white_queen_side: self.keeps_right(m, Side::White, Wing::QueenSide),
+            black_king_side: self.keeps_right(m, Side::Black, Wing::KingSide),
+            black_queen_side: self.keeps_right(m, Side::Black, Wing::QueenSide),
+        }
+    }
+
+    /// The en passant square after the move.
+    fn en_passant_after(&self, m: &Move) -> Option<Square>
+        ensures { result ≡ en_passant_after self.now m.now }
+    {
+        let (from, to) = (m.from.rank(), m.to.rank());
+        if is_pawn(self.at(m.from)) && from.abs_diff(to) == 2 {
+            return Some(Square::at(m.from.file(), (from + to) / 2));
+        }
+        None
+    }
+
+    /// The halfmove clock after the move.
+    fn halfmove_clock_after(&self, m: &Move) -> u32
+        ensures { result ≡ halfmove_clock_after self.now m.now }
+    {
+        if is_pawn(self.at(m.from)) || self.at(m.to).is_some() {
+            return 0;
+        }
+        one_more(self.clock())
+    }
+
+    /// The fullmove number after a move.
+    pub(crate) fn fullmove_number_after(&self) -> u32
+        ensures { result ≡ fullmove_number_after self.now.turn self.now.fullmove_number }
+    {
+        match self.side() {
+            Side::White => self.number(),
+            Side::Black => one_more(self.number()),
+        }
+    }
+
+    /// The side to move after a move.
+    fn turn_after(&self) -> Side
+        ensures { result ≡ opposite self.now.turn }
+    {
+        self.side().opposite()
+    }
+
+    /// The square of the side's king after the move.
+    pub(crate) fn king_after(&self, m: &Move, side: Side) -> Square
+        requires { IsPseudoLegal self.now m.now }
+        ensures { IsOnlyKing (men_after self.now m.now) side result }
+    {
+        self.known();
+        let king = self.king(side);
+        if king.is(m.from) { m.to } else { king }
+    }
+
+    /// The position after a legal move.
+    pub fn play(&self, m: Move) -> Self
+        requires { IsLegal self.now m }
+        ensures position { result ≡ after self.now m }
+        ensures sound { IsSound result }
+    {
+        self.known();
+        Position {
+            board: self.board_after(&m),
+            turn: self.turn_after(),
+            rights: self.rights_after(&m),
+            en_passant: self.en_passant_after(&m),
+            halfmove_clock: self.halfmove_clock_after(&m),
+            fullmove_number: self.fullmove_number_after(),
+            white_king: self.king_after(&m, Side::White),
+            black_king: self.king_after(&m, Side::Black),
+        }
+    }
+}

@@ -1,0 +1,20 @@
+use Rattle.std.proofs.Common.{◌≡◌, ◌-◌, length, take, sym, ap, ◌∙◌, arith}
+use Rattle.std.proofs.Math.Seq.{take-append_seam}
+use Rattle.pgn_game.specs.CommentWords.{word_front, behind_front}
+use Rattle.pgn_game.proofs.CommentFacts.{front_whole, front_length}
+use Rattle.pgn_game.proofs.comment.split_word.Goals as goal
+
+pub slice_bounds-result-count : goal.slice_bounds-result-count
+slice_bounds-result-count c =
+    let whole = front_length c.args.text.now in
+    let rest : length c.from_white-rest.result.now ≡ length (behind_front c.args.text.now) = ap length c.from_white-rest.ensures in
+    omega arith
+
+pub returns-clause-word : goal.returns-clause-word
+returns-clause-word c =
+    let text = c.args.text.now in
+    let front = word_front text in
+    let whole = front_length text in
+    let rest : length c.from_white-rest.result.now ≡ length (behind_front text) = ap length c.from_white-rest.ensures in
+    let size : length text - length c.from_white-rest.result.now ≡ length front = omega arith in
+    ap (λ n. take n text) size ∙ ap (take (length front)) (sym (front_whole text)) ∙ take-append_seam front (behind_front text)

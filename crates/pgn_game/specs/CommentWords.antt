@@ -1,0 +1,40 @@
+-- How the words of a comment are found and written. Nothing but the proof of their writer cites these.
+use Rattle.std.specs.Prelude.{◌≡◌, ℕ, ◌+◌, Bool, true, false, if◌then◌else◌, Option, Some, None, codes, List, [], ◌∷◌, ◌++◌, length}
+use Rattle.pgn_text.specs.Bytes.{is_white}
+use Rattle.pgn_game.specs.Comments.{words_in}
+use Rattle.pgn_game.specs.Pens.{behind_tokens}
+use Rattle.pgn_game.specs.declared.comment.Found.{Found}
+use Rattle.pgn_game.specs.declared.pen.Pen.{Pen}
+
+-- the first run of bytes that are no white space, what follows it, and what follows the white space that a text begins with
+abbrev pub word_front : List ℕ → List ℕ
+word_front [] = []
+word_front (b ∷ text) = if is_white b then [] else b ∷ word_front text
+
+abbrev pub behind_front : List ℕ → List ℕ
+behind_front [] = []
+behind_front (b ∷ text) = if is_white b then b ∷ text else behind_front text
+
+abbrev pub behind_white : List ℕ → List ℕ
+behind_white [] = []
+behind_white (b ∷ text) = if is_white b then behind_white text else b ∷ text
+
+-- the words of a text whose first one was found
+abbrev pub found_words : Option Found → List (List ℕ)
+found_words None = []
+found_words (Some found) = found.word.now ∷ words_in found.rest.now
+
+-- the brace that ends the last token
+abbrev pub closing : Bool → List ℕ
+closing true = codes "}"
+closing false = []
+
+-- the bytes behind the first word, which was found, and one more for it
+abbrev pub found_size : Option Found → ℕ
+found_size None = 0
+found_size (Some found) = length found.rest.now + 1
+
+-- a pen that has written all but these of the tokens behind what stood there
+abbrev pub HasLeft : Pen → Pen → List ℕ → List ℕ → List (List ℕ) → List (List ℕ) → Type 0
+HasLeft old new before after tokens left =
+    (more : List (List ℕ)) → after ++ behind_tokens new.width new.begun new.column (left ++ more) ≡ before ++ behind_tokens old.width old.begun old.column (tokens ++ more)

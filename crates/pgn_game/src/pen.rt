@@ -1,0 +1,72 @@
+//! Tokens in lines.
+ghost use Rattle.std.specs.Prelude.{◌≡◌, ◌++◌, ◌∷◌, ℕ, List, [], length, false, OnOk};
+ghost use Rattle.pgn_game.specs.Pens.{HasPut, behind_tokens};
+
+use std::alloc::AllocError;
+
+/// Writes tokens one behind another, in lines of a width: a token goes into the line that is begun where it is within the width behind a
+/// space, and else begins the next line.
+#[derive(Drop)]
+pub(crate) struct Pen {
+    width: usize,
+    begun: bool,
+    column: usize,
+}
+
+impl Pen {
+    /// Before the first token.
+    pub(crate) fn new(width: u16) -> Self
+        ensures width { result.width ≡ width }
+        ensures begun { result.begun ≡ false }
+        ensures column { result.column ≡ 0 }
+    {
+        Pen {
+            width: usize::from(width),
+            begun: false,
+            column: 0,
+        }
+    }
+
+    /// Begins a token of so many bytes behind the others: they are to follow.
+    pub(crate) fn start(&mut self, out: &mut Vec<u8>, size: usize) -> Result<(), AllocError>
+        ensures text { OnOk result ((token : List ℕ) → length token ≡ size → HasPut self.old self.new out.old.items (out.new.items ++ token) (token ∷ [])) }
+        ensures kept { (some : List ℕ) × (out.new.items ≡ out.old.items ++ some) }
+        ensures width { self.new.width ≡ self.old.width }
+    {
+        if !self.begun {
+            self.begun = true;
+            self.column = size;
+            return Ok(());
+        }
+        if size < self.width.saturating_sub(self.column) {
+            self.column += 1 + size;
+            out.push(b' ')?;
+            return Ok(());
+        }
+        self.column = size;
+        out.push(b'\n')?;
+        Ok(())
+    }
+
+    /// Writes a token behind the others.
+    pub(crate) fn put(&mut self, out: &mut Vec<u8>, token: &[u8]) -> Result<(), AllocError>
+        ensures text { OnOk result (HasPut self.old self.new out.old.items out.new.items (token.now ∷ [])) }
+        ensures kept { (some : List ℕ) × (out.new.items ≡ out.old.items ++ some) }
+        ensures width { self.new.width ≡ self.old.width }
+    {
+        self.start(out, token.len())?;
+        out.extend_from_slice(token)?;
+        Ok(())
+    }
+
+    /// Ends the last line, if there is one.
+    pub(crate) fn finish(&self, out: &mut Vec<u8>) -> Result<(), AllocError>
+        ensures text { OnOk result (out.new.items ≡ out.old.items ++ behind_tokens self.now.width self.now.begun self.now.column []) }
+        ensures kept { (some : List ℕ) × (out.new.items ≡ out.old.items ++ some) }
+    {
+        if self.begun {
+            out.push(b'\n')?;
+        }
+        Ok(())
+    }
+}
