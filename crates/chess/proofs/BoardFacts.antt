@@ -1,10 +1,11 @@
--- Facts that the plain board rests on.
-use Rattle.std.proofs.Common.{◌≡◌, ◌↔◌, ◌⊎◌, ◌<◌, ◌≤◌, ◌+◌, ◌&&◌, ◌||◌, ℕ, Bool, true, false, inl, inr, ap, refl, sym, subst, ◌∙◌, arith, IsTrue}
+-- Facts that boards rest on.
+use Rattle.std.proofs.Common.{◌≡◌, ◌↔◌, ◌⊎◌, ◌<◌, ◌≤◌, ◌+◌, ◌&&◌, ◌||◌, ℕ, Bool, true, false, inl, inr, ap, refl, sym, subst, ◌∙◌, arith, IsTrue, Some, None}
 use Rattle.std.proofs.lemmas.Bool.{cases_eq}
 use Rattle.chess.specs.Squares.{Place, IsOnBoard, square_at, index_of, IsAhead, same_square}
 use Rattle.chess.specs.SquareFacts.{index_of-square_at}
 use Rattle.chess.specs.SetFacts.{square_at-index_of, on_board-square_at, same_squares, other_squares, is_in-empty}
-use Rattle.chess.specs.Sets.{Places, is_in, no_places}
+use Rattle.chess.specs.Placements.{Placement, man_at}
+use Rattle.chess.specs.Sets.{Places, is_in, no_places, IsReachOf}
 use Rattle.chess.proofs.PlaceFacts.{same_square-then}
 use Rattle.chess.specs.declared.board.direction.Direction.{Direction}
 use Rattle.chess.specs.declared.board.direction.Direction.TheVariants.{North, South, East, West, NorthEast, NorthWest, SouthEast, SouthWest}
@@ -114,3 +115,11 @@ gathered_none fact set e = record {
 -- no square of 64 has the fact
 abbrev pub IsNoneYet : (Place → Type 0) → ℕ → Type 0
 IsNoneYet fact n = (s : Place) → IsOnBoard s → index_of s < n → fact s → ⊥
+
+-- where no man stands nothing is attacked
+pub no_reach : (p : Placement) (s : Place) (set : Places) → man_at p s ≡ None → set ≡ no_places → IsReachOf p s set
+no_reach p s set none bare t =
+    let outside : is_in set t ≡ false = ap (λ set. is_in set t) bare ∙ is_in-empty t in (
+      (λ e. absurd (true_not_false (sym e ∙ outside))),
+      (λ r. let both : None ≡ Some r.1.man = sym none ∙ r.1.here in cc),
+    )

@@ -1,4 +1,9 @@
 pub mod PlaceFacts
+pub mod StepFacts
+pub mod BitFacts
+pub mod HitFacts
+pub mod FillFacts
+pub mod LeaperFacts
 pub mod GoesFacts
 pub mod AfterFacts
 pub mod KingFacts

@@ -12,6 +12,7 @@ pub mod Fen
 pub mod Sets
 pub mod Laws
 -- Private words: what the code equals on the way, what its loops keep, and facts that types rest on. No public contract cites them.
+pub mod BitWords
 pub mod Cells
 pub mod CellFacts
 pub mod Codes

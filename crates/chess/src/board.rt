@@ -4,12 +4,15 @@ ghost use Rattle.chess.specs.Placements.{Placement, no_men, man_at, with_man, Ar
 ghost use Rattle.chess.specs.Attacks.{IsAttacked};
 ghost use Rattle.chess.specs.Sets.{IsReachOf, IsSquaresOf};
 
+mod bits;
 mod direction;
+mod fills;
 mod mailbox;
 mod man;
 mod set;
 mod square;
 
+pub use bits::Bits;
 pub use direction::Direction;
 pub use mailbox::Mailbox;
 pub use man::{CastlingRights, Kind, Man, Side, Wing};

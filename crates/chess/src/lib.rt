@@ -11,7 +11,7 @@ mod position;
 mod start;
 
 pub use board::{
-    Board, CastlingRights, Direction, Kind, Mailbox, Man, Side, Square, SquareSet, Wing,
+    Bits, Board, CastlingRights, Direction, Kind, Mailbox, Man, Side, Square, SquareSet, Wing,
 };
 pub use fen::FenError;
 pub use move_text::{SanError, resolve, san};

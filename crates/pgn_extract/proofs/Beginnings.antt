@@ -1,14 +1,14 @@
--- What is told of pieces in a row, written up to somewhere.
+-- What is reported of pieces in a row, written up to somewhere.
 use Rattle.std.proofs.Common.{ℕ, ◌+◌, List, ◌++◌, length, take, Option, refl, sym, ap, ◌∙◌, subst, arith, append_assoc}
 use Rattle.std.specs.Io.KnownBytes.{Appends, Keeps}
 use Rattle.std.proofs.lemmas.List.{take_all}
 use Rattle.std.proofs.Math.Seq.{take-append-add}
 use Rattle.pgn_text.specs.Marks.{MarkedPiece}
 use Rattle.pgn_extract.specs.Blockwise.{Begins}
-use Rattle.pgn_extract.specs.Outcomes.{AppendsFront, Tells}
-use Rattle.pgn_extract.specs.Telling.{Told}
+use Rattle.pgn_extract.specs.Outcomes.{AppendsFront, Writes}
+use Rattle.pgn_extract.specs.Verdicts.{Verdict}
 use Rattle.pgn_extract.specs.Aims.{Aim}
-use Rattle.pgn_extract.proofs.Telling.{output_text-append, fault_lines-append, told-append}
+use Rattle.pgn_extract.proofs.VerdictFacts.{output_text-append, fault_lines-append, verdicts-append}
 use Rattle.pgn_extract.proofs.Writing.{appends_join, appends_kept}
 
 -- some bytes, and a beginning of others
@@ -20,35 +20,35 @@ front_join old mid new xs ys whole front =
 front_all : (old new : Option (List ℕ)) (xs : List ℕ) → Appends old new xs → AppendsFront old new xs
 front_all old new xs whole = (length xs, subst (Appends old new) (sym (take_all (length xs) xs (omega arith))) whole)
 
-module _ {aim : Aim} {out out' err err' : Option (List ℕ)} {number : ℕ} {pieces : List MarkedPiece} {tolds : List Told}
-    (told : Tells aim out out' err err' number pieces tolds) where
-  -- what is told stays
-  pub tells_kept : {out'' err'' : Option (List ℕ)} → Keeps out' out'' → Keeps err' err'' → Tells aim out out'' err err'' number pieces tolds
+module _ {aim : Aim} {out out' err err' : Option (List ℕ)} {number : ℕ} {pieces : List MarkedPiece} {verdicts : List Verdict}
+    (verdict : Writes aim out out' err err' number pieces verdicts) where
+  -- what is reported stays
+  pub tells_kept : {out'' err'' : Option (List ℕ)} → Keeps out' out'' → Keeps err' err'' → Writes aim out out'' err err'' number pieces verdicts
   tells_kept {out''} {err''} out_kept err_kept = record {
-    each = told.each;
-    output = appends_kept out out' out'' _ told.output out_kept;
-    faults = appends_kept err err' err'' _ told.faults err_kept;
+    each = verdict.each;
+    output = appends_kept out out' out'' _ verdict.output out_kept;
+    faults = appends_kept err err' err'' _ verdict.faults err_kept;
   }
 
-  -- more pieces are told
-  pub tells_more : {out'' err'' : Option (List ℕ)} (own : List MarkedPiece) (others : List Told)
-      → Tells aim out' out'' err' err'' (number + length pieces) own others → Tells aim out out'' err err'' number (pieces ++ own) (tolds ++ others)
-  tells_more {out''} {err''} own others more = record {
-    each = told-append aim number pieces own tolds others told.each more.each;
-    output = subst (Appends out out'') (sym (output_text-append tolds others)) (appends_join out out' out'' _ _ told.output more.output);
-    faults = subst (Appends err err'') (sym (fault_lines-append tolds others)) (appends_join err err' err'' _ _ told.faults more.faults);
+  -- more pieces are reported
+  pub writes_more : {out'' err'' : Option (List ℕ)} (own : List MarkedPiece) (others : List Verdict)
+      → Writes aim out' out'' err' err'' (number + length pieces) own others → Writes aim out out'' err err'' number (pieces ++ own) (verdicts ++ others)
+  writes_more {out''} {err''} own others more = record {
+    each = verdicts-append aim number pieces own verdicts others verdict.each more.each;
+    output = subst (Appends out out'') (sym (output_text-append verdicts others)) (appends_join out out' out'' _ _ verdict.output more.output);
+    faults = subst (Appends err err'') (sym (fault_lines-append verdicts others)) (appends_join err err' err'' _ _ verdict.faults more.faults);
   }
 
-  -- what is told is a beginning
-  pub begins_told : (others : List MarkedPiece) → Begins aim out out' err err' number (pieces ++ others)
-  begins_told others = record {
+  -- what is reported is a beginning
+  pub begins_written : (others : List MarkedPiece) → Begins aim out out' err err' number (pieces ++ others)
+  begins_written others = record {
     before = pieces;
     behind = others;
     parted = refl;
-    tolds = tolds;
-    each = told.each;
-    output = front_all out out' _ told.output;
-    faults = front_all err err' _ told.faults;
+    verdicts = verdicts;
+    each = verdict.each;
+    output = front_all out out' _ verdict.output;
+    faults = front_all err err' _ verdict.faults;
   }
 
   -- and with a beginning of more it is one still
@@ -60,8 +60,8 @@ module _ {aim : Aim} {out out' err err' : Option (List ℕ)} {number : ℕ} {pie
     parted =
         ap (λ t. (pieces ++ t) ++ others) more.parted ∙ append_assoc pieces (more.before ++ more.behind) others
         ∙ ap (λ t. pieces ++ t) (append_assoc more.before more.behind others) ∙ sym (append_assoc pieces more.before (more.behind ++ others));
-    tolds = tolds ++ more.tolds;
-    each = told-append aim number pieces more.before tolds more.tolds told.each more.each;
-    output = subst (AppendsFront out out'') (sym (output_text-append tolds more.tolds)) (front_join out out' out'' _ _ told.output more.output);
-    faults = subst (AppendsFront err err'') (sym (fault_lines-append tolds more.tolds)) (front_join err err' err'' _ _ told.faults more.faults);
+    verdicts = verdicts ++ more.verdicts;
+    each = verdicts-append aim number pieces more.before verdicts more.verdicts verdict.each more.each;
+    output = subst (AppendsFront out out'') (sym (output_text-append verdicts more.verdicts)) (front_join out out' out'' _ _ verdict.output more.output);
+    faults = subst (AppendsFront err err'') (sym (fault_lines-append verdicts more.verdicts)) (front_join err err' err'' _ _ verdict.faults more.faults);
   }

@@ -4,7 +4,7 @@ use Rattle.pgn_text.specs.Games.{items_of, first_tag}
 use Rattle.pgn_text.specs.Parts.{Part}
 use Rattle.pgn_game.specs.Replays.{Replay}
 use Rattle.pgn_game.specs.Starts.{fen_tag}
-use Rattle.pgn_game.specs.declared.replayer.Lines.TheVariants.{Main}
+use Rattle.pgn_game.specs.declared.replayer.Lines.{Lines}
 use Rattle.pgn_criteria.specs.declared.condition.Condition.{Condition}
 use Rattle.pgn_criteria.proofs.MeetSettled.{each_position_meets}
 use Rattle.pgn_extract.specs.Aims.{Aim, IsMet}
@@ -16,13 +16,13 @@ IsDecidedAt criteria parts replay ply = IsMet criteria (tags_in parts) replay pl
 
 abbrev pub IsDecided : Aim → Type 0
 IsDecided aim =
-    (parts : List Part) (replay : Replay) → IsReplayOf parts replay → (ply : ℕ) → ply < length replay.positions
+    (lines : Lines) (parts : List Part) (replay : Replay) → IsReplayOf lines parts replay → (ply : ℕ) → ply < length replay.positions
     → IsDecidedAt aim.criteria parts replay ply
 
-decided_at : (criteria : Option (List (List (Condition (List ℕ))))) (parts : List Part) (replay : Replay) → IsReplayOf parts replay → (ply : ℕ)
+decided_at : (criteria : Option (List (List (Condition (List ℕ))))) (lines : Lines) (parts : List Part) (replay : Replay) → IsReplayOf lines parts replay → (ply : ℕ)
     → IsDecidedAt criteria parts replay ply
-decided_at None parts replay is ply = inl tt
-decided_at (Some criteria) parts replay is ply = each_position_meets Main (first_tag fen_tag parts) (items_of parts) replay is (tags_in parts) criteria ply
+decided_at None lines parts replay is ply = inl tt
+decided_at (Some criteria) lines parts replay is ply = each_position_meets lines (first_tag fen_tag parts) (items_of parts) replay is (tags_in parts) criteria ply
 
 pub all_decided : (aim : Aim) → IsDecided aim
-all_decided aim parts replay is ply less = decided_at aim.criteria parts replay is ply
+all_decided aim lines parts replay is ply less = decided_at aim.criteria lines parts replay is ply

@@ -59,7 +59,7 @@ has_ply number offset ply (position ∷ more) at low high =
 
 -- the entries of a piece are those of one game
 own_ply : (aim : Aim) (kind : PieceKind) (number offset : ℕ) (own : List Entry) → ArePieceEntries aim kind number offset own → (entry : Entry) → Contains own entry
-    → (parts : List Part) × (replay : Replay) × (kind ≡ ReadableGame parts) × IsReplayOf parts replay × IsOfGame number offset 0 (length replay.positions) entry
+    → (parts : List Part) × (replay : Replay) × (kind ≡ ReadableGame parts) × IsReplayOf Main parts replay × IsOfGame number offset 0 (length replay.positions) entry
     × IsEntry aim (tags_in parts) replay entry.ply
 own_ply aim (ReadableGame parts) number offset own (sound replay is these) entry has =
     let of = chosen_from (λ e. IsEntry aim (tags_in parts) replay e.ply) (entries_from number offset 0 replay.positions) own these entry has in
@@ -70,7 +70,7 @@ own_ply aim TooLongBlock number offset own none entry has = absurd (none_within 
 
 -- and all of them, where it is sound
 own_has : (one_replay : GameHasOneReplay) (no_fault : SoundGameHasNoFault) (aim : Aim) (number offset : ℕ) (parts : List Part) (own : List Entry) → AreGameEntries aim number offset parts own
-    → (replay : Replay) → IsReplayOf parts replay → (ply : ℕ) → ply < length replay.positions → IsEntry aim (tags_in parts) replay ply → Contains own (entry_at number offset ply)
+    → (replay : Replay) → IsReplayOf Main parts replay → (ply : ℕ) → ply < length replay.positions → IsEntry aim (tags_in parts) replay ply → Contains own (entry_at number offset ply)
 own_has one_replay no_fault aim number offset parts own (sound first is these) replay also ply less listed =
     let same : first ≡ replay = one_replay Main (first_tag fen_tag parts) (items_of parts) first replay is also in
     let here : ply < length first.positions = subst (λ (r : Replay). ply < length r.positions) (sym same) less in

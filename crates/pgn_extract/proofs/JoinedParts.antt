@@ -5,9 +5,9 @@ use Rattle.pgn_text.proofs.FrontText.{front_of_text}
 use Rattle.pgn_text.proofs.MarkedPieces.{one_marked_pieces}
 use Rattle.pgn_text.proofs.ResumedText.{resumes}
 use Rattle.pgn_extract.specs.Laws.{PartsJoin}
-use Rattle.pgn_extract.specs.Telling.{AreTold, output_text, fault_lines, is_faulty}
+use Rattle.pgn_extract.specs.Verdicts.{AreVerdicts, output_text, fault_lines, is_faulty}
 use Rattle.pgn_extract.proofs.OneReport.{same_report}
-use Rattle.pgn_extract.proofs.Telling.{output_text-append, fault_lines-append, told-append, count_by-join}
+use Rattle.pgn_extract.proofs.VerdictFacts.{output_text-append, fault_lines-append, verdicts-append, count_by-join}
 
 pub parts_join : PartsJoin
 parts_join aim limit max_depth number offset text before piece behind all whole first second front rest one two =
@@ -18,12 +18,12 @@ parts_join aim limit max_depth number offset text before piece behind all whole 
     let same_behind : second ≡ piece ∷ behind =
     one_marked_pieces limit max_depth piece.offset (drop size text) second (piece ∷ behind) two.each
     (resumes limit max_depth offset text before piece behind whole.each) in
-    let told_behind = subst (λ p. AreTold aim (number + length first) p rest) same_behind two.told in
+    let verdicts_behind = subst (λ p. AreVerdicts aim (number + length first) p rest) same_behind two.written in
     let both =
-    told-append aim number before (piece ∷ behind) front rest (subst (λ p. AreTold aim number p front) same_before one.told)
-    (subst (λ p. AreTold aim (number + length p) (piece ∷ behind) rest) same_before told_behind) in
+    verdicts-append aim number before (piece ∷ behind) front rest (subst (λ p. AreVerdicts aim number p front) same_before one.written)
+    (subst (λ p. AreVerdicts aim (number + length p) (piece ∷ behind) rest) same_before verdicts_behind) in
     let joined : all ≡ front ++ rest =
-    same_report aim number (before ++ piece ∷ behind) all (front ++ rest) whole.told both in record {
+    same_report aim number (before ++ piece ∷ behind) all (front ++ rest) whole.written both in record {
       same_before = same_before;
       same_behind = same_behind;
       reported = joined;

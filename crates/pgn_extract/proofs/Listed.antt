@@ -10,13 +10,13 @@ use Rattle.pgn_text.specs.declared.pieces.Piece.{Piece}
 use Rattle.pgn_extract.specs.Blockwise.{Reports, ReportsBlock, AddsPiece}
 use Rattle.pgn_extract.specs.declared.report.Report.{Report}
 use Rattle.pgn_extract.specs.Aims.{Aim}
-use Rattle.pgn_extract.proofs.Telling.{reports_more}
+use Rattle.pgn_extract.proofs.VerdictFacts.{reports_more}
 
--- some pieces are given and told, and those that are left complete them
+-- some pieces are given and reported, and those that are left complete them
 pub record Listed (aim : Aim) (start now : Left) (report : Report) (number offset : ℕ) : Type 0 where
   pub done : List spec.Piece
   pub completes : (more : List spec.Piece) → ArePiecesLeft depth_limit now more → ArePiecesLeft depth_limit start (done ++ more)
-  pub told : Reports aim report number (map (marked offset) done)
+  pub written : Reports aim report number (map (marked offset) done)
   pub few : length done ≤ now.at
   pub within : now.at ≤ length now.block
   pub same : now.block ≡ start.block
@@ -30,8 +30,8 @@ module _ {aim : Aim} {start now : Left} {report : Report} {number offset : ℕ} 
     done = l.done ++ takes.shown ∷ [];
     completes = λ more left.
         subst (ArePiecesLeft depth_limit start) (sym (append_assoc l.done (takes.shown ∷ []) more)) (l.completes (takes.shown ∷ more) (takes.completes more left));
-    told =
-        let more = reports_more aim report report' number here (map (marked offset) l.done) (marked offset takes.shown) l.told (is ∙ ap (λ n. number + n) l.told.games) (adds takes.shown takes.is) in
+    verdict =
+        let more = reports_more aim report report' number here (map (marked offset) l.done) (marked offset takes.shown) l.written (is ∙ ap (λ n. number + n) l.written.games) (adds takes.shown takes.is) in
         subst (Reports aim report' number) (sym (map_push (marked offset) l.done takes.shown)) more;
     few = let f = l.few in let g = takes.grows in omega (arith, length-append l.done (takes.shown ∷ []));
     within = takes.within;
@@ -45,7 +45,7 @@ module _ {aim : Aim} {start now : Left} {report : Report} {number offset : ℕ} 
   listed_all block is fits end = record {
     own = map (marked offset) l.done;
     each = in_limit fits l.done (subst (λ (s : Left). ArePiecesLeft depth_limit s l.done) is whole) refl;
-    told = l.told;
+    written = l.written;
     few = let f = l.few in let w = l.within in omega (arith, length-map l.done (marked offset), ap length l.same, ap (λ (s : Left). length s.block) is);
   }
     where

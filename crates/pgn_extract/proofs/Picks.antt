@@ -10,7 +10,7 @@ use Rattle.pgn_criteria.specs.declared.condition.Condition.{Condition}
 use Rattle.pgn_extract.specs.Aims.{Aim, IsMet, IsWanted, IsEntry}
 use Rattle.pgn_extract.specs.Listing.{Entry, entry_line, listing, entries_from, AreListed, AreChosen}
 use Rattle.pgn_extract.specs.Listing.AreChosen.{none, keep, leave}
-use Rattle.pgn_extract.proofs.EntriesTold.{listing-append}
+use Rattle.pgn_extract.proofs.ModeOutputs.{listing-append}
 
 -- the entry of a game at a ply
 abbrev pub entry_at : ℕ → ℕ → ℕ → Entry

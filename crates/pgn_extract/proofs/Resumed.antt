@@ -1,4 +1,4 @@
--- A run that told the pieces of the rest told what is told of the whole from the mark on.
+-- A run that reported the pieces of the rest reported what is reported of the whole from the mark on.
 use Rattle.std.proofs.Common.{◌≡◌, ℕ, ◌+◌, ◌≤◌, true, false, List, [], ◌∷◌, ◌++◌, length, drop, refl, sym, ap, ◌∙◌, subst, arith, Option}
 use Rattle.std.specs.Prelude.{nat_le, if◌then◌else◌, Some, None, Ok, Err, Result, IfOk, IfSome, OnOk}
 use Rattle.std.proofs.lemmas.Bool.Decides.{nat_tests}
@@ -6,56 +6,55 @@ use Rattle.pgn_text.specs.Marks.{MarkedPiece, AreMarkedPieces}
 use Rattle.pgn_text.proofs.ResumedText.{resumed_pieces}
 use Rattle.pgn_game.specs.Laws.{GameHasOneReplay, GameHasOneFault, SoundGameHasNoFault}
 use Rattle.pgn_extract.specs.Outcomes.{Ends}
-use Rattle.pgn_extract.specs.Resuming.{told_at_least, Resumes}
-use Rattle.pgn_extract.specs.Telling.{Told, AreTold}
+use Rattle.pgn_extract.specs.Resuming.{verdicts_at_least, Resumes}
+use Rattle.pgn_extract.specs.Verdicts.{Verdict, AreVerdicts}
 use Rattle.pgn_extract.specs.declared.outcome.Summary.{Summary}
 use Rattle.pgn_extract.specs.Aims.{Aim}
-use Rattle.pgn_extract.proofs.OneTold.{all_one_told}
+use Rattle.pgn_extract.proofs.OneReport.{same_report}
 
 -- pieces that are all numbered high enough
-at_least_all : (least number : ℕ) (tolds : List Told) → least ≤ number → told_at_least least number tolds ≡ tolds
+at_least_all : (least number : ℕ) (verdicts : List Verdict) → least ≤ number → verdicts_at_least least number verdicts ≡ verdicts
 at_least_all least number [] low = refl
-at_least_all least number (told ∷ more) low =
+at_least_all least number (verdict ∷ more) low =
     let here : nat_le least number ≡ true = grind (arith, nat_tests) in
-    ap (λ b. if b then told ∷ told_at_least least (number + 1) more else told_at_least least (number + 1) more) here
-    ∙ ap (λ rest. told ∷ rest) (at_least_all least (number + 1) more (omega arith))
+    ap (λ b. if b then verdict ∷ verdicts_at_least least (number + 1) more else verdicts_at_least least (number + 1) more) here
+    ∙ ap (λ rest. verdict ∷ rest) (at_least_all least (number + 1) more (omega arith))
 
 -- of the pieces before the mark nothing is kept, of those from it on all
-at_least_from : (aim : Aim) (number : ℕ) (before behind : List MarkedPiece) (tolds : List Told) → AreTold aim number (before ++ behind) tolds
-    → (later : List Told) × AreTold aim (length before + number) behind later × (told_at_least (length before + number) number tolds ≡ later)
-at_least_from aim number [] behind tolds all =
+at_least_from : (aim : Aim) (number : ℕ) (before behind : List MarkedPiece) (verdicts : List Verdict) → AreVerdicts aim number (before ++ behind) verdicts
+    → (later : List Verdict) × AreVerdicts aim (length before + number) behind later × (verdicts_at_least (length before + number) number verdicts ≡ later)
+at_least_from aim number [] behind verdicts all =
     let none : number ≡ 0 + number = omega arith in
-    (tolds, subst (λ n. AreTold aim n behind tolds) none all, at_least_all (0 + number) number tolds (omega arith))
-at_least_from aim number (piece ∷ before) behind tolds (told, rest, parted, is, others) =
+    (verdicts, subst (λ n. AreVerdicts aim n behind verdicts) none all, at_least_all (0 + number) number verdicts (omega arith))
+at_least_from aim number (piece ∷ before) behind verdicts (verdict, rest, parted, is, others) =
     let least = length (piece ∷ before) + number in
     let above : nat_le least number ≡ false = grind (arith, nat_tests) in
     let next : length before + (number + 1) ≡ least = omega arith in
     let from = at_least_from aim (number + 1) before behind rest others in (
       from.0,
-      subst (λ n. AreTold aim n behind from.0) next from.1,
-      ap (told_at_least least number) parted
-          ∙ ap (λ b. if b then told ∷ told_at_least least (number + 1) rest else told_at_least least (number + 1) rest) above
-          ∙ ap (λ n. told_at_least n (number + 1) rest) (sym next) ∙ from.2,
+      subst (λ n. AreVerdicts aim n behind from.0) next from.1,
+      ap (verdicts_at_least least number) parted
+          ∙ ap (λ b. if b then verdict ∷ verdicts_at_least least (number + 1) rest else verdicts_at_least least (number + 1) rest) above
+          ∙ ap (λ n. verdicts_at_least n (number + 1) rest) (sym next) ∙ from.2,
     )
 
-module _ (one_replay : GameHasOneReplay) (one_fault : GameHasOneFault) (no_fault : SoundGameHasNoFault) where
-  -- what a run told of the rest is what the whole has from the mark on
-  pub resumes_of : (aim : Aim) (limit max_depth number offset : ℕ) (whole : List ℕ) (out out' err err' : Option (List ℕ)) (summary : Summary)
-      → Ends aim limit max_depth number offset whole out out' err err' summary → Resumes aim limit max_depth number offset whole out out' err err'
-  resumes_of aim limit max_depth number offset whole out out' err err' summary ends pieces all mark =
-      let rest = mark.piece ∷ mark.behind in
-      let same : ends.pieces ≡ rest = resumed_pieces limit max_depth whole mark.before mark.piece mark.behind ends.pieces
-      (subst (AreMarkedPieces limit max_depth 0 whole) mark.parted all)
-      (subst (λ o. AreMarkedPieces limit max_depth o (drop o whole) ends.pieces) mark.placed ends.each) in
-      let own : AreTold aim number rest ends.tolds = subst (λ p. AreTold aim number p ends.tolds) same ends.told.each in record {
-        tolds = ends.tolds;
-        told = record { each = own; output = ends.told.output; faults = ends.told.faults };
-        same = λ tolds told.
-            let from = at_least_from aim 1 mark.before rest tolds (subst (λ p. AreTold aim 1 p tolds) mark.parted told) in
-            all_one_told one_replay one_fault no_fault aim (length mark.before + 1) rest ends.tolds from.0
-            (subst (λ n. AreTold aim n rest ends.tolds) mark.numbered own) from.1
-            ∙ sym from.2 ∙ ap (λ n. told_at_least n 1 tolds) (sym mark.numbered);
-      }
+-- what a run reported of the rest is what the whole has from the mark on
+pub resumes_of : (aim : Aim) (limit max_depth number offset : ℕ) (whole : List ℕ) (out out' err err' : Option (List ℕ)) (summary : Summary)
+    → Ends aim limit max_depth number offset whole out out' err err' summary → Resumes aim limit max_depth number offset whole out out' err err'
+resumes_of aim limit max_depth number offset whole out out' err err' summary ends pieces all mark =
+    let rest = mark.piece ∷ mark.behind in
+    let same : ends.pieces ≡ rest = resumed_pieces limit max_depth whole mark.before mark.piece mark.behind ends.pieces
+    (subst (AreMarkedPieces limit max_depth 0 whole) mark.parted all)
+    (subst (λ o. AreMarkedPieces limit max_depth o (drop o whole) ends.pieces) mark.placed ends.each) in
+    let own : AreVerdicts aim number rest ends.verdicts = subst (λ p. AreVerdicts aim number p ends.verdicts) same ends.written.each in record {
+      verdicts = ends.verdicts;
+      written = record { each = own; output = ends.written.output; faults = ends.written.faults };
+      same = λ verdicts verdict.
+          let from = at_least_from aim 1 mark.before rest verdicts (subst (λ p. AreVerdicts aim 1 p verdicts) mark.parted verdict) in
+          same_report aim (length mark.before + 1) rest ends.verdicts from.0
+          (subst (λ n. AreVerdicts aim n rest ends.verdicts) mark.numbered own) from.1
+          ∙ sym from.2 ∙ ap (λ n. verdicts_at_least n 1 verdicts) (sym mark.numbered);
+    }
 
 -- a fact of an answer and of known bytes gives one of the bytes alone
 pub on_ok_some : {A E : Type 0} (r : Result A E) (o : Option (List ℕ)) (P : A → List ℕ → Type 0) (Q : List ℕ → Type 0)

@@ -12,17 +12,17 @@ use Rattle.pgn_text.specs.declared.blocks.ReadError.{ReadError}
 use Rattle.pgn_text.specs.declared.blocks.ReadError.TheVariants as cause
 use Rattle.pgn_text.proofs.Joined.{reads_join, reads_none}
 use Rattle.pgn_text.proofs.OneBlocks.{empty_first}
-use Rattle.pgn_extract.specs.Blockwise.{TellsBlock, Begins, BeginsBlock, EndsBlocks, BeginsFirst, BreaksOff, StandsOver, run_error_of}
-use Rattle.pgn_extract.specs.Outcomes.{Tells}
+use Rattle.pgn_extract.specs.Blockwise.{WritesBlock, Begins, BeginsBlock, EndsBlocks, BeginsFirst, BreaksOff, StandsOver, run_error_of}
+use Rattle.pgn_extract.specs.Outcomes.{Writes}
 use Rattle.pgn_extract.specs.declared.outcome.RunError.{RunError}
 use Rattle.pgn_extract.specs.declared.outcome.RunError.TheVariants.{Write, OutOfMemory}
-use Rattle.pgn_extract.specs.Telling.{Told, is_faulty}
+use Rattle.pgn_extract.specs.Verdicts.{Verdict, is_faulty}
 use Rattle.pgn_extract.specs.declared.outcome.Summary.{Summary}
 use Rattle.pgn_extract.specs.Aims.{Aim}
-use Rattle.pgn_extract.proofs.Beginnings.{tells_kept, tells_more, begins_told, begins_more}
+use Rattle.pgn_extract.proofs.Beginnings.{tells_kept, writes_more, begins_written, begins_more}
 use Rattle.pgn_extract.proofs.BlocksGiven.{Given, none_given, one_given, all_given, all_but_last, goes_on}
 use Rattle.pgn_extract.proofs.Dropping.{all_read}
-use Rattle.pgn_extract.proofs.Telling.{count_by-join}
+use Rattle.pgn_extract.proofs.VerdictFacts.{count_by-join}
 use Rattle.pgn_extract.proofs.Writing.{appends_none}
 
 -- how many turns an ended reader has left at most, and one that goes on
@@ -30,23 +30,23 @@ abbrev pub turns : Bool → ℕ
 turns true = 0
 turns false = 1
 
--- some blocks are read, and their pieces told and counted
+-- some blocks are read, and their pieces reported and counted
 pub record Progress (aim : Aim) (limit max_depth number offset : ℕ) (now : Window) (first left : Option (List ℕ)) (moved count : ℕ) (out out' err err' : Option (List ℕ)) (games faulty : ℕ) : Type 0 where
   pub bytes : List ℕ
   pub pieces : List MarkedPiece
   pub given : Given limit max_depth offset now bytes pieces
   pub reads : Reads first left moved count (bytes ++ now.ahead)
-  pub tolds : List Told
-  pub told : Tells aim out out' err err' number pieces tolds
-  pub same : length tolds ≡ length pieces
+  pub verdicts : List Verdict
+  pub written : Writes aim out out' err err' number pieces verdicts
+  pub same : length verdicts ≡ length pieces
   pub counted : games ≡ length pieces
-  pub faults : faulty ≡ count_by is_faulty tolds
+  pub faults : faulty ≡ count_by is_faulty verdicts
   pub few : length pieces ≤ length bytes
   pub within : now.place + length now.ahead ≤ 2 ^ 62
   pub last : now.ended ≡ true → (now.ahead ≡ []) × IfSome first (λ whole. whole ≡ bytes)
   pub sound : (now.failed ≡ false) × (now.over ≡ false)
 
--- at the start nothing is read and nothing told
+-- at the start nothing is read and nothing reported
 pub progress_start : {aim : Aim} {limit max_depth number offset : ℕ} {now : Window} (left : Option (List ℕ)) (moved : ℕ) (out err : Option (List ℕ)) → now ≡ fresh_window offset → offset ≤ 2 ^ 62
     → Progress aim limit max_depth number offset now left left moved moved out out err err 0 0
 progress_start {aim} {limit} {max_depth} {number} {offset} {now} left moved out err is small =
@@ -55,8 +55,8 @@ progress_start {aim} {limit} {max_depth} {number} {offset} {now} left moved out 
       pieces = [];
       given = none_given refl refl;
       reads = reads_none left moved;
-      tolds = [];
-      told = record { each = refl; output = appends_none out; faults = appends_none err };
+      verdicts = [];
+      written = record { each = refl; output = appends_none out; faults = appends_none err };
       same = refl;
       counted = refl;
       faults = refl;
@@ -101,25 +101,25 @@ module _ {aim : Aim} {limit max_depth number offset : ℕ} {now : Window} {first
       (append_assoc p.bytes now.ahead read ∙ ap (λ t. p.bytes ++ t) cut.parted ∙ sym (append_assoc p.bytes block next.ahead))
       (reads_join first left left' moved count count' (p.bytes ++ now.ahead) read p.reads more)
 
-  -- one more block is told
-  pub progress_more : {next : Window} {left' : Option (List ℕ)} {count' from : ℕ} {read block : List ℕ} {out'' err'' : Option (List ℕ)} {told : Summary}
+  -- one more block is reported
+  pub progress_more : {next : Window} {left' : Option (List ℕ)} {count' from : ℕ} {read block : List ℕ} {out'' err'' : Option (List ℕ)} {verdict : Summary}
       → IsCutOff now next left' read block → Reads left left' count count' read → from + length block ≡ next.place
-      → TellsBlock aim limit max_depth (number + games) from block out' out'' err' err'' told
-      → Progress aim limit max_depth number offset next first left' moved count' out out'' err err'' (games + told.games) (faulty + told.faulty)
-  progress_more {next} {left'} {count'} {from} {read} {block} {out''} {err''} {told} cut more place tells =
-      let own = subst (λ n. Tells aim out' out'' err' err'' (number + n) tells.own tells.tolds) p.counted tells.told in
+      → WritesBlock aim limit max_depth (number + games) from block out' out'' err' err'' verdict
+      → Progress aim limit max_depth number offset next first left' moved count' out out'' err err'' (games + verdict.games) (faulty + verdict.faulty)
+  progress_more {next} {left'} {count'} {from} {read} {block} {out''} {err''} {verdict} cut more place writes =
+      let own = subst (λ n. Writes aim out' out'' err' err'' (number + n) writes.own writes.verdicts) p.counted writes.written in
       let reads = total cut more in
       record {
         bytes = p.bytes ++ block;
-        pieces = p.pieces ++ tells.own;
-        given = one_given p.given cut place tells.each;
+        pieces = p.pieces ++ writes.own;
+        given = one_given p.given cut place writes.each;
         reads = reads;
-        tolds = p.tolds ++ tells.tolds;
-        told = tells_more p.told tells.own tells.tolds own;
-        same = let h = p.same in let k = tells.same in omega (arith, length-append p.pieces tells.own, length-append p.tolds tells.tolds);
-        counted = let g = p.counted in let h = tells.games in omega (arith, length-append p.pieces tells.own);
-        faults = let g = p.faults in let h = tells.faulty in omega (arith, count_by-join p.tolds tells.tolds);
-        few = let g = p.few in let h = tells.few in omega (arith, length-append p.pieces tells.own, length-append p.bytes block);
+        verdicts = p.verdicts ++ writes.verdicts;
+        written = writes_more p.written writes.own writes.verdicts own;
+        same = let h = p.same in let k = writes.same in omega (arith, length-append p.pieces writes.own, length-append p.verdicts writes.verdicts);
+        counted = let g = p.counted in let h = writes.games in omega (arith, length-append p.pieces writes.own);
+        faults = let g = p.faults in let h = writes.faulty in omega (arith, count_by-join p.verdicts writes.verdicts);
+        few = let g = p.few in let h = writes.few in omega (arith, length-append p.pieces writes.own, length-append p.bytes block);
         within = cut.within;
         last = λ ended.
             let none = (cut.last ended).0 in
@@ -128,13 +128,13 @@ module _ {aim : Aim} {limit max_depth number offset : ℕ} {now : Window} {first
         sound = cut.sound;
       }
 
-  -- one more block is told in part
+  -- one more block is reported in part
   pub block_breaks : {next : Window} {left' : Option (List ℕ)} {count' from : ℕ} {read block : List ℕ} {out'' err'' : Option (List ℕ)} (error : RunError)
       → IsCutOff now next left' read block → Reads left left' count count' read → from + length block ≡ next.place
       → BeginsBlock aim limit max_depth (number + games) from block out' out'' err' err'' → (error ≡ Write) ⊎ (error ≡ OutOfMemory)
       → BreaksOff aim limit max_depth number offset first left' moved count' out out'' err err'' error
   block_breaks {next} {left'} {count'} {from} {read} {block} {out''} {err''} error cut more place begins kind =
-      let own = subst (λ n. Begins aim out' out'' err' err'' (number + n) begins.own) p.counted begins.told in
+      let own = subst (λ n. Begins aim out' out'' err' err'' (number + n) begins.own) p.counted begins.written in
       let reads = total cut more in
       let given = one_given p.given cut place begins.each in
       record {
@@ -149,7 +149,7 @@ module _ {aim : Aim} {limit max_depth number offset : ℕ} {now : Window} {first
             record {
               pieces = (p.pieces ++ begins.own) ++ others.0;
               each = subst (λ t. AreMarkedPieces limit max_depth offset t ((p.pieces ++ begins.own) ++ others.0)) (sym (append_assoc (p.bytes ++ block) next.ahead rest)) others.1;
-              told = begins_more p.told begins.own others.0 own;
+              written = begins_more p.written begins.own others.0 own;
             }) in
             elim kind [
               | inl is ↦ subst (StandsOver aim limit max_depth number offset first ((p.bytes ++ block) ++ next.ahead) out out'' err err'') (sym is) begun
@@ -157,11 +157,11 @@ module _ {aim : Aim} {limit max_depth number offset : ℕ} {now : Window} {first
             ];
       }
 
-  -- all blocks are told
-  pub all_told : {left' : Option (List ℕ)} {count' : ℕ} {out'' err'' : Option (List ℕ)} {summary : Summary} → now.ended ≡ true → Reads left left' count count' []
+  -- all blocks are reported
+  pub all_written : {left' : Option (List ℕ)} {count' : ℕ} {out'' err'' : Option (List ℕ)} {summary : Summary} → now.ended ≡ true → Reads left left' count count' []
       → Keeps out' out'' → Keeps err' err'' → summary.games ≡ games → summary.faulty ≡ faulty
       → EndsBlocks aim limit max_depth number offset first left' moved count' out out'' err err'' summary
-  all_told {left'} {count'} {out''} {err''} {summary} ended more out_kept err_kept counted faults =
+  all_written {left'} {count'} {out''} {err''} {summary} ended more out_kept err_kept counted faults =
       let none = (p.last ended).0 in
       let here : (p.bytes ++ now.ahead) ++ [] ≡ p.bytes = append-nil (p.bytes ++ now.ahead) ∙ ap (λ t. p.bytes ++ t) none ∙ append-nil p.bytes in
       record {
@@ -171,13 +171,13 @@ module _ {aim : Aim} {limit max_depth number offset : ℕ} {now : Window} {first
         size = let w = p.within in let q = p.given.place in omega arith;
         pieces = p.pieces;
         each = all_given p.given ended none;
-        tolds = p.tolds;
-        told = tells_kept p.told out_kept err_kept;
+        verdicts = p.verdicts;
+        written = tells_kept p.written out_kept err_kept;
         games = counted ∙ p.counted;
         faulty = faults ∙ p.faults;
       }
 
-  -- all blocks are told, and a flush failed
+  -- all blocks are reported, and a flush failed
   pub flush_breaks : {left' : Option (List ℕ)} {count' : ℕ} {out'' err'' : Option (List ℕ)} (error : RunError) → now.ended ≡ true → Reads left left' count count' []
       → Keeps out' out'' → Keeps err' err'' → error ≡ Write → BreaksOff aim limit max_depth number offset first left' moved count' out out'' err err'' error
   flush_breaks {left'} {count'} {out''} {err''} error ended more out_kept err_kept is =
@@ -194,7 +194,7 @@ module _ {aim : Aim} {limit max_depth number offset : ℕ} {now : Window} {first
       all = record {
         pieces = p.pieces ++ [];
         each = subst (AreMarkedPieces limit max_depth offset p.bytes) (sym (append-nil p.pieces)) (all_given p.given ended (p.last ended).0);
-        told = begins_told (tells_kept p.told out_kept err_kept) [];
+        written = begins_written (tells_kept p.written out_kept err_kept) [];
       }
 
       begun : (f : Option (List ℕ)) → IfSome f (λ whole. whole ≡ p.bytes) → IfSome f (λ whole. BeginsFirst aim limit max_depth number offset whole out out'' err err'')
@@ -222,7 +222,7 @@ module _ {aim : Aim} {limit max_depth number offset : ℕ} {now : Window} {first
         read = p.bytes ++ (now.ahead ++ read);
         reads = all;
         size = fits (2 ^ 62 + 1) (let w = f.within in omega arith);
-        stands = record { pieces = p.pieces; each = all_but_last p.given read (going cause.Read l o) f.uncut; tolds = p.tolds; told = p.told };
+        stands = record { pieces = p.pieces; each = all_but_last p.given read (going cause.Read l o) f.uncut; verdicts = p.verdicts; written = p.written };
       }
       by_kind cause.OutOfMemory l o f = record {
         read = p.bytes ++ (now.ahead ++ read);
@@ -236,7 +236,7 @@ module _ {aim : Aim} {limit max_depth number offset : ℕ} {now : Window} {first
             record {
               pieces = p.pieces ++ others.0;
               each = subst (λ t. AreMarkedPieces limit max_depth offset t (p.pieces ++ others.0)) shape others.1;
-              told = begins_told p.told others.0;
+              written = begins_written p.written others.0;
             });
       }
       by_kind cause.InputTooLong l o f = record {
@@ -250,7 +250,7 @@ module _ {aim : Aim} {limit max_depth number offset : ℕ} {now : Window} {first
               ap (λ t. p.bytes ++ (now.ahead ++ t)) f.parted ∙ ap (λ t. p.bytes ++ t) (sym (append_assoc now.ahead f.kept (f.byte ∷ [])))
               ∙ sym (append_assoc p.bytes (now.ahead ++ f.kept) (f.byte ∷ []));
           full = let w = f.full in let q = p.given.place in omega (arith, length-append p.bytes (now.ahead ++ f.kept));
-          told = record { pieces = p.pieces; each = all_but_last p.given f.kept (going cause.InputTooLong l o) f.uncut; tolds = p.tolds; told = p.told };
+          written = record { pieces = p.pieces; each = all_but_last p.given f.kept (going cause.InputTooLong l o) f.uncut; verdicts = p.verdicts; written = p.written };
         };
       }
       by_kind cause.Failed l o f = absurd (o refl)

@@ -1,18 +1,23 @@
--- The pieces of a text are reported in some way: each of its games has a replay or a fault, since its FEN tag has the contents of a string.
-use Rattle.std.proofs.Common.{◌≡◌, ◌⊎◌, ℕ, zero, suc, arith, ◌+◌, ◌<◌, ◌==◌, Bool, List, [], ◌∷◌, ◌++◌, map, length, Option, Some, None, IfSome, refl, sym, subst, inl, inr, codes}
+-- The pieces of a text are reported in some way: each of its games has a replay or a fault, since its FEN tag has the contents of a string,
+-- and each sound one has an export.
+use Rattle.std.proofs.Common.{◌≡◌, ◌⊎◌, ℕ, zero, suc, arith, ◌+◌, ◌<◌, ◌≤◌, ◌==◌, Bool, List, [], ◌∷◌, ◌++◌, map, length, Option, Some, None, IfSome, refl, sym, ◌∙◌, subst, inl, inr, codes}
 use Rattle.std.proofs.lemmas.Bool.{cases_lt, cases_Bool, both_ways}
 use Rattle.pgn_text.specs.Games.{items_of, first_tag}
 use Rattle.pgn_text.specs.Marks.{PieceKind, ReadableGame, UnreadableRest, TooLongBlock, MarkedPiece, marked, AreOfBlock, over, within, AreOfBlocks}
-use Rattle.pgn_text.specs.Parts.{Part, AllStand, spelled}
+use Rattle.pgn_text.specs.GameTexts.{GameText, IsGameText, IsPaired, ShowsGame}
+use Rattle.pgn_text.specs.Parts.{Part, spelled}
 use Rattle.pgn_text.specs.Pieces.{Piece, Game, Unreadable, ArePieces}
 use Rattle.pgn_text.specs.Strings.{IsContents}
-use Rattle.pgn_text.proofs.TagStrings.{first_string}
+use Rattle.pgn_text.proofs.ShownGame.{some_game_text}
 use Rattle.pgn_game.proofs.AnAnswer.{game_answer}
+use Rattle.pgn_game.specs.Faults.{Fault}
+use Rattle.pgn_game.specs.declared.replayer.Lines.{Lines}
 use Rattle.pgn_game.specs.declared.replayer.Lines.TheVariants.{Main}
 use Rattle.pgn_game.specs.Starts.{fen_tag}
 use Rattle.pgn_extract.specs.Index.{fault_text, mark_line}
-use Rattle.pgn_extract.specs.Listing.{listing, entries_from, tags_in, cause_text}
-use Rattle.pgn_extract.specs.Telling.{Told, SoundGame, FaultyGame, IsToldIn, IsPieceTold, AreTold}
+use Rattle.pgn_extract.specs.Listing.{listing, entries_from, tags_in, cause_text, IsReplayOf, IsFaultOf}
+use Rattle.pgn_extract.specs.Exports.{written_lines, HasEntry, IsWritten, with_entry, without_entry}
+use Rattle.pgn_extract.specs.Verdicts.{Verdict, SoundGame, FaultyGame, IsVerdictIn, IsPieceVerdict, AreVerdicts}
 use Rattle.pgn_game.specs.Replays.{Replay}
 use Rattle.pgn_criteria.specs.Meeting.{Tags}
 use Rattle.pgn_extract.specs.Aims.{Aim, IsMet, IsWanted, IsEntry}
@@ -20,52 +25,62 @@ use Rattle.pgn_extract.specs.Laws.{TextHasAReport}
 use Rattle.pgn_extract.proofs.Chosen.{some_chosen}
 use Rattle.pgn_extract.proofs.Decided.{IsDecided, all_decided}
 use Rattle.pgn_extract.proofs.ExactEntries.{of_positions}
+use Rattle.pgn_extract.proofs.GameExport.{some_export_of_parts}
 use Rattle.pgn_extract.specs.declared.settings.Mode.{Mode}
 use Rattle.pgn_extract.specs.declared.settings.Mode.TheVariants as modes
 
--- the FEN tag of a game has the contents of a string
-abbrev IsTagged : PieceKind → Type 0
-IsTagged (ReadableGame parts) = IfSome (first_tag fen_tag parts) IsContents
-IsTagged UnreadableRest = Unit {0}
-IsTagged TooLongBlock = Unit {0}
+-- the parts of a game make one that a reader can be handed
+abbrev IsMade : PieceKind → Type 0
+IsMade (ReadableGame parts) = (game : GameText) × IsGameText game × ShowsGame game game.at parts
+IsMade UnreadableRest = Unit {0}
+IsMade TooLongBlock = Unit {0}
 
-abbrev AreTagged : List MarkedPiece → Type 0
-AreTagged [] = Unit {0}
-AreTagged (piece ∷ more) = IsTagged piece.kind × AreTagged more
+abbrev AreMade : List MarkedPiece → Type 0
+AreMade [] = Unit {0}
+AreMade (piece ∷ more) = IsMade piece.kind × AreMade more
 
-game_tagged : (file_start : Bool) (before : List ℕ) (parts : List Part) (after : List ℕ) → AllStand file_start before parts after
-    → (tag : Option (List ℕ)) → first_tag fen_tag parts ≡ tag → IfSome tag IsContents
-game_tagged file_start before parts after stand None is = tt
-game_tagged file_start before parts after stand (Some contents) is =
-    first_string fen_tag contents file_start before parts after stand is
+made_of : (parts : List Part) → (game : GameText) × IsGameText game × ShowsGame game 0 parts → IsMade (ReadableGame parts)
+made_of parts (game, is_game, shows) =
+    (game, is_game, record { place = refl; tags = shows.tags; elements = shows.elements; result = shows.result })
 
-pieces_tagged : (max_depth : ℕ) (file_start : Bool) (before : List ℕ) (pieces : List Piece) (text : List ℕ) (offset : ℕ)
-    → ArePieces max_depth file_start before pieces text → AreTagged (map (marked offset) pieces)
-pieces_tagged max_depth file_start before [] text offset h = tt
-pieces_tagged max_depth file_start before (Game at parts ∷ more) text offset h = (
-  game_tagged file_start (before ++ spelled h.0) parts h.1 h.5.stand (first_tag fen_tag parts) refl,
-  pieces_tagged max_depth file_start ((before ++ spelled h.0) ++ spelled parts) more h.1 offset h.6,
+pieces_made : (max_depth : ℕ) (file_start : Bool) (before : List ℕ) (pieces : List Piece) (text : List ℕ) (offset : ℕ)
+    → ArePieces max_depth file_start before pieces text → AreMade (map (marked offset) pieces)
+pieces_made max_depth file_start before [] text offset h = tt
+pieces_made max_depth file_start before (Game at parts ∷ more) text offset h = (
+  made_of parts (some_game_text max_depth file_start (before ++ spelled h.0) parts h.1 0 h.5),
+  pieces_made max_depth file_start ((before ++ spelled h.0) ++ spelled parts) more h.1 offset h.6,
 )
-pieces_tagged max_depth file_start before (Unreadable at ∷ more) text offset h =
-    (tt, subst (λ l. AreTagged (map (marked offset) l)) (sym h.7) tt)
+pieces_made max_depth file_start before (Unreadable at ∷ more) text offset h =
+    (tt, subst (λ l. AreMade (map (marked offset) l)) (sym h.7) tt)
 
-tagged_append : (xs ys : List MarkedPiece) → AreTagged xs → AreTagged ys → AreTagged (xs ++ ys)
-tagged_append [] ys a b = b
-tagged_append (x ∷ xs) ys a b = (a.0, tagged_append xs ys a.1 b)
+made_append : (xs ys : List MarkedPiece) → AreMade xs → AreMade ys → AreMade (xs ++ ys)
+made_append [] ys a b = b
+made_append (x ∷ xs) ys a b = (a.0, made_append xs ys a.1 b)
 
-block_tagged : (limit max_depth offset : ℕ) (block : List ℕ) (marks : List MarkedPiece)
-    → AreOfBlock limit max_depth offset block marks → AreTagged marks
-block_tagged limit max_depth offset block marks (over l e) = subst AreTagged (sym e) (tt, tt)
-block_tagged limit max_depth offset block marks (within l pieces h e) =
-    subst AreTagged (sym e) (pieces_tagged max_depth (offset == 0) [] pieces block offset h)
+block_made : (limit max_depth offset : ℕ) (block : List ℕ) (marks : List MarkedPiece)
+    → AreOfBlock limit max_depth offset block marks → AreMade marks
+block_made limit max_depth offset block marks (over l e) = subst AreMade (sym e) (tt, tt)
+block_made limit max_depth offset block marks (within l pieces h e) =
+    subst AreMade (sym e) (pieces_made max_depth (offset == 0) [] pieces block offset h)
 
-blocks_tagged : (limit max_depth offset : ℕ) (blocks : List (List ℕ)) (marks : List MarkedPiece)
-    → AreOfBlocks limit max_depth offset blocks marks → AreTagged marks
-blocks_tagged limit max_depth offset [] marks h = subst AreTagged (sym h) tt
-blocks_tagged limit max_depth offset (block ∷ more) marks h =
-    let first = block_tagged limit max_depth offset block h.0 h.3 in
-    let others = blocks_tagged limit max_depth (offset + length block) more h.1 h.4 in
-    subst AreTagged (sym h.2) (tagged_append h.0 h.1 first others)
+blocks_made : (limit max_depth offset : ℕ) (blocks : List (List ℕ)) (marks : List MarkedPiece)
+    → AreOfBlocks limit max_depth offset blocks marks → AreMade marks
+blocks_made limit max_depth offset [] marks h = subst AreMade (sym h) tt
+blocks_made limit max_depth offset (block ∷ more) marks h =
+    let first = block_made limit max_depth offset block h.0 h.3 in
+    let others = blocks_made limit max_depth (offset + length block) more h.1 h.4 in
+    subst AreMade (sym h.2) (made_append h.0 h.1 first others)
+
+-- so its FEN tag has the contents of a string, and its variations are paired
+module _ (parts : List Part) (made : IsMade (ReadableGame parts)) where
+  has_string : (tag : Option (List ℕ)) → first_tag fen_tag parts ≡ tag → IfSome tag IsContents
+  has_string None is = tt
+  has_string (Some contents) is = made.1.strings fen_tag contents (made.2.tags fen_tag ∙ is)
+
+  answers : (lines : Lines) → ((replay : Replay) × IsReplayOf lines parts replay) ⊎ ((fault : Fault) × IsFaultOf lines parts fault)
+  answers lines =
+      game_answer lines (first_tag fen_tag parts) (items_of parts) (has_string (first_tag fen_tag parts) refl)
+      (λ all. subst (IsPaired 0) made.2.elements made.1.paired)
 
 -- a ply is wanted or not, where its position is decided
 wanted_or_not : (aim : Aim) (tags : Tags) (replay : Replay) (ply : ℕ) → IsMet aim.criteria tags replay ply ⊎ (IsMet aim.criteria tags replay ply → ⊥)
@@ -112,34 +127,70 @@ entry_or_not aim tags replay ply met = elim (wanted_or_not aim tags replay ply (
   ]
 ]
 
-game_reported : (mode : Mode) (aim : Aim) → IsDecided aim → (number offset : ℕ) (parts : List Part) → IfSome (first_tag fen_tag parts) IsContents
-    → (told : Told) × IsToldIn mode aim number offset parts told
-game_reported modes.Index aim decided number offset parts has = (SoundGame (mark_line number offset), refl)
-game_reported modes.List aim decided number offset parts has = elim (game_answer Main (first_tag fen_tag parts) (items_of parts) has (λ all. absurd (cc))) [
-  | inl sound ↦
-      let all = entries_from number offset 0 sound.0.positions in
-      let some =
-      some_chosen (λ entry. IsEntry aim (tags_in parts) sound.0 entry.ply) all
-      (λ entry has. entry_or_not aim (tags_in parts) sound.0 entry.ply
-      (λ n less. decided parts sound.0 sound.1 n (let high = (of_positions number offset 0 sound.0.positions entry has).high in omega arith))) in
-      (SoundGame (listing some.0), (sound.0, some.0, sound.1, some.1, refl))
-  | inr faulty ↦ (FaultyGame (fault_text number offset (cause_text faulty.0)), (faulty.0, faulty.1, refl))
+-- a game has an entry or has none
+entry_or_none : (aim : Aim) (tags : Tags) (replay : Replay) (count : ℕ) → count ≤ length replay.positions
+    → ((n : ℕ) → n < count → IsEntry aim tags replay n ⊎ (IsEntry aim tags replay n → ⊥))
+    → HasEntry aim tags replay ⊎ ((n : ℕ) → n < count → IsEntry aim tags replay n → ⊥)
+entry_or_none aim tags replay zero fits each = inr (λ n less entry. omega arith)
+entry_or_none aim tags replay (suc count) fits each = elim (entry_or_none aim tags replay count (omega arith) (λ n less. each n (omega arith))) [
+  | inl has ↦ inl has
+  | inr none ↦ elim (each count (omega arith)) [
+    | inl entry ↦ inl (count, omega arith, entry)
+    | inr fails ↦ inr (λ n less entry. elim (cases_lt n count) [
+      | inl under ↦ none n under entry
+      | inr above ↦ let same : n ≡ count = omega arith in fails (subst (IsEntry aim tags replay) same entry)
+    ])
+  ]
 ]
 
-piece_reported : (kind : PieceKind) (aim : Aim) → IsDecided aim → (number offset : ℕ) → IsTagged kind
-    → (told : Told) × IsPieceTold kind aim number offset told
-piece_reported (ReadableGame parts) aim decided number offset has = game_reported aim.mode aim decided number offset parts has
-piece_reported UnreadableRest aim decided number offset has = (FaultyGame (fault_text number offset (codes "unreadable")), refl)
-piece_reported TooLongBlock aim decided number offset has = (FaultyGame (fault_text number offset (codes "too long")), refl)
+module _ (aim : Aim) (decided : IsDecided aim) (number offset : ℕ) (parts : List Part) (made : IsMade (ReadableGame parts)) where
+  -- a ply of a sound game is listed or not
+  listed_or_not : (lines : Lines) (replay : Replay) → IsReplayOf lines parts replay → (ply : ℕ) → ply < length replay.positions
+      → IsEntry aim (tags_in parts) replay ply ⊎ (IsEntry aim (tags_in parts) replay ply → ⊥)
+  listed_or_not lines replay is ply short =
+      entry_or_not aim (tags_in parts) replay ply (λ n less. decided lines parts replay is n (omega arith))
 
-all_reported : (aim : Aim) → IsDecided aim → (number : ℕ) (pieces : List MarkedPiece) → AreTagged pieces
-    → (reported : List Told) × AreTold aim number pieces reported
-all_reported aim decided number [] has = ([], refl)
-all_reported aim decided number (piece ∷ more) has =
-    let own = piece_reported piece.kind aim decided number piece.offset has.0 in
-    let rest = all_reported aim decided (number + 1) more has.1 in
+  written : (replay : Replay) → IsReplayOf (written_lines aim) parts replay → (text : List ℕ) × IsWritten aim parts replay text
+  written replay is =
+      elim (entry_or_none aim (tags_in parts) replay (length replay.positions) (omega arith) (listed_or_not (written_lines aim) replay is)) [
+        | inl has ↦
+            let export = some_export_of_parts aim.style parts made.0 made.1 made.2 replay is in
+            (export.0, with_entry has export.1)
+        | inr none ↦ ([], without_entry (λ has. none has.0 has.1 has.2) refl)
+      ]
+
+  game_reported : (mode : Mode) → (verdict : Verdict) × IsVerdictIn mode aim number offset parts verdict
+  game_reported modes.Index = (SoundGame (mark_line number offset), refl)
+  game_reported modes.List = elim (answers parts made Main) [
+    | inl sound ↦
+        let all = entries_from number offset 0 sound.0.positions in
+        let some =
+        some_chosen (λ entry. IsEntry aim (tags_in parts) sound.0 entry.ply) all
+        (λ entry has.
+        let high = (of_positions number offset 0 sound.0.positions entry has).high in
+        listed_or_not Main sound.0 sound.1 entry.ply (omega arith)) in
+        (SoundGame (listing some.0), (sound.0, some.0, sound.1, some.1, refl))
+    | inr faulty ↦ (FaultyGame (fault_text number offset (cause_text faulty.0)), (faulty.0, faulty.1, refl))
+  ]
+  game_reported modes.Export = elim (answers parts made (written_lines aim)) [
+    | inl sound ↦ let text = written sound.0 sound.1 in (SoundGame text.0, (sound.0, sound.1, text.1))
+    | inr faulty ↦ (FaultyGame (fault_text number offset (cause_text faulty.0)), (faulty.0, faulty.1, refl))
+  ]
+
+piece_reported : (kind : PieceKind) (aim : Aim) → IsDecided aim → (number offset : ℕ) → IsMade kind
+    → (verdict : Verdict) × IsPieceVerdict kind aim number offset verdict
+piece_reported (ReadableGame parts) aim decided number offset made = game_reported aim decided number offset parts made aim.mode
+piece_reported UnreadableRest aim decided number offset made = (FaultyGame (fault_text number offset (codes "unreadable")), refl)
+piece_reported TooLongBlock aim decided number offset made = (FaultyGame (fault_text number offset (codes "too long")), refl)
+
+all_reported : (aim : Aim) → IsDecided aim → (number : ℕ) (pieces : List MarkedPiece) → AreMade pieces
+    → (reported : List Verdict) × AreVerdicts aim number pieces reported
+all_reported aim decided number [] made = ([], refl)
+all_reported aim decided number (piece ∷ more) made =
+    let own = piece_reported piece.kind aim decided number piece.offset made.0 in
+    let rest = all_reported aim decided (number + 1) more made.1 in
     (own.0 ∷ rest.0, (own.0, rest.0, refl, own.1, rest.1))
 
 pub some_report : TextHasAReport
 some_report aim limit max_depth number offset text pieces h =
-    all_reported aim (all_decided aim) number pieces (blocks_tagged limit max_depth offset h.blocks pieces h.each)
+    all_reported aim (all_decided aim) number pieces (blocks_made limit max_depth offset h.blocks pieces h.each)

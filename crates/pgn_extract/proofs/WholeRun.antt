@@ -6,7 +6,7 @@ use Rattle.std.proofs.lemmas.List.{append-nil, append_cancel_left, drop_all, dro
 use Rattle.pgn_text.specs.Complete.{AreCompletePieces}
 use Rattle.pgn_text.specs.Marks.{AreMarkedPieces}
 use Rattle.pgn_extract.specs.Blockwise.{Drops, DropsSome, EndsBlocks, BeginsFirst, BreaksOff, StandsOver}
-use Rattle.pgn_extract.specs.Outcomes.{Ends, Stands, TellsComplete, BeginsAll}
+use Rattle.pgn_extract.specs.Outcomes.{Ends, Stands, WritesComplete, BeginsAll}
 use Rattle.pgn_extract.specs.declared.outcome.RunError.{RunError}
 use Rattle.pgn_extract.specs.declared.outcome.RunError.TheVariants.{Read, Write, OutOfMemory, InputTooLong}
 use Rattle.pgn_extract.specs.declared.outcome.Summary.{Summary}
@@ -36,7 +36,7 @@ some_byte : (xs : List ℕ) (b : ℕ) → xs ++ b ∷ [] ≡ [] → ⊥
 some_byte [] b e = cc
 some_byte (x ∷ xs) b e = cc
 
--- nothing is told where no byte is kept
+-- nothing is reported where no byte is kept
 none_complete : (limit max_depth offset : ℕ) → AreCompletePieces limit max_depth offset [] []
 none_complete limit max_depth offset = record {
   blocks = [];
@@ -49,7 +49,7 @@ none_complete limit max_depth offset = record {
     nothing (z ∷ x) y e = cc
 
 module _ (aim : Aim) (limit max_depth number offset : ℕ) where
-  -- the whole input is told
+  -- the whole input is reported
   pub ends_whole : (first mid last : Option (List ℕ)) {out out' err err' : Option (List ℕ)} {moved count moved' : ℕ} {summary : Summary}
       → Drops first mid moved count offset → EndsBlocks aim limit max_depth number offset mid last count moved' out out' err err' summary
       → IfSome first (λ whole. Ends aim limit max_depth number offset whole out out' err err' summary)
@@ -61,8 +61,8 @@ module _ (aim : Aim) (limit max_depth number offset : ℕ) where
         omega (arith, ap length d.reads.bytes, length-append d.dropped rest, ap length e.all);
     pieces = e.pieces;
     each = subst (λ t. AreMarkedPieces limit max_depth offset t e.pieces) (sym kept) e.each;
-    tolds = e.tolds;
-    told = e.told;
+    verdicts = e.verdicts;
+    written = e.written;
     games = e.games;
     faulty = e.faulty;
   }
@@ -79,8 +79,8 @@ module _ (aim : Aim) (limit max_depth number offset : ℕ) where
       subst (Stands aim limit max_depth number offset whole moved' out out err err) (sym is) record {
         pieces = [];
         each = subst (λ t. AreCompletePieces limit max_depth offset t []) (sym none) (none_complete limit max_depth offset);
-        tolds = [];
-        told = record { each = refl; output = appends_none out; faults = appends_none err };
+        verdicts = [];
+        written = record { each = refl; output = appends_none out; faults = appends_none err };
       }
     where
       size : length d.dropped ≡ moved'
@@ -127,7 +127,7 @@ module _ (aim : Aim) (limit max_depth number offset : ℕ) where
 
       by_kind : (e : RunError) → StandsOver aim limit max_depth number offset (Some rest) b.read out out' err err' e
           → Stands aim limit max_depth number offset whole moved' out out' err err' e
-      by_kind Read s = subst (λ t. TellsComplete aim limit max_depth number offset t out out' err err') (sym read_part) s
+      by_kind Read s = subst (λ t. WritesComplete aim limit max_depth number offset t out out' err err') (sym read_part) s
       by_kind Write s = begun s
       by_kind OutOfMemory s = begun s
       by_kind InputTooLong s =
@@ -142,6 +142,6 @@ module _ (aim : Aim) (limit max_depth number offset : ℕ) where
                 ap (λ t. drop offset (take (2 ^ 62) t)) front ∙ ap (drop offset) (take_at (d.dropped ++ s.kept) (s.byte ∷ [] ++ after) (2 ^ 62) full)
                 ∙ drop_at d.dropped s.kept offset (let w = d.within in omega arith) in (
                   omega (arith, full, ap length front, length-append (d.dropped ++ s.kept) (s.byte ∷ [] ++ after)),
-                  subst (λ t. TellsComplete aim limit max_depth number offset t out out' err err') (sym part) s.told,
+                  subst (λ t. WritesComplete aim limit max_depth number offset t out out' err err') (sym part) s.written,
                 )
           ]

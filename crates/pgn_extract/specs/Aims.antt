@@ -1,6 +1,7 @@
 -- What a run is to report, wherever in the text it begins.
 use Rattle.std.specs.Prelude.{◌≡◌, ◌<◌, ◌≤◌, ℕ, Bool, true, List, Option, Some, None}
 use Rattle.pgn_game.specs.Replays.{Replay}
+use Rattle.pgn_game.specs.declared.style.Style.{Style}
 use Rattle.pgn_criteria.specs.Meeting.{Tags, Meets}
 use Rattle.pgn_criteria.specs.declared.condition.Condition.{Condition}
 use Rattle.pgn_extract.specs.declared.settings.Mode.{Mode}
@@ -13,6 +14,7 @@ pub record Aim : Type 0 where
   pub min_ply : ℕ
   pub max_ply : ℕ
   pub first : Bool
+  pub style : Style
 
 -- the aim of settings
 abbrev pub aim_of : Settings → Aim
@@ -22,6 +24,7 @@ aim_of settings = record {
   min_ply = settings.min_ply;
   max_ply = settings.max_ply;
   first = settings.first;
+  style = settings.style;
 }
 
 -- the position behind so many plies of a main line meets the criteria; without criteria every one does

@@ -1,7 +1,10 @@
 -- What the parts of a run do with the bytes dropped, with one block and with the blocks in a row: the words between the code and
 -- those of `Outcomes`.
-use Rattle.std.specs.Prelude.{◌≡◌, ℕ, ◌+◌, ◌<◌, ◌≤◌, List, [], ◌∷◌, ◌++◌, length, count_by, Option, IfSome, if◌then◌else◌}
-use Rattle.pgn_text.specs.GameTexts.{GameText, ShowsGame}
+use Rattle.std.specs.Prelude.{◌≡◌, ◌⊎◌, ℕ, ◌+◌, ◌<◌, ◌≤◌, List, [], ◌∷◌, ◌++◌, length, count_by, Option, IfSome, if◌then◌else◌}
+use Rattle.pgn_text.specs.GameTexts.{GameText, ShowsGame, tag_in}
+use Rattle.pgn_game.specs.Exports.{IsExport}
+use Rattle.pgn_game.specs.Replays.{Replay}
+use Rattle.pgn_extract.specs.Exports.{HasEntry}
 use Rattle.pgn_text.specs.Left.{IsPiece}
 use Rattle.pgn_text.specs.Limits.{largest_offset}
 use Rattle.pgn_text.specs.Marks.{TooLongBlock, MarkedPiece, marked, AreOfBlock, AreMarkedPieces}
@@ -13,8 +16,8 @@ use Rattle.pgn_text.specs.declared.blocks.Body.{Body}
 use Rattle.pgn_text.specs.declared.blocks.Body.TheVariants.{Bytes, TooLong}
 use Rattle.pgn_text.specs.declared.blocks.ReadError.{ReadError}
 use Rattle.pgn_text.specs.declared.blocks.ReadError.TheVariants as cause
-use Rattle.pgn_extract.specs.Outcomes.{AppendsFront, Tells, TellsComplete}
-use Rattle.pgn_extract.specs.Telling.{Told, IsListed, IsGameTold, IsTold, AreTold, output_of, fault_line_of, output_text, fault_lines, is_faulty}
+use Rattle.pgn_extract.specs.Outcomes.{AppendsFront, Writes, WritesComplete}
+use Rattle.pgn_extract.specs.Verdicts.{Verdict, IsListed, IsExported, IsGameVerdict, IsVerdict, AreVerdicts, output_of, fault_line_of, output_text, fault_lines, is_faulty}
 use Rattle.pgn_extract.specs.declared.report.Report.{Report}
 use Rattle.pgn_extract.specs.declared.outcome.RunError.{RunError}
 use Rattle.pgn_extract.specs.declared.outcome.RunError.TheVariants.{Read, Write, OutOfMemory, InputTooLong}
@@ -26,79 +29,90 @@ abbrev pub IsShown : ℕ → Body → Type 0
 IsShown limit (Bytes shown) = length shown.now ≤ limit
 IsShown limit TooLong = Unit {0}
 
--- the report tells the pieces, which are numbered from a number on, and counts them
+-- the report is of these pieces, which are numbered from a number on, and counts them
 pub record Reports (aim : Aim) (report : Report) (number : ℕ) (pieces : List MarkedPiece) : Type 0 where
-  pub tolds : List Told
-  pub each : AreTold aim number pieces tolds
-  pub output : report.output.items ≡ output_text tolds
-  pub faults : report.faults.items ≡ fault_lines tolds
-  pub same : length tolds ≡ length pieces
+  pub verdicts : List Verdict
+  pub each : AreVerdicts aim number pieces verdicts
+  pub output : report.output.items ≡ output_text verdicts
+  pub faults : report.faults.items ≡ fault_lines verdicts
+  pub same : length verdicts ≡ length pieces
   pub games : report.games ≡ length pieces
-  pub faulty : report.faulty ≡ count_by is_faulty tolds
+  pub faulty : report.faulty ≡ count_by is_faulty verdicts
 
--- what is told is added, and so many pieces counted
-pub record AddsTold (old new : Report) (told : Told) (count : ℕ) : Type 0 where
-  pub output : new.output.items ≡ old.output.items ++ output_of told
-  pub faults : new.faults.items ≡ old.faults.items ++ fault_line_of told
+-- what is reported is added, and so many pieces counted
+pub record AddsVerdict (old new : Report) (verdict : Verdict) (count : ℕ) : Type 0 where
+  pub output : new.output.items ≡ old.output.items ++ output_of verdict
+  pub faults : new.faults.items ≡ old.faults.items ++ fault_line_of verdict
   pub games : new.games ≡ old.games + count
-  pub faulty : new.faulty ≡ old.faulty + (if is_faulty told then 1 else 0)
+  pub faulty : new.faulty ≡ old.faulty + (if is_faulty verdict then 1 else 0)
 
--- what the listing tells of the game that is given is added; the game isn't counted yet
+-- what the listing reports of the game that is given is added; the game isn't counted yet
 abbrev pub AddsListed : Aim → Report → Report → ℕ → ℕ → GameText → Type 0
 AddsListed aim old new number offset game =
-    (at : ℕ) (parts : List Part) → ShowsGame game at parts → (told : Told) × IsListed aim told number offset parts × AddsTold old new told 0
+    (at : ℕ) (parts : List Part) → ShowsGame game at parts → (verdict : Verdict) × IsListed aim verdict number offset parts × AddsVerdict old new verdict 0
 
--- the same of what the mode tells
+-- what is written of the game that is given: its export where it has an entry, and else nothing
+abbrev pub IsGameWritten : Aim → GameText → Replay → List ℕ → Type 0
+IsGameWritten aim game replay text =
+    (HasEntry aim (λ name. tag_in name game.tags) replay × IsExport aim.style game text)
+    ⊎ ((HasEntry aim (λ name. tag_in name game.tags) replay → ⊥) × (text ≡ []))
+
+-- the same of what the export reports
+abbrev pub AddsExported : Aim → Report → Report → ℕ → ℕ → GameText → Type 0
+AddsExported aim old new number offset game =
+    (at : ℕ) (parts : List Part) → ShowsGame game at parts → (verdict : Verdict) × IsExported aim verdict number offset parts × AddsVerdict old new verdict 0
+
+-- the same of what the mode reports
 abbrev pub AddsGame : Aim → Report → Report → ℕ → ℕ → GameText → Type 0
 AddsGame aim old new number offset game =
-    (at : ℕ) (parts : List Part) → ShowsGame game at parts → (told : Told) × IsGameTold aim number offset parts told × AddsTold old new told 0
+    (at : ℕ) (parts : List Part) → ShowsGame game at parts → (verdict : Verdict) × IsGameVerdict aim number offset parts verdict × AddsVerdict old new verdict 0
 
--- what is told of the piece in the mode is added, and the piece counted
+-- what is reported of the piece in the mode is added, and the piece counted
 abbrev pub AddsMark : Aim → Report → Report → ℕ → MarkedPiece → Type 0
-AddsMark aim old new number piece = (told : Told) × IsTold aim number piece told × AddsTold old new told 1
+AddsMark aim old new number piece = (verdict : Verdict) × IsVerdict aim number piece verdict × AddsVerdict old new verdict 1
 
 -- the same, of the piece that is given
 abbrev pub AddsPiece : Aim → Report → Report → ℕ → ℕ → Piece → Type 0
 AddsPiece aim old new number offset piece =
     (shown : spec.Piece) → IsPiece piece shown → AddsMark aim old new number (marked offset shown)
 
--- the report tells the pieces of the block
+-- the report is of the pieces of the block
 pub record ReportsBlock (aim : Aim) (report : Report) (limit max_depth number offset : ℕ) (block : List ℕ) : Type 0 where
   pub own : List MarkedPiece
   pub each : AreOfBlock limit max_depth offset block own
-  pub told : Reports aim report number own
+  pub written : Reports aim report number own
   pub few : length own ≤ length block
 
 -- the one piece of a block over the limit
 abbrev pub too_long_piece : ℕ → MarkedPiece
 too_long_piece offset = record { offset = offset; kind = TooLongBlock }
 
--- the pieces of the block are told and counted
-pub record TellsBlock (aim : Aim) (limit max_depth number offset : ℕ) (block : List ℕ) (out out' err err' : Option (List ℕ)) (summary : Summary) : Type 0 where
+-- the pieces of the block are reported and counted
+pub record WritesBlock (aim : Aim) (limit max_depth number offset : ℕ) (block : List ℕ) (out out' err err' : Option (List ℕ)) (summary : Summary) : Type 0 where
   pub own : List MarkedPiece
   pub each : AreOfBlock limit max_depth offset block own
-  pub tolds : List Told
-  pub told : Tells aim out out' err err' number own tolds
-  pub same : length tolds ≡ length own
+  pub verdicts : List Verdict
+  pub written : Writes aim out out' err err' number own verdicts
+  pub same : length verdicts ≡ length own
   pub games : summary.games ≡ length own
-  pub faulty : summary.faulty ≡ count_by is_faulty tolds
+  pub faulty : summary.faulty ≡ count_by is_faulty verdicts
   pub few : length own ≤ length block
 
--- each of the two grew by a beginning of what is told of the first of the pieces
+-- each of the two grew by a beginning of what is reported of the first of the pieces
 pub record Begins (aim : Aim) (out out' err err' : Option (List ℕ)) (number : ℕ) (pieces : List MarkedPiece) : Type 0 where
   pub before : List MarkedPiece
   pub behind : List MarkedPiece
   pub parted : pieces ≡ before ++ behind
-  pub tolds : List Told
-  pub each : AreTold aim number before tolds
-  pub output : AppendsFront out out' (output_text tolds)
-  pub faults : AppendsFront err err' (fault_lines tolds)
+  pub verdicts : List Verdict
+  pub each : AreVerdicts aim number before verdicts
+  pub output : AppendsFront out out' (output_text verdicts)
+  pub faults : AppendsFront err err' (fault_lines verdicts)
 
--- what is told is a beginning of what is to be told of the block's pieces
+-- what is reported is a beginning of what is to be reported of the block's pieces
 pub record BeginsBlock (aim : Aim) (limit max_depth number offset : ℕ) (block : List ℕ) (out out' err err' : Option (List ℕ)) : Type 0 where
   pub own : List MarkedPiece
   pub each : AreOfBlock limit max_depth offset block own
-  pub told : Begins aim out out' err err' number own
+  pub written : Begins aim out out' err err' number own
 
 -- reads dropped at most so many bytes, and fewer only at the end
 pub record Drops (left left' : Option (List ℕ)) (moved moved' most : ℕ) : Type 0 where
@@ -113,7 +127,7 @@ pub record DropsSome (left left' : Option (List ℕ)) (moved moved' most : ℕ) 
   pub reads : Reads left left' moved moved' dropped
   pub within : length dropped ≤ most
 
--- all bytes that were left are read, and their pieces told and counted
+-- all bytes that were left are read, and their pieces reported and counted
 pub record EndsBlocks (aim : Aim) (limit max_depth number offset : ℕ) (left left' : Option (List ℕ)) (moved moved' : ℕ) (out out' err err' : Option (List ℕ)) (summary : Summary) : Type 0 where
   pub read : List ℕ
   pub reads : Reads left left' moved moved' read
@@ -121,37 +135,37 @@ pub record EndsBlocks (aim : Aim) (limit max_depth number offset : ℕ) (left le
   pub size : offset + length read ≤ largest_offset
   pub pieces : List MarkedPiece
   pub each : AreMarkedPieces limit max_depth offset read pieces
-  pub tolds : List Told
-  pub told : Tells aim out out' err err' number pieces tolds
+  pub verdicts : List Verdict
+  pub written : Writes aim out out' err err' number pieces verdicts
   pub games : summary.games ≡ length pieces
-  pub faulty : summary.faulty ≡ count_by is_faulty tolds
+  pub faulty : summary.faulty ≡ count_by is_faulty verdicts
 
--- one byte past the largest offset is read, and the pieces of the complete blocks before it are told
-pub record TellsUpToEnd (aim : Aim) (limit max_depth number offset : ℕ) (read : List ℕ) (out out' err err' : Option (List ℕ)) : Type 0 where
+-- one byte past the largest offset is read, and the pieces of the complete blocks before it are reported
+pub record WritesUpToEnd (aim : Aim) (limit max_depth number offset : ℕ) (read : List ℕ) (out out' err err' : Option (List ℕ)) : Type 0 where
   pub kept : List ℕ
   pub byte : ℕ
   pub parted : read ≡ kept ++ byte ∷ []
   pub full : offset + length kept ≡ largest_offset
-  pub told : TellsComplete aim limit max_depth number offset kept out out' err err'
+  pub written : WritesComplete aim limit max_depth number offset kept out out' err err'
 
 -- the same of all pieces of the bytes
 pub record BeginsFirst (aim : Aim) (limit max_depth number offset : ℕ) (bytes : List ℕ) (out out' err err' : Option (List ℕ)) : Type 0 where
   pub pieces : List MarkedPiece
   pub each : AreMarkedPieces limit max_depth offset bytes pieces
-  pub told : Begins aim out out' err err' number pieces
+  pub written : Begins aim out out' err err' number pieces
 
 -- what stands after an error, of the bytes read and those that were left
 abbrev pub StandsOver : Aim → ℕ → ℕ → ℕ → ℕ → Option (List ℕ) → List ℕ → Option (List ℕ) → Option (List ℕ) → Option (List ℕ) → Option (List ℕ) → RunError → Type 0
 StandsOver aim limit max_depth number offset left read out out' err err' Read =
-    TellsComplete aim limit max_depth number offset read out out' err err'
+    WritesComplete aim limit max_depth number offset read out out' err err'
 StandsOver aim limit max_depth number offset left read out out' err err' InputTooLong =
-    TellsUpToEnd aim limit max_depth number offset read out out' err err'
+    WritesUpToEnd aim limit max_depth number offset read out out' err err'
 StandsOver aim limit max_depth number offset left read out out' err err' Write =
     IfSome left (λ whole. BeginsFirst aim limit max_depth number offset whole out out' err err')
 StandsOver aim limit max_depth number offset left read out out' err err' OutOfMemory =
     IfSome left (λ whole. BeginsFirst aim limit max_depth number offset whole out out' err err')
 
--- the blocks were read and told in part, and then something failed
+-- the blocks were read and reported in part, and then something failed
 pub record BreaksOff (aim : Aim) (limit max_depth number offset : ℕ) (left left' : Option (List ℕ)) (moved moved' : ℕ) (out out' err err' : Option (List ℕ)) (error : RunError) : Type 0 where
   pub read : List ℕ
   pub reads : Reads left left' moved moved' read

@@ -1,4 +1,4 @@
--- Marks, the index of a text, and the lines that tell faulty games.
+-- Marks, the index of a text, and the lines that report faulty games.
 use Rattle.std.specs.Prelude.{ℕ, ◌+◌, List, [], ◌∷◌, ◌++◌, codes, decimal}
 use Rattle.pgn_text.specs.Marks.{ReadableGame, UnreadableRest, TooLongBlock, MarkedPiece}
 
@@ -6,7 +6,7 @@ use Rattle.pgn_text.specs.Marks.{ReadableGame, UnreadableRest, TooLongBlock, Mar
 abbrev pub mark : ℕ → ℕ → List ℕ
 mark number offset = decimal number ++ 64 ∷ decimal offset
 
--- what tells a faulty game on a line of its own: its mark and the cause
+-- what reports a faulty game on a line of its own: its mark and the cause
 abbrev pub fault_text : ℕ → ℕ → List ℕ → List ℕ
 fault_text number offset cause = codes "pgn-extract: game " ++ mark number offset ++ codes ": " ++ cause ++ 10 ∷ []
 

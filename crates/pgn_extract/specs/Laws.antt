@@ -4,9 +4,10 @@ use Rattle.std.specs.List.{Contains, slice_get}
 use Rattle.pgn_text.specs.Marks.{ReadableGame, MarkedPiece, AreMarkedPieces}
 use Rattle.pgn_text.specs.Parts.{Part}
 use Rattle.pgn_game.specs.Replays.{Replay}
+use Rattle.pgn_game.specs.declared.replayer.Lines.TheVariants.{Main}
 use Rattle.pgn_extract.specs.Listing.{Entry, IsReplayOf, tags_in, AreEntries}
 use Rattle.pgn_extract.specs.Resuming.{IsMarkAmong}
-use Rattle.pgn_extract.specs.Telling.{Told, AreTold, output_text, fault_lines, is_faulty}
+use Rattle.pgn_extract.specs.Verdicts.{Verdict, AreVerdicts, output_text, fault_lines, is_faulty}
 use Rattle.pgn_extract.specs.Aims.{Aim, IsEntry}
 
 -- the entry names a sound game, by its place among the pieces and the offset of its first byte, and a ply of its main line that is listed
@@ -16,7 +17,7 @@ pub record IsPlyOfGame (aim : Aim) (number : ℕ) (pieces : List MarkedPiece) (e
   pub replay : Replay
   pub game : slice_get pieces place ≡ Some (record { offset = entry.offset; kind = ReadableGame parts })
   pub numbered : entry.number ≡ number + place
-  pub is_replay : IsReplayOf parts replay
+  pub is_replay : IsReplayOf Main parts replay
   pub within : entry.ply < length replay.positions
   pub listed : IsEntry aim (tags_in parts) replay entry.ply
 
@@ -50,23 +51,23 @@ EachPieceHasAMark =
 abbrev pub TextHasAReport : Type 0
 TextHasAReport =
     (aim : Aim) (limit max_depth number offset : ℕ) (text : List ℕ) (pieces : List MarkedPiece)
-    → AreMarkedPieces limit max_depth offset text pieces → (reported : List Told) × AreTold aim number pieces reported
+    → AreMarkedPieces limit max_depth offset text pieces → (reported : List Verdict) × AreVerdicts aim number pieces reported
 
 -- and in only one way
 abbrev pub TextHasOneReport : Type 0
 TextHasOneReport =
-    (aim : Aim) (number : ℕ) (pieces : List MarkedPiece) (reported others : List Told)
-    → AreTold aim number pieces reported → AreTold aim number pieces others → others ≡ reported
+    (aim : Aim) (number : ℕ) (pieces : List MarkedPiece) (reported others : List Verdict)
+    → AreVerdicts aim number pieces reported → AreVerdicts aim number pieces others → others ≡ reported
 
 -- the text that begins at the offset has these pieces, which are numbered from a number on and reported so
 pub record IsTextReported (aim : Aim) (limit max_depth number offset : ℕ) (text : List ℕ) (pieces : List MarkedPiece)
-    (reported : List Told) : Type 0 where
+    (reported : List Verdict) : Type 0 where
   pub each : AreMarkedPieces limit max_depth offset text pieces
-  pub told : AreTold aim number pieces reported
+  pub written : AreVerdicts aim number pieces reported
 
 -- two parts of a text have its pieces, one part those before the cut and the other those behind, and what is reported of them, one behind
 -- the other, is what is reported of the whole: on the output and on standard error, and counted
-pub record AreJoined (before behind first second : List MarkedPiece) (all front rest : List Told) : Type 0 where
+pub record AreJoined (before behind first second : List MarkedPiece) (all front rest : List Verdict) : Type 0 where
   pub same_before : first ≡ before
   pub same_behind : second ≡ behind
   pub reported : all ≡ front ++ rest
@@ -79,9 +80,9 @@ pub record AreJoined (before behind first second : List MarkedPiece) (all front 
 abbrev pub PartsJoin : Type 0
 PartsJoin =
     (aim : Aim) (limit max_depth number offset : ℕ) (text : List ℕ)
-    (before : List MarkedPiece) (piece : MarkedPiece) (behind : List MarkedPiece) (all : List Told)
+    (before : List MarkedPiece) (piece : MarkedPiece) (behind : List MarkedPiece) (all : List Verdict)
     → IsTextReported aim limit max_depth number offset text (before ++ piece ∷ behind) all
-    → (first second : List MarkedPiece) (front rest : List Told)
+    → (first second : List MarkedPiece) (front rest : List Verdict)
     → IsTextReported aim limit max_depth number offset (take (piece.offset - offset) text) first front
     → IsTextReported aim limit max_depth (number + length first) piece.offset (drop (piece.offset - offset) text) second rest
     → AreJoined before (piece ∷ behind) first second all front rest

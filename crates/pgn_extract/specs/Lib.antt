@@ -2,7 +2,8 @@
 pub mod Aims
 pub mod Index
 pub mod Listing
-pub mod Telling
+pub mod Exports
+pub mod Verdicts
 pub mod Outcomes
 pub mod Resuming
 pub mod Laws

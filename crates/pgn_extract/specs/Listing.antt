@@ -6,6 +6,7 @@ use Rattle.pgn_text.specs.Marks.{PieceKind, ReadableGame, UnreadableRest, TooLon
 use Rattle.pgn_text.specs.Parts.{Part}
 use Rattle.pgn_game.specs.Faults.{Fault, BadStart, IllegalMove, AmbiguousMove, IsFault}
 use Rattle.pgn_game.specs.Replays.{Replay, IsReplay}
+use Rattle.pgn_game.specs.declared.replayer.Lines.{Lines}
 use Rattle.pgn_game.specs.declared.replayer.Lines.TheVariants.{Main}
 use Rattle.pgn_game.specs.Starts.{fen_tag}
 use Rattle.pgn_criteria.specs.Meeting.{Tags}
@@ -33,9 +34,9 @@ entries_from number offset ply [] = []
 entries_from number offset ply (position ∷ more) =
     record { number = number; offset = offset; ply = ply } ∷ entries_from number offset (ply + 1) more
 
--- the game of these parts is sound, and this is the replay of its main line
-abbrev pub IsReplayOf : List Part → Replay → Type 0
-IsReplayOf parts replay = IsReplay Main (first_tag fen_tag parts) (items_of parts) replay
+-- the game of these parts is sound in these lines, and this is their replay
+abbrev pub IsReplayOf : Lines → List Part → Replay → Type 0
+IsReplayOf lines parts replay = IsReplay lines (first_tag fen_tag parts) (items_of parts) replay
 
 -- the second list is what of the first has the fact, in its order
 pub data AreChosen (P : Entry → Type 0) : List Entry → List Entry → Type 0 where
@@ -52,9 +53,9 @@ AreListed aim number offset tags replay entries =
 abbrev pub tags_in : List Part → Tags
 tags_in parts = λ name. first_tag name parts
 
--- the game of these parts is faulty, and this is the fault of its main line
-abbrev pub IsFaultOf : List Part → Fault → Type 0
-IsFaultOf parts fault = IsFault Main (first_tag fen_tag parts) (items_of parts) fault
+-- the game of these parts is faulty in these lines, and this is their first fault
+abbrev pub IsFaultOf : Lines → List Part → Fault → Type 0
+IsFaultOf lines parts fault = IsFault lines (first_tag fen_tag parts) (items_of parts) fault
 
 -- why a game is faulty, in the words of its line
 abbrev pub cause_text : Fault → List ℕ
@@ -64,9 +65,9 @@ cause_text (AmbiguousMove word ply) = codes "ambiguous move " ++ word ++ codes "
 
 -- the entries of a game: those that it lists where it is sound, and none where it is faulty
 pub data AreGameEntries (aim : Aim) (number offset : ℕ) (parts : List Part) (entries : List Entry) : Type 0 where
-  sound : (replay : Replay) → IsReplayOf parts replay → AreListed aim number offset (tags_in parts) replay entries
+  sound : (replay : Replay) → IsReplayOf Main parts replay → AreListed aim number offset (tags_in parts) replay entries
       → AreGameEntries aim number offset parts entries
-  faulty : (fault : Fault) → IsFaultOf parts fault → entries ≡ [] → AreGameEntries aim number offset parts entries
+  faulty : (fault : Fault) → IsFaultOf Main parts fault → entries ≡ [] → AreGameEntries aim number offset parts entries
 
 -- the entries of a piece: only a game that can be read has any
 abbrev pub ArePieceEntries : Aim → PieceKind → ℕ → ℕ → List Entry → Type 0

@@ -1,11 +1,11 @@
-//! The run over an input: block by block, each told before the next is read.
+//! The run over an input: block by block, each reported before the next is read.
 ghost use Rattle.std.specs.Prelude.{◌≡◌, ◌↔◌, ◌⊎◌, ℕ, ◌+◌, ◌^◌, ◌<◌, ◌≤◌, false, true, List, [], length, drop, IsErrOf, IfOk, IfErr, IfSome, OnOk, OnErr};
 ghost use Rattle.std.specs.Io.KnownBytes.{Appends, Keeps};
 ghost use Rattle.pgn_text.specs.Limits.{block_limit, depth_limit, largest_offset};
 ghost use Rattle.pgn_text.specs.Windows.{Shows};
 ghost use Rattle.pgn_extract.specs.Aims.{aim_of};
-ghost use Rattle.pgn_extract.specs.Blockwise.{IsShown, TellsBlock, BeginsBlock, EndsBlocks, BreaksOff};
-ghost use Rattle.pgn_extract.specs.Outcomes.{AppendsFront, Ends, Indexes, Lists, Stands};
+ghost use Rattle.pgn_extract.specs.Blockwise.{IsShown, WritesBlock, BeginsBlock, EndsBlocks, BreaksOff};
+ghost use Rattle.pgn_extract.specs.Outcomes.{AppendsFront, Ends, Indexes, Lists, Exports, Stands};
 ghost use Rattle.pgn_extract.specs.Resuming.{Resumes};
 
 use crate::outcome::{RunError, Summary, of_read};
@@ -39,7 +39,7 @@ fn put_report<O: Write, E: Write>(
     }
 }
 
-/// Writes what is told of the pieces of one block.
+/// Writes what is reported of the pieces of one block.
 fn put_block<'a, O: Write, E: Write>(
     alloc: Global,
     out: &mut Tally<O>,
@@ -53,7 +53,7 @@ fn put_block<'a, O: Write, E: Write>(
     requires offset { block.offset ≤ largest_offset }
     requires size { IsShown block_limit block.body }
     ensures ok { IfOk result (λ summary. (bytes : List ℕ) → Shows block_limit block.entry.body bytes
-        → TellsBlock (aim_of settings.now) block_limit depth_limit number block.entry.offset bytes
+        → WritesBlock (aim_of settings.now) block_limit depth_limit number block.entry.offset bytes
         (O.contents out.old.inner) (O.contents out.new.inner)
         (E.contents err.old.inner) (E.contents err.new.inner) summary) }
     ensures err { OnErr result ((bytes : List ℕ) → Shows block_limit block.entry.body bytes
@@ -95,7 +95,7 @@ fn finish_both<O: Write, E: Write>(out: &mut Tally<O>, err: &mut Tally<E>) -> Re
     }
 }
 
-/// Tells the pieces of the blocks that are left, and flushes the writers.
+/// Writes what is reported of the pieces of the blocks that are left, and flushes the writers.
 fn run_blocks<R: Read, O: Write, E: Write>(
     alloc: Global,
     input: &mut Tally<R>,
@@ -134,9 +134,9 @@ fn run_blocks<R: Read, O: Write, E: Write>(
                 settings.number + games,
                 block,
             ) {
-                Ok(told) => {
-                    games += told.games;
-                    faulty += told.faulty;
+                Ok(own) => {
+                    games += own.games;
+                    faulty += own.faulty;
                 }
                 Err(error) => return Err(error),
             },
@@ -171,7 +171,7 @@ pub fn run<R: Read, O: Write, E: Write>(
         (E.contents err.old.inner) (E.contents err.new.inner) summary)) }
     ensures flushed { OnOk result ((out.new.flushed ≡ true) × (err.new.flushed ≡ true)) }
 
-    // The output is then exactly the index, or the listing, of the pieces from the offset on.
+    // The output is then exactly the index, the listing, or the exports, of the pieces from the offset on.
     ensures indexes { OnOk result (IfSome (R.remaining input.old.inner) (λ whole. settings.now.mode ≡ Mode.Index
         → Indexes block_limit depth_limit settings.now.number settings.now.offset whole
         (O.contents out.old.inner) (O.contents out.new.inner))) }
@@ -179,7 +179,11 @@ pub fn run<R: Read, O: Write, E: Write>(
         → Lists (aim_of settings.now) block_limit depth_limit settings.now.number settings.now.offset whole
         (O.contents out.old.inner) (O.contents out.new.inner))) }
 
-    // Begun at a mark of the whole input, the run tells exactly the rest of what a run over the whole tells.
+    ensures exports { OnOk result (IfSome (R.remaining input.old.inner) (λ whole. settings.now.mode ≡ Mode.Export
+        → Exports (aim_of settings.now) block_limit depth_limit settings.now.number settings.now.offset whole
+        (O.contents out.old.inner) (O.contents out.new.inner))) }
+
+    // Begun at a mark of the whole input, the run reports exactly the rest of what a run over the whole reports.
     ensures resumes { OnOk result (IfSome (R.remaining input.old.inner) (λ whole.
         Resumes (aim_of settings.now) block_limit depth_limit settings.now.number settings.now.offset whole
         (O.contents out.old.inner) (O.contents out.new.inner)

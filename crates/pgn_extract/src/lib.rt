@@ -3,6 +3,7 @@
 #![tactic(auto)]
 
 mod command;
+mod exporting;
 mod extract;
 mod front;
 pub mod laws;

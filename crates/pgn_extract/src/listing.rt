@@ -14,7 +14,7 @@ use pgn_text::RawGame;
 use std::alloc::{AllocError, Global};
 
 /// The least ply from one on, up to the largest that is looked for, whose position meets the criteria.
-fn next_ply<'a>(
+pub fn next_ply<'a>(
     settings: &'a Settings,
     game: &RawGame<'a>,
     replayed: &Replayed,

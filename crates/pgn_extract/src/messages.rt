@@ -1,6 +1,4 @@
-//! What the program tells on standard error.
-
-pub const MODE_NOT_BUILT: &str = "pgn-extract: mode not built\n";
+//! What the program writes to standard error.
 
 pub const BOTH_MODES: &str = "pgn-extract: --list and --index exclude each other\n";
 

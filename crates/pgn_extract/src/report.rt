@@ -1,15 +1,21 @@
 //! What is reported of the pieces of one block.
-ghost use Rattle.std.specs.Prelude.{◌≡◌, ℕ, List, ◌+◌, ◌^◌, ◌<◌, ◌≤◌, [], ◌∷◌, length, OnOk, IfOk};
+ghost use Rattle.std.specs.Prelude.{◌≡◌, ℕ, List, Some, ◌+◌, ◌^◌, ◌<◌, ◌≤◌, [], ◌∷◌, length, OnOk, IfOk};
 ghost use Rattle.pgn_text.specs.Left.{piece_place};
 ghost use Rattle.pgn_text.specs.Limits.{block_limit, depth_limit, largest_offset};
 ghost use Rattle.pgn_text.specs.Windows.{Shows};
 ghost use Rattle.pgn_extract.specs.Aims.{Aim, aim_of};
-ghost use Rattle.pgn_extract.specs.Blockwise.{IsShown, Reports, ReportsBlock, AddsGame, AddsListed, AddsPiece, too_long_piece};
+ghost use Rattle.pgn_extract.specs.Blockwise.{IsShown, Reports, ReportsBlock, AddsVerdict, AddsGame, AddsListed, AddsExported, AddsPiece, too_long_piece};
+ghost use Rattle.pgn_extract.specs.Index.{fault_text};
+ghost use Rattle.pgn_extract.specs.Listing.{cause_text};
+ghost use Rattle.pgn_extract.specs.Verdicts.{FaultyGame};
+ghost use Rattle.pgn_game.specs.Faults.{Fault};
+ghost use Rattle.pgn_game.specs.Replays.{fault_of};
 
+use crate::exporting::{push_export, written_lines};
 use crate::listing::push_entries;
 use crate::settings::{Mode, Settings};
 use crate::texts::{push_fault_line, push_game_fault, push_mark_line};
-use pgn_game::{Lines, replay};
+use pgn_game::{GameFault, Lines, replay};
 use pgn_text::{Block, Body, Piece, RawGame, games};
 use std::alloc::{AllocError, Global};
 
@@ -42,6 +48,22 @@ impl Report {
     }
 }
 
+/// Adds the line of a game that can't be replayed.
+fn add_fault(
+    report: &mut Report,
+    number: u64,
+    offset: u64,
+    fault: GameFault<'_>,
+) -> Result<(), AllocError>
+    requires faulty { report.old.faulty + 1 < 2 ^ 64 }
+    ensures { OnOk result ((own : Fault) × (fault_of fault.entry ≡ Some own)
+        × AddsVerdict report.old report.new (FaultyGame (fault_text number offset (cause_text own))) 0) }
+{
+    push_game_fault(&mut report.faults, number, offset, fault)?;
+    report.faulty += 1;
+    Ok(())
+}
+
 /// Adds what the listing reports of a game: the lines of its entries, or of its fault.
 fn add_listed<'a>(
     alloc: Global,
@@ -64,11 +86,26 @@ fn add_listed<'a>(
             game,
             &replayed,
         ),
-        Err(fault) => {
-            push_game_fault(&mut report.faults, number, offset, fault)?;
-            report.faulty += 1;
-            Ok(())
-        }
+        Err(fault) => add_fault(report, number, offset, fault),
+    }
+}
+
+/// Adds what the export reports of a game: its text where it has an entry, or the line of its fault.
+fn add_exported<'a>(
+    alloc: Global,
+    report: &mut Report,
+    settings: &'a Settings,
+    number: u64,
+    offset: u64,
+    game: &RawGame<'a>,
+) -> Result<(), AllocError>
+    requires faulty { report.old.faulty + 1 < 2 ^ 64 }
+    ensures { OnOk result (AddsExported (aim_of settings.now) report.old report.new number offset game.now) }
+{
+    game.known();
+    match replay(alloc, game, written_lines(&settings.style)) {
+        Ok(replayed) => push_export(alloc, &mut report.output, settings, game, &replayed),
+        Err(fault) => add_fault(report, number, offset, fault),
     }
 }
 
@@ -87,6 +124,7 @@ fn add_game<'a>(
     match settings.mode {
         Mode::Index => push_mark_line(&mut report.output, number, offset),
         Mode::List => add_listed(alloc, report, settings, number, offset, game),
+        Mode::Export => add_exported(alloc, report, settings, number, offset, game),
     }
 }
 

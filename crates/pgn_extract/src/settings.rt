@@ -1,5 +1,6 @@
 //! What a run is to do.
 use pgn_criteria::Criteria;
+use pgn_game::Style;
 
 /// What a run writes.
 #[derive(Clone, Copy, Debug, PartialEq, Eq)]
@@ -8,6 +9,8 @@ pub enum Mode {
     Index,
     /// Each entry on a line of its own: the mark of a game whose main line can be replayed, and a ply of it whose position is looked for.
     List,
+    /// The text of each sound game that has an entry.
+    Export,
 }
 
 /// What a run writes, and where in the file it begins. With [`Mode::Index`] only `number` and `offset` have an effect.
@@ -23,6 +26,8 @@ pub struct Settings {
     pub max_ply: u32,
     /// Whether of each game only the first entry is listed.
     pub first: bool,
+    /// How games are written. Where variations are, each line of a game must be sound, else its main line alone.
+    pub style: Style,
     /// The number of the first piece that the run meets.
     pub number: u64,
     /// How many bytes of the input are dropped first, and the offset of the first byte after them.

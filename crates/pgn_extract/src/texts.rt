@@ -51,7 +51,7 @@ fn push_faulty_mark(text: &mut Vec<u8>, number: u64, offset: u64) -> Result<(), 
     Ok(())
 }
 
-/// Appends the line that tells a faulty game.
+/// Appends the line that reports a faulty game.
 pub fn push_fault_line(
     text: &mut Vec<u8>,
     number: u64,
@@ -83,9 +83,9 @@ fn push_move_cause(
     Ok(())
 }
 
-/// Appends why a game cannot be replayed. Want of memory has no text: it is answered.
+/// Appends why a game cannot be replayed. Running out of memory has no text: it is answered.
 fn push_cause(text: &mut Vec<u8>, fault: GameFault<'_>) -> Result<(), AllocError>
-    ensures { OnOk result ((told : Fault) × (fault_of fault.entry ≡ Some told) × (text.new.items ≡ text.old.items ++ cause_text told)) }
+    ensures { OnOk result ((own : Fault) × (fault_of fault.entry ≡ Some own) × (text.new.items ≡ text.old.items ++ cause_text own)) }
 {
     match fault {
         GameFault::BadPosition => text.extend_from_slice(b"bad position"),
@@ -95,14 +95,14 @@ fn push_cause(text: &mut Vec<u8>, fault: GameFault<'_>) -> Result<(), AllocError
     }
 }
 
-/// Appends the line that tells a game that cannot be replayed.
+/// Appends the line that reports a game that cannot be replayed.
 pub fn push_game_fault(
     text: &mut Vec<u8>,
     number: u64,
     offset: u64,
     fault: GameFault<'_>,
 ) -> Result<(), AllocError>
-    ensures { OnOk result ((told : Fault) × (fault_of fault.entry ≡ Some told) × (text.new.items ≡ text.old.items ++ fault_text number offset (cause_text told))) }
+    ensures { OnOk result ((own : Fault) × (fault_of fault.entry ≡ Some own) × (text.new.items ≡ text.old.items ++ fault_text number offset (cause_text own))) }
 {
     push_faulty_mark(text, number, offset)?;
     push_cause(text, fault)?;

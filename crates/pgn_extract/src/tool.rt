@@ -12,6 +12,7 @@ use crate::settings::{Mode, Settings};
 use clap::Error;
 use clap::error::ErrorKind;
 use pgn_criteria::{Criteria, CriteriaError};
+use pgn_game::Style;
 use pgn_text::Tally;
 use std::alloc::{AllocError, Global};
 use std::io::{Read, Write};
@@ -104,7 +105,18 @@ fn mode_of(request: &Request<'_>) -> Result<Mode, &'static str> {
         (true, true) => Err(messages::BOTH_MODES),
         (true, false) => Ok(Mode::List),
         (false, true) => Ok(Mode::Index),
-        (false, false) => Err(messages::MODE_NOT_BUILT),
+        (false, false) => Ok(Mode::Export),
+    }
+}
+
+/// How games are written.
+fn style_of(request: &Request<'_>) -> Style {
+    Style {
+        comments: !request.no_comments,
+        glyphs: !request.no_glyphs,
+        variations: !request.no_variations,
+        roster_only: request.roster,
+        width: request.width,
     }
 }
 
@@ -194,6 +206,7 @@ where
         min_ply: request.min_ply,
         max_ply: request.max_ply,
         first: request.first,
+        style: style_of(&request),
         number: mark.number,
         offset: mark.offset,
     };
@@ -203,14 +216,14 @@ where
             Ok(_) => FAULTY,
             Err(error) => {
                 let _ = out.flush();
-                tell(err, line_of(error));
+                report_line(err, line_of(error));
                 FAILED
             }
         },
     )
 }
 
-/// The line that tells of a failed run.
+/// The line that reports a failed run.
 fn line_of(error: RunError) -> &'static str {
     match error {
         RunError::Read => messages::READ_FAILED,
@@ -220,22 +233,22 @@ fn line_of(error: RunError) -> &'static str {
     }
 }
 
-/// Ends the program before its run: tells why, and answers the status.
+/// Ends the program before its run: reports why, and answers the status.
 fn refuse<O: Write, E: Write>(refusal: Refusal, out: &mut Tally<O>, err: &mut Tally<E>) -> u8
     requires { out.old.faulted ≡ false }
 {
     match refusal {
         Refusal::Help(text) => help(text.as_str(), out, err),
         Refusal::Text(text) => {
-            tell(err, text.as_str());
+            report_line(err, text.as_str());
             REFUSED
         }
         Refusal::Line(line) => {
-            tell(err, line);
+            report_line(err, line);
             REFUSED
         }
         Refusal::OutOfMemory => {
-            tell(err, messages::OUT_OF_MEMORY);
+            report_line(err, messages::OUT_OF_MEMORY);
             FAILED
         }
     }
@@ -248,12 +261,12 @@ fn help<O: Write, E: Write>(text: &str, out: &mut Tally<O>, err: &mut Tally<E>) 
     if put(out, text.as_bytes()).is_ok() && out.flush().is_ok() {
         return SOUND;
     }
-    tell(err, messages::WRITE_FAILED);
+    report_line(err, messages::WRITE_FAILED);
     FAILED
 }
 
-/// Writes a text to standard error. A fault in telling is ignored: there is nowhere left to tell it.
-fn tell<E: Write>(err: &mut Tally<E>, text: &str) {
+/// Writes a text to standard error. A fault in that is ignored: there is nowhere left to report it.
+fn report_line<E: Write>(err: &mut Tally<E>, text: &str) {
     if err.faulted() {
         return;
     }

@@ -12,5 +12,10 @@ pub mod LaidFacts
 pub mod LaidOnce
 pub mod OneMovetext
 pub mod TurnCounts
+pub mod TagLineFacts
+pub mod OneExport
 pub mod PenFacts
 pub mod CommentFacts
+pub mod MovetextFacts
+pub mod MovetextLines
+pub mod SomeMovetext

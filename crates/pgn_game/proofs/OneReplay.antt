@@ -92,7 +92,7 @@ one_line now (word ∷ words) positions others played moves (m, later, more, pos
 
 -- ---- one start
 
-same_value : (contents value other : List ℕ) → IsValueOf contents value → IsValueOf contents other → value ≡ other
+pub same_value : (contents value other : List ℕ) → IsValueOf contents value → IsValueOf contents other → value ≡ other
 same_value contents value other (signs, has) (signs2, has2) = one_value contents value signs has ∙ sym (one_value contents other signs2 has2)
 
 pub one_start : (fen : Option (List ℕ)) (start other : State) → IsStart fen start → IsStart fen other → start ≡ other

@@ -1,12 +1,19 @@
 -- The export of a game: its tags, and its movetext in standard texts (PGN 3.1, 8).
-use Rattle.std.specs.Prelude.{◌≡◌, ℕ, Bool, true, false, ◌||◌, codes, decimal, List, [], ◌∷◌, ◌++◌}
+use Rattle.std.specs.Prelude.{◌≡◌, ℕ, Bool, true, false, ◌||◌, codes, decimal, List, [], ◌∷◌, ◌++◌, Option}
 use Rattle.chess.specs.Positions.{State}
 use Rattle.chess.specs.San.{IsSan}
 use Rattle.chess.specs.declared.board.man.Side.{Side}
 use Rattle.chess.specs.declared.board.man.Side.TheVariants.{White, Black}
 use Rattle.pgn_text.specs.Games.{Item}
+use Rattle.pgn_text.specs.GameTexts.{GameText, tag_in}
 use Rattle.pgn_game.specs.AllLines.{Line, LineEnd, ThenMove, ThenGlyph, ThenComment, ThenVariation, spelled, IsTurn, after_turn}
 use Rattle.pgn_game.specs.Comments.{comment_tokens}
+use Rattle.pgn_game.specs.Replays.{Replay, IsReplay}
+use Rattle.pgn_game.specs.Starts.{fen_tag, IsStart}
+use Rattle.pgn_game.specs.TagLines.{AreTagLines}
+use Rattle.pgn_game.specs.TextLines.{IsLaid}
+use Rattle.pgn_game.specs.declared.replayer.Lines.{Lines}
+use Rattle.pgn_game.specs.declared.replayer.Lines.TheVariants.{All}
 use Rattle.pgn_game.specs.declared.style.Style.{Style}
 use Rattle.pgn_game.specs.declared.turn.Turn.{Turn}
 use Rattle.pgn_game.specs.declared.turn.Turn.TheVariants.{Played, Passed}
@@ -49,6 +56,22 @@ AreTokens style inside before now apart (ThenVariation inner rest) tokens =
 abbrev pub AreMovetextTokens : Style → State → List Item → List ℕ → List (List ℕ) → Type 0
 AreMovetextTokens style start items result tokens =
     (line : Line) × (own : List (List ℕ)) × (items ≡ spelled line) × AreTokens style false start start true line own × (tokens ≡ own ++ result ∷ [])
+
+-- the replay is one of the game, and of all its lines where the style keeps variations
+abbrev pub IsReplayFor : Style → Option (List ℕ) → List Item → Replay → Type 0
+IsReplayFor style fen items replay = (lines : Lines) × (style.variations ≡ true → lines ≡ All) × IsReplay lines fen items replay
+
+-- the text is the export of the game in the style: its tag lines, an empty line, the lines of its movetext, and an empty line
+pub record IsExport (style : Style) (game : GameText) (text : List ℕ) : Type 0 where
+  pub start : State
+  pub is_start : IsStart (tag_in fen_tag game.tags) start
+  pub head : List ℕ
+  pub tags : AreTagLines style game.tags game.result head
+  pub tokens : List (List ℕ)
+  pub are_tokens : AreMovetextTokens style start game.elements game.result tokens
+  pub movetext : List ℕ
+  pub laid : IsLaid style.width tokens movetext
+  pub spells : text ≡ head ++ 10 ∷ (movetext ++ 10 ∷ [])
 
 -- in a style the movetext has one list of tokens at most
 abbrev pub MovetextHasOneList : Type 0

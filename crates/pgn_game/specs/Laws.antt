@@ -6,13 +6,16 @@ use Rattle.chess.specs.Moves.{after}
 use Rattle.chess.specs.San.{IsOnlyNamed}
 use Rattle.chess.specs.declared.moves.Move.{Move}
 use Rattle.pgn_text.specs.Games.{Item, MoveText, GlyphNumber, CommentText, VariationOpen, VariationClose}
-use Rattle.pgn_text.specs.GameTexts.{IsPaired}
+use Rattle.pgn_text.specs.GameTexts.{GameText, IsPaired}
 use Rattle.pgn_text.specs.Strings.{IsContents}
 use Rattle.pgn_game.specs.MainLines.{main_words}
 use Rattle.pgn_game.specs.Faults.{Fault, IsFault}
 use Rattle.pgn_game.specs.Replays.{Replay, IsReplay, IsSoundGame}
+use Rattle.pgn_game.specs.Exports.{AreMovetextTokens, IsReplayFor, IsExport}
+use Rattle.pgn_game.specs.Starts.{IsStart}
 use Rattle.pgn_game.specs.declared.replayer.Lines.{Lines}
 use Rattle.pgn_game.specs.declared.replayer.Lines.TheVariants.{All}
+use Rattle.pgn_game.specs.declared.style.Style.{Style}
 
 -- whichever lines are replayed, each move of the main line is the only legal move that its word names in the position before it, and the
 -- position behind it is the one after that move
@@ -60,3 +63,14 @@ move_count (VariationClose ∷ items) = move_count items
 abbrev pub EachMoveHasATurn : Type 0
 EachMoveHasATurn =
     (fen : Option (List ℕ)) (items : List Item) (replay : Replay) → IsReplay All fen items replay → length replay.turns ≡ move_count items
+
+-- in each style the movetext of a game that is replayed has tokens, from the position that the game starts from; where the style leaves
+-- variations out, a replay of the main line is enough
+abbrev pub MovetextHasTokens : Type 0
+MovetextHasTokens =
+    (style : Style) (fen : Option (List ℕ)) (items : List Item) (replay : Replay) (result : List ℕ) → IsPaired 0 items → IsReplayFor style fen items replay
+    → (start : State) × (tokens : List (List ℕ)) × IsStart fen start × AreMovetextTokens style start items result tokens
+
+-- in a style a game has one export at most
+abbrev pub GameHasOneExport : Type 0
+GameHasOneExport = (style : Style) (game : GameText) (text other : List ℕ) → IsExport style game text → IsExport style game other → text ≡ other

@@ -4,6 +4,7 @@ pub mod MainLines
 pub mod AllLines
 pub mod Faults
 pub mod Replays
+pub mod TagLines
 pub mod TextLines
 pub mod Comments
 pub mod Exports
@@ -14,3 +15,4 @@ pub mod Walks
 pub mod LineWalks
 pub mod Pens
 pub mod CommentWords
+pub mod MovetextWalks

@@ -2,7 +2,7 @@
 
 ghost use Rattle.pgn_game.specs.Exports.{MovetextHasOneList};
 ghost use Rattle.pgn_game.specs.TextLines.{TokensHaveAText, TokensHaveOneText};
-ghost use Rattle.pgn_game.specs.Laws.{EachMoveIsNamed, EachMoveHasATurn, GameHasOneReplay, GameHasOneFault, SoundGameHasNoFault, GameHasAnAnswer};
+ghost use Rattle.pgn_game.specs.Laws.{EachMoveIsNamed, EachMoveHasATurn, GameHasOneReplay, GameHasOneFault, SoundGameHasNoFault, GameHasAnAnswer, MovetextHasTokens, GameHasOneExport};
 
 /// Whichever lines are replayed, each move of the main line is the only legal move that its word names in the position before it.
 pub fn one_legal_move()
@@ -36,4 +36,14 @@ pub fn one_text()
 /// In a style the movetext of a game that starts from a position has one list of tokens at most.
 pub fn one_movetext()
     ensures { MovetextHasOneList }
+{}
+
+/// In each style the movetext of a game that is replayed has a list of tokens; with variations, where all lines are replayed.
+pub fn a_movetext()
+    ensures { MovetextHasTokens }
+{}
+
+/// In a style a game has one export at most.
+pub fn one_export()
+    ensures { GameHasOneExport }
 {}

@@ -3,18 +3,22 @@
 
 mod all_lines;
 mod comment;
+mod exporter;
 mod fault;
 pub mod laws;
 mod main_line;
+mod movetext;
 mod naming;
 mod pen;
 mod replayed;
 mod replayer;
 mod starting;
 mod style;
+mod tag_lines;
 mod tokens;
 mod turn;
 
+pub use exporter::export;
 pub use fault::GameFault;
 pub use replayed::{GamePosition, Replayed};
 pub use replayer::{Lines, replay};

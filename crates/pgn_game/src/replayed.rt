@@ -5,11 +5,11 @@ ghost use Rattle.pgn_game.specs.Codes.{coded_replay};
 ghost use Rattle.pgn_game.specs.Replays.{Replay};
 
 use crate::turn::Turn;
-use chess::{Mailbox, Move, Position};
+use chess::{Bits, Move, Position};
 use std::marker::Model;
 
 /// The positions that games are played in.
-pub type GamePosition = Position<Mailbox>;
+pub type GamePosition = Position<Bits>;
 
 /// The positions of a game's main line, and the moves between them; where all lines were replayed, also the turns of all of them.
 #[derive(Drop)]

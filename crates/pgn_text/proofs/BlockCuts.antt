@@ -3,7 +3,8 @@ use Rattle.std.proofs.Common.{◌≡◌, ℕ, ◌+◌, ◌-◌, ◌<◌, ◌≤�
 use Rattle.std.specs.Prelude.{◌≢◌, ◌&&◌, ◌==◌, nat_eq, IsTrue}
 use Rattle.std.specs.List.{starts_with}
 use Rattle.std.specs.Cmp.Lexicographic.{pointwise}
-use Rattle.std.proofs.lemmas.List.{get_or_append_left, take-append-le, drop-append-le, drop_at, append-nil, get_or-append_right, get_or-drop, take_rest}
+use Rattle.std.proofs.lemmas.List.{get_or_append_left, take-append-le, drop-append-le, drop_at, append-nil, get_or-append_right, get_or-drop, take_rest, drop-drop}
+use Rattle.std.proofs.Math.Seq.{drop-append-add}
 use Rattle.std.proofs.lemmas.Bool.{and_left, both_ways, cases_lt, false_from_ne_true}
 use Rattle.pgn_text.specs.Blocks.{event_line, is_event_line, IsFirstBlock}
 use Rattle.pgn_text.specs.Cuts.{is_cut, NoCutBefore}
@@ -126,3 +127,26 @@ pub gap_fits : (text : List ℕ) (at gap : ℕ) → 0 < at → gap < length (tak
 gap_fits text at gap some less =
     let size : length (take (length text - (at - 1)) (drop (at - 1) text)) ≡ length text - (at - 1) = ap length (take_rest text (at - 1)) ∙ length-drop (at - 1) text in
     omega arith
+
+-- where the first bytes of a text are given up, and those held begin at a place: a cut behind that place is one of the text
+pub cut_moved : (gone held : List ℕ) (begin j : ℕ) → begin < j → is_cut (gone ++ drop begin held) (length gone + (j - begin)) ≡ is_cut held j
+cut_moved gone held begin j low =
+    let at = length gone + (j - begin) in
+    let low' : length gone ≤ at - 1 = omega arith in
+    let same : at - 1 - length gone ≡ j - begin - 1 = omega arith in
+    let place : begin + (j - begin - 1) ≡ j - 1 = omega arith in
+    let back : begin + (j - begin) ≡ j = omega arith in
+    let byte : get_or (gone ++ drop begin held) (at - 1) 0 ≡ get_or held (j - 1) 0 =
+    get_or-append_right gone (drop begin held) (length gone) (at - 1) 0 refl low'
+    ∙ ap (λ i. get_or (drop begin held) i 0) same ∙ get_or-drop begin held (j - begin - 1) 0 ∙ ap (λ i. get_or held i 0) place in
+    let rest : drop at (gone ++ drop begin held) ≡ drop j held =
+    drop-append-add gone (drop begin held) (j - begin) ∙ drop-drop (j - begin) begin held ∙ ap (λ i. drop i held) back in
+    ap (λ b. cut_test b (take 8 (drop at (gone ++ drop begin held)))) byte ∙ ap (λ t. cut_test (get_or held (j - 1) 0) (take 8 t)) rest
+
+-- and so where there is none
+pub no_cut_moved : (gone held : List ℕ) (begin from end : ℕ) → begin < from → NoCutBefore held from end
+    → NoCutBefore (gone ++ drop begin held) (length gone + (from - begin)) (length gone + (end - begin))
+no_cut_moved gone held begin from end low none j front back =
+    let there = begin + (j - length gone) in
+    let same : length gone + (there - begin) ≡ j = omega arith in
+    ap (is_cut (gone ++ drop begin held)) (sym same) ∙ cut_moved gone held begin there (omega arith) ∙ none there (omega arith) (omega arith)

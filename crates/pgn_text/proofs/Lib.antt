@@ -30,6 +30,9 @@ pub mod Resumption
 pub mod Rows
 pub mod Runs
 pub mod ShorterText
+pub mod ShownGame
+pub mod ShownOnce
+pub mod SortedTags
 pub mod Spliced
 pub mod TagLemmas
 pub mod TagStrings

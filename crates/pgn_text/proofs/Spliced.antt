@@ -13,8 +13,3 @@ spliced old new front filled post rest held size n is long some room cut =
     cut ∙ take-take (held + n) size ((front ++ (filled ++ post)) ++ rest) room ∙ ap (take (held + n)) shape
     ∙ ap (λ k. take (k + n) (old ++ (filled ++ tail))) (sym long) ∙ take-append-add old (filled ++ tail) n
     ∙ ap (λ t. old ++ t) (take-append-le n filled tail some)
-
--- the bytes that were held stand in front of the room made behind them
-pub front_kept : (old extra now : List ℕ) (held room : ℕ) → length old ≡ held → now ≡ take (held + room) old ++ extra → take held now ≡ old
-front_kept old extra now held room long is =
-    ap (take held) (is ∙ ap (λ t. t ++ extra) (take_all (held + room) old (omega arith))) ∙ take_at old extra held long

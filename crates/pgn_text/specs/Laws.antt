@@ -1,11 +1,12 @@
--- What holds of every text, whatever reads it: it has one reading, a reading can begin again at any of its pieces and end before any,
--- and larger limits change nothing where all was readable.
+-- What holds of every text, whatever reads it: it has one reading, each game in it is shown by one game text, a reading can begin again
+-- at any of its pieces and end before any, and larger limits change nothing where all was readable.
 use Rattle.std.specs.Prelude.{◌≡◌, ℕ, ◌-◌, ◌≤◌, Bool, List, [], ◌∷◌, ◌++◌, take, IsTrue}
 use Rattle.std.specs.List.{list_all}
 use Rattle.pgn_text.specs.Parts.{Part, spelled}
 use Rattle.pgn_text.specs.Games.{IsGame}
 use Rattle.pgn_text.specs.Pieces.{Piece, ArePieces}
 use Rattle.pgn_text.specs.Blocks.{AreBlocks}
+use Rattle.pgn_text.specs.GameTexts.{GameText, IsGameText, ShowsGame}
 use Rattle.pgn_text.specs.Marks.{MarkedPiece, is_readable, AreOfBlock, AreMarkedPieces, ResumesAt}
 
 -- at any place of a block at most one game begins: its parts and what is left behind it are settled
@@ -15,6 +16,20 @@ AtMostOneGame =
     → text ≡ spelled parts ++ after → IsGame max_depth file_start before parts after
     → text ≡ spelled others ++ rest → IsGame max_depth file_start before others rest
     → (parts ≡ others) × (after ≡ rest)
+
+-- the parts of each game make a game text at each place
+abbrev pub GameHasAGameText : Type 0
+GameHasAGameText =
+    (max_depth : ℕ) (file_start : Bool) (before : List ℕ) (parts : List Part) (after : List ℕ) (at : ℕ)
+    → IsGame max_depth file_start before parts after
+    → (game : GameText) × IsGameText game × ShowsGame game at parts
+
+-- and only one: two game texts of the same parts differ at most in their places
+abbrev pub GameTextIsOne : Type 0
+GameTextIsOne =
+    (parts : List Part) (game other : GameText) → IsGameText game → IsGameText other
+    → ShowsGame game game.at parts → ShowsGame other other.at parts
+    → (game.tags ≡ other.tags) × (game.elements ≡ other.elements) × (game.result ≡ other.result)
 
 -- each text is parted into blocks in one way
 abbrev pub TextHasOneParting : Type 0

@@ -1,10 +1,12 @@
 -- What the parts of a call of `Blocks::next` find: the words between the code and the words of `Windows`.
-use Rattle.std.specs.Prelude.{◌≡◌, ◌≢◌, ℕ, ◌+◌, ◌-◌, ◌≤◌, Bool, true, false, List, [], ◌++◌, length, drop, Option, None, Result, Ok, Err, MatchOption}
+use Rattle.std.specs.Prelude.{◌≡◌, ◌≢◌, ℕ, ◌+◌, ◌-◌, ◌<◌, ◌≤◌, Bool, true, false, List, [], ◌++◌, length, take, drop, Option, None, Result, Ok, Err, MatchOption}
 use Rattle.std.specs.Io.KnownBytes.{IsAtEnd}
-use Rattle.pgn_text.specs.Limits.{largest_offset}
+use Rattle.pgn_text.specs.Blocks.{IsFirstBlock}
+use Rattle.pgn_text.specs.Limits.{block_limit, largest_offset, window_limit}
 use Rattle.pgn_text.specs.Cuts.{is_cut, NoCutBefore}
 use Rattle.pgn_text.specs.Tallies.{Reads}
 use Rattle.pgn_text.specs.Windows.{Window, IsCutOff, FailsAfter}
+use Rattle.pgn_text.specs.declared.blocks.BlockEnd.{BlockEnd}
 use Rattle.pgn_text.specs.declared.blocks.ReadError.{ReadError}
 use Rattle.pgn_text.specs.declared.blocks.ReadError.TheVariants.{Failed}
 
@@ -35,14 +37,33 @@ pub record FindsMore (left left' : Option (List ℕ)) (moved moved' : ℕ) (foun
   pub one : found ≡ true → length read ≡ 1
   pub end : found ≡ false → (read ≡ []) × IsAtEnd left'
 
--- a search for the block's end read on to it: the next event line, or the text's end
-pub record FindsEnd (held held' : List ℕ) (at place : ℕ) (left left' : Option (List ℕ)) (moved moved' : ℕ) (end : Option ℕ) : Type 0 where
+-- the bytes are the last of these, so many
+abbrev pub EndsIn : List ℕ → ℕ → List ℕ → Type 0
+EndsIn done size bytes = (size ≤ length done) × (drop (length done - size) done ≡ bytes)
+
+-- before the next read the first bytes held are given up, so many: those done with, and those searched of a block over the limit, of
+-- which eight are kept, since an event line may begin among them. `lost` of the block's bytes were given up earlier
+pub record GivesUp (held begin lost front : ℕ) : Type 0 where
+  pub low : begin ≤ front
+  pub within : front ≤ held
+  pub few : held - front < block_limit + 8
+  pub long : 0 < lost + (front - begin) → (block_limit ≤ lost + (front - begin)) × (front + 8 ≤ held)
+
+-- a search read on to the block's end, and gave up what it did not need: these are the block's bytes, and those of a block within
+-- the limit are still held
+pub record FindsEnd (ahead held : List ℕ) (place : ℕ) (left left' : Option (List ℕ)) (moved moved' : ℕ) (end : BlockEnd) : Type 0 where
   pub read : List ℕ
+  pub bytes : List ℕ
   pub reads : Reads left left' moved moved' read
-  pub joined : held' ≡ held ++ read
-  pub found : FindsCut held' (at + 1) end
-  pub last : end ≡ None → IsAtEnd left'
-  pub within : place + (length held' - at) ≤ largest_offset
+  pub parted : ahead ++ read ≡ bytes ++ drop end.at held
+  pub sized : length bytes ≡ end.size
+  pub kept : end.size ≤ block_limit → EndsIn (take end.at held) end.size bytes
+  pub inside : end.at ≤ length held
+  pub first : (rest : List ℕ) → (end.is_last ≡ true → rest ≡ []) → IsFirstBlock bytes (drop end.at held ++ rest)
+  pub room : place + (end.size + (length held - end.at)) ≤ largest_offset
+  pub bound : length held ≤ window_limit
+  pub last : end.is_last ≡ true → (end.at ≡ length held) × IsAtEnd left'
+  pub more : end.is_last ≡ false → end.at < length held
 
 -- a call failed after it had read some bytes
 pub record FailsFrom (place : ℕ) (ahead : List ℕ) (left left' : Option (List ℕ)) (moved moved' : ℕ) (error : ReadError) : Type 0 where
@@ -51,8 +72,8 @@ pub record FailsFrom (place : ℕ) (ahead : List ℕ) (left left' : Option (List
   pub fails : FailsAfter place ahead read error
   pub other : error ≢ Failed
 
--- a step cut off the bytes of a block, which are those done with from `begin` on, or failed
+-- a step cut off the bytes of a block of this size, and those of a block within the limit end the bytes done with; or it failed
 abbrev pub StepGives : Window → Window → Option (List ℕ) → List ℕ → Result ℕ ReadError → Type 0
-StepGives old new left' read (Ok begin) =
-    (bytes : List ℕ) × IsCutOff old new left' read bytes × (drop begin new.done ≡ bytes) × (begin ≤ length new.done)
+StepGives old new left' read (Ok size) =
+    (bytes : List ℕ) × IsCutOff old new left' read bytes × (length bytes ≡ size) × (size ≤ block_limit → EndsIn new.done size bytes)
 StepGives old new left' read (Err error) = (new.failed ≡ true) × (error ≢ Failed) × FailsAfter old.place old.ahead read error

@@ -1,16 +1,18 @@
 //! The blocks of a text: from its begin or an event line to the next event line or the end.
-ghost use Rattle.std.specs.Prelude.{◌≡◌, ◌≢◌, ◌↔◌, ◌⊎◌, ℕ, ◌+◌, ◌-◌, ◌*◌, ◌^◌, ◌<◌, ◌≤◌, true, false, List, [], ◌++◌, length, take, drop, vec_len, IsTrue, IfOk, IfErr, IsErrOf};
+ghost use Rattle.std.specs.Prelude.{◌≡◌, ◌≢◌, ◌↔◌, ◌⊎◌, ℕ, ◌+◌, ◌-◌, ◌^◌, ◌<◌, ◌≤◌, true, false, List, [], ◌++◌, length, drop, IsTrue, IfOk, IfErr, IsErrOf};
 ghost use Rattle.std.specs.Borrow.{sem};
 ghost use Rattle.std.specs.Io.BufRead.{Rests};
 ghost use Rattle.std.specs.Io.KnownBytes.{IsAtEnd};
 ghost use Rattle.pgn_text.specs.Cuts.{is_cut};
 ghost use Rattle.pgn_text.specs.Held.{IsHeld};
-ghost use Rattle.pgn_text.specs.Limits.{block_limit, largest_offset};
-ghost use Rattle.pgn_text.specs.Searches.{FindsCut, FindsMore, AppendsRead, FindsEnd, FailsFrom, StepGives};
+ghost use Rattle.pgn_text.specs.Limits.{block_limit, largest_offset, window_limit};
+ghost use Rattle.pgn_text.specs.Phases.{is_failed, is_ended, is_over};
+ghost use Rattle.pgn_text.specs.Searches.{FindsCut, FindsMore, FindsEnd, FailsFrom, GivesUp, EndsIn, StepGives};
 ghost use Rattle.pgn_text.specs.Tallies.{Reads};
 ghost use Rattle.pgn_text.specs.Windows.{IsBlock, Gives, fresh_window};
 ghost use Rattle.pgn_text.specs.contracts.blocks.Blocks.{the_row};
 
+use crate::buffer::Buffer;
 use crate::limits::{BLOCK_LIMIT, LARGEST_OFFSET};
 use crate::tally::Tally;
 use memchr::memchr;
@@ -21,6 +23,9 @@ use thiserror::Error;
 
 /// The most bytes that one read asks for.
 const CHUNK: usize = 8192;
+
+/// The most bytes that are held at once: a block of the limit, and what one read gives.
+const WINDOW_LIMIT: usize = BLOCK_LIMIT + CHUNK;
 
 /// What begins a block, directly after a line feed.
 const EVENT_LINE: &[u8; 8] = b"[Event \"";
@@ -60,6 +65,17 @@ pub enum ReadError {
     Failed,
 }
 
+/// Where a block ends.
+#[derive(Clone, Copy)]
+pub struct BlockEnd {
+    /// How many bytes the block has.
+    size: u64,
+    /// Where in the bytes held it ends.
+    at: usize,
+    /// No block follows.
+    is_last: bool,
+}
+
 /// How far a `Blocks` has come.
 #[derive(Clone, Copy)]
 pub enum Phase {
@@ -73,11 +89,14 @@ pub enum Phase {
     Failed,
 }
 
-/// The blocks of the text that a reader gives, in order. The bytes read are kept.
+/// The blocks of the text that a reader gives, in order.
+///
+/// No more bytes are held than a block of the limit and one read of 8,192 bytes, however long the text is. The bytes of a block
+/// that was given are given up at the next read, those of a block over the limit as they are searched.
 #[derive(Drop)]
 pub struct Blocks {
-    /// The bytes read so far.
-    buf: Vec<u8>,
+    /// The bytes held.
+    buf: Buffer,
     /// Where in them the next block begins.
     at: usize,
     /// The offset of the next block.
@@ -94,15 +113,15 @@ impl Model for Blocks {
     ghost Value = { Window };
 
     ghost view = { λ b. record {
-      done = take b.at b.buf.items;
-      ahead = drop b.at b.buf.items;
+      done = take b.at b.buf;
+      ahead = drop b.at b.buf;
       place = b.place;
       failed = is_failed b.phase;
       ended = is_ended b.phase;
       over = is_over b.phase;
     } };
 
-    ghost invariant = { λ b. IsHeld b.buf.items b.at b.place };
+    ghost invariant = { λ b. IsHeld b.buf b.at b.place };
 }
 
 impl Blocks {
@@ -112,7 +131,7 @@ impl Blocks {
         ensures { result ≡ fresh_window offset }
     {
         Blocks {
-            buf: Vec::new(alloc),
+            buf: Buffer::new(alloc),
             at: 0,
             place: offset,
             phase: Phase::Reading,
@@ -121,7 +140,8 @@ impl Blocks {
 
     /// How many bytes are held.
     pub fn held(&self) -> usize
-        ensures { result ≡ length (self.now.done ++ self.now.ahead) }
+        ensures size { result ≡ length (self.now.done ++ self.now.ahead) }
+        ensures bound { result ≤ window_limit }
     {
         self.buf.len()
     }
@@ -155,12 +175,12 @@ impl Blocks {
             self.phase = Phase::Over;
             return Ok(None);
         }
-        let begin = self.step(input)?;
-        Ok(Some(self.current(begin)))
+        let size = self.step(input)?;
+        Ok(Some(self.current(size)))
     }
 
-    /// Goes on to the end of the next block, and says where in the buffer it begins.
-    fn step<R: Read>(&mut self, input: &mut Tally<R>) -> Result<usize, ReadError>
+    /// Goes on to the end of the next block, and says how many bytes it has.
+    fn step<R: Read>(&mut self, input: &mut Tally<R>) -> Result<u64, ReadError>
         requires going { (self.old.failed ≡ false) × (self.old.ended ≡ false)
             × (self.old.over ≡ false) }
         requires sound { input.old.faulted ≡ false }
@@ -170,19 +190,12 @@ impl Blocks {
             × StepGives self.old self.new (R.remaining input.new.inner) read result }
         ensures fault { IsErrOf result ReadError.Read ↔ (input.new.faulted ≡ true) }
     {
-        let begin = self.at;
-        match find_end(&mut self.buf, begin, self.place, input) {
-            Ok(Some(cut)) => {
-                self.place += (cut - begin) as u64;
-                self.at = cut;
-                Ok(begin)
-            }
-            Ok(None) => {
-                let end = self.buf.len();
-                self.place += (end - begin) as u64;
-                self.at = end;
-                self.phase = Phase::Ended;
-                Ok(begin)
+        match find_end(&mut self.buf, self.at, self.place, input) {
+            Ok(end) => {
+                self.place += end.size;
+                self.at = end.at;
+                self.phase = phase_behind(end.is_last);
+                Ok(end.size)
             }
             Err(error) => {
                 self.buf.clear();
@@ -193,21 +206,33 @@ impl Blocks {
         }
     }
 
-    /// The block that ends with the bytes done with.
-    fn current(&self, begin: usize) -> Block<'_>
-        requires { begin ≤ length self.now.done }
-        ensures { IsBlock block_limit self.now (drop begin self.now.done) result }
+    /// The block of this size that ends with the bytes done with.
+    fn current(&self, size: u64) -> Block<'_>
+        requires place { size ≤ self.now.place }
+        requires held { size ≤ block_limit → size ≤ length self.now.done }
+        ensures { (bytes : List ℕ) → length bytes ≡ size → (size ≤ block_limit → EndsIn self.now.done size bytes)
+            → IsBlock block_limit self.now bytes result }
     {
-        let size = self.at - begin;
-        let body = if size > BLOCK_LIMIT {
+        let body = if size > BLOCK_LIMIT as u64 {
             Body::TooLong
         } else {
-            Body::Bytes(&self.buf[begin..self.at])
+            Body::Bytes(&self.buf.bytes()[self.at - size as usize..self.at])
         };
         Block {
-            offset: self.place - size as u64,
+            offset: self.place - size,
             body,
         }
+    }
+}
+
+/// How far reading has come behind a block.
+fn phase_behind(is_last: bool) -> Phase
+    ensures { (is_ended result ≡ is_last) × (is_failed result ≡ false) × (is_over result ≡ false) }
+{
+    if is_last {
+        Phase::Ended
+    } else {
+        Phase::Reading
     }
 }
 
@@ -238,38 +263,6 @@ fn find_cut(bytes: &[u8], from: usize) -> Option<usize>
     None
 }
 
-/// Reads at most `room` bytes behind those of the buffer, and says how many came.
-fn read_more<R: Read>(
-    buf: &mut Vec<u8>,
-    room: usize,
-    input: &mut Tally<R>,
-) -> Result<usize, ReadError>
-    requires some { (0 < room) × (vec_len buf.old + room < 2 ^ 64) }
-    requires sound { input.old.faulted ≡ false }
-    ensures ok { IfOk result (AppendsRead buf.old.items buf.new.items
-        (R.remaining input.old.inner) (R.remaining input.new.inner)
-        input.old.moved input.new.moved room) }
-    ensures err { IfErr result (λ error. (error ≢ ReadError.Failed) × (error ≢ ReadError.InputTooLong)
-        × Reads (R.remaining input.old.inner) (R.remaining input.new.inner)
-        input.old.moved input.new.moved []) }
-    ensures fault { IsErrOf result ReadError.Read ↔ (input.new.faulted ≡ true) }
-{
-    let held = buf.len();
-    if buf.resize(held + room, 0).is_err() {
-        return Err(ReadError::OutOfMemory);
-    }
-    match input.read(&mut buf[held..]) {
-        Ok(count) => {
-            buf.truncate(held + count);
-            Ok(count)
-        }
-        Err(_) => {
-            buf.truncate(held);
-            Err(ReadError::Read)
-        }
-    }
-}
-
 /// Whether one more byte can be read.
 fn is_more<R: Read>(input: &mut Tally<R>) -> Result<bool, ReadError>
     requires sound { input.old.faulted ≡ false }
@@ -287,41 +280,71 @@ fn is_more<R: Read>(input: &mut Tally<R>) -> Result<bool, ReadError>
     }
 }
 
-/// Reads up to the end of the block that begins at `at`: the next event line, or `None` at the
-/// end of the text.
+/// How many of the first bytes held are given up before the next read, where `lost` bytes of the block that begins at `begin`
+/// were given up already and no event line is held behind its first byte.
+fn given_up(held: usize, begin: usize, lost: u64) -> usize
+    requires within { (begin ≤ held) × (lost + held < 2 ^ 64) }
+    requires long { 0 < lost → (block_limit ≤ lost) × (begin + 8 ≤ held) }
+    ensures { GivesUp held begin lost result }
+{
+    let size = lost + (held - begin) as u64;
+    if size < (BLOCK_LIMIT + EVENT_LINE.len()) as u64 {
+        begin
+    } else {
+        held - EVENT_LINE.len()
+    }
+}
+
+/// Reads up to the end of the block that begins at `at`: the next event line, or the end of the text.
 fn find_end<R: Read>(
-    buf: &mut Vec<u8>,
+    buf: &mut Buffer,
     at: usize,
     place: u64,
     input: &mut Tally<R>,
-) -> Result<Option<usize>, ReadError>
-    requires held { IsHeld buf.old.items at place }
+) -> Result<BlockEnd, ReadError>
+    requires held { IsHeld buf.old at place }
     requires sound { input.old.faulted ≡ false }
-    ensures ok { IfOk result (FindsEnd buf.old.items buf.new.items at place
+    ensures ok { IfOk result (FindsEnd (drop at buf.old) buf.new place
         (R.remaining input.old.inner) (R.remaining input.new.inner)
         input.old.moved input.new.moved) }
-    ensures err { IfErr result (FailsFrom place (drop at buf.old.items)
+    ensures err { IfErr result (FailsFrom place (drop at buf.old)
         (R.remaining input.old.inner) (R.remaining input.new.inner)
         input.old.moved input.new.moved) }
     ensures fault { IsErrOf result ReadError.Read ↔ (input.new.faulted ≡ true) }
 {
+    let mut begin = at;
+    let mut lost: u64 = 0;
     let mut from = at + 1;
     loop {
-        if let Some(cut) = find_cut(buf, from) {
-            return Ok(Some(cut));
+        if let Some(cut) = find_cut(buf.bytes(), from) {
+            return Ok(BlockEnd {
+                size: lost + (cut - begin) as u64,
+                at: cut,
+                is_last: false,
+            });
         }
+        let front = given_up(buf.len(), begin, lost);
+        buf.give_up(front);
+        lost += (front - begin) as u64;
+        begin = 0;
         let held = buf.len();
-        from = (held.saturating_sub(EVENT_LINE.len() - 1)).max(at + 1);
-        let room = LARGEST_OFFSET - place - (held - at) as u64;
+        from = held.saturating_sub(EVENT_LINE.len() - 1).max(1);
+        let end = BlockEnd {
+            size: lost + held as u64,
+            at: held,
+            is_last: true,
+        };
+        let room = LARGEST_OFFSET - place - end.size;
         if room == 0 {
             return match is_more(input) {
                 Ok(true) => Err(ReadError::InputTooLong),
-                Ok(false) => Ok(None),
+                Ok(false) => Ok(end),
                 Err(error) => Err(error),
             };
         }
-        match read_more(buf, room.min(CHUNK as u64) as usize, input) {
-            Ok(0) => return Ok(None),
+        let count = CHUNK.min(WINDOW_LIMIT - held).min(room as usize);
+        match buf.read_more(count, input) {
+            Ok(0) => return Ok(end),
             Ok(_) => {}
             Err(error) => return Err(error),
         }

@@ -75,6 +75,13 @@ impl<'a> RawGame<'a> {
         self.elements.as_slice()
     }
 
+    /// Each game that is handed out has its tags in the order of their names, each the contents of a string, and its variations paired.
+    pub fn known(&self)
+        ensures { IsGameText self.now }
+    {
+        let _ = &self.tags;
+    }
+
     /// The result, as it stands.
     pub fn result(&self) -> &'a [u8]
         ensures { result.now ≡ self.now.result }

@@ -1,6 +1,6 @@
 //! What holds of every text, whatever reads it. Each law is the contract of a function that does nothing.
 
-ghost use Rattle.pgn_text.specs.Laws.{AtMostOneGame, TextHasOneParting, BlockHasOneList, TextHasOneList, ResumesAnywhere, FrontHasThePiecesBefore, BlockKeepsPieces, TextKeepsPieces};
+ghost use Rattle.pgn_text.specs.Laws.{AtMostOneGame, GameHasAGameText, GameTextIsOne, TextHasOneParting, BlockHasOneList, TextHasOneList, ResumesAnywhere, FrontHasThePiecesBefore, BlockKeepsPieces, TextKeepsPieces};
 
 /// A text has one reading: one parting into blocks, one list of pieces in each block, and so one list of pieces with their offsets;
 /// and at any place of a block at most one game begins.
@@ -9,6 +9,12 @@ pub fn one_reading()
     ensures one_parting { TextHasOneParting }
     ensures one_list { BlockHasOneList }
     ensures one_marked_list { TextHasOneList }
+{}
+
+/// The parts of a game make one game text: its tags by their names, of each name the first, its elements and its result.
+pub fn one_game_text()
+    ensures some { GameHasAGameText }
+    ensures one { GameTextIsOne }
 {}
 
 /// A reading that begins again at a piece of a text gives that piece and those behind it, with the same offsets.

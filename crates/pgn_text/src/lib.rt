@@ -3,6 +3,7 @@
 #![tactic(auto)]
 
 mod blocks;
+mod buffer;
 mod class;
 mod draft;
 mod game;

@@ -1,7 +1,7 @@
 //! Sets of squares.
 ghost use Rattle.std.specs.Prelude.{◌≡◌, ◌&&◌, ◌||◌, ◌↔◌, ◌<◌, ◌≤◌, IsTrue, IsSome, Some, None, true};
 ghost use Rattle.chess.specs.Squares.{Place, IsOnBoard, same_square, index_of};
-ghost use Rattle.chess.specs.Sets.{is_in, no_places, size_of, IsTakenFirst};
+ghost use Rattle.chess.specs.Sets.{is_in, has_bit, no_places, size_of, HoldsExactly, IsTakenFirst};
 
 use crate::board::Square;
 use std::marker::Model;
@@ -31,6 +31,13 @@ impl SquareSet {
         ensures { result ≡ no_places }
     {
         SquareSet { word: 0 }
+    }
+
+    /// The set of the squares of a word: bit 0 is a1, bit 1 is b1, and so on to h1, a2 and h8.
+    pub(crate) fn of_word(word: u64) -> Self
+        ensures { HoldsExactly (λ (s : Place). has_bit word (index_of s) ≡ true) result }
+    {
+        SquareSet { word }
     }
 
     /// Puts a square into the set.

@@ -5,8 +5,18 @@ use super::support::{
     FAULT_BETWEEN, Fails, LOST_BRACE, Page, Pieces, Shelf, TWO_GAMES, Trial, run_words,
 };
 use pgn_extract::{Mode, Settings};
+use pgn_game::Style;
 use std::alloc::Global;
 use std::test::Fail;
+
+/// The main line with its comments and glyphs, in lines of at most 79 bytes.
+const PLAIN: Style = Style {
+    comments: true,
+    glyphs: true,
+    variations: false,
+    roster_only: false,
+    width: 79,
+};
 
 /// A whole run in the mode.
 fn all(mode: Mode) -> Settings
@@ -19,6 +29,7 @@ fn all(mode: Mode) -> Settings
         min_ply: 0,
         max_ply: u32::MAX,
         first: false,
+        style: PLAIN,
         number: 1,
         offset: 0,
     }
@@ -35,6 +46,7 @@ fn rest(mode: Mode) -> Settings
         min_ply: 0,
         max_ply: u32::MAX,
         first: false,
+        style: PLAIN,
         number: 2,
         offset: 22,
     }
@@ -46,13 +58,19 @@ fn front_of_two_games(len: usize) -> &'static [u8] {
 }
 
 /// The modes, with what the first of the two games gives, and both.
-const MODES: [(Mode, &str, &[u8], &[u8]); 2] = [
+const MODES: [(Mode, &str, &[u8], &[u8]); 3] = [
     (Mode::Index, "--index", b"1@0\n", b"1@0\n2@22\n"),
     (
         Mode::List,
         "--list",
         b"1@0 0\n1@0 1\n",
         b"1@0 0\n1@0 1\n2@22 0\n2@22 1\n",
+    ),
+    (
+        Mode::Export,
+        "-V",
+        b"[Event \"A\"]\n[Site \"?\"]\n[Date \"????.??.??\"]\n[Round \"?\"]\n[White \"?\"]\n[Black \"?\"]\n[Result \"*\"]\n\n1. e4 *\n\n",
+        b"[Event \"A\"]\n[Site \"?\"]\n[Date \"????.??.??\"]\n[Round \"?\"]\n[White \"?\"]\n[Black \"?\"]\n[Result \"*\"]\n\n1. e4 *\n\n[Event \"B\"]\n[Site \"?\"]\n[Date \"????.??.??\"]\n[Round \"?\"]\n[White \"?\"]\n[Black \"?\"]\n[Result \"*\"]\n\n1. d4 *\n\n",
     ),
 ];
 

@@ -95,26 +95,26 @@ impl Read for Pieces<'_> {
 }
 
 /// How many bytes a `Page` can hold.
-pub const PAGE: usize = 2048;
+pub const PAGE: usize = 4096;
 
 /// A writer over a fixed array that takes at most `piece` bytes a call, and fails once it holds `room` bytes, or at a flush.
 #[derive(Drop)]
 pub struct Page {
-    bytes: [u8; 2048],
+    bytes: [u8; 4096],
     len: usize,
     room: usize,
     piece: usize,
     fails: Fails,
     flush_fails: Fails,
     flushed: usize,
-    ghost within: { len ≤ 2048 },
+    ghost within: { len ≤ 4096 },
 }
 
 impl Page {
     /// A page with room for all that a test writes.
     pub fn new() -> Self {
         Page {
-            bytes: [0; 2048],
+            bytes: [0; 4096],
             len: 0,
             room: PAGE,
             piece: PAGE,

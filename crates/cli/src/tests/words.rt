@@ -5,7 +5,7 @@ use std::alloc::{AllocError, Global};
 use std::test::Fail;
 
 /// Words that are accepted, and refusals in their order.
-const ROWS: [Row; 12] = [
+const ROWS: [Row; 11] = [
     (&["--index", "games.pgn"], TWO_GAMES, b"1@0\n2@22\n", b"", 0),
     (&["--index"], TWO_GAMES, b"1@0\n2@22\n", b"", 0),
     (&["--index", "--from=01@00"], b"1. e4 *", b"1@0\n", b"", 0),
@@ -19,13 +19,6 @@ const ROWS: [Row; 12] = [
         b"",
         b"",
         0,
-    ),
-    (
-        &["--from", "0@0", "absent.pgn"],
-        TWO_GAMES,
-        b"",
-        b"pgn-extract: mode not built\n",
-        2,
     ),
     (
         &["--list", "--index", "--from", "0@0", "absent.pgn"],

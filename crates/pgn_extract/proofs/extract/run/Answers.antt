@@ -1,8 +1,7 @@
 use Rattle.std.proofs.lemmas.Result.{IfOk-weaker, IfErr-weaker}
 use Rattle.pgn_text.specs.Limits.{block_limit, depth_limit}
 use Rattle.pgn_extract.proofs.WholeRun.{ends_whole, skip_stands, stands_whole}
-use Rattle.pgn_game.proofs.OneReplay.{one_replay, one_fault, no_fault}
-use Rattle.pgn_extract.proofs.EntriesTold.{indexes_of, lists_of}
+use Rattle.pgn_extract.proofs.ModeOutputs.{indexes_of, lists_of, exports_of}
 use Rattle.pgn_extract.proofs.Resumed.{on_ok_some, resumes_of}
 use Rattle.pgn_extract.proofs.extract.run.Goals as goal
 
@@ -27,7 +26,12 @@ returns-in-Ok-clause-lists g c =
     on_ok_some c.run_blocks.result _ _ _ (λ summary whole ends. lists_of _ block_limit depth_limit _ _ whole _ _ _ _ summary ends)
     (IfOk-weaker c.run_blocks.result _ _ (λ summary ends. ends_whole _ _ _ _ _ _ _ _ c.in-Ok.ensures.ok ends) c.run_blocks.ensures.ok)
 
+pub returns-in-Ok-clause-exports : goal.returns-in-Ok-clause-exports
+returns-in-Ok-clause-exports g c =
+    on_ok_some c.run_blocks.result _ _ _ (λ summary whole ends. exports_of _ block_limit depth_limit _ _ whole _ _ _ _ summary ends)
+    (IfOk-weaker c.run_blocks.result _ _ (λ summary ends. ends_whole _ _ _ _ _ _ _ _ c.in-Ok.ensures.ok ends) c.run_blocks.ensures.ok)
+
 pub returns-in-Ok-clause-resumes : goal.returns-in-Ok-clause-resumes
 returns-in-Ok-clause-resumes g c =
-    on_ok_some c.run_blocks.result _ _ _ (λ summary whole ends. resumes_of one_replay one_fault no_fault _ block_limit depth_limit _ _ whole _ _ _ _ summary ends)
+    on_ok_some c.run_blocks.result _ _ _ (λ summary whole ends. resumes_of _ block_limit depth_limit _ _ whole _ _ _ _ summary ends)
     (IfOk-weaker c.run_blocks.result _ _ (λ summary ends. ends_whole _ _ _ _ _ _ _ _ c.in-Ok.ensures.ok ends) c.run_blocks.ensures.ok)

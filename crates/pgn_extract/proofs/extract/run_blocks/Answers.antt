@@ -2,7 +2,7 @@ use Rattle.std.proofs.Common.{Err, ap, subst, refl, inl, inr}
 use Rattle.std.proofs.lemmas.Bool.{both_ways, false_from_ne_true}
 use Rattle.pgn_text.specs.Tallies.{Reads}
 use Rattle.pgn_text.specs.declared.blocks.ReadError.{ReadError}
-use Rattle.pgn_extract.proofs.RunProgress.{progress_start, nearer, progress_more, block_breaks, all_told, flush_breaks, read_breaks}
+use Rattle.pgn_extract.proofs.RunProgress.{progress_start, nearer, progress_more, block_breaks, all_written, flush_breaks, read_breaks}
 use Rattle.pgn_extract.proofs.extract.run_blocks.Goals as goal
 
 pub loop-block-init : goal.loop-block-init
@@ -30,7 +30,7 @@ returns-in-Err-put_block-clause-err g c =
 pub returns-in-Ok-finish_both-clause-ok : goal.returns-in-Ok-finish_both-clause-ok
 returns-in-Ok-finish_both-clause-ok g c =
     let gives = rw (c.in-Ok-None.is, c.in-Ok-None.field-0-is) at c.next.follows.holds-at-none in
-    all_told c.loop-block.invariant.0 gives.2.0 (subst (Reads _ _ _ _) gives.2.1 gives.1) c.finish_both.ensures.kept.0 c.finish_both.ensures.kept.1 refl refl
+    all_written c.loop-block.invariant.0 gives.2.0 (subst (Reads _ _ _ _) gives.2.1 gives.1) c.finish_both.ensures.kept.0 c.finish_both.ensures.kept.1 refl refl
 
 pub returns-in-Err-finish_both-clause-err : goal.returns-in-Err-finish_both-clause-err
 returns-in-Err-finish_both-clause-err g c =

@@ -1,4 +1,4 @@
-use Rattle.std.proofs.Common.{refl, subst, arith}
+use Rattle.std.proofs.Common.{refl, subst}
 use Rattle.std.specs.Prelude.{IfSome}
 use Rattle.std.proofs.lemmas.Result.{on_ok_weaker}
 use Rattle.pgn_text.specs.GameTexts.{tag_in}
@@ -6,7 +6,7 @@ use Rattle.pgn_game.specs.Faults.{IsFault}
 use Rattle.pgn_game.specs.declared.replayer.Lines.TheVariants.{Main}
 use Rattle.pgn_game.specs.Starts.{fen_tag}
 use Rattle.pgn_extract.specs.Aims.{aim_of}
-use Rattle.pgn_extract.proofs.GameTold.{listed_replay, listed_fault}
+use Rattle.pgn_extract.proofs.GameVerdict.{listed_replay, listed_fault}
 use Rattle.pgn_extract.proofs.report.add_listed.Goals as goal
 
 pub returns-in-Ok : goal.returns-in-Ok
@@ -15,8 +15,9 @@ returns-in-Ok c =
     (λ lines. listed_replay (aim_of c.args.settings.now) c.in-Ok.replayed lines.0 c.in-Ok.ensures lines.1 (record { output = lines.2; faults = refl; games = refl; faulty = refl }))
     c.push_entries.ensures
 
-pub returns-in_ok-push_game_fault-in-Err : goal.returns-in_ok-push_game_fault-in-Err
-returns-in_ok-push_game_fault-in-Err c =
-    let told = c.in_ok-push_game_fault-in-Err.ensures in
-    listed_fault (aim_of c.args.settings.now) told.0 (subst (λ o. IfSome o (IsFault Main (tag_in fen_tag c.args.game.now.tags) c.args.game.now.elements)) told.1 c.in-Err.ensures)
-    (record { output = refl; faults = told.2; games = omega arith; faulty = refl })
+pub returns-in-Err : goal.returns-in-Err
+returns-in-Err c =
+    on_ok_weaker c.add_fault.result
+    (λ of. listed_fault (aim_of c.args.settings.now) of.0
+    (subst (λ o. IfSome o (IsFault Main (tag_in fen_tag c.args.game.now.tags) c.args.game.now.elements)) of.1 c.in-Err.ensures) of.2)
+    c.add_fault.ensures

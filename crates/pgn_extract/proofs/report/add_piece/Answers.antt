@@ -1,7 +1,7 @@
 use Rattle.std.proofs.Common.{◌+◌, refl, ap}
 use Rattle.std.proofs.lemmas.Result.{on_ok_weaker}
 use Rattle.pgn_extract.specs.Aims.{aim_of}
-use Rattle.pgn_extract.proofs.GameTold.{piece_game, piece_unreadable}
+use Rattle.pgn_extract.proofs.GameVerdict.{piece_game, piece_unreadable}
 use Rattle.pgn_extract.proofs.report.add_piece.Goals as goal
 
 pub returns-in-Game : goal.returns-in-Game

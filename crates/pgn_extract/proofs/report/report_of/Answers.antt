@@ -8,11 +8,11 @@ use Rattle.pgn_extract.proofs.report.report_of.Goals as goal
 pub returns-in-TooLong : goal.returns-in-TooLong
 returns-in-TooLong c =
     IfOk-weaker c.too_long_report.result _ _
-    (λ report told bytes shows.
+    (λ report verdict bytes shows.
     let long = rw c.in-TooLong.is at shows in record {
       own = too_long_piece c.args.block.offset ∷ [];
       each = over long refl;
-      told = told (aim_of c.args.settings.now);
+      written = verdict (aim_of c.args.settings.now);
       few = omega arith;
     })
     c.too_long_report.ensures

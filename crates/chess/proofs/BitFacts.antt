@@ -1,0 +1,318 @@
+-- Twelve words as a board: the man on a square, a man that is put, and the words of a man and of the empty squares.
+use Rattle.std.proofs.Common.{◌≡◌, ◌↔◌, ◌<◌, ◌≤◌, ◌+◌, ◌-◌, ◌*◌, ◌%◌, ◌^◌, bit_or, bit_and, w64, length, slice_set, ◌&&◌, ◌||◌, ℕ, zero, suc, Bool, true, false, not, nat_eq, inl, inr, ap, refl, sym, subst, ◌∙◌, arith, if◌then◌else◌, List, Option, Some, None}
+use Rattle.std.proofs.lemmas.Bool.{agree_below, agree_below_at, cases_eq}
+use Rattle.std.specs.Int.{bit_at, bit_not}
+use Rattle.std.proofs.lemmas.Nat.Bits.{bit_at-lt, bit_at_not, bit_at_set_same, bit_at_set_other, bit_at_clear_same, bit_at_clear_other}
+use Rattle.std.specs.Prelude.{replicate}
+use Rattle.std.proofs.lemmas.List.{get_or-set_same, get_or-set_other, get_or-replicate, length-set}
+use Rattle.std.proofs.lemmas.Bool.Decides.{nat_tests}
+use Rattle.chess.specs.Squares.{Place, IsOnBoard, index_of}
+use Rattle.chess.specs.Placements.{no_men, man_at, with_man, IsEmpty}
+use Rattle.chess.specs.Sets.{has_bit}
+use Rattle.chess.specs.SetFacts.{index_of-below, false_of}
+use Rattle.chess.specs.CellFacts.{man_at-men_of, men_of-put, men_of-none}
+use Rattle.chess.specs.BitWords.{IsWordOf, AreApart, man_below, man_in, words_men, word_at, row_of, man_of_row, is_row, IsCleared, IsBitSet, number_of_side, number_of_kind}
+use Rattle.chess.specs.declared.board.man.Man.{Man}
+use Rattle.chess.specs.declared.board.man.Side.{Side}
+use Rattle.chess.specs.declared.board.man.Kind.{Kind}
+use Rattle.chess.specs.declared.board.man.Side.TheVariants.{White, Black}
+use Rattle.chess.specs.declared.board.man.Kind.TheVariants.{King, Queen, Rook, Bishop, Knight, Pawn}
+use Rattle.chess.proofs.PlaceFacts.{true_not_false}
+use Rattle.chess.proofs.FillFacts.{bit_of_either, or_either, or_left, or_right, no_bit}
+
+are_same : (a b : ℕ) → nat_eq a b ≡ true → a ≡ b
+are_same a b e = grind (arith, nat_tests)
+
+same_is : (a b : ℕ) → a ≡ b → nat_eq a b ≡ true
+same_is a b e = grind (arith, nat_tests)
+
+other_is : (a b : ℕ) → (a ≡ b → ⊥) → nat_eq a b ≡ false
+other_is a b h = false_of (nat_eq a b) (λ e. h (are_same a b e))
+
+-- ---- the words of men
+
+men_back : (side : Side) (other : Kind) → man_of_row (number_of_side side + number_of_kind other) ≡ record { side = side; kind = other }
+men_back White King = refl
+men_back White Queen = refl
+men_back White Rook = refl
+men_back White Bishop = refl
+men_back White Knight = refl
+men_back White Pawn = refl
+men_back Black King = refl
+men_back Black Queen = refl
+men_back Black Rook = refl
+men_back Black Bishop = refl
+men_back Black Knight = refl
+men_back Black Pawn = refl
+
+pub man_of_row-row_of : (man : Man) → man_of_row (row_of man) ≡ man
+man_of_row-row_of man = men_back man.side man.kind
+
+row_back : ℕ → Bool
+row_back n = nat_eq (row_of (man_of_row n)) n
+
+rows_back : agree_below row_back (λ _. true) 12 ≡ true
+unfolding row_back
+rows_back = refl
+
+row_of-man_of_row : (n : ℕ) → n < 12 → row_of (man_of_row n) ≡ n
+unfolding row_back
+row_of-man_of_row n h = are_same _ _ (agree_below_at row_back (λ _. true) 12 n rows_back h)
+
+kind_below : (other : Kind) → number_of_kind other < 6
+kind_below King = omega arith
+kind_below Queen = omega arith
+kind_below Rook = omega arith
+kind_below Bishop = omega arith
+kind_below Knight = omega arith
+kind_below Pawn = omega arith
+
+side_below : (side : Side) → number_of_side side ≤ 6
+side_below White = omega arith
+side_below Black = omega arith
+
+pub row_of-below : (man : Man) → row_of man < 12
+row_of-below man = let a = side_below man.side in let b = kind_below man.kind in omega arith
+
+-- ---- the man on a square
+
+pub has_man : (words : List ℕ) (n k i : ℕ) → AreApart words → n ≤ 12 → k < n → i < 64 → has_bit (word_at words k) i ≡ true
+    → man_below words n i ≡ Some (man_of_row k)
+unfolding man_below
+has_man words zero k i apart within less on bit = absurd (omega arith)
+has_man words (suc n) k i apart within less on bit =
+    elim (has_bit (word_at words n) i) as (λ b. has_bit (word_at words n) i ≡ b → (if b then Some (man_of_row n) else man_below words n i) ≡ Some (man_of_row k)) [
+      | true ↦ λ e. ap (λ m. Some (man_of_row m)) (apart n k i (omega arith) (omega arith) on e bit)
+      | false ↦ λ e. elim (cases_eq k n) [
+        | inl same ↦ absurd (true_not_false _ (ap (λ m. has_bit (word_at words m) i) (sym same) ∙ bit) e)
+        | inr other ↦ has_man words n k i apart (omega arith) (omega arith) on bit
+      ]
+    ] refl
+
+pub no_man : (words : List ℕ) (n i : ℕ) → ((k : ℕ) → k < n → has_bit (word_at words k) i ≡ false) → man_below words n i ≡ None
+unfolding man_below
+no_man words zero i none = refl
+no_man words (suc n) i none =
+    ap (λ b. if b then Some (man_of_row n) else man_below words n i) (none n (omega arith)) ∙ no_man words n i (λ k less. none k (omega arith))
+
+pub found_man : (words : List ℕ) (n i : ℕ) (man : Man) → man_below words n i ≡ Some man
+    → (k : ℕ) × (k < n) × (has_bit (word_at words k) i ≡ true) × (man ≡ man_of_row k)
+unfolding man_below
+found_man words zero i man e = let f : None ≡ Some man = e in absurd (cc)
+found_man words (suc n) i man e =
+    elim (has_bit (word_at words n) i) as (λ b. has_bit (word_at words n) i ≡ b → (if b then Some (man_of_row n) else man_below words n i) ≡ Some man
+    → (k : ℕ) × (k < suc n) × (has_bit (word_at words k) i ≡ true) × (man ≡ man_of_row k)) [
+      | true ↦ λ bit f. (n, omega arith, bit, cc)
+      | false ↦ λ bit f. let h = found_man words n i man f in let less = h.1 in (h.0, omega arith, h.2, h.3)
+    ] refl e
+
+pub man_at-words : (words : List ℕ) (s : Place) → IsOnBoard s → man_at (words_men words) s ≡ man_in words (index_of s)
+man_at-words words s on = man_at-men_of (man_in words) s on
+
+-- a man's word has the squares on which he stands
+pub word_of_man : (words : List ℕ) (man : Man) → AreApart words → IsWordOf (λ s. man_at (words_men words) s ≡ Some man) (word_at words (row_of man))
+word_of_man words man apart s on =
+    let at = man_at-words words s on in (
+      (λ e. at ∙ has_man words 12 (row_of man) (index_of s) apart (omega arith) (row_of-below man) (index_of-below s on) e ∙ ap Some (man_of_row-row_of man)),
+      (λ here.
+          let f = found_man words 12 (index_of s) man (sym at ∙ here) in
+          subst (λ r. has_bit (word_at words r) (index_of s) ≡ true) (sym (ap row_of f.3 ∙ row_of-man_of_row f.0 f.1)) f.2),
+    )
+
+-- ---- the empty squares
+
+-- the bits of the first n words
+abbrev pub IsUnion : List ℕ → ℕ → ℕ → Type 0
+IsUnion words n all = (i : ℕ) → (has_bit all i ≡ true) ↔ ((k : ℕ) × (k < n) × (has_bit (word_at words k) i ≡ true))
+
+pub union_none : (words : List ℕ) → IsUnion words 0 0
+union_none words i = (
+  (λ e. absurd (true_not_false _ e (no_bit i))),
+  (λ h. let less = h.1 in absurd (omega arith)),
+)
+
+pub union_more : (words : List ℕ) (n all : ℕ) → IsUnion words n all → IsUnion words (n + 1) (bit_or all (word_at words n))
+union_more words n all so_far i =
+    let bit = bit_of_either all (word_at words n) i in (
+      (λ e. elim (or_either _ _ (sym bit ∙ e)) [
+        | inl old ↦ let h = (so_far i).0 old in let less = h.1 in (h.0, omega arith, h.2)
+        | inr new ↦ (n, omega arith, new)
+      ]),
+      (λ h. let less = h.1 in bit ∙ elim (cases_eq h.0 n) [
+        | inl same ↦ or_right _ _ (ap (λ k. has_bit (word_at words k) i) (sym same) ∙ h.2)
+        | inr other ↦ or_left _ _ ((so_far i).1 (h.0, omega arith, h.2))
+      ]),
+    )
+
+not_one : (b : ℕ) → b < 2 → nat_eq (1 - b) 1 ≡ not (nat_eq b 1)
+not_one b h = grind (arith, nat_tests)
+
+not_true : (b : Bool) → not b ≡ true → b ≡ false
+not_true true e = sym e
+not_true false e = refl
+
+pub word_of_empty : (words : List ℕ) (all : ℕ) → AreApart words → IsUnion words 12 all → all < 2 ^ 64
+    → IsWordOf (IsEmpty (words_men words)) (bit_not w64 all)
+word_of_empty words all apart union fits s on =
+    let at = man_at-words words s on in
+    let i = index_of s in
+    let below = index_of-below s on in
+    let bit : has_bit (bit_not w64 all) i ≡ not (has_bit all i) =
+    ap (λ n. nat_eq n 1) (bit_at_not w64 all i fits below) ∙ not_one (bit_at all i) (bit_at-lt all i) in (
+      (λ e. at ∙ no_man words 12 i (λ k less. false_of _ (λ one.
+          true_not_false _ ((union i).1 (k, less, one)) (not_true _ (sym bit ∙ e))))),
+      (λ here. bit ∙ ap not (false_of (has_bit all i) (λ one.
+          let k = (union i).0 one in
+          let man = has_man words 12 k.0 i apart (omega arith) k.1 below k.2 in
+          let clash : None ≡ Some (man_of_row k.0) = sym here ∙ at ∙ man in cc))),
+    )
+
+-- ---- a man that is put
+
+-- the square has the man's bit alone, and all other squares have theirs as before
+abbrev pub IsPut : List ℕ → List ℕ → ℕ → Option Man → Type 0
+IsPut old new at man =
+    (k i : ℕ) → k < 12 → i < 64 → has_bit (word_at new k) i ≡ (if nat_eq i at then is_row man k else has_bit (word_at old k) i)
+
+put_here : (old new : List ℕ) (at : ℕ) (man : Option Man) → IsPut old new at man → (k i : ℕ) → k < 12 → i < 64 → i ≡ at → has_bit (word_at new k) i ≡ is_row man k
+put_here old new at man put k i within on e =
+    put k i within on ∙ ap (λ b. if b then is_row man k else has_bit (word_at old k) i) (same_is i at e)
+
+put_there : (old new : List ℕ) (at : ℕ) (man : Option Man) → IsPut old new at man → (k i : ℕ) → k < 12 → i < 64 → (i ≡ at → ⊥)
+    → has_bit (word_at new k) i ≡ has_bit (word_at old k) i
+put_there old new at man put k i within on e =
+    put k i within on ∙ ap (λ b. if b then is_row man k else has_bit (word_at old k) i) (other_is i at e)
+
+one_row : (man : Option Man) (j k : ℕ) → is_row man j ≡ true → is_row man k ≡ true → j ≡ k
+one_row None j k a b = let f : false ≡ true = a in absurd (cc)
+one_row (Some man) j k a b = are_same j (row_of man) a ∙ sym (are_same k (row_of man) b)
+
+pub put_apart : (old new : List ℕ) (at : ℕ) (man : Option Man) → AreApart old → IsPut old new at man → AreApart new
+put_apart old new at man apart put j k i in_j in_k on a b = elim (cases_eq i at) [
+  | inl same ↦ one_row man j k (sym (put_here old new at man put j i in_j on same) ∙ a) (sym (put_here old new at man put k i in_k on same) ∙ b)
+  | inr other ↦
+      apart j k i in_j in_k on (sym (put_there old new at man put j i in_j on other) ∙ a) (sym (put_there old new at man put k i in_k on other) ∙ b)
+]
+
+man_here : (old new : List ℕ) (at : ℕ) (man : Option Man) → at < 64 → AreApart new → IsPut old new at man → man_below new 12 at ≡ man
+man_here old new at None on apart put = no_man new 12 at (λ k less. put_here old new at None put k at less on refl)
+man_here old new at (Some man) on apart put =
+    has_man new 12 (row_of man) at apart (omega arith) (row_of-below man) on
+    (put_here old new at (Some man) put (row_of man) at (row_of-below man) on refl ∙ same_is (row_of man) (row_of man) refl)
+    ∙ ap Some (man_of_row-row_of man)
+
+man_there : (old new : List ℕ) (n i : ℕ) → ((k : ℕ) → k < n → has_bit (word_at new k) i ≡ has_bit (word_at old k) i) → man_below new n i ≡ man_below old n i
+unfolding man_below
+man_there old new zero i same = refl
+man_there old new (suc n) i same =
+    ap (λ b. if b then Some (man_of_row n) else man_below new n i) (same n (omega arith))
+    ∙ ap (λ (m : Option Man). if has_bit (word_at old n) i then Some (man_of_row n) else m) (man_there old new n i (λ k less. same k (omega arith)))
+
+pub put_men : (old new : List ℕ) (s : Place) (man : Option Man) → IsOnBoard s → AreApart old → IsPut old new (index_of s) man
+    → words_men new ≡ with_man (words_men old) s man
+put_men old new s man on apart put =
+    men_of-put (man_in old) (man_in new) s man on
+    (man_here old new (index_of s) man (index_of-below s on) (put_apart old new (index_of s) man apart put) put)
+    (λ i within other. man_there old new 12 i (λ k less. put_there old new (index_of s) man put k i less within other))
+
+-- the code's two steps
+and_none : (b : Bool) → (b && not true) ≡ false
+and_none true = refl
+and_none false = refl
+
+and_all : (b : Bool) → (b && not false) ≡ b
+and_all true = refl
+and_all false = refl
+
+cleared_put : (b c : Bool) → (b && not c) ≡ (if c then false else b)
+cleared_put true true = refl
+cleared_put true false = refl
+cleared_put false true = refl
+cleared_put false false = refl
+
+set_put : (b c r : Bool) → ((r && c) || (b && not c)) ≡ (if c then r else b)
+set_put true true true = refl
+set_put true true false = refl
+set_put true false true = refl
+set_put true false false = refl
+set_put false true true = refl
+set_put false true false = refl
+set_put false false true = refl
+set_put false false false = refl
+
+pub put_none : (old new : List ℕ) (at : ℕ) → IsCleared old new at → IsPut old new at None
+put_none old new at cleared k i less on = cleared k i less on ∙ cleared_put (has_bit (word_at old k) i) (nat_eq i at)
+
+pub put_some : (old mid new : List ℕ) (at : ℕ) (man : Man) → IsCleared old mid at → IsBitSet mid new (row_of man) at → IsPut old new at (Some man)
+put_some old mid new at man cleared set k i less on =
+    set k i less on ∙ ap (λ b. (nat_eq k (row_of man) && nat_eq i at) || b) (cleared k i less on)
+    ∙ set_put (has_bit (word_at old k) i) (nat_eq i at) (nat_eq k (row_of man))
+
+-- the first n words are cleared
+pub record IsClearedTo (old new : List ℕ) (n at : ℕ) : Type 0 where
+  pub size : length new ≡ 12
+  pub before : (k i : ℕ) → k < n → i < 64 → has_bit (word_at new k) i ≡ (has_bit (word_at old k) i && not (nat_eq i at))
+  pub behind : (k : ℕ) → n ≤ k → word_at new k ≡ word_at old k
+
+pub cleared_none : (words : List ℕ) (at : ℕ) → length words ≡ 12 → IsClearedTo words words 0 at
+cleared_none words at size = record { size = size; before = λ k i less on. absurd (omega arith); behind = λ k more. refl }
+
+cleared_bit : (word at i : ℕ) → at < 64 → i < 64 → has_bit (bit_and word (bit_not w64 (1 * 2 ^ at % 2 ^ 64))) i ≡ (has_bit word i && not (nat_eq i at))
+cleared_bit word at i within on = elim (cases_eq i at) [
+  | inl same ↦
+      ap (λ j. has_bit (bit_and word (bit_not w64 (1 * 2 ^ at % 2 ^ 64))) j) same ∙ ap (λ n. nat_eq n 1) (bit_at_clear_same w64 word at within)
+      ∙ sym (ap (λ b. has_bit word i && not b) (same_is i at same) ∙ and_none (has_bit word i))
+  | inr other ↦
+      ap (λ n. nat_eq n 1) (bit_at_clear_other w64 word at within i on other)
+      ∙ sym (ap (λ b. has_bit word i && not b) (other_is i at other) ∙ and_all (has_bit word i))
+]
+
+pub cleared_more : (old new : List ℕ) (n at : ℕ) → at < 64 → n < 12 → IsClearedTo old new n at
+    → IsClearedTo old (slice_set new n (bit_and (word_at new n) (bit_not w64 (1 * 2 ^ at % 2 ^ 64)))) (n + 1) at
+cleared_more old new n at within on so_far =
+    let size = so_far.size in
+    let word = bit_and (word_at new n) (bit_not w64 (1 * 2 ^ at % 2 ^ 64)) in record {
+      size = length-set new n word ∙ size;
+      before = λ k i less in_word. elim (cases_eq k n) [
+        | inl same ↦
+            ap (λ j. has_bit (word_at (slice_set new n word) j) i) same ∙ ap (λ w. has_bit w i) (get_or-set_same new n word 0 (omega arith))
+            ∙ cleared_bit (word_at new n) at i within in_word
+            ∙ ap (λ w. has_bit w i && not (nat_eq i at)) (so_far.behind n (omega arith))
+            ∙ ap (λ j. has_bit (word_at old j) i && not (nat_eq i at)) (sym same)
+        | inr other ↦ ap (λ w. has_bit w i) (get_or-set_other new n k word 0 other) ∙ so_far.before k i (omega arith) in_word
+      ];
+      behind = λ k more. get_or-set_other new n k word 0 (λ e. omega arith) ∙ so_far.behind k (omega arith);
+    }
+
+set_bit : (word at i : ℕ) → at < 64 → has_bit (bit_or word (1 * 2 ^ at % 2 ^ 64)) i ≡ (nat_eq i at || has_bit word i)
+set_bit word at i within = elim (cases_eq i at) [
+  | inl same ↦
+      ap (λ j. has_bit (bit_or word (1 * 2 ^ at % 2 ^ 64)) j) same ∙ ap (λ n. nat_eq n 1) (bit_at_set_same w64 word at within)
+      ∙ sym (ap (λ b. b || has_bit word i) (same_is i at same))
+  | inr other ↦
+      ap (λ n. nat_eq n 1) (bit_at_set_other w64 word at within i other) ∙ sym (ap (λ b. b || has_bit word i) (other_is i at other))
+]
+
+pub set_one : (old : List ℕ) (row at : ℕ) → length old ≡ 12 → row < 12 → at < 64
+    → IsBitSet old (slice_set old row (bit_or (word_at old row) (1 * 2 ^ at % 2 ^ 64))) row at
+set_one old row at size in_row within k i less on =
+    let word = bit_or (word_at old row) (1 * 2 ^ at % 2 ^ 64) in elim (cases_eq k row) [
+      | inl same ↦
+          ap (λ j. has_bit (word_at (slice_set old row word) j) i) same ∙ ap (λ w. has_bit w i) (get_or-set_same old row word 0 (omega arith))
+          ∙ set_bit (word_at old row) at i within
+          ∙ ap (λ j. nat_eq i at || has_bit (word_at old j) i) (sym same)
+          ∙ sym (ap (λ b. (b && nat_eq i at) || has_bit (word_at old k) i) (same_is k row same))
+      | inr other ↦
+          ap (λ w. has_bit w i) (get_or-set_other old row k word 0 other)
+          ∙ sym (ap (λ b. (b && nat_eq i at) || has_bit (word_at old k) i) (other_is k row other))
+    ]
+
+-- no words hold no men
+no_words : (k i : ℕ) → k < 12 → has_bit (word_at (replicate 12 0) k) i ≡ false
+no_words k i less = ap (λ w. has_bit w i) (get_or-replicate 12 k 0 0 less) ∙ no_bit i
+
+pub no_words_apart : AreApart (replicate 12 0)
+no_words_apart j k i in_j in_k on a b = absurd (true_not_false _ a (no_words j i in_j))
+
+pub no_words_men : words_men (replicate 12 0) ≡ no_men
+no_words_men = men_of-none (man_in (replicate 12 0)) (λ n. no_man (replicate 12 0) 12 n (λ k less. no_words k n less)) 64

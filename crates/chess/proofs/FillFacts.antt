@@ -1,0 +1,404 @@
+-- Rays filled square by square, from one square and along one way.
+use Rattle.std.proofs.Common.{◌≡◌, ◌⊎◌, ◌<◌, ◌≤◌, ◌+◌, ◌-◌, ◌*◌, ◌^◌, ◌&&◌, ◌||◌, bit_and, bit_or, ℕ, Bool, true, false, nat_eq, inl, inr, ap, refl, sym, subst, ◌∙◌, arith, min, max, pow_pos}
+use Rattle.std.specs.Int.{bit_at}
+use Rattle.std.proofs.lemmas.Nat.{and_mask}
+use Rattle.std.proofs.lemmas.Bool.{cases_eq, cases_lt}
+use Rattle.std.proofs.lemmas.Bool.Decides.{nat_tests}
+use Rattle.std.proofs.lemmas.Nat.Bits.{bit_at-zero, bit_at-lt, bit_at_or, bit_at_and, bit_at-pow_same, bit_at-pow_other, and_pow}
+use Rattle.chess.specs.Squares.{Place, IsOnBoard, IsStraight, IsAhead, index_of, square_at}
+use Rattle.chess.specs.SetFacts.{square_at-index_of}
+use Rattle.chess.specs.Placements.{Placement, IsEmpty}
+use Rattle.chess.specs.Attacks.{IsOnRay, IsClearFor}
+use Rattle.chess.specs.Sets.{has_bit}
+use Rattle.chess.specs.BitWords.{IsWordOf, IsNextWord, IsStraightRun, IsDiagonalRun, square_word}
+use Rattle.chess.specs.declared.board.direction.Direction.{Direction}
+use Rattle.chess.specs.declared.board.direction.Direction.TheVariants.{North, South, East, West, NorthEast, NorthWest, SouthEast, SouthWest}
+
+-- ---- squares ahead
+
+-- a square is the only one so many steps ahead
+file_rank : (s t : Place) → s.file ≡ t.file → s.rank ≡ t.rank → s ≡ t
+file_rank s t e f = λ i. record { file = e i; rank = f i }
+
+pub one_ahead : (way : Direction) (k : ℕ) (s t u : Place) → IsAhead way k s t → IsAhead way k s u → t ≡ u
+one_ahead North k s t u a b = let a1 = a.0 in let a2 = a.1 in let b1 = b.0 in let b2 = b.1 in file_rank t u (omega arith) (omega arith)
+one_ahead South k s t u a b = let a1 = a.0 in let a2 = a.1 in let b1 = b.0 in let b2 = b.1 in file_rank t u (omega arith) (omega arith)
+one_ahead East k s t u a b = let a1 = a.0 in let a2 = a.1 in let b1 = b.0 in let b2 = b.1 in file_rank t u (omega arith) (omega arith)
+one_ahead West k s t u a b = let a1 = a.0 in let a2 = a.1 in let b1 = b.0 in let b2 = b.1 in file_rank t u (omega arith) (omega arith)
+one_ahead NorthEast k s t u a b = let a1 = a.0 in let a2 = a.1 in let b1 = b.0 in let b2 = b.1 in file_rank t u (omega arith) (omega arith)
+one_ahead NorthWest k s t u a b = let a1 = a.0 in let a2 = a.1 in let b1 = b.0 in let b2 = b.1 in file_rank t u (omega arith) (omega arith)
+one_ahead SouthEast k s t u a b = let a1 = a.0 in let a2 = a.1 in let b1 = b.0 in let b2 = b.1 in file_rank t u (omega arith) (omega arith)
+one_ahead SouthWest k s t u a b = let a1 = a.0 in let a2 = a.1 in let b1 = b.0 in let b2 = b.1 in file_rank t u (omega arith) (omega arith)
+
+-- no step leads to the square itself
+pub itself : (way : Direction) (s : Place) → IsAhead way 0 s s
+itself North s = (refl, omega arith)
+itself South s = (refl, omega arith)
+itself East s = (omega arith, refl)
+itself West s = (omega arith, refl)
+itself NorthEast s = (omega arith, omega arith)
+itself NorthWest s = (omega arith, omega arith)
+itself SouthEast s = (omega arith, omega arith)
+itself SouthWest s = (omega arith, omega arith)
+
+-- steps follow on one another
+pub ahead_more : (way : Direction) (j k : ℕ) (s u t : Place) → IsAhead way j s u → IsAhead way k u t → IsAhead way (j + k) s t
+ahead_more North j k s u t a b = let a1 = a.0 in let a2 = a.1 in let b1 = b.0 in let b2 = b.1 in (omega arith, omega arith)
+ahead_more South j k s u t a b = let a1 = a.0 in let a2 = a.1 in let b1 = b.0 in let b2 = b.1 in (omega arith, omega arith)
+ahead_more East j k s u t a b = let a1 = a.0 in let a2 = a.1 in let b1 = b.0 in let b2 = b.1 in (omega arith, omega arith)
+ahead_more West j k s u t a b = let a1 = a.0 in let a2 = a.1 in let b1 = b.0 in let b2 = b.1 in (omega arith, omega arith)
+ahead_more NorthEast j k s u t a b = let a1 = a.0 in let a2 = a.1 in let b1 = b.0 in let b2 = b.1 in (omega arith, omega arith)
+ahead_more NorthWest j k s u t a b = let a1 = a.0 in let a2 = a.1 in let b1 = b.0 in let b2 = b.1 in (omega arith, omega arith)
+ahead_more SouthEast j k s u t a b = let a1 = a.0 in let a2 = a.1 in let b1 = b.0 in let b2 = b.1 in (omega arith, omega arith)
+ahead_more SouthWest j k s u t a b = let a1 = a.0 in let a2 = a.1 in let b1 = b.0 in let b2 = b.1 in (omega arith, omega arith)
+
+-- what is left of the steps leads from the one square to the other
+pub ahead_rest : (way : Direction) (j k : ℕ) (s u t : Place) → IsAhead way j s u → IsAhead way (j + k) s t → IsAhead way k u t
+ahead_rest North j k s u t a b = let a1 = a.0 in let a2 = a.1 in let b1 = b.0 in let b2 = b.1 in (omega arith, omega arith)
+ahead_rest South j k s u t a b = let a1 = a.0 in let a2 = a.1 in let b1 = b.0 in let b2 = b.1 in (omega arith, omega arith)
+ahead_rest East j k s u t a b = let a1 = a.0 in let a2 = a.1 in let b1 = b.0 in let b2 = b.1 in (omega arith, omega arith)
+ahead_rest West j k s u t a b = let a1 = a.0 in let a2 = a.1 in let b1 = b.0 in let b2 = b.1 in (omega arith, omega arith)
+ahead_rest NorthEast j k s u t a b = let a1 = a.0 in let a2 = a.1 in let b1 = b.0 in let b2 = b.1 in (omega arith, omega arith)
+ahead_rest NorthWest j k s u t a b = let a1 = a.0 in let a2 = a.1 in let b1 = b.0 in let b2 = b.1 in (omega arith, omega arith)
+ahead_rest SouthEast j k s u t a b = let a1 = a.0 in let a2 = a.1 in let b1 = b.0 in let b2 = b.1 in (omega arith, omega arith)
+ahead_rest SouthWest j k s u t a b = let a1 = a.0 in let a2 = a.1 in let b1 = b.0 in let b2 = b.1 in (omega arith, omega arith)
+
+-- between a square of the board and one ahead of it there is one at each number of steps
+pub between_ahead : (way : Direction) (j k : ℕ) (s t : Place) → j ≤ k → IsOnBoard s → IsOnBoard t → IsAhead way k s t
+    → (u : Place) × IsOnBoard u × IsAhead way j s u
+between_ahead North j k s t less on on_t a =
+    let a1 = a.0 in let a2 = a.1 in
+    let x = on.file_low in let y = on.file_high in let z = on.rank_low in let v = on.rank_high in
+    let p = on_t.file_low in let q = on_t.file_high in let m = on_t.rank_low in let n = on_t.rank_high in (
+      record { file = s.file; rank = s.rank + j },
+      record { file_low = omega arith; file_high = omega arith; rank_low = omega arith; rank_high = omega arith },
+      (omega arith, omega arith),
+    )
+between_ahead South j k s t less on on_t a =
+    let a1 = a.0 in let a2 = a.1 in
+    let x = on.file_low in let y = on.file_high in let z = on.rank_low in let v = on.rank_high in
+    let p = on_t.file_low in let q = on_t.file_high in let m = on_t.rank_low in let n = on_t.rank_high in (
+      record { file = s.file; rank = s.rank - j },
+      record { file_low = omega arith; file_high = omega arith; rank_low = omega arith; rank_high = omega arith },
+      (omega arith, omega arith),
+    )
+between_ahead East j k s t less on on_t a =
+    let a1 = a.0 in let a2 = a.1 in
+    let x = on.file_low in let y = on.file_high in let z = on.rank_low in let v = on.rank_high in
+    let p = on_t.file_low in let q = on_t.file_high in let m = on_t.rank_low in let n = on_t.rank_high in (
+      record { file = s.file + j; rank = s.rank },
+      record { file_low = omega arith; file_high = omega arith; rank_low = omega arith; rank_high = omega arith },
+      (omega arith, omega arith),
+    )
+between_ahead West j k s t less on on_t a =
+    let a1 = a.0 in let a2 = a.1 in
+    let x = on.file_low in let y = on.file_high in let z = on.rank_low in let v = on.rank_high in
+    let p = on_t.file_low in let q = on_t.file_high in let m = on_t.rank_low in let n = on_t.rank_high in (
+      record { file = s.file - j; rank = s.rank },
+      record { file_low = omega arith; file_high = omega arith; rank_low = omega arith; rank_high = omega arith },
+      (omega arith, omega arith),
+    )
+between_ahead NorthEast j k s t less on on_t a =
+    let a1 = a.0 in let a2 = a.1 in
+    let x = on.file_low in let y = on.file_high in let z = on.rank_low in let v = on.rank_high in
+    let p = on_t.file_low in let q = on_t.file_high in let m = on_t.rank_low in let n = on_t.rank_high in (
+      record { file = s.file + j; rank = s.rank + j },
+      record { file_low = omega arith; file_high = omega arith; rank_low = omega arith; rank_high = omega arith },
+      (omega arith, omega arith),
+    )
+between_ahead NorthWest j k s t less on on_t a =
+    let a1 = a.0 in let a2 = a.1 in
+    let x = on.file_low in let y = on.file_high in let z = on.rank_low in let v = on.rank_high in
+    let p = on_t.file_low in let q = on_t.file_high in let m = on_t.rank_low in let n = on_t.rank_high in (
+      record { file = s.file - j; rank = s.rank + j },
+      record { file_low = omega arith; file_high = omega arith; rank_low = omega arith; rank_high = omega arith },
+      (omega arith, omega arith),
+    )
+between_ahead SouthEast j k s t less on on_t a =
+    let a1 = a.0 in let a2 = a.1 in
+    let x = on.file_low in let y = on.file_high in let z = on.rank_low in let v = on.rank_high in
+    let p = on_t.file_low in let q = on_t.file_high in let m = on_t.rank_low in let n = on_t.rank_high in (
+      record { file = s.file + j; rank = s.rank - j },
+      record { file_low = omega arith; file_high = omega arith; rank_low = omega arith; rank_high = omega arith },
+      (omega arith, omega arith),
+    )
+between_ahead SouthWest j k s t less on on_t a =
+    let a1 = a.0 in let a2 = a.1 in
+    let x = on.file_low in let y = on.file_high in let z = on.rank_low in let v = on.rank_high in
+    let p = on_t.file_low in let q = on_t.file_high in let m = on_t.rank_low in let n = on_t.rank_high in (
+      record { file = s.file - j; rank = s.rank - j },
+      record { file_low = omega arith; file_high = omega arith; rank_low = omega arith; rank_high = omega arith },
+      (omega arith, omega arith),
+    )
+
+-- and no square of the board is more than seven steps from another
+pub seven_steps : (way : Direction) (k : ℕ) (s t : Place) → IsOnBoard s → IsOnBoard t → IsAhead way k s t → k ≤ 7
+seven_steps North k s t on on_t a = let a1 = a.1 in let x = on.rank_low in let y = on.rank_high in let p = on_t.rank_low in let q = on_t.rank_high in omega arith
+seven_steps South k s t on on_t a = let a1 = a.1 in let x = on.rank_low in let y = on.rank_high in let p = on_t.rank_low in let q = on_t.rank_high in omega arith
+seven_steps East k s t on on_t a = let a1 = a.0 in let x = on.file_low in let y = on.file_high in let p = on_t.file_low in let q = on_t.file_high in omega arith
+seven_steps West k s t on on_t a = let a1 = a.0 in let x = on.file_low in let y = on.file_high in let p = on_t.file_low in let q = on_t.file_high in omega arith
+seven_steps NorthEast k s t on on_t a = let a1 = a.0 in let x = on.file_low in let y = on.file_high in let p = on_t.file_low in let q = on_t.file_high in omega arith
+seven_steps NorthWest k s t on on_t a = let a1 = a.0 in let x = on.file_low in let y = on.file_high in let p = on_t.file_low in let q = on_t.file_high in omega arith
+seven_steps SouthEast k s t on on_t a = let a1 = a.0 in let x = on.file_low in let y = on.file_high in let p = on_t.file_low in let q = on_t.file_high in omega arith
+seven_steps SouthWest k s t on on_t a = let a1 = a.0 in let x = on.file_low in let y = on.file_high in let p = on_t.file_low in let q = on_t.file_high in omega arith
+
+-- ---- bits
+
+are_same : (a b : ℕ) → nat_eq a b ≡ true → a ≡ b
+are_same a b e = grind (arith, nat_tests)
+
+one_is : (b : ℕ) → b ≡ 1 → nat_eq b 1 ≡ true
+one_is b e = grind (arith, nat_tests)
+
+-- the word of one square has the bit of that square alone
+pub bit_of_square : (s t : Place) → IsOnBoard s → IsOnBoard t → has_bit (square_word s) (index_of t) ≡ true → t ≡ s
+bit_of_square s t on on_t e = elim (cases_eq (index_of t) (index_of s)) [
+  | inl same ↦ sym (square_at-index_of t on_t) ∙ ap square_at same ∙ square_at-index_of s on
+  | inr other ↦
+      let none = bit_at-pow_other (index_of s) (index_of t) other in
+      let one = are_same _ _ e in absurd (omega arith)
+]
+
+pub has_own_bit : (s : Place) → has_bit (square_word s) (index_of s) ≡ true
+has_own_bit s = one_is _ (bit_at-pow_same (index_of s))
+
+-- a bit of two words joined, and of two words' common part
+max_one : (a b : ℕ) → a < 2 → b < 2 → nat_eq (max a b) 1 ≡ (nat_eq a 1 || nat_eq b 1)
+max_one a b ha hb = grind (arith, nat_tests)
+
+min_one : (a b : ℕ) → a < 2 → b < 2 → nat_eq (min a b) 1 ≡ (nat_eq a 1 && nat_eq b 1)
+min_one a b ha hb = grind (arith, nat_tests)
+
+pub bit_of_either : (a b i : ℕ) → has_bit (bit_or a b) i ≡ (has_bit a i || has_bit b i)
+bit_of_either a b i = ap (λ n. nat_eq n 1) (bit_at_or a b i) ∙ max_one (bit_at a i) (bit_at b i) (bit_at-lt a i) (bit_at-lt b i)
+
+pub bit_of_both : (a b i : ℕ) → has_bit (bit_and a b) i ≡ (has_bit a i && has_bit b i)
+bit_of_both a b i = ap (λ n. nat_eq n 1) (bit_at_and a b i) ∙ min_one (bit_at a i) (bit_at b i) (bit_at-lt a i) (bit_at-lt b i)
+
+pub no_bit : (i : ℕ) → has_bit 0 i ≡ false
+no_bit i = ap (λ n. nat_eq n 1) (bit_at-zero i)
+
+pub or_either : (a b : Bool) → (a || b) ≡ true → (a ≡ true) ⊎ (b ≡ true)
+or_either true b e = inl refl
+or_either false b e = inr e
+
+pub or_left : (a b : Bool) → a ≡ true → (a || b) ≡ true
+or_left a b e = ap (λ c. c || b) e
+
+pub or_right : (a b : Bool) → b ≡ true → (a || b) ≡ true
+or_right true b e = refl
+or_right false b e = e
+
+-- ---- the loop
+
+-- the squares up to k steps ahead
+abbrev pub IsWithin : Direction → Place → ℕ → Place → Type 0
+IsWithin way s k t = (j : ℕ) × (1 ≤ j) × (j ≤ k) × IsAhead way j s t
+
+-- after k steps: the last square, before which and on which no man stands, and the squares so far
+pub record IsFilled (p : Placement) (way : Direction) (s : Place) (k last seen : ℕ) : Type 0 where
+  pub on_board : IsOnBoard s
+  pub here : Place
+  pub inside : IsOnBoard here
+  pub ahead : IsAhead way k s here
+  pub last_is : last ≡ square_word here
+  pub clear : IsClearFor p way s (k + 1)
+  pub seen_is : IsWordOf (IsWithin way s k) seen
+
+pub filled_start : (p : Placement) (way : Direction) (s : Place) (word : ℕ) → IsOnBoard s → word ≡ square_word s → IsFilled p way s 0 word 0
+filled_start p way s word on is = record {
+  on_board = on;
+  here = s;
+  inside = on;
+  ahead = itself way s;
+  last_is = is;
+  clear = λ j u on_u far less ahead. absurd (omega arith);
+  seen_is = λ t on_t. ((λ e. let f : false ≡ true = sym (no_bit (index_of t)) ∙ e in absurd (cc)), (λ h. let a = h.1 in let b = h.2 in absurd (omega arith)));
+}
+
+-- one more square
+pub within_more : (way : Direction) (s u : Place) (k seen last : ℕ) → IsOnBoard u → IsAhead way (k + 1) s u → last ≡ square_word u
+    → IsWordOf (IsWithin way s k) seen → IsWordOf (IsWithin way s (k + 1)) (bit_or seen last)
+within_more way s u k seen last on ahead is so_far t on_t =
+    let bit = bit_of_either seen last (index_of t) in (
+      (λ e. elim (or_either _ _ (sym bit ∙ e)) [
+        | inl old ↦ let w = (so_far t on_t).0 old in let a = w.1 in let b = w.2 in (w.0, a, omega arith, w.3)
+        | inr new ↦
+            let same = bit_of_square u t on on_t (ap (λ w. has_bit w (index_of t)) (sym is) ∙ new) in
+            (k + 1, omega arith, omega arith, subst (IsAhead way (k + 1) s) (sym same) ahead)
+      ]),
+      (λ h. let a = h.1 in let b = h.2 in bit ∙ elim (cases_eq h.0 (k + 1)) [
+        | inl last_one ↦
+            let same = one_ahead way (k + 1) s t u (subst (λ j. IsAhead way j s t) last_one h.3) ahead in
+            or_right _ _ (ap (λ (v : Place). has_bit last (index_of v)) same ∙ ap (λ w. has_bit w (index_of u)) is ∙ has_own_bit u)
+        | inr before ↦ or_left _ _ ((so_far t on_t).1 (h.0, a, omega arith, h.3))
+      ]),
+    )
+
+-- whether the last square is empty
+pub either_bit : (b : Bool) → (b ≡ false → ⊥) → b ≡ true
+either_bit true h = refl
+either_bit false h = absurd (h refl)
+
+zero_times : (b n : ℕ) → nat_eq b 1 ≡ false → b < 2 → b * n ≡ 0
+zero_times b n e h = let zero_bit : b ≡ 0 = grind (arith, nat_tests) in ap (λ m. m * n) zero_bit ∙ omega arith
+
+not_zero : (b n : ℕ) → nat_eq b 1 ≡ true → 0 < n → b * n ≡ 0 → ⊥
+not_zero b n e h z = let one : b ≡ 1 = are_same b 1 e in let f : 1 * n ≡ 0 = ap (λ m. m * n) (sym one) ∙ z in omega arith
+
+and_zero : (n : ℕ) → bit_and n 0 ≡ 0
+and_zero n = and_mask n 0 ∙ omega arith
+
+pub common_none : (empty word : ℕ) (t : Place) → word ≡ square_word t → has_bit empty (index_of t) ≡ false → bit_and empty word ≡ 0
+common_none empty word t is e =
+    ap (bit_and empty) is ∙ and_pow empty (index_of t) ∙ zero_times (bit_at empty (index_of t)) (2 ^ index_of t) e (bit_at-lt empty (index_of t))
+
+pub common_some : (empty word : ℕ) (t : Place) → word ≡ square_word t → has_bit empty (index_of t) ≡ true → bit_and empty word ≡ 0 → ⊥
+common_some empty word t is e zero =
+    not_zero (bit_at empty (index_of t)) (2 ^ index_of t) e (pow_pos (index_of t)) (sym (ap (bit_and empty) is ∙ and_pow empty (index_of t)) ∙ zero)
+
+-- the next square is empty, and the ray goes on
+pub filled_more : (p : Placement) (way : Direction) (s : Place) (k last seen empty word : ℕ) (h : IsFilled p way s k last seen)
+    → IsWordOf (IsEmpty p) empty → IsNextWord way h.here word → (bit_and empty word ≡ 0 → ⊥) → IsFilled p way s (k + 1) word (bit_or seen word)
+filled_more p way s k last seen empty word h shows (inl next) some =
+    let t = next.0 in
+    let ahead = ahead_more way k 1 s h.here t h.ahead next.2 in
+    let bare = (shows t next.1).0 (either_bit (has_bit empty (index_of t)) (λ e. some (common_none empty word t next.3 e))) in record {
+      on_board = h.on_board;
+      here = t;
+      inside = next.1;
+      ahead = ahead;
+      last_is = next.3;
+      clear = λ j u on_u far less there. elim (cases_eq j (k + 1)) [
+        | inl same ↦ subst (IsEmpty p) (one_ahead way (k + 1) s t u ahead (subst (λ n. IsAhead way n s u) same there)) bare
+        | inr other ↦ h.clear j u on_u far (omega arith) there
+      ];
+      seen_is = within_more way s t k seen word next.1 ahead next.3 h.seen_is;
+    }
+filled_more p way s k last seen empty word h shows (inr next) some = absurd (some (ap (bit_and empty) next.1 ∙ and_zero empty))
+
+-- squares within the steps that were taken are on the ray
+on_ray : (p : Placement) (way : Direction) (s t : Place) (k : ℕ) → IsClearFor p way s k → IsWithin way s k t → IsOnRay p way s t
+on_ray p way s t k clear h =
+    let less = h.2 in
+    record { steps = h.0; far = h.1; ahead = h.3; clear = λ j u on far below ahead. clear j u on far (omega arith) ahead }
+
+-- the ray ends at a man, or at the edge of the board
+pub filled_stop : (p : Placement) (way : Direction) (s : Place) (k last seen empty word : ℕ) (h : IsFilled p way s k last seen)
+    → IsWordOf (IsEmpty p) empty → IsNextWord way h.here word → bit_and empty word ≡ 0 → IsWordOf (IsOnRay p way s) (bit_or seen word)
+filled_stop p way s k last seen empty word h shows (inl next) stop t on =
+    let u = next.0 in
+    let ahead = ahead_more way k 1 s h.here u h.ahead next.2 in
+    let within = within_more way s u k seen word next.1 ahead next.3 h.seen_is t on in (
+      (λ e. on_ray p way s t (k + 1) h.clear (within.0 e)),
+      (λ ray. elim (cases_lt ray.steps (k + 2)) [
+        | inl near ↦ within.1 (ray.steps, ray.far, omega arith, ray.ahead)
+        | inr far ↦
+            let bare = ray.clear (k + 1) u next.1 (omega arith) (omega arith) ahead in
+            absurd (common_some empty word u next.3 ((shows u next.1).1 bare) stop)
+      ]),
+    )
+filled_stop p way s k last seen empty word h shows (inr next) stop t on =
+    let bit = bit_of_either seen word (index_of t) in (
+      (λ e. elim (or_either _ _ (sym bit ∙ e)) [
+        | inl old ↦ let w = (h.seen_is t on).0 old in let low = w.1 in let high = w.2 in on_ray p way s t (k + 1) h.clear (w.0, low, omega arith, w.3)
+        | inr new ↦ let f : false ≡ true = sym (ap (λ w. has_bit w (index_of t)) next.1 ∙ no_bit (index_of t)) ∙ new in absurd (cc)
+      ]),
+      (λ ray. elim (cases_lt ray.steps (k + 1)) [
+        | inl near ↦ bit ∙ or_left _ _ ((h.seen_is t on).1 (ray.steps, ray.far, omega arith, ray.ahead))
+        | inr far ↦
+            let v = between_ahead way (k + 1) ray.steps s t far h.on_board on ray.ahead in
+            absurd (next.0 v.0 v.1 (ahead_rest way k 1 s h.here v.0 h.ahead v.2))
+      ]),
+    )
+
+-- seven steps are all
+pub filled_end : (p : Placement) (way : Direction) (s : Place) (k last seen : ℕ) → IsFilled p way s k last seen → 7 ≤ k → IsWordOf (IsOnRay p way s) seen
+filled_end p way s k last seen h all t on = (
+  (λ e.
+      let w = (h.seen_is t on).0 e in let low = w.1 in let high = w.2 in on_ray p way s t (k + 1) h.clear (w.0, low, omega arith, w.3)),
+  (λ ray. let few = seven_steps way ray.steps s t h.on_board on ray.ahead in (h.seen_is t on).1 (ray.steps, ray.far, omega arith, ray.ahead)),
+)
+
+-- ---- four ways joined
+
+pub either_word : (A B : Place → Type 0) (a b : ℕ) → IsWordOf A a → IsWordOf B b → IsWordOf (λ t. A t ⊎ B t) (bit_or a b)
+either_word A B a b in_a in_b t on =
+    let bit = bit_of_either a b (index_of t) in (
+      (λ e. elim (or_either _ _ (sym bit ∙ e)) [ inl f ↦ inl ((in_a t on).0 f) | inr f ↦ inr ((in_b t on).0 f) ]),
+      (λ h. bit ∙ elim h [ inl f ↦ or_left _ _ ((in_a t on).1 f) | inr f ↦ or_right _ _ ((in_b t on).1 f) ]),
+    )
+
+abbrev AreFourRays : Placement → Direction → Direction → Direction → Direction → Place → Place → Type 0
+AreFourRays p a b c d s t = (IsOnRay p a s t ⊎ IsOnRay p b s t) ⊎ (IsOnRay p c s t ⊎ IsOnRay p d s t)
+
+straight_of : (p : Placement) (s t : Place) → AreFourRays p North South East West s t → IsStraightRun p s t
+straight_of p s t (inl (inl ray)) = (North, tt, ray)
+straight_of p s t (inl (inr ray)) = (South, tt, ray)
+straight_of p s t (inr (inl ray)) = (East, tt, ray)
+straight_of p s t (inr (inr ray)) = (West, tt, ray)
+
+of_straight : (p : Placement) (s t : Place) (way : Direction) → IsStraight way → IsOnRay p way s t → AreFourRays p North South East West s t
+of_straight p s t North is ray = inl (inl ray)
+of_straight p s t South is ray = inl (inr ray)
+of_straight p s t East is ray = inr (inl ray)
+of_straight p s t West is ray = inr (inr ray)
+of_straight p s t NorthEast is ray = absurd is
+of_straight p s t NorthWest is ray = absurd is
+of_straight p s t SouthEast is ray = absurd is
+of_straight p s t SouthWest is ray = absurd is
+
+diagonal_of : (p : Placement) (s t : Place) → AreFourRays p NorthEast NorthWest SouthEast SouthWest s t → IsDiagonalRun p s t
+diagonal_of p s t (inl (inl ray)) = (NorthEast, (λ h. h), ray)
+diagonal_of p s t (inl (inr ray)) = (NorthWest, (λ h. h), ray)
+diagonal_of p s t (inr (inl ray)) = (SouthEast, (λ h. h), ray)
+diagonal_of p s t (inr (inr ray)) = (SouthWest, (λ h. h), ray)
+
+of_diagonal : (p : Placement) (s t : Place) (way : Direction) → (¬ IsStraight way) → IsOnRay p way s t
+    → AreFourRays p NorthEast NorthWest SouthEast SouthWest s t
+of_diagonal p s t North is ray = absurd (is tt)
+of_diagonal p s t South is ray = absurd (is tt)
+of_diagonal p s t East is ray = absurd (is tt)
+of_diagonal p s t West is ray = absurd (is tt)
+of_diagonal p s t NorthEast is ray = inl (inl ray)
+of_diagonal p s t NorthWest is ray = inl (inr ray)
+of_diagonal p s t SouthEast is ray = inr (inl ray)
+of_diagonal p s t SouthWest is ray = inr (inr ray)
+
+four_rays : (p : Placement) (s : Place) (a b c d : Direction) (k l m n : ℕ) → IsWordOf (IsOnRay p a s) k → IsWordOf (IsOnRay p b s) l
+    → IsWordOf (IsOnRay p c s) m → IsWordOf (IsOnRay p d s) n → IsWordOf (AreFourRays p a b c d s) (bit_or (bit_or k l) (bit_or m n))
+four_rays p s a b c d k l m n in_k in_l in_m in_n =
+    either_word (λ t. IsOnRay p a s t ⊎ IsOnRay p b s t) (λ t. IsOnRay p c s t ⊎ IsOnRay p d s t) (bit_or k l) (bit_or m n)
+    (either_word (IsOnRay p a s) (IsOnRay p b s) k l in_k in_l) (either_word (IsOnRay p c s) (IsOnRay p d s) m n in_m in_n)
+
+pub straight_joined : (p : Placement) (s : Place) (k l m n : ℕ) → IsWordOf (IsOnRay p North s) k → IsWordOf (IsOnRay p South s) l
+    → IsWordOf (IsOnRay p East s) m → IsWordOf (IsOnRay p West s) n → IsWordOf (IsStraightRun p s) (bit_or (bit_or k l) (bit_or m n))
+straight_joined p s k l m n in_k in_l in_m in_n t on =
+    let four = four_rays p s North South East West k l m n in_k in_l in_m in_n t on in
+    ((λ e. straight_of p s t (four.0 e)), (λ h. four.1 (of_straight p s t h.0 h.1 h.2)))
+
+pub diagonal_joined : (p : Placement) (s : Place) (k l m n : ℕ) → IsWordOf (IsOnRay p NorthEast s) k → IsWordOf (IsOnRay p NorthWest s) l
+    → IsWordOf (IsOnRay p SouthEast s) m → IsWordOf (IsOnRay p SouthWest s) n → IsWordOf (IsDiagonalRun p s) (bit_or (bit_or k l) (bit_or m n))
+diagonal_joined p s k l m n in_k in_l in_m in_n t on =
+    let four = four_rays p s NorthEast NorthWest SouthEast SouthWest k l m n in_k in_l in_m in_n t on in
+    ((λ e. diagonal_of p s t (four.0 e)), (λ h. four.1 (of_diagonal p s t h.0 h.1 h.2)))
+
+-- a way is straight or not
+pub way_is : (way : Direction) → IsStraight way ⊎ (¬ IsStraight way)
+way_is North = inl tt
+way_is South = inl tt
+way_is East = inl tt
+way_is West = inl tt
+way_is NorthEast = inr (λ h. h)
+way_is NorthWest = inr (λ h. h)
+way_is SouthEast = inr (λ h. h)
+way_is SouthWest = inr (λ h. h)
+
+-- queens run straight and along diagonals
+pub queen_joined : (p : Placement) (s : Place) (a b : ℕ) → IsWordOf (IsStraightRun p s) a → IsWordOf (IsDiagonalRun p s) b
+    → IsWordOf (λ t. (way : Direction) × IsOnRay p way s t) (bit_or a b)
+queen_joined p s a b in_a in_b t on =
+    let both = either_word (IsStraightRun p s) (IsDiagonalRun p s) a b in_a in_b t on in (
+      (λ e. elim (both.0 e) [ inl h ↦ (h.0, h.2) | inr h ↦ (h.0, h.2) ]),
+      (λ h. elim (way_is h.0) [ inl straight ↦ both.1 (inl (h.0, straight, h.1)) | inr diagonal ↦ both.1 (inr (h.0, diagonal, h.1)) ]),
+    )

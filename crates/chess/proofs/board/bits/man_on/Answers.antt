@@ -1,0 +1,27 @@
+use Rattle.std.proofs.Common.{◌∙◌, ap, sym, arith, Some}
+use Rattle.chess.specs.Squares.{index_of}
+use Rattle.chess.specs.SetFacts.{index_of-below, false_of}
+use Rattle.chess.specs.BitWords.{word_at}
+use Rattle.chess.proofs.FillFacts.{common_none, common_some, either_bit}
+use Rattle.chess.proofs.BitFacts.{has_man, no_man, man_at-words}
+use Rattle.chess.proofs.board.bits.man_on.Goals as goal
+
+pub returns-then-words-row-ne0 : goal.returns-then-words-row-ne0
+returns-then-words-row-ne0 c =
+    let words = c.args.words.now in
+    let s = c.args.square in
+    let on = c.word_of-bit.ensures.on_board in
+    let near = c.loop-row-test.true in
+    ap Some c.man_of.ensures
+    ∙ sym (man_at-words words s on
+    ∙ has_man words 12 c.loop-row.row (index_of s) c.requires (omega arith) near (index_of-below s on)
+    (either_bit _ (λ e. c.if-words-row-ne0.true (common_none (word_at words c.loop-row.row) c.word_of-bit.result s c.word_of-bit.ensures.word e))))
+
+pub returns : goal.returns
+returns c =
+    let words = c.args.words.now in
+    let s = c.args.square in
+    let all = c.loop-row-test.false in
+    sym (man_at-words words s c.word_of-bit.ensures.on_board
+    ∙ no_man words 12 (index_of s) (λ k less. false_of _ (λ e.
+    common_some (word_at words k) c.word_of-bit.result s c.word_of-bit.ensures.word e (c.loop-row.invariant k (omega arith)))))

@@ -1,0 +1,243 @@
+//! The board over words of 64 bits.
+ghost use Rattle.std.specs.Prelude.{◌≡◌, ◌↔◌, ◌<◌, IsTrue, length, replicate};
+ghost use Rattle.chess.specs.Squares.{IsOnBoard, index_of};
+ghost use Rattle.chess.specs.Placements.{with_man, man_at, no_men, IsEmpty};
+ghost use Rattle.chess.specs.Attacks.{IsAttacked};
+ghost use Rattle.chess.specs.BitWords.{AreApart, IsWordOf, IsCleared, IsBitSet, IsMan, IsRunner, IsHitBy, IsHitStraight, IsHitDiagonal, words_men, man_in, man_of_row, row_of};
+ghost use Rattle.chess.specs.CellFacts.{on_board-men_of};
+ghost use Rattle.chess.specs.declared.board.man.Kind.TheVariants.{King, Knight, Pawn};
+
+use crate::board::fills::{
+    diagonal_runs, jumps, meet, near, pawn_hits, reached, straight_runs, word_of,
+};
+use crate::board::{Board, Kind, Man, Side, Square, SquareSet};
+
+/// A board of twelve words: the squares of each of White's kinds, in the order of `Kind`, then of Black's. A square's bit is its place in the order
+/// a1, b1 to h1, a2 and so on.
+#[derive(Clone, Copy, Debug)]
+pub struct Bits {
+    words: [u64; 12],
+    ghost apart: { AreApart words },
+}
+
+impl Board for Bits {
+    ghost men = { λ b. words_men b.words };
+
+    fn empty() -> Self {
+        Bits { words: no_words() }
+    }
+
+    fn at(&self, square: Square) -> Option<Man> {
+        man_on(&self.words, square)
+    }
+
+    fn put(&mut self, square: Square, man: Option<Man>) {
+        place(&mut self.words, square, man);
+    }
+
+    fn attacked(&self, square: Square, side: Side) -> bool {
+        is_hit(&self.words, square, side)
+    }
+
+    fn reach(&self, square: Square) -> SquareSet {
+        match man_on(&self.words, square) {
+            Some(man) => SquareSet::of_word(reached(man, square, unoccupied(&self.words))),
+            None => SquareSet::new(),
+        }
+    }
+
+    fn squares_of(&self, man: Man) -> SquareSet {
+        SquareSet::of_word(squares_with(&self.words, man.side, man.kind))
+    }
+
+    ghost on_board = { λ b s man here. on_board-men_of (man_in b.words) s man here };
+}
+
+/// Words without squares.
+fn no_words() -> [u64; 12]
+    ensures words { result ≡ replicate 12 0 }
+    ensures apart { AreApart result }
+{
+    [0; 12]
+}
+
+/// The number of a man's word.
+fn row(man: Man) -> u8
+    ensures row { result ≡ row_of man }
+    ensures below { result < 12 }
+{
+    let side = match man.side {
+        Side::White => 0u8,
+        Side::Black => 6,
+    };
+    side + match man.kind {
+        Kind::King => 0,
+        Kind::Queen => 1,
+        Kind::Rook => 2,
+        Kind::Bishop => 3,
+        Kind::Knight => 4,
+        Kind::Pawn => 5,
+    }
+}
+
+/// The man of a word.
+fn man_of(row: u8) -> Man
+    requires { row < 12 }
+    ensures { result ≡ man_of_row row }
+{
+    let side = if row < 6 { Side::White } else { Side::Black };
+    let kind = match row % 6 {
+        0 => Kind::King,
+        1 => Kind::Queen,
+        2 => Kind::Rook,
+        3 => Kind::Bishop,
+        4 => Kind::Knight,
+        _ => Kind::Pawn,
+    };
+    Man { side, kind }
+}
+
+/// The man on a square, or none.
+fn man_on(words: &[u64; 12], square: Square) -> Option<Man>
+    requires { AreApart words.now }
+    ensures { result ≡ man_at (words_men words.now) square }
+{
+    let bit = word_of(square);
+    for row in 0u8..12 {
+        if words[row as usize] & bit != 0 {
+            return Some(man_of(row));
+        }
+    }
+    None
+}
+
+/// Takes the square out of each word.
+fn clear(words: &mut [u64; 12], square: Square)
+    ensures cleared { IsCleared words.old words.new (index_of square) }
+    ensures on_board { IsOnBoard square }
+{
+    let place = square.index();
+    for row in 0usize..12 {
+        words[row] &= !(1u64 << place);
+    }
+}
+
+/// Puts the square into the word of the man.
+fn set(words: &mut [u64; 12], square: Square, man: Man)
+    ensures { IsBitSet words.old words.new (row_of man) (index_of square) }
+{
+    words[row(man) as usize] |= 1u64 << square.index();
+}
+
+/// Puts the man, or none, on the square. No other square changes.
+fn place(words: &mut [u64; 12], square: Square, man: Option<Man>)
+    requires { AreApart words.old }
+    ensures apart { AreApart words.new }
+    ensures men { words_men words.new ≡ with_man (words_men words.old) square man }
+{
+    clear(words, square);
+    let Some(man) = man else {
+        return;
+    };
+    set(words, square, man);
+}
+
+/// The squares without men.
+fn unoccupied(words: &[u64; 12]) -> u64
+    requires { AreApart words.now }
+    ensures { IsWordOf (IsEmpty (words_men words.now)) result }
+{
+    let mut all = 0u64;
+    for row in 0usize..12 {
+        all |= words[row];
+    }
+    !all
+}
+
+/// The squares of a man.
+fn squares_with(words: &[u64; 12], side: Side, kind: Kind) -> u64
+    requires { AreApart words.now }
+    ensures { IsWordOf (IsMan (words_men words.now) side kind) result }
+{
+    words[row(Man { side, kind }) as usize]
+}
+
+/// The squares of the side's queens and of another kind of its men.
+fn squares_of_runners(words: &[u64; 12], side: Side, kind: Kind) -> u64
+    requires { AreApart words.now }
+    ensures { IsWordOf (IsRunner (words_men words.now) side kind) result }
+{
+    squares_with(words, side, Kind::Queen) | squares_with(words, side, kind)
+}
+
+/// Whether a knight of the side attacks the square.
+fn is_hit_by_knight(words: &[u64; 12], square: Square, side: Side) -> bool
+    requires { AreApart words.now }
+    ensures { IsTrue result ↔ IsHitBy (words_men words.now) side Knight square }
+{
+    meet(squares_with(words, side, Kind::Knight), jumps(square))
+}
+
+/// Whether a king of the side attacks the square.
+fn is_hit_by_king(words: &[u64; 12], square: Square, side: Side) -> bool
+    requires { AreApart words.now }
+    ensures { IsTrue result ↔ IsHitBy (words_men words.now) side King square }
+{
+    meet(squares_with(words, side, Kind::King), near(square))
+}
+
+/// Whether a pawn of the side attacks the square.
+fn is_hit_by_pawn(words: &[u64; 12], square: Square, side: Side) -> bool
+    requires { AreApart words.now }
+    ensures { IsTrue result ↔ IsHitBy (words_men words.now) side Pawn square }
+{
+    meet(
+        squares_with(words, side, Kind::Pawn),
+        pawn_hits(square, side.opposite()),
+    )
+}
+
+/// Whether a queen or a rook of the side attacks the square along its rank or file.
+fn is_hit_straight(words: &[u64; 12], square: Square, side: Side, empty: u64) -> bool
+    requires apart { AreApart words.now }
+    requires empty { IsWordOf (IsEmpty (words_men words.now)) empty }
+    ensures { IsTrue result ↔ IsHitStraight (words_men words.now) side square }
+{
+    meet(
+        squares_of_runners(words, side, Kind::Rook),
+        straight_runs(square, empty),
+    )
+}
+
+/// Whether a queen or a bishop of the side attacks the square along a diagonal.
+fn is_hit_diagonally(words: &[u64; 12], square: Square, side: Side, empty: u64) -> bool
+    requires apart { AreApart words.now }
+    requires empty { IsWordOf (IsEmpty (words_men words.now)) empty }
+    ensures { IsTrue result ↔ IsHitDiagonal (words_men words.now) side square }
+{
+    meet(
+        squares_of_runners(words, side, Kind::Bishop),
+        diagonal_runs(square, empty),
+    )
+}
+
+/// Whether some man of the side attacks the square: a ray reads the same from both its ends.
+fn is_hit(words: &[u64; 12], square: Square, side: Side) -> bool
+    requires { AreApart words.now }
+    ensures { IsTrue result ↔ IsAttacked (words_men words.now) side square }
+{
+    if is_hit_by_knight(words, square, side) {
+        return true;
+    }
+    if is_hit_by_king(words, square, side) {
+        return true;
+    }
+    if is_hit_by_pawn(words, square, side) {
+        return true;
+    }
+    let empty = unoccupied(words);
+    if is_hit_straight(words, square, side, empty) {
+        return true;
+    }
+    is_hit_diagonally(words, square, side, empty)
+}

@@ -1,0 +1,155 @@
+//! Words of 64 bits as squares: steps, and the squares that men attack.
+ghost use Rattle.std.specs.Prelude.{◌≡◌, ◌↔◌, IsTrue};
+ghost use Rattle.chess.specs.Squares.{Place, IsOnBoard};
+ghost use Rattle.chess.specs.Placements.{Placement, IsEmpty};
+ghost use Rattle.chess.specs.Attacks.{IsOnRay, IsNear, IsJump, IsPawnHit, Reaches};
+ghost use Rattle.chess.specs.BitWords.{IsWordOf, DoMeet, IsNextWord, IsStraightRun, IsDiagonalRun, square_word, step_word, two_steps_word, beside_word, upright_word, forward_way};
+
+use crate::board::{Direction, Kind, Man, Side, Square};
+
+/// All squares but those of the h-file.
+const NOT_FILE_H: u64 = 0x7F7F_7F7F_7F7F_7F7F;
+
+/// All squares but those of the a-file.
+const NOT_FILE_A: u64 = 0xFEFE_FEFE_FEFE_FEFE;
+
+/// The word of one square.
+pub(crate) fn word_of(square: Square) -> u64
+    ensures word { result ≡ square_word square }
+    ensures on_board { IsOnBoard square }
+{
+    1u64 << square.index()
+}
+
+/// The squares one step ahead of those of the word; none over the edge of the board.
+fn step(word: u64, way: Direction) -> u64
+    ensures word { result ≡ step_word way word }
+    ensures next { (s : Place) → IsOnBoard s → word ≡ square_word s → IsNextWord way s result }
+{
+    match way {
+        Direction::North => word << 8,
+        Direction::South => word >> 8,
+        Direction::East => (word & NOT_FILE_H) << 1,
+        Direction::West => (word & NOT_FILE_A) >> 1,
+        Direction::NorthEast => (word & NOT_FILE_H) << 9,
+        Direction::NorthWest => (word & NOT_FILE_A) << 7,
+        Direction::SouthEast => (word & NOT_FILE_H) >> 7,
+        Direction::SouthWest => (word & NOT_FILE_A) >> 9,
+    }
+}
+
+/// The squares two steps ahead of those of the word.
+fn two_steps(word: u64, way: Direction) -> u64
+    ensures { result ≡ two_steps_word way word }
+{
+    step(step(word, way), way)
+}
+
+/// The squares to the left and to the right of those of the word.
+fn beside(word: u64) -> u64
+    ensures { result ≡ beside_word word }
+{
+    step(word, Direction::East) | step(word, Direction::West)
+}
+
+/// The squares above and below those of the word.
+fn upright(word: u64) -> u64
+    ensures { result ≡ upright_word word }
+{
+    step(word, Direction::North) | step(word, Direction::South)
+}
+
+/// The squares that a king attacks (Laws 3.8.1).
+pub(crate) fn near(square: Square) -> u64
+    ensures { IsWordOf (IsNear square) result }
+{
+    let here = word_of(square);
+    let row = here | beside(here);
+    (row | upright(row)) ^ here
+}
+
+/// The squares that a knight attacks (Laws 3.6).
+pub(crate) fn jumps(square: Square) -> u64
+    ensures { IsWordOf (IsJump square) result }
+{
+    let here = word_of(square);
+    let far = two_steps(here, Direction::North) | two_steps(here, Direction::South);
+    let wide = two_steps(here, Direction::East) | two_steps(here, Direction::West);
+    beside(far) | upright(wide)
+}
+
+/// The way on which pawns of the side go.
+fn forward(side: Side) -> Direction
+    ensures { result ≡ forward_way side }
+{
+    match side {
+        Side::White => Direction::North,
+        Side::Black => Direction::South,
+    }
+}
+
+/// The squares that a pawn of the side attacks (Laws 3.7.3).
+pub(crate) fn pawn_hits(square: Square, side: Side) -> u64
+    ensures { IsWordOf (IsPawnHit side square) result }
+{
+    beside(step(word_of(square), forward(side)))
+}
+
+/// The squares of a ray: at most seven steps, and none beyond the first man.
+fn fill(square: Square, empty: u64, way: Direction) -> u64
+    ensures { (p : Placement) → IsWordOf (IsEmpty p) empty → IsWordOf (IsOnRay p way square) result }
+{
+    let mut last = word_of(square);
+    let mut seen = 0u64;
+    for _steps in 0u8..7 {
+        last = step(last, way);
+        seen |= last;
+        if empty & last == 0 {
+            return seen;
+        }
+    }
+    seen
+}
+
+/// The squares that a rook attacks.
+pub(crate) fn straight_runs(square: Square, empty: u64) -> u64
+    ensures { (p : Placement) → IsWordOf (IsEmpty p) empty → IsWordOf (IsStraightRun p square) result }
+{
+    let north = fill(square, empty, Direction::North);
+    let south = fill(square, empty, Direction::South);
+    let east = fill(square, empty, Direction::East);
+    let west = fill(square, empty, Direction::West);
+    (north | south) | (east | west)
+}
+
+/// The squares that a bishop attacks.
+pub(crate) fn diagonal_runs(square: Square, empty: u64) -> u64
+    ensures { (p : Placement) → IsWordOf (IsEmpty p) empty → IsWordOf (IsDiagonalRun p square) result }
+{
+    let north_east = fill(square, empty, Direction::NorthEast);
+    let north_west = fill(square, empty, Direction::NorthWest);
+    let south_east = fill(square, empty, Direction::SouthEast);
+    let south_west = fill(square, empty, Direction::SouthWest);
+    (north_east | north_west) | (south_east | south_west)
+}
+
+/// The squares that a man like this attacks (Laws 3.2 to 3.8).
+pub(crate) fn reached(man: Man, square: Square, empty: u64) -> u64
+    ensures { (p : Placement) → IsWordOf (IsEmpty p) empty → IsWordOf (Reaches p man.side man.kind square) result }
+{
+    match man.kind {
+        Kind::King => near(square),
+        Kind::Queen => straight_runs(square, empty) | diagonal_runs(square, empty),
+        Kind::Rook => straight_runs(square, empty),
+        Kind::Bishop => diagonal_runs(square, empty),
+        Kind::Knight => jumps(square),
+        Kind::Pawn => pawn_hits(square, man.side),
+    }
+}
+
+/// Whether the two words have a square in common.
+pub(crate) fn meet(a: u64, b: u64) -> bool
+    ensures { IsTrue result ↔ DoMeet a b }
+{
+    a & b != 0
+}

@@ -1,0 +1,336 @@
+//! The export of worked games.
+use super::support::{Row, TWO_GAMES, holds, run_over};
+use memchr::memmem;
+use std::alloc::{AllocError, Global};
+use std::test::Fail;
+
+/// Words, a text of one game, and the lines of its movetext in the export.
+type Movetext = (
+    &'static [&'static str],
+    &'static [u8],
+    &'static [u8],
+);
+
+const MOVETEXTS: [Movetext; 32] = [
+    (
+        &[],
+        b"[FEN \"4k3/8/8/8/1b6/2N5/8/4K1N1 w - - 0 1\"]\n\n1. Nge2 *",
+        b"1. Ne2 *\n",
+    ),
+    (
+        &[],
+        b"[FEN \"1r2k3/8/8/8/8/8/8/R3K3 w Q - 0 1\"]\n\n1. 0-0-0 *",
+        b"1. O-O-O *\n",
+    ),
+    (
+        &["-w", "19"],
+        b"1.e4 e5 2.Nf3 Nc6 *",
+        b"1. e4 e5 2. Nf3 Nc6\n*\n",
+    ),
+    (
+        &["-w", "20"],
+        b"1.e4 e5 2.Nf3 Nc6 *",
+        b"1. e4 e5 2. Nf3 Nc6\n*\n",
+    ),
+    (
+        &["--width", "21"],
+        b"1.e4 e5 2.Nf3 Nc6 *",
+        b"1. e4 e5 2. Nf3 Nc6 *\n",
+    ),
+    (&["-w", "1"], b"1. e4 *", b"1.\ne4\n*\n"),
+    (
+        &[],
+        b"\xEF\xBB\xBF[Event \"A\"]\r\n\r\n1. e4 {[%clk 0:03:00]} e5 {\r\n[%eval 0.2]} *\r\n",
+        b"1. e4 {[%clk 0:03:00]} 1... e5 {[%eval 0.2]} *\n",
+    ),
+    (
+        &[],
+        b"1. e4 (1. d4 d5) e5 {x} 2. Nf3 *",
+        b"1. e4 ( 1. d4 d5 ) 1... e5 {x} 2. Nf3 *\n",
+    ),
+    (
+        &["-V", "-C"],
+        b"1. e4 (1. d4 d5) e5 {x} 2. Nf3 *",
+        b"1. e4 e5 2. Nf3 *\n",
+    ),
+    (
+        &["-V"],
+        b"1. e4 (1. d4 d5) e5 {x} 2. Nf3 *",
+        b"1. e4 e5 {x} 2. Nf3 *\n",
+    ),
+    (
+        &["--no-comments"],
+        b"1. e4 (1. d4 d5) e5 {x} 2. Nf3 *",
+        b"1. e4 ( 1. d4 d5 ) 1... e5 2. Nf3 *\n",
+    ),
+    (
+        &[],
+        b"1. e4 e5 (1... c5 (1... d5) 2. Nf3) 2. d4 *",
+        b"1. e4 e5 ( 1... c5 ( 1... d5 ) 2. Nf3 ) 2. d4 *\n",
+    ),
+    (&[], b"1. e4! e5?! *", b"1. e4 $1 e5 $6 *\n"),
+    (&["-N"], b"1. e4! e5?! *", b"1. e4 e5 *\n"),
+    (
+        &[],
+        b"1. e4 ; best } by test\ne5 *",
+        b"1. e4 {best ) by test} 1... e5 *\n",
+    ),
+    (
+        &[],
+        b"1. e4 {a [Event \"x\"] %b} *",
+        b"1. e4 {a (Event \"x\"] (%b} *\n",
+    ),
+    (
+        &[],
+        b"[FEN \"4k3/8/8/8/8/8/8/4K3 b - - 0 7\"]\n\n7... Kd7 8. Kd2 *",
+        b"7... Kd7 8. Kd2 *\n",
+    ),
+    (&["-V"], b"1. e4 (1. d4 Qh4) e5 *", b"1. e4 e5 *\n"),
+    (
+        &[],
+        b"1. e4 (1. -- e5) e5 *",
+        b"1. e4 ( 1. -- e5 ) 1... e5 *\n",
+    ),
+    (
+        &[],
+        b"1. e4 (1. Z0 e5) e5 *",
+        b"1. e4 ( 1. -- e5 ) 1... e5 *\n",
+    ),
+    (&[], b"1. e4 {  \n } *", b"1. e4 {} *\n"),
+    (
+        &[],
+        b"1. e4 {} e5 *",
+        b"1. e4 {} 1... e5 *\n",
+    ),
+    (&[], b"{first} 1. e4 *", b"1. e4 *\n"),
+    (
+        &[],
+        b"[Event \"A\"] {first} 1. e4 *",
+        b"{first} 1. e4 *\n",
+    ),
+    (&[], b"1. e4 () e5 *", b"1. e4 ( ) 1... e5 *\n"),
+    (
+        &[],
+        b"1. e4 (1. d4) (1. c4) e5 *",
+        b"1. e4 ( 1. d4 ) ( 1. c4 ) 1... e5 *\n",
+    ),
+    (
+        &[],
+        b"1. e4 $7 e5 (1... c5 {a} $2 2. Nf3) *",
+        b"1. e4 $7 e5 ( 1... c5 {a} $2 2. Nf3 ) *\n",
+    ),
+    (
+        &[],
+        b"e4 e5 Qh5 Nc6 Bc4 Nf6 Qxf7 1-0",
+        b"1. e4 e5 2. Qh5 Nc6 3. Bc4 Nf6 4. Qxf7# 1-0\n",
+    ),
+    (
+        &[],
+        b"1. e2e4 d7-d5 2. e4xd5 Qd8xd5 1/2-1/2",
+        b"1. e4 d5 2. exd5 Qxd5 1/2-1/2\n",
+    ),
+    (
+        &[],
+        b"[FEN \"4k3/1P6/8/8/8/8/8/4K3 w - - 0 1\"]\n\n1. b8Q *",
+        b"1. b8=Q+ *\n",
+    ),
+    (&[], b"*", b"*\n"),
+    (
+        &["-w", "9"],
+        b"1. e4 {one wonderful comment} *",
+        b"1. e4\n{one\nwonderful\ncomment}\n*\n",
+    ),
+];
+
+/// The lines between the tags' empty line and the last one.
+fn movetext_of(text: &[u8]) -> Option<&[u8]> {
+    let at = memmem::find(text, b"\n\n")?;
+    text[at + 2..].strip_suffix(b"\n")
+}
+
+/// Whether the export of the row's game has its movetext, and the export of that is the same text.
+fn is_exported(alloc: Global, row: &Movetext) -> Result<bool, AllocError> {
+    let (words, text, movetext) = row;
+    let end = run_over(alloc, words, text)?;
+    let again = run_over(alloc, words, end.out.text())?;
+    Ok(
+        movetext_of(end.out.text()) == Some(*movetext)
+            && end.is(again.out.text(), b"", 0)
+            && again.status == 0,
+    )
+}
+
+#[test]
+fn movetexts_are_exported_and_read_back(rt: HostRuntime) -> Result<(), Fail> {
+    for row in &MOVETEXTS {
+        assert!(rt; is_exported(rt.alloc(), row)?, "{:?} over {:?}", row.0, row.1);
+    }
+    Ok(())
+}
+
+/// Whole outputs, faults and which games are written.
+const ROWS: [Row; 21] = [
+    (&[], b"", b"", b"", 0),
+    (
+        &[],
+        b"1. f3 e5 2. g4 Qh4 0-1",
+        b"[Event \"?\"]\n[Site \"?\"]\n[Date \"????.??.??\"]\n[Round \"?\"]\n[White \"?\"]\n[Black \"?\"]\n[Result \"0-1\"]\n\n1. f3 e5 2. g4 Qh4# 0-1\n\n",
+        b"",
+        0,
+    ),
+    (
+        &["--roster"],
+        b"[FEN \"4k3/8/8/8/1b6/2N5/8/4K1N1 w - - 0 1\"]\n[ECO \"A00\"]\n\n1. Nge2 *",
+        b"[Event \"?\"]\n[Site \"?\"]\n[Date \"????.??.??\"]\n[Round \"?\"]\n[White \"?\"]\n[Black \"?\"]\n[Result \"*\"]\n[FEN \"4k3/8/8/8/1b6/2N5/8/4K1N1 w - - 0 1\"]\n\n1. Ne2 *\n\n",
+        b"",
+        0,
+    ),
+    (
+        &[],
+        b"[White \"\"][Zebra \"z\"][Black \"a \\\"b\\\" c\\\\d\"][Annotator \"tab\there\"][White \"twice\"][Result \"1-0\"]\n\n*",
+        b"[Event \"?\"]\n[Site \"?\"]\n[Date \"????.??.??\"]\n[Round \"?\"]\n[White \"\"]\n[Black \"a \\\"b\\\" c\\\\d\"]\n[Result \"1-0\"]\n[Annotator \"tab here\"]\n[Zebra \"z\"]\n\n*\n\n",
+        b"",
+        0,
+    ),
+    (
+        &[],
+        b"1. e4 (1. d4 Qh4) e5 *",
+        b"",
+        b"pgn-extract: game 1@0: illegal move Qh4 at ply 2\n",
+        1,
+    ),
+    (
+        &[],
+        b"1. e4 Z0 *",
+        b"",
+        b"pgn-extract: game 1@0: illegal move Z0 at ply 2\n",
+        1,
+    ),
+    (
+        &["-V"],
+        b"1. e4 -- *",
+        b"",
+        b"pgn-extract: game 1@0: illegal move -- at ply 2\n",
+        1,
+    ),
+    (
+        &[],
+        b"1. e4 e6 2. e5 d5 (2... f5 3. -- -- 4. exf6) 3. d4 *",
+        b"",
+        b"pgn-extract: game 1@0: illegal move exf6 at ply 7\n",
+        1,
+    ),
+    (
+        &[],
+        b"1. e4 f5 2. Qh5+ g6 (2... --) 3. Qe2 *",
+        b"",
+        b"pgn-extract: game 1@0: illegal move -- at ply 4\n",
+        1,
+    ),
+    (
+        &["--from", "2@22"],
+        TWO_GAMES,
+        b"[Event \"B\"]\n[Site \"?\"]\n[Date \"????.??.??\"]\n[Round \"?\"]\n[White \"?\"]\n[Black \"?\"]\n[Result \"*\"]\n\n1. d4 *\n\n",
+        b"",
+        0,
+    ),
+    (
+        &["--min-ply", "2"],
+        b"1. e4 *\n1. d4 d5 *\n1. c4 *",
+        b"[Event \"?\"]\n[Site \"?\"]\n[Date \"????.??.??\"]\n[Round \"?\"]\n[White \"?\"]\n[Black \"?\"]\n[Result \"*\"]\n\n1. d4 d5 *\n\n",
+        b"",
+        0,
+    ),
+    (
+        &["--min-ply", "1", "--max-ply", "0"],
+        TWO_GAMES,
+        b"",
+        b"",
+        0,
+    ),
+    (
+        &["--min-ply", "9"],
+        b"1. e4 *\n1. Qxh8 *\n",
+        b"",
+        b"pgn-extract: game 2@8: illegal move Qxh8 at ply 1\n",
+        1,
+    ),
+    (
+        &["--first", "--min-ply", "1"],
+        b"1. e4 *",
+        b"[Event \"?\"]\n[Site \"?\"]\n[Date \"????.??.??\"]\n[Round \"?\"]\n[White \"?\"]\n[Black \"?\"]\n[Result \"*\"]\n\n1. e4 *\n\n",
+        b"",
+        0,
+    ),
+    (
+        &["--list", "-V", "-C", "-N", "--roster", "-w", "1"],
+        b"1. e4 (1. d4 Qh4) *",
+        b"1@0 0\n1@0 1\n",
+        b"",
+        0,
+    ),
+    (
+        &["--index", "-V", "-w", "9999"],
+        b"1. e4 (1. d4 Qh4) *",
+        b"1@0\n",
+        b"",
+        0,
+    ),
+    (
+        &[],
+        b"[FEN \"4k3/8/8/8/8/8/8/8 w - - 0 1\"]\n\n*",
+        b"",
+        b"pgn-extract: game 1@0: bad position\n",
+        1,
+    ),
+    (
+        &[],
+        b"1. e4 {oops",
+        b"",
+        b"pgn-extract: game 1@0: unreadable\n",
+        1,
+    ),
+    (
+        &["--list", "--index", "-w", "5"],
+        TWO_GAMES,
+        b"",
+        b"pgn-extract: --list and --index exclude each other\n",
+        2,
+    ),
+    (
+        &["--from", "0@0", "absent.pgn"],
+        TWO_GAMES,
+        b"",
+        b"pgn-extract: bad mark\n",
+        2,
+    ),
+    (
+        &["absent.pgn"],
+        TWO_GAMES,
+        b"",
+        b"pgn-extract: cannot open input\n",
+        2,
+    ),
+];
+
+#[test]
+fn exports_give_their_bytes(rt: HostRuntime) -> Result<(), Fail> {
+    for row in &ROWS {
+        assert!(rt; holds(rt.alloc(), row)?, "{:?} over {:?}", row.0, row.1);
+    }
+    Ok(())
+}
+
+/// Whether clap refuses the width.
+fn is_no_width(alloc: Global, width: &str) -> Result<bool, AllocError> {
+    let end = run_over(alloc, &["-w", width], TWO_GAMES)?;
+    Ok(end.status == 2 && end.out.text().is_empty() && end.err.text().starts_with(b"error: "))
+}
+
+#[test]
+fn widths_are_from_1_to_9999(rt: HostRuntime) -> Result<(), Fail> {
+    for width in ["0", "10000", "-1", "x", ""] {
+        assert!(rt; is_no_width(rt.alloc(), width)?, "at {width}");
+    }
+    Ok(())
+}

@@ -1,0 +1,41 @@
+-- The game of some parts has an export in each style, where it is sound in the lines that are written, and only one.
+use Rattle.std.proofs.Common.{◌≡◌, ℕ, List, sym, subst}
+use Rattle.pgn_text.specs.GameTexts.{GameText, IsGameText, ShowsGame, tag_in}
+use Rattle.pgn_text.specs.Games.{Item}
+use Rattle.pgn_text.specs.Parts.{Part}
+use Rattle.pgn_text.proofs.ShownOnce.{one_game_text}
+use Rattle.pgn_game.specs.Exports.{AreMovetextTokens}
+use Rattle.pgn_game.specs.Replays.{Replay}
+use Rattle.pgn_game.specs.Starts.{fen_tag, IsStart}
+use Rattle.pgn_game.specs.TagLines.{AreTagLines}
+use Rattle.pgn_game.proofs.OneExport.{one_export}
+use Rattle.pgn_game.specs.declared.style.Style.{Style}
+use Rattle.pgn_extract.specs.Exports.{lines_with, IsExportOf}
+use Rattle.pgn_extract.specs.Listing.{IsReplayOf}
+
+-- the game of some parts has one export in a style
+abbrev pub PartsHaveOneExport : Type 0
+PartsHaveOneExport = (style : Style) (parts : List Part) (text other : List ℕ) → IsExportOf style parts text → IsExportOf style parts other → text ≡ other
+
+pub one_export_of_parts : PartsHaveOneExport
+one_export_of_parts style parts text other (game, is, shows, export) (second, also, seen, exported) =
+    let same = one_game_text parts game second is also shows seen in
+    one_export style game text other export record {
+      start = exported.start;
+      is_start = subst (λ (tags : List (List ℕ × List ℕ)). IsStart (tag_in fen_tag tags) exported.start) (sym same.0) exported.is_start;
+      head = exported.head;
+      tags =
+          subst (λ (tags : List (List ℕ × List ℕ)). AreTagLines style tags game.result exported.head) (sym same.0)
+          (subst (λ (r : List ℕ). AreTagLines style second.tags r exported.head) (sym same.2) exported.tags);
+      tokens = exported.tokens;
+      are_tokens =
+          subst (λ (items : List Item). AreMovetextTokens style exported.start items game.result exported.tokens) (sym same.1)
+          (subst (λ (r : List ℕ). AreMovetextTokens style exported.start second.elements r exported.tokens) (sym same.2) exported.are_tokens);
+      movetext = exported.movetext;
+      laid = exported.laid;
+      spells = exported.spells;
+    }
+
+pub some_export_of_parts : (style : Style) (parts : List Part) (game : GameText) → IsGameText game → ShowsGame game game.at parts
+    → (replay : Replay) → IsReplayOf (lines_with style.variations) parts replay → (text : List ℕ) × IsExportOf style parts text
+some_export_of_parts = ?

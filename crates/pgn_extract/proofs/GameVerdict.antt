@@ -1,0 +1,171 @@
+-- One piece reported: a game by the index, by the listing of its replay or by its fault, or bytes that are no game.
+use Rattle.std.proofs.Common.{◌≡◌, ℕ, ◌+◌, List, ◌++◌, Vec, Global, refl, sym, ap, ◌∙◌, subst, arith, codes, inl, inr}
+use Rattle.std.proofs.lemmas.List.{append-nil}
+use Rattle.std.specs.Prelude.{Option, if◌then◌else◌}
+use Rattle.pgn_text.specs.GameTexts.{GameText, IsGameText, ShowsGame, tag_in}
+use Rattle.pgn_text.specs.Games.{Item, first_tag}
+use Rattle.pgn_text.specs.Left.{IsPiece}
+use Rattle.pgn_text.specs.Marks.{marked}
+use Rattle.pgn_text.specs.Parts.{Part}
+use Rattle.pgn_text.specs.Pieces as spec
+use Rattle.pgn_text.specs.declared.pieces.Piece.{Piece}
+use Rattle.pgn_text.specs.declared.pieces.Piece.TheVariants as given
+use Rattle.pgn_game.specs.Faults.{Fault, IsFault}
+use Rattle.pgn_game.specs.Replays.{Replay, IsReplay}
+use Rattle.pgn_game.specs.declared.replayer.Lines.{Lines}
+use Rattle.pgn_game.specs.declared.replayer.Lines.TheVariants.{Main}
+use Rattle.pgn_game.specs.Starts.{fen_tag}
+use Rattle.pgn_extract.specs.Blockwise.{AddsVerdict, AddsListed, AddsExported, AddsGame, IsGameWritten, AddsMark, AddsPiece}
+use Rattle.pgn_extract.specs.Index.{fault_text, mark_line}
+use Rattle.pgn_extract.specs.Listing.{Entry, listing, entries_from, AreListed, tags_in, cause_text, IsReplayOf, IsFaultOf}
+use Rattle.pgn_extract.specs.Exports.{written_lines, IsWritten, with_entry, without_entry}
+use Rattle.pgn_extract.specs.Verdicts.{SoundGame, FaultyGame, output_of, fault_line_of, is_faulty, IsVerdictIn, IsGameVerdict}
+use Rattle.pgn_extract.specs.declared.report.Report.{Report}
+use Rattle.pgn_criteria.specs.Meeting.{Tags}
+use Rattle.pgn_extract.specs.Aims.{Aim, IsEntry}
+use Rattle.pgn_extract.proofs.Chosen.{chosen_by}
+use Rattle.pgn_extract.proofs.SameTags.{entry_same}
+use Rattle.pgn_extract.specs.declared.settings.Mode.TheVariants as modes
+
+-- bytes go to the output, and nothing else changes
+pub record AddsOutput (old new : Report) (text : List ℕ) : Type 0 where
+  pub output : new.output.items ≡ old.output.items ++ text
+  pub faults : new.faults.items ≡ old.faults.items
+  pub games : new.games ≡ old.games
+  pub faulty : new.faulty ≡ old.faulty
+
+-- a line goes to standard error, and one more piece is counted as faulty
+pub record AddsFault (old new : Report) (line : List ℕ) (count : ℕ) : Type 0 where
+  pub output : new.output.items ≡ old.output.items
+  pub faults : new.faults.items ≡ old.faults.items ++ line
+  pub games : new.games ≡ old.games + count
+  pub faulty : new.faulty ≡ old.faulty + 1
+
+-- a sound game is reported
+verdict_sound : (old new : Report) (text : List ℕ) → AddsOutput old new text → AddsVerdict old new (SoundGame text) 0
+verdict_sound old new text adds = record {
+  output = adds.output;
+  faults = adds.faults ∙ sym (append-nil old.faults.items);
+  games = adds.games ∙ omega arith;
+  faulty = adds.faulty ∙ omega arith;
+}
+
+-- a faulty one is reported
+verdict_faulty : (old new : Report) (line : List ℕ) (count : ℕ) → AddsFault old new line count → AddsVerdict old new (FaultyGame line) count
+verdict_faulty old new line count adds = record {
+  output = adds.output ∙ sym (append-nil old.output.items);
+  faults = adds.faults;
+  games = adds.games;
+  faulty = adds.faulty;
+}
+
+-- what a reader of the game sees of its lines is so of the parts
+module _ (lines : Lines) {at : ℕ} {game : GameText} {parts : List Part} (shows : ShowsGame game at parts) where
+  shown_replay : (replay : Replay) → IsReplay lines (tag_in fen_tag game.tags) game.elements replay → IsReplayOf lines parts replay
+  shown_replay replay is =
+      subst (λ (items : List Item). IsReplay lines (first_tag fen_tag parts) items replay) shows.elements
+      (subst (λ (tag : Option (List ℕ)). IsReplay lines tag game.elements replay) (shows.tags fen_tag) is)
+
+  shown_fault : (fault : Fault) → IsFault lines (tag_in fen_tag game.tags) game.elements fault → IsFaultOf lines parts fault
+  shown_fault fault is =
+      subst (λ (items : List Item). IsFault lines (first_tag fen_tag parts) items fault) shows.elements
+      (subst (λ (tag : Option (List ℕ)). IsFault lines tag game.elements fault) (shows.tags fen_tag) is)
+
+-- by the listing, the entries of its replay
+pub listed_replay : (aim : Aim) {old new : Report} {number offset : ℕ} {game : GameText} (replay : Replay) (entries : List Entry)
+    → IsReplay Main (tag_in fen_tag game.tags) game.elements replay → AreListed aim number offset (λ name. tag_in name game.tags) replay entries
+    → AddsOutput old new (listing entries) → AddsListed aim old new number offset game
+listed_replay aim {old} {new} {number} {offset} {game} replay entries is these adds at parts shows =
+    let own = λ (name : List ℕ). tag_in name game.tags in
+    let listed : AreListed aim number offset (tags_in parts) replay entries =
+    chosen_by (λ entry. IsEntry aim own replay entry.ply) (λ entry. IsEntry aim (tags_in parts) replay entry.ply)
+    (λ entry. entry_same own (tags_in parts) shows.tags replay aim entry.ply)
+    (λ entry. entry_same (tags_in parts) own (λ name. sym (shows.tags name)) replay aim entry.ply)
+    (entries_from number offset 0 replay.positions) entries these in
+    (SoundGame (listing entries), (replay, entries, shown_replay Main shows replay is, listed, refl), verdict_sound old new (listing entries) adds)
+
+-- or its fault
+pub listed_fault : (aim : Aim) {old new : Report} {number offset : ℕ} {game : GameText} (fault : Fault) → IsFault Main (tag_in fen_tag game.tags) game.elements fault
+    → AddsVerdict old new (FaultyGame (fault_text number offset (cause_text fault))) 0 → AddsListed aim old new number offset game
+listed_fault aim {old} {new} {number} {offset} {game} fault is adds at parts shows =
+    (FaultyGame (fault_text number offset (cause_text fault)), (fault, shown_fault Main shows fault is, refl), adds)
+
+-- by the export, what is written of it
+pub exported_replay : (aim : Aim) {old new : Report} {number offset : ℕ} {game : GameText} → IsGameText game → (replay : Replay) (text : List ℕ)
+    → IsReplay (written_lines aim) (tag_in fen_tag game.tags) game.elements replay → IsGameWritten aim game replay text
+    → AddsOutput old new text → AddsExported aim old new number offset game
+exported_replay aim {old} {new} {number} {offset} {game} is_game replay text is written adds at parts shows =
+    (SoundGame text, (replay, shown_replay (written_lines aim) shows replay is, of_parts written), verdict_sound old new text adds)
+  where
+    own : Tags
+    own = λ name. tag_in name game.tags
+
+    of_parts : IsGameWritten aim game replay text → IsWritten aim parts replay text
+    of_parts (inl (has, export)) =
+        with_entry (has.0, has.1, entry_same own (tags_in parts) shows.tags replay aim has.0 has.2)
+        (game, is_game, record { place = refl; tags = shows.tags; elements = shows.elements; result = shows.result }, export)
+    of_parts (inr (none, empty)) =
+        without_entry (λ has. none (has.0, has.1, entry_same (tags_in parts) own (λ name. sym (shows.tags name)) replay aim has.0 has.2)) empty
+
+-- or its fault
+pub exported_fault : (aim : Aim) {old new : Report} {number offset : ℕ} {game : GameText} (fault : Fault)
+    → IsFault (written_lines aim) (tag_in fen_tag game.tags) game.elements fault
+    → AddsVerdict old new (FaultyGame (fault_text number offset (cause_text fault))) 0 → AddsExported aim old new number offset game
+exported_fault aim {old} {new} {number} {offset} {game} fault is adds at parts shows =
+    (FaultyGame (fault_text number offset (cause_text fault)), (fault, shown_fault (written_lines aim) shows fault is, refl), adds)
+
+-- by the index, its mark
+pub game_indexed : {old new : Report} (aim : Aim) (number offset : ℕ) (game : GameText) → aim.mode ≡ modes.Index → AddsOutput old new (mark_line number offset)
+    → AddsGame aim old new number offset game
+game_indexed {old} {new} aim number offset game is adds at parts shows = (
+  SoundGame (mark_line number offset),
+  subst (λ m. IsVerdictIn m aim number offset parts (SoundGame (mark_line number offset))) (sym is) refl,
+  verdict_sound old new (mark_line number offset) adds,
+)
+
+-- by the listing, what that reports
+pub game_listed : {old new : Report} (aim : Aim) (number offset : ℕ) (game : GameText) → aim.mode ≡ modes.List → AddsListed aim old new number offset game
+    → AddsGame aim old new number offset game
+game_listed aim number offset game is adds at parts shows =
+    let verdict = adds at parts shows in
+    (verdict.0, subst (λ m. IsVerdictIn m aim number offset parts verdict.0) (sym is) verdict.1, verdict.2)
+
+-- by the export, what that reports
+pub game_exported : {old new : Report} (aim : Aim) (number offset : ℕ) (game : GameText) → aim.mode ≡ modes.Export → AddsExported aim old new number offset game
+    → AddsGame aim old new number offset game
+game_exported aim number offset game is adds at parts shows =
+    let verdict = adds at parts shows in
+    (verdict.0, subst (λ m. IsVerdictIn m aim number offset parts verdict.0) (sym is) verdict.1, verdict.2)
+
+-- a piece that is a game is counted, and reported
+pub piece_game : (aim : Aim) {old mid new : Report} (number offset here : ℕ) (piece : Piece) (game : GameText) → piece ≡ given.Game game → here ≡ offset + game.at
+    → AddsGame aim mid new number here game → mid.output ≡ old.output → mid.faults ≡ old.faults → mid.games ≡ old.games + 1 → mid.faulty ≡ old.faulty
+    → AddsPiece aim old new number offset piece
+piece_game aim {old} {mid} {new} number offset here piece game is_game place adds output faults games faulty shown is =
+    shows shown (subst (λ p. IsPiece p shown) is_game is)
+  where
+    shows : (shown : spec.Piece) → IsPiece (given.Game game) shown → AddsMark aim old new number (marked offset shown)
+    shows (spec.Unreadable at) is = absurd is
+    shows (spec.Game at parts) is =
+        let verdict = adds at parts is in
+        let t = verdict.2 in (
+          verdict.0,
+          subst (λ n. IsGameVerdict aim number n parts verdict.0) (place ∙ ap (λ n. offset + n) is.place) verdict.1,
+          record {
+            output = t.output ∙ ap (λ (v : Vec ℕ Global). v.items ++ output_of verdict.0) output;
+            faults = t.faults ∙ ap (λ (v : Vec ℕ Global). v.items ++ fault_line_of verdict.0) faults;
+            games = t.games ∙ omega (arith, games);
+            faulty = t.faulty ∙ ap (λ n. n + (if is_faulty verdict.0 then 1 else 0)) faulty;
+          },
+        )
+
+-- a piece that is no game is reported, and counted
+pub piece_unreadable : (aim : Aim) {old new : Report} (number offset : ℕ) (piece : Piece) (place : ℕ) → piece ≡ given.Unreadable place
+    → AddsFault old new (fault_text number (offset + place) (codes "unreadable")) 1 → AddsPiece aim old new number offset piece
+piece_unreadable aim {old} {new} number offset piece place is_none adds shown is = shows shown (subst (λ p. IsPiece p shown) is_none is)
+  where
+    shows : (shown : spec.Piece) → IsPiece (given.Unreadable place) shown → AddsMark aim old new number (marked offset shown)
+    shows (spec.Game at parts) is = absurd is
+    shows (spec.Unreadable at) is =
+        let line = fault_text number (offset + place) (codes "unreadable") in
+        (FaultyGame line, ap (λ n. FaultyGame (fault_text number (offset + n) (codes "unreadable"))) is, verdict_faulty old new line 1 adds)

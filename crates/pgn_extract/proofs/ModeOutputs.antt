@@ -1,0 +1,115 @@
+-- What is reported to the output of pieces in a row is their index, the listing of their entries, or the exports of their games.
+use Rattle.std.proofs.Common.{◌≡◌, ℕ, ◌+◌, List, [], ◌∷◌, ◌++◌, Option, refl, sym, ap, ◌∙◌, subst, append_assoc}
+use Rattle.std.specs.Io.KnownBytes.{Appends}
+use Rattle.pgn_text.specs.Marks.{PieceKind, ReadableGame, UnreadableRest, TooLongBlock, MarkedPiece}
+use Rattle.pgn_text.specs.Parts.{Part}
+use Rattle.pgn_extract.specs.Index.{index, index_line}
+use Rattle.pgn_extract.specs.Listing.{Entry, entry_line, listing, AreGameEntries, sound, faulty, ArePieceEntries, AreEntries}
+use Rattle.pgn_extract.specs.Exports.{IsGameExport, sound as exported, faulty as unexported, IsPieceExport, AreExports}
+use Rattle.pgn_extract.specs.Outcomes.{Ends, Indexes, Lists, Exports}
+use Rattle.pgn_extract.specs.Verdicts.{Verdict, SoundGame, FaultyGame, output_of, output_text, IsListed, IsExported, IsVerdictIn, IsPieceVerdict, AreVerdicts}
+use Rattle.pgn_extract.specs.declared.outcome.Summary.{Summary}
+use Rattle.pgn_extract.specs.Aims.{Aim}
+use Rattle.pgn_extract.specs.declared.settings.Mode.TheVariants as modes
+
+-- the lines of entries, and then of others
+pub listing-append : (xs ys : List Entry) → listing (xs ++ ys) ≡ listing xs ++ listing ys
+listing-append [] ys = refl
+listing-append (x ∷ xs) ys = ap (λ t. entry_line x ++ t) (listing-append xs ys) ∙ sym (append_assoc (entry_line x) (listing xs) (listing ys))
+
+-- a game's entries
+of_game : (aim : Aim) (verdict : Verdict) (number offset : ℕ) (parts : List Part) → IsListed aim verdict number offset parts
+    → (own : List Entry) × AreGameEntries aim number offset parts own × (output_of verdict ≡ listing own)
+of_game aim (SoundGame text) number offset parts (replay, entries, is, these, here) = (entries, sound replay is these, here)
+of_game aim (FaultyGame line) number offset parts (fault, is, here) = ([], faulty fault is refl, refl)
+
+-- a piece's entries
+of_piece : (kind : PieceKind) (aim : Aim) → aim.mode ≡ modes.List → (number offset : ℕ) (verdict : Verdict) → IsPieceVerdict kind aim number offset verdict
+    → (own : List Entry) × ArePieceEntries aim kind number offset own × (output_of verdict ≡ listing own)
+of_piece (ReadableGame parts) aim lists number offset verdict is = of_game aim verdict number offset parts (subst (λ m. IsVerdictIn m aim number offset parts verdict) lists is)
+of_piece UnreadableRest aim lists number offset verdict is = ([], refl, ap output_of is)
+of_piece TooLongBlock aim lists number offset verdict is = ([], refl, ap output_of is)
+
+-- the entries of pieces in a row
+of_pieces : (aim : Aim) → aim.mode ≡ modes.List → (number : ℕ) (pieces : List MarkedPiece) (verdicts : List Verdict) → AreVerdicts aim number pieces verdicts
+    → (entries : List Entry) × AreEntries aim number pieces entries × (output_text verdicts ≡ listing entries)
+of_pieces aim lists number [] verdicts none = ([], refl, ap output_text none)
+of_pieces aim lists number (piece ∷ more) verdicts (verdict, rest, parted, is, others) =
+    let own = of_piece piece.kind aim lists number piece.offset verdict is in
+    let later = of_pieces aim lists (number + 1) more rest others in (
+      own.0 ++ later.0,
+      (own.0, later.0, refl, own.1, later.1),
+      ap output_text parted ∙ ap (λ t. t ++ output_text rest) own.2 ∙ ap (λ t. listing own.0 ++ t) later.2 ∙ sym (listing-append own.0 later.0),
+    )
+
+-- a game's export
+export_of_game : (aim : Aim) (verdict : Verdict) (number offset : ℕ) (parts : List Part) → IsExported aim verdict number offset parts → IsGameExport aim parts (output_of verdict)
+export_of_game aim (SoundGame text) number offset parts (replay, is, written) = exported replay is written
+export_of_game aim (FaultyGame line) number offset parts (fault, is, here) = unexported fault is refl
+
+-- a piece's export
+export_of_piece : (kind : PieceKind) (aim : Aim) → aim.mode ≡ modes.Export → (number offset : ℕ) (verdict : Verdict) → IsPieceVerdict kind aim number offset verdict
+    → IsPieceExport aim kind (output_of verdict)
+export_of_piece (ReadableGame parts) aim exports number offset verdict is =
+    export_of_game aim verdict number offset parts (subst (λ m. IsVerdictIn m aim number offset parts verdict) exports is)
+export_of_piece UnreadableRest aim exports number offset verdict is = ap output_of is
+export_of_piece TooLongBlock aim exports number offset verdict is = ap output_of is
+
+-- the exports of pieces in a row
+exports_of_pieces : (aim : Aim) → aim.mode ≡ modes.Export → (number : ℕ) (pieces : List MarkedPiece) (verdicts : List Verdict) → AreVerdicts aim number pieces verdicts
+    → AreExports aim pieces (output_text verdicts)
+exports_of_pieces aim exports number [] verdicts none = ap output_text none
+exports_of_pieces aim exports number (piece ∷ more) verdicts (verdict, rest, parted, is, others) = (
+  output_of verdict,
+  output_text rest,
+  ap output_text parted,
+  export_of_piece piece.kind aim exports number piece.offset verdict is,
+  exports_of_pieces aim exports (number + 1) more rest others,
+)
+
+-- a piece's line in the index
+indexed_piece : (kind : PieceKind) (aim : Aim) → aim.mode ≡ modes.Index → (number offset : ℕ) (verdict : Verdict) → IsPieceVerdict kind aim number offset verdict
+    → output_of verdict ≡ index_line number (record { offset = offset; kind = kind })
+indexed_piece (ReadableGame parts) aim indexes number offset verdict is = ap output_of (subst (λ m. IsVerdictIn m aim number offset parts verdict) indexes is)
+indexed_piece UnreadableRest aim indexes number offset verdict is = ap output_of is
+indexed_piece TooLongBlock aim indexes number offset verdict is = ap output_of is
+
+-- the index of pieces in a row
+indexed_pieces : (aim : Aim) → aim.mode ≡ modes.Index → (number : ℕ) (pieces : List MarkedPiece) (verdicts : List Verdict) → AreVerdicts aim number pieces verdicts
+    → output_text verdicts ≡ index number pieces
+indexed_pieces aim indexes number [] verdicts none = ap output_text none
+indexed_pieces aim indexes number (piece ∷ more) verdicts (verdict, rest, parted, is, others) =
+    ap output_text parted ∙ ap (λ t. t ++ output_text rest) (indexed_piece piece.kind aim indexes number piece.offset verdict is)
+    ∙ ap (λ t. index_line number piece ++ t) (indexed_pieces aim indexes (number + 1) more rest others)
+
+module _ (aim : Aim) (limit max_depth number offset : ℕ) (whole : List ℕ) (out out' err err' : Option (List ℕ)) (summary : Summary)
+    (e : Ends aim limit max_depth number offset whole out out' err err' summary) where
+  -- a run for the index wrote it
+  pub indexes_of : aim.mode ≡ modes.Index → Indexes limit max_depth number offset whole out out'
+  indexes_of is = record {
+    pieces = e.pieces;
+    each = e.each;
+    indexed = subst (Appends out out') (indexed_pieces aim is number e.pieces e.verdicts e.written.each) e.written.output;
+  }
+
+  -- a run for the export wrote it
+  pub exports_of : aim.mode ≡ modes.Export → Exports aim limit max_depth number offset whole out out'
+  exports_of is = record {
+    pieces = e.pieces;
+    each = e.each;
+    text = output_text e.verdicts;
+    are = exports_of_pieces aim is number e.pieces e.verdicts e.written.each;
+    exported = e.written.output;
+  }
+
+  -- a run for the listing wrote it
+  pub lists_of : aim.mode ≡ modes.List → Lists aim limit max_depth number offset whole out out'
+  lists_of is =
+      let of = of_pieces aim is number e.pieces e.verdicts e.written.each in
+      record {
+        pieces = e.pieces;
+        each = e.each;
+        entries = of.0;
+        are = of.1;
+        listed = subst (Appends out out') of.2 e.written.output;
+      }

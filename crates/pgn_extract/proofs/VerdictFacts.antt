@@ -1,0 +1,66 @@
+-- What is reported of pieces in a row, piece by piece.
+use Rattle.std.proofs.Common.{◌≡◌, ℕ, ◌+◌, List, [], ◌∷◌, ◌++◌, length, refl, sym, ap, ◌∙◌, subst, arith, append_assoc, length-append}
+use Rattle.std.specs.Prelude.{count_by, fold, if◌then◌else◌}
+use Rattle.std.proofs.lemmas.List.Sums.{fold_push, fold-append}
+use Rattle.std.proofs.lemmas.List.{append-nil}
+use Rattle.pgn_text.specs.Marks.{MarkedPiece}
+use Rattle.pgn_extract.specs.Blockwise.{Reports, AddsMark}
+use Rattle.pgn_extract.specs.Verdicts.{Verdict, AreVerdicts, output_of, fault_line_of, output_text, fault_lines, is_faulty}
+use Rattle.pgn_extract.specs.declared.report.Report.{Report}
+use Rattle.pgn_extract.specs.Aims.{Aim}
+
+-- what goes to the output of some, and then of others
+pub output_text-append : (xs ys : List Verdict) → output_text (xs ++ ys) ≡ output_text xs ++ output_text ys
+output_text-append [] ys = refl
+output_text-append (x ∷ xs) ys = ap (λ t. output_of x ++ t) (output_text-append xs ys) ∙ sym (append_assoc (output_of x) (output_text xs) (output_text ys))
+
+-- what goes to standard error of some, and then of others
+pub fault_lines-append : (xs ys : List Verdict) → fault_lines (xs ++ ys) ≡ fault_lines xs ++ fault_lines ys
+fault_lines-append [] ys = refl
+fault_lines-append (x ∷ xs) ys =
+    ap (λ t. fault_line_of x ++ t) (fault_lines-append xs ys) ∙ sym (append_assoc (fault_line_of x) (fault_lines xs) (fault_lines ys))
+
+-- pieces are reported, and others behind them
+pub verdicts-append : (aim : Aim) (number : ℕ) (xs ys : List MarkedPiece) (first second : List Verdict) → AreVerdicts aim number xs first
+    → AreVerdicts aim (number + length xs) ys second → AreVerdicts aim number (xs ++ ys) (first ++ second)
+verdicts-append aim number [] ys first second none others =
+    let start : number + length {A = MarkedPiece} [] ≡ number = omega arith in
+    subst (λ t. AreVerdicts aim number ys (t ++ second)) (sym none) (subst (λ n. AreVerdicts aim n ys second) start others)
+verdicts-append aim number (x ∷ xs) ys first second (own, rest, parted, here, more) others =
+    let next : number + length (x ∷ xs) ≡ number + 1 + length xs = omega arith in
+    (own, rest ++ second, ap (λ t. t ++ second) parted, here, verdicts-append aim (number + 1) xs ys rest second more (subst (λ n. AreVerdicts aim n ys second) next others))
+
+-- a count that begins at another number
+count_from : (a : ℕ) (xs : List Verdict)
+    → fold (λ (n : ℕ) (x : Verdict). n + (if is_faulty x then 1 else 0)) a xs ≡ a + count_by is_faulty xs
+count_from a [] = omega arith
+count_from a (x ∷ xs) =
+    let one = if is_faulty x then 1 else 0 in
+    let here : fold (λ (n : ℕ) (x : Verdict). n + (if is_faulty x then 1 else 0)) (a + one) xs ≡ a + one + count_by is_faulty xs = count_from (a + one) xs in
+    let there : fold (λ (n : ℕ) (x : Verdict). n + (if is_faulty x then 1 else 0)) (0 + one) xs ≡ 0 + one + count_by is_faulty xs = count_from (0 + one) xs in
+    here ∙ sum a one (count_by is_faulty xs) ∙ ap (λ n. a + n) (sym there)
+  where
+    sum : (a b c : ℕ) → a + b + c ≡ a + (0 + b + c)
+    sum a b c = omega arith
+
+-- the faulty ones among some, and then others
+pub count_by-join : (xs ys : List Verdict) → count_by is_faulty (xs ++ ys) ≡ count_by is_faulty xs + count_by is_faulty ys
+count_by-join xs ys = fold-append (λ (n : ℕ) (x : Verdict). n + (if is_faulty x then 1 else 0)) 0 xs ys ∙ count_from (count_by is_faulty xs) ys
+
+-- the last one joins nothing
+joined : (front one whole : List ℕ) → whole ≡ front ++ (one ++ []) → front ++ one ≡ whole
+joined front one whole e = ap (λ t. front ++ t) (sym (append-nil one)) ∙ sym e
+
+-- one more piece
+pub reports_more : (aim : Aim) (old new : Report) (number here : ℕ) (pieces : List MarkedPiece) (piece : MarkedPiece) → Reports aim old number pieces
+    → here ≡ number + length pieces → AddsMark aim old new here piece → Reports aim new number (pieces ++ piece ∷ [])
+reports_more aim old new number here pieces piece reports is (verdict, how, adds) = record {
+  verdicts = reports.verdicts ++ verdict ∷ [];
+  each = verdicts-append aim number pieces (piece ∷ []) reports.verdicts (verdict ∷ []) reports.each
+      (subst (λ n. AreVerdicts aim n (piece ∷ []) (verdict ∷ [])) is (verdict, [], refl, how, refl));
+  output = adds.output ∙ ap (λ t. t ++ output_of verdict) reports.output ∙ joined _ _ _ (output_text-append reports.verdicts (verdict ∷ []));
+  faults = adds.faults ∙ ap (λ t. t ++ fault_line_of verdict) reports.faults ∙ joined _ _ _ (fault_lines-append reports.verdicts (verdict ∷ []));
+  same = omega (arith, reports.same, length-append reports.verdicts (verdict ∷ []), length-append pieces (piece ∷ []));
+  games = adds.games ∙ ap (λ n. n + 1) reports.games ∙ omega (arith, length-append pieces (piece ∷ []));
+  faulty = adds.faulty ∙ ap (λ n. n + (if is_faulty verdict then 1 else 0)) reports.faulty ∙ sym (fold_push (λ (n : ℕ) (x : Verdict). n + (if is_faulty x then 1 else 0)) 0 reports.verdicts verdict);
+}

@@ -1,0 +1,85 @@
+-- What a run reports of the pieces of a text, in each of its modes.
+use Rattle.std.specs.Prelude.{◌≡◌, ℕ, ◌+◌, Bool, true, false, List, [], ◌∷◌, ◌++◌, codes}
+use Rattle.pgn_text.specs.Marks.{PieceKind, ReadableGame, UnreadableRest, TooLongBlock, MarkedPiece}
+use Rattle.pgn_text.specs.Parts.{Part}
+use Rattle.pgn_game.specs.Faults.{Fault}
+use Rattle.pgn_game.specs.Replays.{Replay}
+use Rattle.pgn_game.specs.declared.replayer.Lines.TheVariants.{Main}
+use Rattle.pgn_extract.specs.Index.{fault_text, mark_line}
+use Rattle.pgn_extract.specs.Listing.{Entry, listing, AreListed, tags_in, IsReplayOf, IsFaultOf, cause_text}
+use Rattle.pgn_extract.specs.Aims.{Aim}
+use Rattle.pgn_extract.specs.Exports.{written_lines, IsWritten}
+use Rattle.pgn_extract.specs.declared.settings.Mode.{Mode}
+use Rattle.pgn_extract.specs.declared.settings.Mode.TheVariants as modes
+
+-- the verdict on a piece, which is what is reported of it
+pub data Verdict : Type 0 where
+  -- it is sound in the mode: these bytes go to the output
+  SoundGame : List ℕ → Verdict
+  -- it is faulty in the mode: this line goes to standard error
+  FaultyGame : List ℕ → Verdict
+
+-- what goes to the output
+abbrev pub output_of : Verdict → List ℕ
+output_of (SoundGame text) = text
+output_of (FaultyGame line) = []
+
+-- what goes to standard error
+abbrev pub fault_line_of : Verdict → List ℕ
+fault_line_of (SoundGame text) = []
+fault_line_of (FaultyGame line) = line
+
+-- the piece is faulty
+abbrev pub is_faulty : Verdict → Bool
+is_faulty (SoundGame text) = false
+is_faulty (FaultyGame line) = true
+
+-- what goes to the output of pieces in a row
+abbrev pub output_text : List Verdict → List ℕ
+output_text [] = []
+output_text (verdict ∷ more) = output_of verdict ++ output_text more
+
+-- what goes to standard error of them
+abbrev pub fault_lines : List Verdict → List ℕ
+fault_lines [] = []
+fault_lines (verdict ∷ more) = fault_line_of verdict ++ fault_lines more
+
+-- the game is reported in the listing: where it is sound, by the lines of the entries that it lists, else by the line of its fault
+abbrev pub IsListed : Aim → Verdict → ℕ → ℕ → List Part → Type 0
+IsListed aim (SoundGame text) number offset parts =
+    (replay : Replay) × (entries : List Entry) × IsReplayOf Main parts replay × AreListed aim number offset (tags_in parts) replay entries × (text ≡ listing entries)
+IsListed aim (FaultyGame line) number offset parts =
+    (fault : Fault) × IsFaultOf Main parts fault × (line ≡ fault_text number offset (cause_text fault))
+
+-- the game is reported in the export: where it is sound in the lines that are written, by what is written of it, else by the line of its fault
+abbrev pub IsExported : Aim → Verdict → ℕ → ℕ → List Part → Type 0
+IsExported aim (SoundGame text) number offset parts =
+    (replay : Replay) × IsReplayOf (written_lines aim) parts replay × IsWritten aim parts replay text
+IsExported aim (FaultyGame line) number offset parts =
+    (fault : Fault) × IsFaultOf (written_lines aim) parts fault × (line ≡ fault_text number offset (cause_text fault))
+
+-- a game that can be read is reported so in a mode: in the index by its mark, in the listing and in the export as above
+abbrev pub IsVerdictIn : Mode → Aim → ℕ → ℕ → List Part → Verdict → Type 0
+IsVerdictIn modes.Index aim number offset parts verdict = verdict ≡ SoundGame (mark_line number offset)
+IsVerdictIn modes.List aim number offset parts verdict = IsListed aim verdict number offset parts
+IsVerdictIn modes.Export aim number offset parts verdict = IsExported aim verdict number offset parts
+
+-- a game that can be read is reported so
+abbrev pub IsGameVerdict : Aim → ℕ → ℕ → List Part → Verdict → Type 0
+IsGameVerdict aim number offset parts verdict = IsVerdictIn aim.mode aim number offset parts verdict
+
+-- a piece is reported so, by what it is: what can't be read is reported in the same way in each mode
+abbrev pub IsPieceVerdict : PieceKind → Aim → ℕ → ℕ → Verdict → Type 0
+IsPieceVerdict (ReadableGame parts) aim number offset verdict = IsGameVerdict aim number offset parts verdict
+IsPieceVerdict UnreadableRest aim number offset verdict = verdict ≡ FaultyGame (fault_text number offset (codes "unreadable"))
+IsPieceVerdict TooLongBlock aim number offset verdict = verdict ≡ FaultyGame (fault_text number offset (codes "too long"))
+
+-- the piece with this number is reported so in the mode
+abbrev pub IsVerdict : Aim → ℕ → MarkedPiece → Verdict → Type 0
+IsVerdict aim number piece verdict = IsPieceVerdict piece.kind aim number piece.offset verdict
+
+-- the pieces in a row, which are numbered from a number on, are reported so one after the other
+abbrev pub AreVerdicts : Aim → ℕ → List MarkedPiece → List Verdict → Type 0
+AreVerdicts aim number [] verdicts = verdicts ≡ []
+AreVerdicts aim number (piece ∷ more) verdicts =
+    (own : Verdict) × (rest : List Verdict) × (verdicts ≡ own ∷ rest) × IsVerdict aim number piece own × AreVerdicts aim (number + 1) more rest

@@ -1,0 +1,5 @@
+use Rattle.pgn_game.proofs.SomeMovetext.{some_movetext}
+use Rattle.pgn_game.proofs.laws.a_movetext.Goals as goal
+
+pub returns : goal.returns
+returns c = some_movetext

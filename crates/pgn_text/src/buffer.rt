@@ -1,0 +1,138 @@
+//! Bytes that are held, with room behind them for those that a read gives.
+ghost use Rattle.std.specs.Prelude.{◌≡◌, ◌≢◌, ◌↔◌, ℕ, ◌+◌, ◌^◌, ◌<◌, ◌≤◌, true, false, List, [], ◌++◌, length, take, drop, vec_len, IfOk, IfErr, IsErrOf, OnOk};
+ghost use Rattle.pgn_text.specs.Searches.{AppendsRead};
+ghost use Rattle.pgn_text.specs.Tallies.{Reads};
+
+use crate::blocks::ReadError;
+use crate::tally::Tally;
+use std::alloc::{AllocError, Global};
+use std::io::Read;
+use std::marker::Model;
+
+/// Bytes in a row. The room behind them is kept when bytes are given up, so that each of its places is filled with zeros once.
+#[derive(Drop)]
+pub(crate) struct Buffer {
+    /// The bytes, and room for more.
+    room: Vec<u8>,
+    /// How many bytes there are.
+    len: usize,
+}
+
+impl Model for Buffer {
+    ghost use Rattle.std.specs.Prelude.{ℕ, ◌≤◌, List, length, take};
+
+    ghost Value = { List ℕ };
+
+    ghost view = { λ b. take b.len b.room.items };
+
+    ghost invariant = { λ b. b.len ≤ length b.room.items };
+}
+
+impl Buffer {
+    /// No bytes.
+    pub(crate) fn new(alloc: Global) -> Self
+        ensures { result ≡ [] }
+    {
+        Buffer {
+            room: Vec::new(alloc),
+            len: 0,
+        }
+    }
+
+    /// How many bytes there are.
+    pub(crate) fn len(&self) -> usize
+        ensures { result ≡ length self.now }
+    {
+        self.len
+    }
+
+    /// The bytes.
+    pub(crate) fn bytes(&self) -> &[u8]
+        ensures { result.now ≡ self.now }
+    {
+        &self.room[..self.len]
+    }
+
+    /// Gives up all bytes.
+    pub(crate) fn clear(&mut self)
+        ensures { self.new ≡ [] }
+    {
+        self.len = 0;
+    }
+
+    /// Gives up so many bytes at the front.
+    pub(crate) fn give_up(&mut self, count: usize)
+        requires { count ≤ length self.old }
+        ensures { self.new ≡ drop count self.old }
+    {
+        if count > 0 {
+            self.room.copy_within(count..self.len, 0);
+            self.len -= count;
+        }
+    }
+
+    /// Reads at most `count` bytes behind those that there are, and says how many came.
+    pub(crate) fn read_more<R: Read>(
+        &mut self,
+        count: usize,
+        input: &mut Tally<R>,
+    ) -> Result<usize, ReadError>
+        requires some { (0 < count) × (length self.old + count < 2 ^ 64) }
+        requires sound { input.old.faulted ≡ false }
+        ensures ok { IfOk result (AppendsRead self.old self.new
+            (R.remaining input.old.inner) (R.remaining input.new.inner)
+            input.old.moved input.new.moved count) }
+        ensures err { IfErr result (λ error. (error ≢ ReadError.Failed) × (error ≢ ReadError.InputTooLong)
+            × Reads (R.remaining input.old.inner) (R.remaining input.new.inner)
+            input.old.moved input.new.moved []) }
+        ensures fault { IsErrOf result ReadError.Read ↔ (input.new.faulted ≡ true) }
+    {
+        let len = self.len;
+        if grow(&mut self.room, len + count).is_err() {
+            return Err(ReadError::OutOfMemory);
+        }
+        match fill(&mut self.room, len, count, input) {
+            Ok(more) => {
+                self.len = len + more;
+                Ok(more)
+            }
+            Err(error) => Err(error),
+        }
+    }
+}
+
+/// Makes room for so many bytes in all.
+fn grow(room: &mut Vec<u8>, size: usize) -> Result<(), AllocError>
+    ensures kept { (more : List ℕ) × (room.new.items ≡ room.old.items ++ more) }
+    ensures ok { OnOk result (size ≤ vec_len room.new) }
+{
+    if size <= room.len() {
+        return Ok(());
+    }
+    room.resize(size, 0)
+}
+
+/// Reads at most `count` bytes into the room from `len` on, and says how many came.
+fn fill<R: Read>(
+    room: &mut Vec<u8>,
+    len: usize,
+    count: usize,
+    input: &mut Tally<R>,
+) -> Result<usize, ReadError>
+    requires some { 0 < count }
+    requires within { len + count ≤ vec_len room.old }
+    requires sound { input.old.faulted ≡ false }
+    ensures size { length room.new.items ≡ length room.old.items }
+    ensures ok { IfOk result (λ more. AppendsRead (take len room.old.items) (take (len + more) room.new.items)
+        (R.remaining input.old.inner) (R.remaining input.new.inner)
+        input.old.moved input.new.moved count more) }
+    ensures err { IfErr result (λ error. (error ≡ ReadError.Read)
+        × Reads (R.remaining input.old.inner) (R.remaining input.new.inner)
+        input.old.moved input.new.moved []) }
+    ensures fault { IsErrOf result ReadError.Read ↔ (input.new.faulted ≡ true) }
+{
+    match input.read(&mut room[len..len + count]) {
+        Ok(more) => Ok(more),
+        Err(_) => Err(ReadError::Read),
+    }
+}
