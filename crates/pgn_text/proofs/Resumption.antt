@@ -10,6 +10,7 @@ use Rattle.pgn_text.specs.Parts.{Part, ByteOrderMark, White, Brace, Line, Escape
 use Rattle.pgn_text.specs.Games.{is_gap_part, begins_outside_gap, IsGame}
 use Rattle.pgn_text.specs.Pieces.{IsGap, IsLongestGap, NoGame, Piece, Game, Unreadable, ArePieces}
 use Rattle.pgn_text.proofs.PartLemmas.{part_has_byte}
+use Rattle.pgn_text.proofs.ShorterText.{game_elsewhere}
 use Rattle.pgn_text.proofs.OneList.{no_bytes, game_has_byte}
 use Rattle.pgn_text.proofs.Halfway.{spelled-append, stands_join}
 
@@ -113,17 +114,8 @@ stands_anywhere there Close after h = h
 game_at : (max_depth : ℕ) (file_start there_start : Bool) (before there : List ℕ) (parts : List Part) (after : List ℕ)
     → IsGame max_depth file_start before parts after → AllStand there_start there parts after
     → IsGame max_depth there_start there parts after
-game_at max_depth file_start there_start before there parts after g stand = record {
-  stand = stand;
-  begins = g.begins;
-  tags_first = g.tags_first;
-  result_last = g.result_last;
-  meant = g.meant;
-  closed_were_open = g.closed_were_open;
-  depth = g.depth;
-  all_closed = g.all_closed;
-  variations = g.variations;
-}
+game_at max_depth file_start there_start before there parts after g stand =
+    game_elsewhere max_depth file_start there_start before there parts after after g stand
 
 first_outside : (p : Part) (back : List Part) → IsTrue (begins_outside_gap (p ∷ back)) → is_gap_part p ≡ false
 first_outside p back b = not-true (is_gap_part p) b
