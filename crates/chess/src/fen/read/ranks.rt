@@ -2,29 +2,14 @@
 ghost use Rattle.std.specs.Prelude.{◌≡◌, ◌⊎◌, ◌<◌, ◌≤◌, ℕ, List, Option, None, length, replicate, MatchOption, IfSome};
 ghost use Rattle.chess.specs.Squares.{Place};
 ghost use Rattle.chess.specs.Placements.{Placement, man_at};
-ghost use Rattle.chess.specs.Letters.{kind_letter, man_letter};
+ghost use Rattle.chess.specs.Letters.{man_letter};
 ghost use Rattle.chess.specs.Fen.{IsSquares, SpellsRank, SpellRanks, SpellsMen, parted_at, row};
 ghost use Rattle.chess.specs.FenWords.{IsRow, IsByteOf};
 ghost use Rattle.chess.specs.declared.board.man.Man.{Man};
-ghost use Rattle.chess.specs.declared.board.man.Kind.{Kind};
 
-use crate::board::{Board, Kind, Man, Side, Square};
+use crate::board::{Board, Man, Side, Square};
 use crate::fen::read::fields::next_rank;
-
-/// The kind of White's letter.
-fn kind_of(letter: u8) -> Option<Kind>
-    ensures { MatchOption result ((other : Kind) → kind_letter other ≡ letter → ⊥) (λ kind. kind_letter kind ≡ letter) }
-{
-    match letter {
-        b'K' => Some(Kind::King),
-        b'Q' => Some(Kind::Queen),
-        b'R' => Some(Kind::Rook),
-        b'B' => Some(Kind::Bishop),
-        b'N' => Some(Kind::Knight),
-        b'P' => Some(Kind::Pawn),
-        _ => None,
-    }
-}
+use crate::letters::kind_of;
 
 /// The man of the letter: White's in upper case, Black's in lower case.
 fn man_of(letter: u8) -> Option<Man>
