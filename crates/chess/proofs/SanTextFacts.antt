@@ -1,5 +1,5 @@
 -- Facts about the text that is written for a move.
-use Rattle.std.proofs.Common.{◌≡◌, ◌↔◌, ◌++◌, ◌∷◌, [], ℕ, List, true, Bool, Some, ap, sym, ◌∙◌, IsTrue, ◌+◌, ◌&&◌, ◌||◌}
+use Rattle.std.proofs.Common.{◌≡◌, ◌↔◌, ◌++◌, ◌∷◌, [], ℕ, List, true, Bool, Some, ap, sym, ◌∙◌, IsTrue, ◌&&◌, ◌||◌}
 use Rattle.std.proofs.lemmas.List.{append-nil}
 use Rattle.chess.specs.Squares.{Place, IsOnBoard, same_square}
 use Rattle.chess.specs.Placements.{man_at}

@@ -1,6 +1,6 @@
 -- Words for the parts of a move's rules, each the fact of one function.
-use Rattle.std.specs.Prelude.{◌≡◌, ◌⊎◌, ◌≤◌, true, ℕ, Option, Some, None, MatchOption}
-use Rattle.chess.specs.Squares.{Place, IsOnBoard, index_of}
+use Rattle.std.specs.Prelude.{◌≡◌, ◌⊎◌, true, ℕ, Option, Some, None, MatchOption}
+use Rattle.chess.specs.Squares.{Place, IsOnBoard}
 use Rattle.chess.specs.Placements.{man_at, IsEmpty}
 use Rattle.chess.specs.Attacks.{Reaches, IsForward}
 use Rattle.chess.specs.Positions.{State, home_rank, king_to}
