@@ -26,7 +26,7 @@ pub fn resolve<B: Board>(position: &Position<B>, text: &[u8]) -> Result<Move, Sa
     only_named(position, text)
 }
 
-/// The only legal move that the text names.
+/// The only legal move that the text names: what `resolve` answers, as one fact of the answer.
 fn only_named<B: Board>(position: &Position<B>, text: &[u8]) -> Result<Move, SanError>
     ensures { IsAnswer (IsNamed position.now text.now) result }
 {

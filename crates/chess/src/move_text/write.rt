@@ -23,7 +23,7 @@ pub fn san<B: Board>(position: &Position<B>, m: Move) -> ArrayString<8>
     written(position, m)
 }
 
-/// The text of a legal move.
+/// The text of a legal move: what `san` answers, before it is known that the text names that move alone.
 fn written<B: Board>(position: &Position<B>, m: Move) -> ArrayString<8>
     requires { IsLegal position.now m }
     ensures { IsSan position.now m result.bytes }
