@@ -1,14 +1,15 @@
 -- The game of some parts has an export in each style, where it is sound in the lines that are written, and only one.
-use Rattle.std.proofs.Common.{◌≡◌, ℕ, List, sym, subst}
+use Rattle.std.proofs.Common.{◌≡◌, ℕ, List, Option, sym, ap, subst}
 use Rattle.pgn_text.specs.GameTexts.{GameText, IsGameText, ShowsGame, tag_in}
-use Rattle.pgn_text.specs.Games.{Item}
+use Rattle.pgn_text.specs.Games.{Item, items_of}
 use Rattle.pgn_text.specs.Parts.{Part}
 use Rattle.pgn_text.proofs.ShownOnce.{one_game_text}
 use Rattle.pgn_game.specs.Exports.{AreMovetextTokens}
-use Rattle.pgn_game.specs.Replays.{Replay}
+use Rattle.pgn_game.specs.Replays.{Replay, IsReplay}
 use Rattle.pgn_game.specs.Starts.{fen_tag, IsStart}
 use Rattle.pgn_game.specs.TagLines.{AreTagLines}
 use Rattle.pgn_game.proofs.OneExport.{one_export}
+use Rattle.pgn_game.proofs.SomeExport.{some_export}
 use Rattle.pgn_game.specs.declared.style.Style.{Style}
 use Rattle.pgn_extract.specs.Exports.{lines_with, IsExportOf}
 use Rattle.pgn_extract.specs.Listing.{IsReplayOf}
@@ -38,4 +39,10 @@ one_export_of_parts style parts text other (game, is, shows, export) (second, al
 
 pub some_export_of_parts : (style : Style) (parts : List Part) (game : GameText) → IsGameText game → ShowsGame game game.at parts
     → (replay : Replay) → IsReplayOf (lines_with style.variations) parts replay → (text : List ℕ) × IsExportOf style parts text
-some_export_of_parts = ?
+some_export_of_parts style parts game is shows replay sound =
+    let lines = lines_with style.variations in
+    let own : IsReplay lines (tag_in fen_tag game.tags) game.elements replay =
+    subst (λ (items : List Item). IsReplay lines (tag_in fen_tag game.tags) items replay) (sym shows.elements)
+    (subst (λ (tag : Option (List ℕ)). IsReplay lines tag (items_of parts) replay) (sym (shows.tags fen_tag)) sound) in
+    let export = some_export style game replay is (lines, (λ kept. ap lines_with kept), own) in
+    (export.0, (game, is, shows, export.1))

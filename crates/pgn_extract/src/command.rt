@@ -36,7 +36,8 @@ pub struct Request<'a> {
 /// The width of lines without `-w`.
 pub const DEFAULT_WIDTH: u16 = 79;
 
-const ABOUT: &str = "Reads chess games in Portable Game Notation (PGN), plays their moves, and writes \
+const ABOUT: &str =
+    "Reads chess games in Portable Game Notation (PGN), plays their moves, and writes \
     each sound game in the standard's form for export; or with --list for each position of a game's \
     main line the mark N@O of the game, its number and the offset of its first byte, and the ply; or \
     with --index the mark of each game. With criteria only the positions that meet them are listed, \
@@ -119,7 +120,11 @@ fn search_options<'a>(alloc: Global, command: Command<'a>) -> Result<Command<'a>
             "min-ply",
             "Look at no ply below N, as in --min-ply 20; ply 0 is the starting position",
         ))?
-        .arg(ply_option(alloc, "max-ply", "Look at no ply above N, as in --max-ply 40"))?
+        .arg(ply_option(
+            alloc,
+            "max-ply",
+            "Look at no ply above N, as in --max-ply 40",
+        ))?
         .arg(first_option(alloc))
 }
 

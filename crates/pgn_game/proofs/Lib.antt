@@ -19,3 +19,6 @@ pub mod CommentFacts
 pub mod MovetextFacts
 pub mod MovetextLines
 pub mod SomeMovetext
+pub mod SomeExport
+pub mod PlainTokens
+pub mod PlainLines

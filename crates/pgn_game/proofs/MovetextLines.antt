@@ -19,7 +19,9 @@ use Rattle.pgn_game.specs.declared.replayer.Lines.TheVariants.{All}
 use Rattle.pgn_game.specs.declared.style.Style.{Style}
 use Rattle.pgn_game.specs.declared.turn.Turn.{Turn}
 use Rattle.pgn_game.specs.declared.turn.Turn.TheVariants.{Played}
+use Rattle.pgn_game.proofs.OneReplay.{line_head}
 use Rattle.pgn_game.proofs.Spelling.{one_spelt}
+use Rattle.pgn_game.proofs.WalkFacts.{same_state}
 
 -- ---- the turns of all lines
 
@@ -74,18 +76,10 @@ main_follows (VariationClose ∷ items) depth style at positions played line = m
 
 -- ---- a replay leaves a turn for each move that is written
 
-first_position : (words : List (List ℕ)) (start : State) (positions : List State) (played : List Move) → IsMainLine start words positions played
-    → slice_get positions 0 ≡ Some start
-first_position [] start positions played line = ap (λ ps. slice_get ps 0) line.0
-first_position (word ∷ words) start positions played (m, later, more, positions_is, played_is, named, rest) = ap (λ ps. slice_get ps 0) positions_is
-
-same_state : (a b : State) → Some a ≡ Some b → a ≡ b
-same_state a b is = cc
-
 pub starts_there : (style : Style) (fen : Option (List ℕ)) (items : List Item) (replay : Replay) (now : State) (is : IsReplayFor style fen items replay)
     → slice_get replay.positions 0 ≡ Some now → is.2.start ≡ now
 starts_there style fen items replay now (lines, all, is) here =
-    same_state is.start now (sym (first_position (main_words items 0) is.start replay.positions replay.played is.line) ∙ here)
+    same_state is.start now (sym (line_head is.start (main_words items 0) replay.positions replay.played is.line) ∙ here)
 
 pub replay_follows : (style : Style) (fen : Option (List ℕ)) (items : List Item) (replay : Replay) (now : State) → IsReplayFor style fen items replay
     → slice_get replay.positions 0 ≡ Some now → Follows (shown_items style.variations 0 items) style (first_line now) [] (written_turns style.variations replay)

@@ -8,9 +8,7 @@ use Rattle.chess.specs.declared.moves.Move.{Move}
 use Rattle.chess.proofs.OnBoard.{men_stay_on_board}
 use Rattle.pgn_game.specs.MainLines.{IsMainLine}
 use Rattle.pgn_game.proofs.OneReplay.{move_at}
-
-same_state : (a b : State) → Some a ≡ Some b → a ≡ b
-same_state a b is = cc
+use Rattle.pgn_game.proofs.WalkFacts.{same_state}
 
 -- each position
 pub line_on_board : (words : List (List ℕ)) (now : State) (positions : List State) (played : List Move) → AreOnBoard now.men

@@ -29,7 +29,7 @@ same_move : (m n : Move) → Some m ≡ Some n → m ≡ n
 same_move m n is = cc
 
 -- the first position of a main line is the one that it is played from
-line_head : (now : State) (words : List (List ℕ)) (positions : List State) (played : List Move) → IsMainLine now words positions played → slice_get positions 0 ≡ Some now
+pub line_head : (now : State) (words : List (List ℕ)) (positions : List State) (played : List Move) → IsMainLine now words positions played → slice_get positions 0 ≡ Some now
 line_head now [] positions played line = ap (λ ps. slice_get ps 0) line.0
 line_head now (word ∷ words) positions played (m, later, more, positions_is, played_is, named, rest) = ap (λ ps. slice_get ps 0) positions_is
 

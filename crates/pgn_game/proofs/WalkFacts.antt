@@ -17,7 +17,7 @@ use Rattle.pgn_game.specs.Faults.{Fault, IsRefusedWord, IsMoveFault}
 use Rattle.pgn_game.specs.Replays.{Replay}
 use Rattle.pgn_game.specs.Walks.{Completes, MeetsFault}
 
-same_state : (a b : State) → Some a ≡ Some b → a ≡ b
+pub same_state : (a b : State) → Some a ≡ Some b → a ≡ b
 same_state a b is = cc
 
 -- the last of some positions

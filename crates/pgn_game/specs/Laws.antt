@@ -1,18 +1,20 @@
 -- What holds of every game, whatever replays it.
-use Rattle.std.specs.Prelude.{◌≡◌, ◌⊎◌, ℕ, ◌+◌, List, [], ◌∷◌, length, Option, Some, IfSome}
+use Rattle.std.specs.Prelude.{◌≡◌, ◌⊎◌, ℕ, ◌+◌, List, [], ◌∷◌, ◌++◌, length, codes, Option, Some, IfSome}
 use Rattle.std.specs.List.{slice_get}
 use Rattle.chess.specs.Positions.{State}
 use Rattle.chess.specs.Moves.{after}
 use Rattle.chess.specs.San.{IsOnlyNamed}
 use Rattle.chess.specs.declared.moves.Move.{Move}
+use Rattle.pgn_text.specs.Blocks.{event_line}
 use Rattle.pgn_text.specs.Games.{Item, MoveText, GlyphNumber, CommentText, VariationOpen, VariationClose}
-use Rattle.pgn_text.specs.GameTexts.{GameText, IsPaired}
+use Rattle.pgn_text.specs.GameTexts.{GameText, IsGameText, IsPaired, tag_in}
 use Rattle.pgn_text.specs.Strings.{IsContents}
 use Rattle.pgn_game.specs.MainLines.{main_words}
 use Rattle.pgn_game.specs.Faults.{Fault, IsFault}
 use Rattle.pgn_game.specs.Replays.{Replay, IsReplay, IsSoundGame}
 use Rattle.pgn_game.specs.Exports.{AreMovetextTokens, IsReplayFor, IsExport}
-use Rattle.pgn_game.specs.Starts.{IsStart}
+use Rattle.pgn_game.specs.Starts.{IsStart, fen_tag}
+use Rattle.pgn_game.specs.TextLines.{IsLaid}
 use Rattle.pgn_game.specs.declared.replayer.Lines.{Lines}
 use Rattle.pgn_game.specs.declared.replayer.Lines.TheVariants.{All}
 use Rattle.pgn_game.specs.declared.style.Style.{Style}
@@ -74,3 +76,27 @@ MovetextHasTokens =
 -- in a style a game has one export at most
 abbrev pub GameHasOneExport : Type 0
 GameHasOneExport = (style : Style) (game : GameText) (text other : List ℕ) → IsExport style game text → IsExport style game other → text ≡ other
+
+-- in each style a game that is replayed has an export; where the style leaves variations out, a replay of the main line is enough
+abbrev pub GameHasAnExport : Type 0
+GameHasAnExport =
+    (style : Style) (game : GameText) (replay : Replay) → IsGameText game → IsReplayFor style (tag_in fen_tag game.tags) game.elements replay
+    → (text : List ℕ) × IsExport style game text
+
+-- a result (PGN 8.2.6)
+abbrev pub IsResult : List ℕ → Type 0
+IsResult result = (result ≡ codes "1-0") ⊎ (result ≡ codes "0-1") ⊎ (result ≡ codes "1/2-1/2") ⊎ (result ≡ codes "*")
+
+-- a line of the text begins with these bytes
+abbrev pub BeginsLine : List ℕ → List ℕ → Type 0
+BeginsLine text rest = (text ≡ rest) ⊎ ((before : List ℕ) × (text ≡ before ++ 10 ∷ rest))
+
+-- a line that begins with these bytes is read as an escape, or as an event line, which begins a new block (PGN 6)
+abbrev pub IsMisread : List ℕ → Type 0
+IsMisread rest = (more : List ℕ) × ((rest ≡ 37 ∷ more) ⊎ (rest ≡ event_line ++ more))
+
+-- no line of a movetext is, whatever its comments say
+abbrev pub NoLineIsMisread : Type 0
+NoLineIsMisread =
+    (style : Style) (start : State) (items : List Item) (result : List ℕ) (tokens : List (List ℕ)) (width : ℕ) (movetext rest : List ℕ) → IsResult result
+    → AreMovetextTokens style start items result tokens → IsLaid width tokens movetext → BeginsLine movetext rest → IsMisread rest → ⊥

@@ -106,7 +106,7 @@ fn put_word(
 
 /// What a word behind the first one begins with, and what follows: it must be neither an event line nor an escape at the beginning of a
 /// line.
-fn shown(word: &[u8]) -> (&[u8], &[u8])
+fn guarded(word: &[u8]) -> (&[u8], &[u8])
     ensures { later_word word.now ≡ result.0.now ++ unbraced result.1.now }
 {
     if word == b"[Event".as_slice() {
@@ -127,7 +127,7 @@ fn put_later(pen: &mut Pen, out: &mut Vec<u8>, first: Option<Found<'_>>) -> Resu
     let mut next = first;
     while let Some(found) = next {
         next = first_word(found.rest);
-        let (front, word) = shown(found.word);
+        let (front, word) = guarded(found.word);
         put_word(pen, out, front, word, next.is_none())?;
     }
     Ok(())

@@ -2,7 +2,7 @@
 
 ghost use Rattle.pgn_game.specs.Exports.{MovetextHasOneList};
 ghost use Rattle.pgn_game.specs.TextLines.{TokensHaveAText, TokensHaveOneText};
-ghost use Rattle.pgn_game.specs.Laws.{EachMoveIsNamed, EachMoveHasATurn, GameHasOneReplay, GameHasOneFault, SoundGameHasNoFault, GameHasAnAnswer, MovetextHasTokens, GameHasOneExport};
+ghost use Rattle.pgn_game.specs.Laws.{EachMoveIsNamed, EachMoveHasATurn, GameHasOneReplay, GameHasOneFault, SoundGameHasNoFault, GameHasAnAnswer, MovetextHasTokens, GameHasAnExport, GameHasOneExport, NoLineIsMisread};
 
 /// Whichever lines are replayed, each move of the main line is the only legal move that its word names in the position before it.
 pub fn one_legal_move()
@@ -43,7 +43,13 @@ pub fn a_movetext()
     ensures { MovetextHasTokens }
 {}
 
-/// In a style a game has one export at most.
+/// In each style a game that is replayed has an export, and only one; with variations, where all lines are replayed.
 pub fn one_export()
-    ensures { GameHasOneExport }
+    ensures some { GameHasAnExport }
+    ensures one { GameHasOneExport }
+{}
+
+/// No line of a movetext is read as an escape or as an event line, whatever its comments say.
+pub fn no_line_misread()
+    ensures { NoLineIsMisread }
 {}

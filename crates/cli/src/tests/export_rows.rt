@@ -5,11 +5,7 @@ use std::alloc::{AllocError, Global};
 use std::test::Fail;
 
 /// Words, a text of one game, and the lines of its movetext in the export.
-type Movetext = (
-    &'static [&'static str],
-    &'static [u8],
-    &'static [u8],
-);
+type Movetext = (&'static [&'static str], &'static [u8], &'static [u8]);
 
 const MOVETEXTS: [Movetext; 32] = [
     (
@@ -97,17 +93,9 @@ const MOVETEXTS: [Movetext; 32] = [
         b"1. e4 ( 1. -- e5 ) 1... e5 *\n",
     ),
     (&[], b"1. e4 {  \n } *", b"1. e4 {} *\n"),
-    (
-        &[],
-        b"1. e4 {} e5 *",
-        b"1. e4 {} 1... e5 *\n",
-    ),
+    (&[], b"1. e4 {} e5 *", b"1. e4 {} 1... e5 *\n"),
     (&[], b"{first} 1. e4 *", b"1. e4 *\n"),
-    (
-        &[],
-        b"[Event \"A\"] {first} 1. e4 *",
-        b"{first} 1. e4 *\n",
-    ),
+    (&[], b"[Event \"A\"] {first} 1. e4 *", b"{first} 1. e4 *\n"),
     (&[], b"1. e4 () e5 *", b"1. e4 ( ) 1... e5 *\n"),
     (
         &[],
@@ -163,7 +151,12 @@ fn is_exported(alloc: Global, row: &Movetext) -> Result<bool, AllocError> {
 #[test]
 fn movetexts_are_exported_and_read_back(rt: HostRuntime) -> Result<(), Fail> {
     for row in &MOVETEXTS {
-        assert!(rt; is_exported(rt.alloc(), row)?, "{:?} over {:?}", row.0, row.1);
+        assert!(rt;
+            is_exported(rt.alloc(), row)?,
+            "{:?} over {:?}",
+            row.0,
+            row.1
+        );
     }
     Ok(())
 }

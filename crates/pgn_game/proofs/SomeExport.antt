@@ -1,0 +1,48 @@
+-- A sound game has an export in each style: each of its tags has a value, its movetext has tokens, and they have a text in lines.
+use Rattle.std.proofs.Common.{◌≡◌, ℕ, List, [], ◌∷◌, ◌++◌, Option, Some, None, refl, flat_map, codes}
+use Rattle.pgn_text.specs.GameTexts.{GameText, IsGameText, HoldStrings, tag_in}
+use Rattle.pgn_text.specs.Strings.{value_of_sign}
+use Rattle.pgn_game.specs.Exports.{IsExport}
+use Rattle.pgn_game.specs.Laws.{GameHasAnExport}
+use Rattle.pgn_game.specs.TagLines.{missing_text, escaped, IsTagText, tag_line, AreLinesOf, AreTagLines, written_names}
+use Rattle.pgn_game.specs.declared.style.Style.{Style}
+use Rattle.pgn_game.proofs.LaidFacts.{some_text}
+use Rattle.pgn_game.proofs.SomeMovetext.{some_movetext}
+
+-- a tag, there or missing, has a text
+some_tag_text : (tags : List (List ℕ × List ℕ)) → HoldStrings tags → (name missing : List ℕ) (tag : Option (List ℕ)) → tag_in name tags ≡ tag
+    → (text : List ℕ) × IsTagText tag missing text
+some_tag_text tags strings name missing None is = (missing, refl)
+some_tag_text tags strings name missing (Some contents) is =
+    let of = strings name contents is in
+    let value = flat_map value_of_sign of.0 in
+    (flat_map escaped value, (value, (of.0, record { spells = of.1; each = of.2; gives = refl }), refl))
+
+-- so tags have lines
+some_lines : (tags : List (List ℕ × List ℕ)) → HoldStrings tags → (result : List ℕ) (names : List (List ℕ))
+    → (lines : List ℕ) × AreLinesOf tags result names lines
+some_lines tags strings result [] = ([], refl)
+some_lines tags strings result (name ∷ names) =
+    let own = some_tag_text tags strings name (missing_text result name) (tag_in name tags) refl in
+    let more = some_lines tags strings result names in
+    let line = tag_line name own.0 in
+    (line ++ more.0, (line, more.0, (own.0, own.1, refl), refl, more.1))
+
+pub some_export : GameHasAnExport
+some_export style game replay is sound =
+    let head = some_lines game.tags is.strings game.result (written_names style game.tags) in
+    let tokens = some_movetext style _ game.elements replay game.result is.paired sound in
+    let movetext = some_text style.width tokens.1 in (
+      head.0 ++ 10 ∷ (movetext.0 ++ 10 ∷ []),
+      record {
+        start = tokens.0;
+        is_start = tokens.2;
+        head = head.0;
+        tags = head.1;
+        tokens = tokens.1;
+        are_tokens = tokens.3;
+        movetext = movetext.0;
+        laid = movetext.1;
+        spells = refl;
+      },
+    )
