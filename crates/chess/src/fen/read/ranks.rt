@@ -24,13 +24,10 @@ fn man_of(letter: u8) -> Option<Man>
     if letter < 32 {
         return None;
     }
-    match kind_of(letter - 32) {
-        Some(kind) => Some(Man {
-            side: Side::Black,
-            kind,
-        }),
-        None => None,
-    }
+    Some(Man {
+        side: Side::Black,
+        kind: kind_of(letter - 32)?,
+    })
 }
 
 /// What stands on each of the squares that the byte spells, and how many they are.
@@ -40,10 +37,7 @@ fn squares_spelled(byte: u8) -> Option<(Option<Man>, usize)>
     if b'1' <= byte && byte <= b'8' {
         return Some((None, (byte - b'0') as usize));
     }
-    match man_of(byte) {
-        Some(man) => Some((Some(man), 1)),
-        None => None,
-    }
+    Some((Some(man_of(byte)?), 1))
 }
 
 /// The eight squares that the text of a rank spells, from the a-file on.
@@ -55,9 +49,7 @@ fn read_row(text: &[u8]) -> Option<[Option<Man>; 8]>
     let mut file = 0;
     let mut rest = text;
     while let [byte, behind @ ..] = rest {
-        let Some((man, count)) = squares_spelled(*byte) else {
-            return None;
-        };
+        let (man, count) = squares_spelled(*byte)?;
         if file + count > 8 {
             return None;
         }
@@ -89,9 +81,7 @@ fn put_ranks<B: Board>(mut board: B, rank: u8, text: &[u8]) -> Option<B>
     ensures above { IfSome result (λ b. (s : Place) → rank < s.rank → man_at (B.men b) s ≡ man_at (B.men board) s) }
 {
     let (first, rest) = next_rank(text);
-    let Some(squares) = read_row(first) else {
-        return None;
-    };
+    let squares = read_row(first)?;
     put_row(&mut board, rank, &squares);
     let Some(rest) = rest else {
         return if rank == 1 { Some(board) } else { None };

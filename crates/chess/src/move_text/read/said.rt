@@ -151,9 +151,7 @@ pub(crate) fn read_said(text: &[u8]) -> Option<SaidMove>
     let (Some(file), Some(rank)) = (parts.target_file, parts.target_rank) else {
         return None;
     };
-    let Some(target) = Square::new(file.saturating_sub(b'`'), rank.saturating_sub(b'0')) else {
-        return None;
-    };
+    let target = Square::new(file.saturating_sub(b'`'), rank.saturating_sub(b'0'))?;
     Some(SaidMove {
         letter: kind_given(parts.letter),
         file: number_given(parts.file, b'`'),
