@@ -7,6 +7,9 @@ ghost use Rattle.chess.specs.BitWords.{AreApart, IsWordOf, IsCleared, IsBitSet, 
 ghost use Rattle.chess.specs.CellFacts.{on_board-men_of};
 ghost use Rattle.chess.specs.declared.man.Kind.TheVariants.{King, Knight, Pawn};
 
+#[cfg(test)]
+mod tests;
+
 use crate::board::Board;
 use crate::fills::{diagonal_runs, jumps, meet, near, pawn_hits, reached, straight_runs, word_of};
 use crate::man::{Kind, Man, Side};
