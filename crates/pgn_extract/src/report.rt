@@ -1,13 +1,15 @@
 //! What is reported of the pieces of one block.
 ghost use Rattle.std.specs.Prelude.{◌≡◌, ℕ, List, Some, ◌+◌, ◌^◌, ◌<◌, ◌≤◌, [], ◌∷◌, length, OnOk, IfOk};
 ghost use Rattle.pgn_text.specs.Left.{piece_place};
+ghost use Rattle.pgn_text.specs.LeftMarks.{mark_place};
 ghost use Rattle.pgn_text.specs.Limits.{block_limit, depth_limit, largest_offset};
 ghost use Rattle.pgn_text.specs.Windows.{Shows};
 ghost use Rattle.pgn_extract.specs.Aims.{Aim, aim_of};
-ghost use Rattle.pgn_extract.specs.Blockwise.{IsShown, Reports, ReportsBlock, AddsVerdict, AddsGame, AddsListed, AddsExported, AddsPiece, too_long_piece};
+ghost use Rattle.pgn_extract.specs.Blockwise.{IsShown, Reports, ReportsBlock, AddsVerdict, AddsGame, AddsListed, AddsExported, AddsPiece, mark_verdict, too_long_piece};
 ghost use Rattle.pgn_extract.specs.Index.{fault_text};
 ghost use Rattle.pgn_extract.specs.Listing.{cause_text};
 ghost use Rattle.pgn_extract.specs.Verdicts.{FaultyGame};
+ghost use Rattle.pgn_extract.specs.declared.settings.Mode.TheVariants.{Index};
 ghost use Rattle.pgn_game.specs.Faults.{Fault};
 ghost use Rattle.pgn_game.specs.Replays.{fault_of};
 
@@ -16,7 +18,7 @@ use crate::listing::push_entries;
 use crate::settings::{Mode, Settings};
 use crate::texts::{push_fault_line, push_game_fault, push_mark_line};
 use pgn_game::{GameFault, Lines, replay};
-use pgn_text::{Block, Body, Piece, RawGame, games};
+use pgn_text::{Block, Body, Mark, Piece, RawGame, games, marks};
 use std::alloc::{AllocError, Global};
 
 /// What is reported of pieces in a row, and their counts.
@@ -167,8 +169,40 @@ fn add_piece<'a>(
     }
 }
 
-/// The report on the pieces of a block, which are numbered from `number` on.
-fn block_report<'a>(
+/// Adds what the index has of one piece of the block that begins at the offset.
+fn add_mark(index: &mut Report, number: u64, offset: u64, mark: Mark) -> Result<(), AllocError>
+    requires place { offset + mark_place mark < 2 ^ 64 }
+    requires counts { (index.old.games + 1 < 2 ^ 64) × (index.old.faulty + 1 < 2 ^ 64) }
+    ensures { OnOk result (AddsVerdict index.old index.new (mark_verdict number offset mark) 1) }
+{
+    index.games += 1;
+    match mark {
+        Mark::Game(at) => push_mark_line(&mut index.output, number, offset + at as u64),
+        Mark::Unreadable(at) => {
+            push_fault_line(&mut index.faults, number, offset + at as u64, b"unreadable")?;
+            index.faulty += 1;
+            Ok(())
+        }
+    }
+}
+
+/// The index of a block, whose pieces are numbered from `number` on.
+fn index_report(alloc: Global, number: u64, offset: u64, block: &[u8]) -> Result<Report, AllocError>
+    requires size { length block.now ≤ block_limit }
+    requires number { number ≤ 2 ^ 63 }
+    requires offset { offset ≤ largest_offset }
+    ensures { IfOk result (λ index. (aim : Aim) → aim.mode ≡ Index → ReportsBlock aim index block_limit depth_limit number offset block.now) }
+{
+    let mut index = Report::new(alloc);
+    for mark in marks(block, offset == 0) {
+        let here = number + index.games;
+        add_mark(&mut index, here, offset, mark)?;
+    }
+    Ok(index)
+}
+
+/// The report on the games of a block, which are numbered from `number` on.
+fn games_report<'a>(
     alloc: Global,
     settings: &'a Settings,
     number: u64,
@@ -187,6 +221,25 @@ fn block_report<'a>(
         add_piece(alloc, &mut report, settings, here, offset, &piece)?;
     }
     Ok(report)
+}
+
+/// The report on the pieces of a block, which are numbered from `number` on.
+fn block_report<'a>(
+    alloc: Global,
+    settings: &'a Settings,
+    number: u64,
+    offset: u64,
+    block: &'a [u8],
+) -> Result<Report, AllocError>
+    requires size { length block.now ≤ block_limit }
+    requires number { number ≤ 2 ^ 63 }
+    requires offset { offset ≤ largest_offset }
+    ensures { IfOk result (λ report. ReportsBlock (aim_of settings.now) report block_limit depth_limit number offset block.now) }
+{
+    match settings.mode {
+        Mode::Index => index_report(alloc, number, offset, block),
+        Mode::List | Mode::Export => games_report(alloc, settings, number, offset, block),
+    }
 }
 
 /// The report on the pieces of a block, which are numbered from `number` on.

@@ -22,7 +22,7 @@ marks_game max_depth f block at begin end parts old is gap to =
       grows = forward;
       starts = to.forward;
       within = to.within;
-      same = (refl, refl);
+      same = (refl, refl, refl);
       completes = piece_game max_depth f block at begin end parts gap to;
     })
 
@@ -38,6 +38,6 @@ marks_unreadable max_depth f block at begin old is gap not_end none =
       grows = forward;
       starts = (let h : begin ≤ length block = gap.to.within in omega arith);
       within = omega arith;
-      same = (refl, refl);
+      same = (refl, refl, refl);
       completes = piece_unreadable max_depth f block at begin gap not_end none;
     })
