@@ -152,9 +152,9 @@ stops_at test block end fails =
     λ xs. elim xs as (λ ys. drop end block ≡ ys → IsTrue (stops test ys)) [
       | [] ↦ (λ _. refl)
       | (b ∷ rest) ↦ (λ is.
-      let below : end < length block = omega (arith, length-drop end block, ap length is) in
-      let here : get_or block end 0 ≡ b = ap (λ k. get_or block k 0) (omega arith) ∙ sym (get_or-drop end block 0 0) ∙ ap (λ ys. get_or ys 0 0) is in
-      not_from_false _ (ap test (sym here) ∙ fails below))
+          let below : end < length block = omega (arith, length-drop end block, ap length is) in
+          let here : get_or block end 0 ≡ b = ap (λ k. get_or block k 0) (omega arith) ∙ sym (get_or-drop end block 0 0) ∙ ap (λ ys. get_or ys 0 0) is in
+          not_from_false _ (ap test (sym here) ∙ fails below))
     ] in
     go (drop end block) refl
 

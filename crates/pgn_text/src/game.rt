@@ -116,7 +116,6 @@ pub(crate) trait Keeper<'a>: Drop {
 pub(crate) struct Nothing {}
 
 impl<'a> Keeper<'a> for Nothing {
-
     type Error = Infallible;
 
     ghost kept = { λ keeper tags items. Unit {0} };
