@@ -11,7 +11,7 @@ use Rattle.pgn_text.specs.Pieces.{NoGame}
 use Rattle.pgn_text.specs.Steps.{State, start, step}
 use Rattle.pgn_text.specs.Reading.{Kept, KeptResult, kept, is_kept_result, step_kept, items_of_kept, named_kept}
 use Rattle.pgn_text.specs.Readings.{GoesOn, StuckAt, EndsAt}
-use Rattle.pgn_text.specs.Walk.{PartAt, KeptAt, NothingAt, NoGapPartAt, GameTo, GameRead}
+use Rattle.pgn_text.specs.Walk.{PartAt, KeptAt, NothingAt, NoGapPartAt, GameRead}
 use Rattle.pgn_text.proofs.Halfway.{Reads, Halfway, halfway_start, halfway_more, halfway_end, halfway_stuck, halfway_none, game_reads, reads_game, before_more}
 use Rattle.pgn_text.proofs.KeptLemmas.{is_result-kept, step-kept, items-push, kept_result}
 use Rattle.pgn_text.proofs.Pairing.{leads_paired}
