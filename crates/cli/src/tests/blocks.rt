@@ -128,8 +128,7 @@ fn a_fault_comes_behind_the_complete_blocks(rt: HostRuntime) -> Result<(), Fail>
 
 #[test]
 fn blocks_at_the_limit(rt: HostRuntime) -> Result<(), Fail> {
-    let rows: [(usize, &[u8], usize, &str); 4] = [
-        (16_777_216, b"", 8192, "3+16777216 end end "),
+    let rows: [(usize, &[u8], usize, &str); 3] = [
         (16_777_217, b"", 8192, "3+long end end "),
         (
             16_777_215,
