@@ -10,7 +10,7 @@ use Rattle.pgn_text.specs.GameTexts.{IsPaired}
 use Rattle.pgn_text.specs.Pieces.{NoGame}
 use Rattle.pgn_text.specs.Steps.{State, start, step}
 use Rattle.pgn_text.specs.Reading.{Kept, KeptResult, kept, is_kept_result, step_kept, items_of_kept, named_kept}
-use Rattle.pgn_text.specs.Walk.{PartAt, KeptAt, NothingAt, NoGapPartAt, GameTo}
+use Rattle.pgn_text.specs.Walk.{PartAt, KeptAt, NothingAt, NoGapPartAt, GameTo, GameRead}
 use Rattle.pgn_text.proofs.Halfway.{Reads, Halfway, halfway_start, halfway_more, halfway_end, halfway_stuck, halfway_none, game_reads, reads_game, before_more}
 use Rattle.pgn_text.proofs.KeptLemmas.{is_result-kept, step-kept, items-push, kept_result}
 use Rattle.pgn_text.proofs.Pairing.{leads_paired}
@@ -114,14 +114,6 @@ part_bytes f block at end part found within =
     ap (take (end - at)) found.parted ∙ take_at (spelled_part part) (drop end block) (end - at) (omega arith)
 
 -- a result outside all variations ends the game
-pub record GameRead (max_depth : ℕ) (f : Bool) (block : List ℕ) (begin at end : ℕ) (tags : List ℕ → Option (List ℕ)) (elements : List Item) : Type 0 where
-  pub parts : List Part
-  pub game : GameTo max_depth f block begin parts end
-  pub tags_kept : (wanted : List ℕ) → tags wanted ≡ first_tag wanted parts
-  pub elements_kept : elements ≡ items_of parts
-  pub paired : IsPaired 0 elements
-  pub result : take (end - at) (drop at block) ≡ result_of parts
-
 pub read_end : (max_depth : ℕ) (f : Bool) (block : List ℕ) (begin at end : ℕ) (state : State) (tags : List ℕ → Option (List ℕ)) (elements : List Item) (token : Kept)
     → ReadTo max_depth f block begin at state tags elements → NoGapPartAt f block begin → KeptAt f block at token end → is_kept_result token ≡ true → state.depth ≡ 0
     → GameRead max_depth f block begin at end tags elements
@@ -150,4 +142,48 @@ read_end max_depth f block begin at end state tags elements token read outside h
       elements_kept = elements_is;
       paired = subst (IsPaired 0) (sym elements_is) (leads_paired max_depth start (read.done ++ here.part ∷ []) reads.leads);
       result = part_bytes f block at end here.part found read.within ∙ sym (result_of-push read.done here.part);
+      result_at = (let b : at < end = found.forward in omega arith);
     }
+
+-- the game has been read up to the place `at`; what was kept then is what is kept now
+pub record KeptUpTo (kept_first kept_now : (List ℕ → Option (List ℕ)) → List Item → Type 0) (max_depth : ℕ) (f : Bool) (block : List ℕ) (begin at : ℕ) (state : State) : Type 0 where
+  pub tags : List ℕ → Option (List ℕ)
+  pub elements : List Item
+  pub read : ReadTo max_depth f block begin at state tags elements
+  pub keeps : kept_first (λ wanted. None) [] → kept_now tags elements
+
+pub kept_start : (kept : (List ℕ → Option (List ℕ)) → List Item → Type 0) (max_depth : ℕ) (f : Bool) (block : List ℕ) (begin : ℕ) (state : State) → begin ≤ length block → state ≡ start
+    → KeptUpTo kept kept max_depth f block begin begin state
+kept_start kept max_depth f block begin state within is_start = record {
+  tags = λ wanted. None;
+  elements = [];
+  read = read_start max_depth f block begin state (λ wanted. None) [] within is_start (λ wanted. refl) refl;
+  keeps = λ first. first;
+}
+
+-- a part of which something is kept
+pub kept_more : (kept_first kept_now kept_next : (List ℕ → Option (List ℕ)) → List Item → Type 0) (max_depth : ℕ) (f : Bool) (block : List ℕ) (begin at end : ℕ) (state next : State) (token : Kept)
+    → KeptUpTo kept_first kept_now max_depth f block begin at state → KeptAt f block at token end → is_kept_result token ≡ false → step_kept max_depth state token ≡ Some next
+    → ((tags : List ℕ → Option (List ℕ)) (elements : List Item) → kept_now tags elements → kept_next (λ wanted. option_or (tags wanted) (named_kept wanted token)) (elements ++ items_of_kept token))
+    → KeptUpTo kept_first kept_next max_depth f block begin end next
+kept_more kept_first kept_now kept_next max_depth f block begin at end state next token up here no_result steps keeps = record {
+  tags = λ wanted. option_or (up.tags wanted) (named_kept wanted token);
+  elements = up.elements ++ items_of_kept token;
+  read = read_more max_depth f block begin at end state next up.tags (λ wanted. option_or (up.tags wanted) (named_kept wanted token))
+      up.elements (up.elements ++ items_of_kept token) token up.read here no_result steps (λ wanted. refl) refl;
+  keeps = λ first. keeps up.tags up.elements (up.keeps first);
+}
+
+-- a part of which nothing is kept
+pub kept_same : (kept_first kept_now : (List ℕ → Option (List ℕ)) → List Item → Type 0) (max_depth : ℕ) (f : Bool) (block : List ℕ) (begin at end : ℕ) (state next : State) (token : Kept)
+    → KeptUpTo kept_first kept_now max_depth f block begin at state → KeptAt f block at token end → is_kept_result token ≡ false → step_kept max_depth state token ≡ Some next
+    → ((wanted : List ℕ) → named_kept wanted token ≡ None) → items_of_kept token ≡ []
+    → KeptUpTo kept_first kept_now max_depth f block begin end next
+kept_same kept_first kept_now max_depth f block begin at end state next token up here no_result steps no_tag no_items = record {
+  tags = up.tags;
+  elements = up.elements;
+  read = read_more max_depth f block begin at end state next up.tags up.tags up.elements up.elements token up.read here no_result steps
+      (λ wanted. sym (ap (option_or (up.tags wanted)) (no_tag wanted) ∙ option_or-none (up.tags wanted)))
+      (sym (ap (λ xs. up.elements ++ xs) no_items ∙ append-nil up.elements));
+  keeps = up.keeps;
+}

@@ -109,7 +109,7 @@ impl<'a> Draft<'a> {
 
     /// Adds what a part gives.
     #[inline(always)]
-    pub(crate) fn keep(&mut self, token: Token<'a>) -> Result<(), AllocError>
+    pub(crate) fn add(&mut self, token: Token<'a>) -> Result<(), AllocError>
         ensures ordered { OnOk result (AreOrdered self.old.tags → AreOrdered self.new.tags) }
         ensures tags { OnOk result ((wanted : List ℕ) → tag_at self.new.tags wanted ≡ option_or (tag_at self.old.tags wanted) (named_kept wanted (token_of token.entry))) }
         ensures elements { OnOk result (map item_of self.new.elements.items ≡ map item_of self.old.elements.items ++ items_of_kept (token_of token.entry)) }

@@ -7,6 +7,9 @@ ghost use Rattle.chess.specs.BitWords.{AreApart, IsWordOf, IsCleared, IsBitSet, 
 ghost use Rattle.chess.specs.CellFacts.{on_board-men_of};
 ghost use Rattle.chess.specs.declared.board.man.Kind.TheVariants.{King, Knight, Pawn};
 
+#[cfg(test)]
+mod tests;
+
 use crate::board::fills::{
     diagonal_runs, jumps, meet, near, pawn_hits, reached, straight_runs, word_of,
 };

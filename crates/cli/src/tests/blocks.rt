@@ -3,11 +3,21 @@ ghost use Rattle.std.specs.Prelude.{◌^◌, ◌≤◌};
 
 use super::support::{Pieces, TWO_GAMES};
 use pgn_text::{Block, Blocks, Body, Tally};
-use std::alloc::Global;
+use std::alloc::{AllocError, Global};
+use std::io::Read;
 use std::test::Fail;
 
-/// Whether the calls of `next`, up to the end and once more, answer this: each block as its offset and its length.
-fn is_answered(alloc: Global, reader: Pieces<'_>, offset: u64, wanted: &str) -> Result<bool, Fail>
+/// The most bytes that may be held: a block of the limit, and what one read gives.
+const WINDOW: usize = 16_785_408;
+
+/// Whether the calls of `next`, up to the end and once more, answer this, and no more is held than the window takes: each block as its
+/// offset and its length.
+fn is_answered<R: Read + Drop>(
+    alloc: Global,
+    reader: R,
+    offset: u64,
+    wanted: &str,
+) -> Result<bool, Fail>
     requires { offset ≤ 2 ^ 62 }
 {
     let mut blocks = Blocks::new(alloc, offset);
@@ -44,6 +54,9 @@ fn is_answered(alloc: Global, reader: Pieces<'_>, offset: u64, wanted: &str) -> 
                 write!(answers, "{error:?} ")?;
                 is_over = true;
             }
+        }
+        if blocks.held() > WINDOW {
+            answers.push_str("held too much ")?;
         }
         if was_over {
             break;
@@ -115,7 +128,7 @@ fn a_fault_comes_behind_the_complete_blocks(rt: HostRuntime) -> Result<(), Fail>
 
 #[test]
 fn blocks_at_the_limit(rt: HostRuntime) -> Result<(), Fail> {
-    let rows: [(usize, &[u8], usize, &str); 3] = [
+    let rows: [(usize, &[u8], usize, &str); 4] = [
         (16_777_216, b"", 8192, "3+16777216 end end "),
         (16_777_217, b"", 8192, "3+long end end "),
         (
@@ -124,6 +137,12 @@ fn blocks_at_the_limit(rt: HostRuntime) -> Result<(), Fail> {
             1000,
             "3+16777216 16777219+10 end end ",
         ),
+        (
+            16_800_000,
+            b"\n[Event \"A\"\n[Event \"B\"",
+            1021,
+            "3+long 16800004+11 16800015+10 end end ",
+        ),
     ];
     for (spaces, rest, size, wanted) in rows {
         let mut text = vec![in rt.alloc(); b' '; spaces]?;
@@ -131,6 +150,32 @@ fn blocks_at_the_limit(rt: HostRuntime) -> Result<(), Fail> {
         let reader = Pieces::new(text.as_slice(), size);
         assert!(rt; is_answered(rt.alloc(), reader, 3, wanted)?, "{spaces}");
     }
+    Ok(())
+}
+
+/// A block of the limit, and more behind it than the window takes.
+fn limit_and_more(alloc: Global) -> Result<Vec<u8>, AllocError> {
+    let mut text = vec![in alloc; b' '; 16_777_215]?;
+    text.extend_from_slice(b"\n[Event \"A\"")?;
+    text.resize(16_800_000, b' ')?;
+    text.extend_from_slice(b"\n[Event \"B\"")?;
+    Ok(text)
+}
+
+#[test]
+fn a_read_keeps_the_bound(rt: HostRuntime) -> Result<(), Fail> {
+    // Behind the first seven bytes reads of 8,192 bytes end seven bytes behind the block, within the event line.
+    let text = limit_and_more(rt.alloc())?;
+    let (front, back) = text.split_at(7);
+    let reader = Pieces::new(front, 7).chain(Pieces::new(back, 8192));
+    let wanted = "0+16777216 16777216+22785 16800001+10 end end ";
+    assert!(rt; is_answered(rt.alloc(), reader, 0, wanted)?);
+    let mut blocks = Blocks::new(rt.alloc(), 0);
+    let mut input = Tally::new(Pieces::new(front, 7).chain(Pieces::new(back, 8192)));
+    assert!(rt; blocks.next(&mut input).is_ok());
+    assert!(rt; blocks.held() == WINDOW);
+    assert!(rt; blocks.next(&mut input).is_ok());
+    assert!(rt; blocks.held() < 32_768);
     Ok(())
 }
 
