@@ -27,6 +27,7 @@ pub mod PartLemmas
 pub mod PartsAt
 pub mod Places
 pub mod ReadLemmas
+pub mod ReadingLemmas
 pub mod ResumedText
 pub mod Resumption
 pub mod Rows

@@ -8,8 +8,8 @@ use Rattle.std.specs.List.{list_all}
 use Rattle.std.proofs.lemmas.Bool.{and_parts, and_from, not_from_false}
 use Rattle.std.proofs.lemmas.List.{drop_more, drop_all, nil_from_length, get_or-drop}
 use Rattle.pgn_text.specs.Bytes.{is_white, is_digit, is_letter, is_word_byte, begins, stops}
-use Rattle.pgn_text.specs.Parts.{Part, White, Brace, Word, Star, Dot, Open, Close, Standing, standing_of, spelled_part}
-use Rattle.pgn_text.specs.Reading.{Kept, KeptGap, KeptComment, kept_found, brace_front, KeptMove, KeptNumber, KeptDot, KeptOpen, KeptClose, KeptResult, kept, kept_word, run_of, after_run, part_front, game_front}
+use Rattle.pgn_text.specs.Parts.{Part, White, Brace, Word, Dot, Open, Close, Standing, standing_of, spelled_part}
+use Rattle.pgn_text.specs.Reading.{Kept, KeptGap, KeptComment, kept_found, brace_front, KeptMove, KeptNumber, KeptDot, KeptOpen, KeptClose, kept_word, run_of, after_run, part_front, game_front}
 use Rattle.pgn_text.specs.Tokens.{RunTo}
 use Rattle.pgn_text.specs.Walk.{PartAt, KeptAt, NothingAt, GapPartAt}
 use Rattle.pgn_text.proofs.FoundLemmas.{read-stands}
@@ -44,12 +44,9 @@ kept_white f block at below white = record { part = White (get_or block at 0); f
 pub gap_white : (f : Bool) (block : List ℕ) (at : ℕ) → at < length block → is_white (get_or block at 0) ≡ true → GapPartAt f block at (at + 1)
 gap_white f block at below white = record { part = White (get_or block at 0); found = white_at f block at below white; is_gap = refl }
 
--- a period, an asterisk and the parentheses
+-- a period and the parentheses
 pub kept_dot : (f : Bool) (block : List ℕ) (at : ℕ) → at < length block → get_or block at 0 ≡ 46 → KeptAt f block at KeptDot (at + 1)
 kept_dot f block at below is = record { part = Dot; found = byte_at f block at 46 Dot below is (λ place rest. refl); keeps = refl }
-
-pub kept_star : (f : Bool) (block : List ℕ) (at : ℕ) → at < length block → get_or block at 0 ≡ 42 → KeptAt f block at KeptResult (at + 1)
-kept_star f block at below is = record { part = Star; found = byte_at f block at 42 Star below is (λ place rest. refl); keeps = refl }
 
 pub kept_open : (f : Bool) (block : List ℕ) (at : ℕ) → at < length block → get_or block at 0 ≡ 40 → KeptAt f block at KeptOpen (at + 1)
 kept_open f block at below is = record { part = Open; found = byte_at f block at 40 Open below is (λ place rest. refl); keeps = refl }
@@ -81,7 +78,7 @@ word_at f block at end below word to =
     ∙ ap (λ xs. Some (Word xs, after_run is_word_byte rest)) (sym (run_bytes is_word_byte block at end below to))
     ∙ ap (λ xs. Some (Word (take (end - at) (drop at block)), xs)) (sym to.rest))
 
-pub kept_word_at : (f : Bool) (block : List ℕ) (at end : ℕ) → at < length block → is_word_byte (get_or block at 0) ≡ true → RunTo is_word_byte block (at + 1) end
+kept_word_at : (f : Bool) (block : List ℕ) (at end : ℕ) → at < length block → is_word_byte (get_or block at 0) ≡ true → RunTo is_word_byte block (at + 1) end
     → (token : Kept) → token ≡ kept_word (take (end - at) (drop at block)) → KeptAt f block at token end
 kept_word_at f block at end below word to token is = record { part = Word (take (end - at) (drop at block)); found = word_at f block at end below word to; keeps = sym is }
 

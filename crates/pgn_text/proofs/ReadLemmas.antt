@@ -1,5 +1,5 @@
 -- A game read part by part at places of a block.
-use Rattle.std.proofs.Common.{◌≡◌, ◌≢◌, ℕ, ◌+◌, ◌-◌, ◌<◌, ◌≤◌, Bool, true, false, List, [], ◌∷◌, ◌++◌, length, take, drop, refl, sym, ap, ◌∙◌, subst, append_assoc, append-nil, arith, length-append}
+use Rattle.std.proofs.Common.{◌≡◌, ◌≢◌, ℕ, ◌+◌, ◌-◌, ◌<◌, ◌≤◌, Bool, true, false, List, [], ◌∷◌, ◌++◌, length, take, drop, refl, sym, ap, ◌∙◌, subst, append_assoc, append-nil, arith, length-append, ◌⊎◌, inl, inr}
 use Rattle.std.specs.Prelude.{Option, Some, None, IsTrue}
 use Rattle.std.specs.Option.{option_or}
 use Rattle.std.proofs.lemmas.Bool.{not_from_false}
@@ -10,7 +10,8 @@ use Rattle.pgn_text.specs.GameTexts.{IsPaired}
 use Rattle.pgn_text.specs.Pieces.{NoGame}
 use Rattle.pgn_text.specs.Steps.{State, start, step}
 use Rattle.pgn_text.specs.Reading.{Kept, KeptResult, kept, is_kept_result, step_kept, items_of_kept, named_kept}
-use Rattle.pgn_text.specs.Walk.{PartAt, KeptAt, NothingAt, NoGapPartAt, GameTo, GameRead}
+use Rattle.pgn_text.specs.Readings.{GoesOn, StuckAt, EndsAt}
+use Rattle.pgn_text.specs.Walk.{PartAt, KeptAt, NothingAt, NoGapPartAt, GameRead}
 use Rattle.pgn_text.proofs.Halfway.{Reads, Halfway, halfway_start, halfway_more, halfway_end, halfway_stuck, halfway_none, game_reads, reads_game, before_more}
 use Rattle.pgn_text.proofs.KeptLemmas.{is_result-kept, step-kept, items-push, kept_result}
 use Rattle.pgn_text.proofs.Pairing.{leads_paired}
@@ -161,29 +162,34 @@ kept_start kept max_depth f block begin state within is_start = record {
   keeps = λ first. first;
 }
 
--- a part of which something is kept
-pub kept_more : (kept_first kept_now kept_next : (List ℕ → Option (List ℕ)) → List Item → Type 0) (max_depth : ℕ) (f : Bool) (block : List ℕ) (begin at end : ℕ) (state next : State) (token : Kept)
-    → KeptUpTo kept_first kept_now max_depth f block begin at state → KeptAt f block at token end → is_kept_result token ≡ false → step_kept max_depth state token ≡ Some next
-    → ((tags : List ℕ → Option (List ℕ)) (elements : List Item) → kept_now tags elements → kept_next (λ wanted. option_or (tags wanted) (named_kept wanted token)) (elements ++ items_of_kept token))
+-- one more part
+pub kept_more : {kept_first kept_now kept_next : (List ℕ → Option (List ℕ)) → List Item → Type 0} {max_depth : ℕ} {f : Bool} {block : List ℕ} {begin at end : ℕ} {state next : State}
+    → KeptUpTo kept_first kept_now max_depth f block begin at state → GoesOn kept_now kept_next max_depth f block at state next end
     → KeptUpTo kept_first kept_next max_depth f block begin end next
-kept_more kept_first kept_now kept_next max_depth f block begin at end state next token up here no_result steps keeps = record {
-  tags = λ wanted. option_or (up.tags wanted) (named_kept wanted token);
-  elements = up.elements ++ items_of_kept token;
-  read = read_more max_depth f block begin at end state next up.tags (λ wanted. option_or (up.tags wanted) (named_kept wanted token))
-      up.elements (up.elements ++ items_of_kept token) token up.read here no_result steps (λ wanted. refl) refl;
-  keeps = λ first. keeps up.tags up.elements (up.keeps first);
+kept_more {max_depth = max_depth} {f = f} {block = block} {begin = begin} {at = at} {end = end} {state = state} {next = next} up more = record {
+  tags = λ wanted. option_or (up.tags wanted) (named_kept wanted more.token);
+  elements = up.elements ++ items_of_kept more.token;
+  read = read_more max_depth f block begin at end state next up.tags (λ wanted. option_or (up.tags wanted) (named_kept wanted more.token))
+      up.elements (up.elements ++ items_of_kept more.token) more.token up.read more.here more.no_result more.steps (λ wanted. refl) refl;
+  keeps = λ first. more.keeps up.tags up.elements (up.keeps first);
 }
 
--- a part of which nothing is kept
-pub kept_same : (kept_first kept_now : (List ℕ → Option (List ℕ)) → List Item → Type 0) (max_depth : ℕ) (f : Bool) (block : List ℕ) (begin at end : ℕ) (state next : State) (token : Kept)
-    → KeptUpTo kept_first kept_now max_depth f block begin at state → KeptAt f block at token end → is_kept_result token ≡ false → step_kept max_depth state token ≡ Some next
-    → ((wanted : List ℕ) → named_kept wanted token ≡ None) → items_of_kept token ≡ []
-    → KeptUpTo kept_first kept_now max_depth f block begin end next
-kept_same kept_first kept_now max_depth f block begin at end state next token up here no_result steps no_tag no_items = record {
-  tags = up.tags;
-  elements = up.elements;
-  read = read_more max_depth f block begin at end state next up.tags up.tags up.elements up.elements token up.read here no_result steps
-      (λ wanted. sym (ap (option_or (up.tags wanted)) (no_tag wanted) ∙ option_or-none (up.tags wanted)))
-      (sym (ap (λ xs. up.elements ++ xs) no_items ∙ append-nil up.elements));
-  keeps = up.keeps;
-}
+-- where nothing stands that may, there is no game
+pub kept_stuck : {kept_first kept_now : (List ℕ → Option (List ℕ)) → List Item → Type 0} {max_depth : ℕ} {f : Bool} {block : List ℕ} {begin at : ℕ} {state : State}
+    → KeptUpTo kept_first kept_now max_depth f block begin at state → NothingAt f block at ⊎ StuckAt max_depth f block at state
+    → NoGame max_depth f (take begin block) (drop begin block)
+kept_stuck {max_depth = max_depth} {f = f} {block = block} {begin = begin} {at = at} {state = state} up (inl nothing) =
+    read_nothing max_depth f block begin at state up.tags up.elements up.read nothing
+kept_stuck {max_depth = max_depth} {f = f} {block = block} {begin = begin} {at = at} {state = state} up (inr stuck) =
+    read_stuck max_depth f block begin at stuck.end state up.tags up.elements stuck.token up.read stuck.here stuck.deep stuck.stuck
+
+-- the result ends the game
+pub kept_end : {kept_first kept_now kept_next : (List ℕ → Option (List ℕ)) → List Item → Type 0} {max_depth : ℕ} {f : Bool} {block : List ℕ} {begin at end : ℕ} {state : State}
+    → KeptUpTo kept_first kept_now max_depth f block begin at state → NoGapPartAt f block begin → EndsAt kept_now kept_next f block at state end
+    → (tags : List ℕ → Option (List ℕ)) × (elements : List Item) × GameRead max_depth f block begin at end tags elements × (kept_first (λ wanted. None) [] → kept_next tags elements)
+kept_end {max_depth = max_depth} {f = f} {block = block} {begin = begin} {at = at} {end = end} {state = state} up outside ends = (
+  up.tags,
+  up.elements,
+  read_end max_depth f block begin at end state up.tags up.elements ends.token up.read outside ends.here ends.is_result ends.closed,
+  λ first. ends.same up.tags up.elements (up.keeps first),
+)

@@ -33,10 +33,6 @@ is_check_mark b = b == 43 || b == 35
 abbrev pub is_plain : ℕ → Bool
 is_plain b = b == 9 || (nat_le 32 b && nat_le b 126) || nat_le 128 b
 
--- a plain byte that neither ends a string nor escapes the next byte
-abbrev pub is_inside : ℕ → Bool
-is_inside b = is_plain b && (not (b == 34) && not (b == 92))
-
 -- a byte that does not end a line
 abbrev pub is_not_line_feed : ℕ → Bool
 is_not_line_feed b = not (b == 10)

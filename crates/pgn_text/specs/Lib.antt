@@ -21,6 +21,7 @@ pub mod Drafts
 pub mod Held
 pub mod Phases
 pub mod Reading
+pub mod Readings
 pub mod Searches
 pub mod Steps
 pub mod Tokens

@@ -1,6 +1,6 @@
 //! A game as it stands in a block.
 
-ghost use Rattle.std.specs.Prelude.{◌≡◌, ◌≤◌, ℕ, List, [], Option, None, length, take, drop, map, IfOk, MatchOption};
+ghost use Rattle.std.specs.Prelude.{◌≡◌, ◌≤◌, ℕ, List, [], Option, None, length, take, drop, map, IfOk, MatchOption, ◌<◌, get_or, Bool};
 ghost use Rattle.std.specs.Cmp.Lexicographic.{slice_cmp};
 ghost use Rattle.std.specs.List.Sorted.{IsStrictlySortedBy};
 ghost use Rattle.std.specs.Ordering.{nat_cmp};
@@ -10,6 +10,8 @@ ghost use Rattle.pgn_text.specs.Games.{Item};
 ghost use Rattle.pgn_text.specs.Limits.{depth_limit};
 ghost use Rattle.pgn_text.specs.Parts.{Part};
 ghost use Rattle.pgn_text.specs.Pieces.{NoGame};
+ghost use Rattle.pgn_text.specs.Readings.{IsReading, IsStep};
+ghost use Rattle.pgn_text.specs.Tokens.{state_of, token_of};
 ghost use Rattle.pgn_text.specs.Walk.{GameTo, GameRead, NoGapPartAt};
 
 use crate::class::{Class, is_in, run_end};
@@ -95,7 +97,7 @@ impl<'a> RawGame<'a> {
 }
 
 /// What is kept of the parts of a game.
-pub(crate) trait Keeper<'a>: Drop {
+trait Keeper<'a>: Drop {
     type Error;
 
     ghost use Rattle.std.specs.Prelude.{ℕ, List, ◌++◌, Option, OnOk};
@@ -111,9 +113,9 @@ pub(crate) trait Keeper<'a>: Drop {
         ensures { OnOk result ((tags : List ℕ → Option (List ℕ)) (items : List Item) → kept self.old tags items → kept self.new (λ wanted. option_or (tags wanted) (named_kept wanted (token_of token.entry))) (items ++ items_of_kept (token_of token.entry))) };
 }
 
-/// Keeps nothing.
+/// Keeps nothing: for what asks only where a game ends.
 #[derive(Drop)]
-pub(crate) struct Nothing {}
+struct Nothing {}
 
 impl<'a> Keeper<'a> for Nothing {
     type Error = Infallible;
@@ -139,6 +141,109 @@ impl<'a> Keeper<'a> for Draft<'a> {
     }
 }
 
+/// What stands at a place of a game.
+enum Reading {
+    /// A part that may stand there, and the place behind it.
+    Part(usize),
+    /// The result that ends the game, and the place behind it.
+    Result(usize),
+    /// Nothing that may stand there.
+    Stuck,
+}
+
+/// Keeps the part and steps behind it, if it may stand there.
+#[inline(always)]
+fn step_behind<'a, K: Keeper<'a>>(
+    token: Token<'a>,
+    end: usize,
+    progress: &mut Progress,
+    keeper: &mut K,
+) -> Result<Reading, K::Error>
+    ensures { IfOk result (λ reading. IsStep (K.kept keeper.old) (K.kept keeper.new) depth_limit (token_of token.entry) end (state_of progress.old) (state_of progress.new) reading) }
+{
+    let Some(next) = progress.step(token) else {
+        return Ok(Reading::Stuck);
+    };
+    keeper.keep(token)?;
+    *progress = next;
+    Ok(Reading::Part(end))
+}
+
+/// Reads the brace comment at the place of the block.
+#[inline(always)]
+fn read_comment<'a, K: Keeper<'a>>(
+    block: &'a [u8],
+    at: usize,
+    progress: &mut Progress,
+    keeper: &mut K,
+) -> Result<Reading, K::Error>
+    requires place { at < length block.now }
+    requires brace { get_or block.now at 0 ≡ 123 }
+    ensures { IfOk result (λ reading. (file_start : Bool) → IsReading (K.kept keeper.old) (K.kept keeper.new) depth_limit file_start block.now at (state_of progress.old) (state_of progress.new) reading) }
+{
+    match comment_at(block, at) {
+        Some((comment, end)) => step_behind(Token::Comment(comment), end, progress, keeper),
+        None => Ok(Reading::Stuck),
+    }
+}
+
+/// Reads the part at the place of the block, of whatever kind.
+#[inline(always)]
+fn read_other<'a, K: Keeper<'a>>(
+    block: &'a [u8],
+    at: usize,
+    file_start: bool,
+    progress: &mut Progress,
+    keeper: &mut K,
+) -> Result<Reading, K::Error>
+    requires { at ≤ length block.now }
+    ensures { IfOk result (λ reading. IsReading (K.kept keeper.old) (K.kept keeper.new) depth_limit file_start block.now at (state_of progress.old) (state_of progress.new) reading) }
+{
+    let Some((token, end)) = part_at(block, at, file_start) else {
+        return Ok(Reading::Stuck);
+    };
+    if !token.is_result() {
+        return step_behind(token, end, progress, keeper);
+    }
+    if progress.is_closed() {
+        Ok(Reading::Result(end))
+    } else {
+        Ok(Reading::Stuck)
+    }
+}
+
+/// Reads the part at the place of the block; the frequent kinds by their first byte.
+#[inline(always)]
+fn read_part<'a, K: Keeper<'a>>(
+    block: &'a [u8],
+    at: usize,
+    file_start: bool,
+    progress: &mut Progress,
+    keeper: &mut K,
+) -> Result<Reading, K::Error>
+    requires { at < length block.now }
+    ensures { IfOk result (λ reading. IsReading (K.kept keeper.old) (K.kept keeper.new) depth_limit file_start block.now at (state_of progress.old) (state_of progress.new) reading) }
+{
+    let byte = block[at];
+    if is_in(Class::Letter, byte) {
+        let end = run_end(Class::Word, block, at + 1);
+        return step_behind(Token::Move(&block[at..end]), end, progress, keeper);
+    }
+    if is_in(Class::White, byte) {
+        return step_behind(Token::Gap, at + 1, progress, keeper);
+    }
+    if let Some(end) = number_at(block, at) {
+        return step_behind(Token::Number, end, progress, keeper);
+    }
+    match byte {
+        b'.' => step_behind(Token::Dot, at + 1, progress, keeper),
+        b'(' => step_behind(Token::Open, at + 1, progress, keeper),
+        b')' => step_behind(Token::Close, at + 1, progress, keeper),
+        b'{' => read_comment(block, at, progress, keeper),
+        _ => read_other(block, at, file_start, progress, keeper),
+    }
+}
+
 /// Reads the game at the place of the block, if one begins there: the places of its result and behind it.
 #[inline(always)]
 fn read_parts<'a, K: Keeper<'a>>(
@@ -154,72 +259,11 @@ fn read_parts<'a, K: Keeper<'a>>(
     let mut progress = Progress::start();
     let mut at = begin;
     while at < block.len() {
-        let byte = block[at];
-        if is_in(Class::Letter, byte) {
-            let end = run_end(Class::Word, block, at + 1);
-            keeper.keep(Token::Move(&block[at..end]))?;
-            progress = progress.behind_move();
-            at = end;
-            continue;
+        match read_part(block, at, file_start, &mut progress, keeper)? {
+            Reading::Part(end) => at = end,
+            Reading::Result(end) => return Ok(Some((at, end))),
+            Reading::Stuck => return Ok(None),
         }
-        if is_in(Class::White, byte) {
-            at += 1;
-            continue;
-        }
-        if let Some(behind) = number_at(block, at) {
-            progress = progress.in_movetext();
-            at = behind;
-            continue;
-        }
-        match byte {
-            b'.' => {
-                progress = progress.in_movetext();
-                at += 1;
-                continue;
-            }
-            b'(' => {
-                let Some(inner) = progress.opened() else {
-                    return Ok(None);
-                };
-                keeper.keep(Token::Open)?;
-                progress = inner;
-                at += 1;
-                continue;
-            }
-            b')' => {
-                let Some(outer) = progress.closed() else {
-                    return Ok(None);
-                };
-                keeper.keep(Token::Close)?;
-                progress = outer;
-                at += 1;
-                continue;
-            }
-            b'{' => {
-                let Some((comment, behind)) = comment_at(block, at) else {
-                    return Ok(None);
-                };
-                keeper.keep(Token::Comment(comment))?;
-                at = behind;
-                continue;
-            }
-            _ => {}
-        }
-        let Some((token, end)) = part_at(block, at, file_start) else {
-            return Ok(None);
-        };
-        if token.is_result() {
-            if !progress.is_closed() {
-                return Ok(None);
-            }
-            return Ok(Some((at, end)));
-        }
-        let Some(next) = progress.step(token) else {
-            return Ok(None);
-        };
-        keeper.keep(token)?;
-        progress = next;
-        at = end;
     }
     Ok(None)
 }

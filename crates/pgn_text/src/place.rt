@@ -8,7 +8,7 @@ ghost use Rattle.pgn_text.specs.Walk.{KeptAt, NothingAt, GapPartAt, NoGapPartAt,
 
 use crate::class::{Class, is_in, run_end};
 use crate::scan::{Found, Standing, gap_part, part};
-use crate::token::{Token, word_token};
+use crate::token::Token;
 use memchr::memchr;
 
 const BYTE_ORDER_MARK: [u8; 3] = [0xEF, 0xBB, 0xBF];
@@ -66,8 +66,8 @@ pub(crate) fn comment_at(block: &[u8], at: usize) -> Option<(&[u8], usize)>
     Some((&block[at + 1..end], end + 1))
 }
 
-/// The part at the place of the block, and the place behind it, found by the text from there on.
-fn other_part_at(block: &[u8], at: usize, file_start: bool) -> Option<(Token<'_>, usize)>
+/// The part at the place of the block, and the place behind it.
+pub(crate) fn part_at(block: &[u8], at: usize, file_start: bool) -> Option<(Token<'_>, usize)>
     requires { at ≤ length block.now }
     ensures { MatchOption result (NothingAt file_start block.now at) (λ found. KeptAt file_start block.now at (token_of found.0) found.1) }
 {
@@ -75,36 +75,6 @@ fn other_part_at(block: &[u8], at: usize, file_start: bool) -> Option<(Token<'_>
         return None;
     };
     Some((token, block.len() - rest.len()))
-}
-
-/// The part at the place of the block, and the place behind it.
-#[inline(always)]
-pub(crate) fn part_at(block: &[u8], at: usize, file_start: bool) -> Option<(Token<'_>, usize)>
-    requires { at ≤ length block.now }
-    ensures { MatchOption result (NothingAt file_start block.now at) (λ found. KeptAt file_start block.now at (token_of found.0) found.1) }
-{
-    if at == block.len() {
-        return None;
-    }
-    let byte = block[at];
-    if is_in(Class::Letter, byte) {
-        let end = run_end(Class::Word, block, at + 1);
-        return Some((Token::Move(&block[at..end]), end));
-    }
-    if is_in(Class::White, byte) {
-        return Some((Token::Gap, at + 1));
-    }
-    if is_in(Class::Word, byte) {
-        let end = run_end(Class::Word, block, at + 1);
-        return Some((word_token(&block[at..end]), end));
-    }
-    match byte {
-        b'.' => Some((Token::Dot, at + 1)),
-        b'(' => Some((Token::Open, at + 1)),
-        b')' => Some((Token::Close, at + 1)),
-        b'*' => Some((Token::Result, at + 1)),
-        _ => other_part_at(block, at, file_start),
-    }
 }
 
 /// The place behind the part of a gap at the place of the block.

@@ -11,7 +11,7 @@ fn words_of(board: Bits) -> [u64; 12] {
 }
 
 #[test]
-fn boards_are_twelve_words(rt: HostRuntime) -> Result<(), Fail> {
+fn bits_is_twelve_words(rt: HostRuntime) -> Result<(), Fail> {
     let start: Position<Bits> = Position::start();
     let white = [0x10u64, 0x8, 0x81, 0x24, 0x42];
     let words = words_of(start.board);

@@ -1,4 +1,4 @@
-use Rattle.std.proofs.Common.{◌≡◌, ℕ, List, [], map, take, drop, sym, ap, subst, ◌∙◌, refl}
+use Rattle.std.proofs.Common.{map, take, drop, sym, ap, subst, ◌∙◌, refl}
 use Rattle.pgn_text.specs.Drafts.{IsDraftOf}
 use Rattle.pgn_text.specs.Elements.{item_of}
 use Rattle.pgn_text.specs.GameTexts.{IsPaired}

@@ -1,28 +1,24 @@
-use Rattle.std.proofs.Common.{sym, ◌∙◌, arith}
-use Rattle.pgn_text.proofs.PartsAt.{kept_letters, kept_white, kept_word_at, kept_dot, kept_open, kept_close, kept_star}
+use Rattle.std.proofs.Common.{◌-◌, length, take, drop}
+use Rattle.std.proofs.lemmas.List.{take_rest}
+use Rattle.pgn_text.specs.Reading.{part_front}
+use Rattle.pgn_text.specs.Tokens.{standing_view, token_of}
+use Rattle.pgn_text.proofs.Places.{nothing_at, kept_at, rest_within}
+use Rattle.pgn_text.proofs.FoundLemmas.{part-found}
 use Rattle.pgn_text.proofs.place.part_at.Goals as goal
 
-pub returns-then-is_in : goal.returns-then-is_in
-returns-then-is_in c =
-    kept_letters c.args.file_start c.args.block.now c.args.at c.run_end-end.result (omega arith) (sym c.is_in.ensures ∙ c.if-is_in.true) c.run_end-end.ensures
+pub returns-in_default : goal.returns-in_default
+returns-in_default c =
+    nothing_at c.args.file_start c.args.block.now c.args.at (standing_view c.standing_at.result) _
+    c.standing_at.ensures (take_rest c.args.block.now c.args.at) c.in_default.ensures
 
-pub returns-then-is_in-2 : goal.returns-then-is_in-2
-returns-then-is_in-2 c =
-    kept_white c.args.file_start c.args.block.now c.args.at (omega arith) (sym c.is_in-2.ensures ∙ c.if-is_in-2.true)
+pub overflow_sub-result : goal.overflow_sub-result
+overflow_sub-result c =
+    let text = take (length c.args.block.now - c.args.at) (drop c.args.at c.args.block.now) in
+    rest_within c.args.file_start c.args.block.now c.args.at (standing_view c.standing_at.result) text
+    (take_rest c.args.block.now c.args.at) (part_front (standing_view c.standing_at.result) text)
+    (part-found (standing_view c.standing_at.result) text) (token_of c.in-Some.token) c.in-Some.rest.now c.in-Some.ensures
 
-pub returns-then-is_in-3 : goal.returns-then-is_in-3
-returns-then-is_in-3 c =
-    kept_word_at c.args.file_start c.args.block.now c.args.at c.run_end-end-then-is_in-3.result (omega arith) (sym c.is_in-3.ensures ∙ c.if-is_in-3.true)
-    c.run_end-end-then-is_in-3.ensures _ c.word_token.ensures
-
-pub returns-in-46 : goal.returns-in-46
-returns-in-46 c = kept_dot c.args.file_start c.args.block.now c.args.at (omega arith) c.in-46.is
-
-pub returns-in-40 : goal.returns-in-40
-returns-in-40 c = kept_open c.args.file_start c.args.block.now c.args.at (omega arith) c.in-40.is
-
-pub returns-in-41 : goal.returns-in-41
-returns-in-41 c = kept_close c.args.file_start c.args.block.now c.args.at (omega arith) c.in-41.is
-
-pub returns-in-42 : goal.returns-in-42
-returns-in-42 c = kept_star c.args.file_start c.args.block.now c.args.at (omega arith) c.in-42.is
+pub returns : goal.returns
+returns c =
+    kept_at c.args.file_start c.args.block.now c.args.at (standing_view c.standing_at.result) _
+    c.standing_at.ensures (take_rest c.args.block.now c.args.at) c.requires (token_of c.in-Some.token) c.in-Some.rest.now c.in-Some.ensures
