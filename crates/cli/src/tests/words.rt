@@ -109,7 +109,7 @@ fn bad_marks_are_refused_before_anything_is_read(rt: HostRuntime) -> Result<(), 
     Ok(())
 }
 
-/// Whether clap refuses the words, with a text of its own and nothing opened.
+/// Whether clap refuses the words, with a text of its own that ends with a hint to the help, and nothing opened.
 fn is_unknown(alloc: Global, words: &[&str]) -> Result<bool, AllocError> {
     let mut shelf = Shelf::new(TWO_GAMES);
     let end = run_words(alloc, words, &mut shelf, Page::new(), Page::new())?;
@@ -118,7 +118,7 @@ fn is_unknown(alloc: Global, words: &[&str]) -> Result<bool, AllocError> {
         end.status == 2
             && end.out.text().is_empty()
             && text.starts_with(b"error: ")
-            && text.ends_with(b"\n")
+            && text.ends_with(b"For more information, try '--help'.\n")
             && shelf.opened == 0,
     )
 }
@@ -140,22 +140,40 @@ fn clap_refuses_the_words_that_it_does_not_know(rt: HostRuntime) -> Result<(), F
     Ok(())
 }
 
+/// Whether the words print a text on standard output that holds all these texts, with status 0 and nothing opened.
+fn prints(alloc: Global, word: &str, texts: &[&[u8]]) -> Result<bool, AllocError> {
+    let mut shelf = Shelf::new(TWO_GAMES);
+    let end = run_words(alloc, &[word], &mut shelf, Page::new(), Page::new())?;
+    let printed = end.out.text();
+    Ok(
+        end.status == 0
+            && end.err.text().is_empty()
+            && texts
+                .iter()
+                .all(|text| memmem::find(printed, text).is_some())
+            && shelf.opened == 0,
+    )
+}
+
 #[test]
 fn help_goes_to_standard_output(rt: HostRuntime) -> Result<(), Fail> {
-    let mut shelf = Shelf::new(TWO_GAMES);
-    let end = run_words(
-        rt.alloc(),
-        &["--help"],
-        &mut shelf,
-        Page::new(),
-        Page::new(),
-    )?;
-    let usage = b"Usage: pgn-extract [OPTIONS] [FILE]\n";
-    let is_help = end.status == 0
-        && end.err.text().is_empty()
-        && memmem::find(end.out.text(), usage).is_some()
-        && shelf.opened == 0;
-    assert!(rt; is_help);
+    let texts = [
+        b"Usage: pgn-extract [OPTIONS] [FILE]\n".as_slice(),
+        b"\nPositions looked for:\n      --criteria <FILE>  Only those ",
+        b"\n  -w, --width <N>      Fill lines of moves up to N bytes, 1 to 9999 [default: 79]\n",
+        b"\nExamples:\n  pgn-extract games.pgn > clean.pgn ",
+        b"\n  -h, --help     Print this help\n",
+    ];
+    for word in ["--help", "-h"] {
+        assert!(rt; prints(rt.alloc(), word, &texts)?, "at {word}");
+    }
+    Ok(())
+}
+
+#[test]
+fn the_version_names_the_kit_that_proved_it(rt: HostRuntime) -> Result<(), Fail> {
+    let text = b"pgn-extract 1.0.0 (proved with rattle-kit-".as_slice();
+    assert!(rt; prints(rt.alloc(), "--version", &[text])?);
     Ok(())
 }
 
