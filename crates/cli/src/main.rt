@@ -5,7 +5,8 @@
 mod files;
 
 use files::RealFiles;
-use pgn_extract::program;
+use pgn_extract::status::{FAILED, REFUSED};
+use pgn_extract::{messages, program};
 use pgn_text::Tally;
 use std::alloc::Global;
 use std::io::{BufWriter, ErrorKind};
@@ -31,12 +32,12 @@ fn main(rt: HostRuntime) -> ExitCode {
     let words = match gather_words(&rt, alloc) {
         Ok(words) => words,
         Err(error) if error.kind() == ErrorKind::OutOfMemory => {
-            return end_with(&rt, "pgn-extract: out of memory\n", 3);
+            return end_with(&rt, messages::OUT_OF_MEMORY, FAILED);
         }
-        Err(_) => return end_with(&rt, "pgn-extract: the words are not UTF-8 text\n", 2),
+        Err(_) => return end_with(&rt, messages::WORDS_ARE_NO_TEXT, REFUSED),
     };
     let Ok(buffered) = BufWriter::with_capacity(alloc, OUTPUT_BUFFER, rt.stdout()) else {
-        return end_with(&rt, "pgn-extract: out of memory\n", 3);
+        return end_with(&rt, messages::OUT_OF_MEMORY, FAILED);
     };
     let mut out = Tally::new(buffered);
     let mut err = Tally::new(rt.stderr());

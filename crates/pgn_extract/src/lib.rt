@@ -9,12 +9,13 @@ mod front;
 pub mod laws;
 mod listing;
 mod mark;
-mod messages;
+pub mod messages;
 mod outcome;
 mod put;
 mod report;
 mod settings;
 mod skip;
+pub mod status;
 mod texts;
 mod tool;
 

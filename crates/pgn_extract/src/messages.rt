@@ -1,19 +1,31 @@
-//! What the program writes to standard error.
+//! What the program writes to standard error, each message a line.
 
+/// Two mode words were given.
 pub const BOTH_MODES: &str = "pgn-extract: --list and --index exclude each other\n";
 
+/// The text of `--from` is no mark.
 pub const BAD_MARK: &str = "pgn-extract: bad mark\n";
 
+/// The file of criteria could not be opened, or a read of it failed.
 pub const CANNOT_READ_CRITERIA: &str = "pgn-extract: cannot read criteria\n";
 
+/// The file of criteria has more bytes than its limit.
 pub const CRITERIA_TOO_LONG: &str = "pgn-extract: criteria too long\n";
 
+/// The file of games could not be opened.
 pub const CANNOT_OPEN_INPUT: &str = "pgn-extract: cannot open input\n";
 
+/// A word of the command line is no UTF-8 text.
+pub const WORDS_ARE_NO_TEXT: &str = "pgn-extract: the words are not UTF-8 text\n";
+
+/// A read of the input failed.
 pub const READ_FAILED: &str = "pgn-extract: read failed\n";
 
+/// A write to the output or to standard error failed.
 pub const WRITE_FAILED: &str = "pgn-extract: write failed\n";
 
+/// Memory ran out.
 pub const OUT_OF_MEMORY: &str = "pgn-extract: out of memory\n";
 
+/// The input goes past the largest offset.
 pub const INPUT_TOO_LONG: &str = "pgn-extract: input too long\n";

@@ -9,6 +9,7 @@ use crate::messages;
 use crate::outcome::RunError;
 use crate::put::put;
 use crate::settings::{Mode, Settings};
+use crate::status::{FAILED, FAULTY, REFUSED, SOUND};
 use clap::Error;
 use clap::error::ErrorKind;
 use pgn_criteria::{Criteria, CriteriaError};
@@ -27,15 +28,6 @@ pub trait Files {
     /// Standard input.
     fn standard(&mut self) -> Self::Input;
 }
-
-/// The status where no game was faulty.
-const SOUND: u8 = 0;
-/// The status where a game was faulty.
-const FAULTY: u8 = 1;
-/// The status where the words were refused or a file could not be opened.
-const REFUSED: u8 = 2;
-/// The status where the run failed.
-const FAILED: u8 = 3;
 
 /// Why the program ends before its run.
 #[derive(Drop)]
