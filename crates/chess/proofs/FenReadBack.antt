@@ -6,15 +6,12 @@ use Rattle.std.proofs.lemmas.Bool.Decides.{nat_tests}
 use Rattle.std.proofs.lemmas.Fmt.{decimal_by_steps, length-decimal-le, decimal_nonempty}
 use Rattle.chess.specs.Squares.{Place}
 use Rattle.chess.specs.Placements.{Placement}
-use Rattle.chess.specs.Letters.{man_letter}
 use Rattle.chess.specs.Positions.{State, has_right, FitsEnPassant, IsSound}
 use Rattle.chess.specs.Fen.{before_first, parted_at, without_empty, fields_of, IsSquares, SpellsRank, SpellRanks, row, side_text, right_letter, has_byte, is_distinct, is_right_letter, GivesRights, GivesEnPassant, number_from, is_digit, IsCount, SpellsPosition, ReadsFen, joined, rights_letters, or_dash, en_passant_text, IsFen}
 use Rattle.chess.specs.Fen.IsSquares.{letter, step}
 use Rattle.chess.specs.declared.board.man.Man.{Man}
 use Rattle.chess.specs.declared.board.man.Side.{Side}
 use Rattle.chess.specs.declared.board.man.Side.TheVariants.{White, Black}
-use Rattle.chess.specs.declared.board.man.Kind.{Kind}
-use Rattle.chess.specs.declared.board.man.Kind.TheVariants.{King, Queen, Rook, Bishop, Knight, Pawn}
 use Rattle.chess.specs.declared.board.man.Wing.{Wing}
 use Rattle.chess.specs.declared.board.man.Wing.TheVariants.{KingSide, QueenSide}
 use Rattle.chess.specs.declared.board.man.CastlingRights.{CastlingRights}

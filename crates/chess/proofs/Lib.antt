@@ -12,6 +12,12 @@ pub mod WayFacts
 pub mod SetBits
 pub mod BoardFacts
 pub mod LoopFacts
+pub mod SightFacts
+pub mod OpenFacts
+pub mod TableFacts
+pub mod HitsTable
+pub mod BetweenTable
+pub mod HitterFacts
 pub mod StartFacts
 pub mod UsualFacts
 pub mod FieldFacts

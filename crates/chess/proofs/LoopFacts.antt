@@ -49,7 +49,7 @@ pub still_left : (old new : Places) (t s : Place) → IsTakenFirst old new (Some
 still_left old new t s taken here other =
     taken.3 s ∙ and_both (is_in old s) (not (same_square s t)) here (not_of (same_square s t) (λ e. other (same_square-then s t e)))
 
-was_left : (old new : Places) (t s : Place) → IsTakenFirst old new (Some t) → is_in new s ≡ true → (is_in old s ≡ true) × (s ≡ t → ⊥)
+pub was_left : (old new : Places) (t s : Place) → IsTakenFirst old new (Some t) → is_in new s ≡ true → (is_in old s ≡ true) × (s ≡ t → ⊥)
 was_left old new t s taken here =
     let both = sym (taken.3 s) ∙ here in (
       and_first (is_in old s) (not (same_square s t)) both,
@@ -125,6 +125,15 @@ sifted_none fact n old new found so_far none s = (
   (λ holds. elim (so_far.each s holds.0 holds.1) [
     | inl here ↦ here
     | inr left ↦ absurd (true_not_false (is_in old s) left (not_in old s none.0))
+  ]),
+)
+
+pub sifted_end : (fact : Place → Type 0) (n : ℕ) (left found : Places) → IsSifted fact n left found → 64 ≤ n → HoldsExactly fact found
+sifted_end fact n left found so_far far s = (
+  so_far.sound s,
+  (λ holds. elim (so_far.each s holds.0 holds.1) [
+    | inl here ↦ here
+    | inr there ↦ let at = so_far.low s holds.0 there in let near = index_of-below s holds.0 in absurd (omega arith)
   ]),
 )
 

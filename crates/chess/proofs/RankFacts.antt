@@ -1,12 +1,12 @@
 -- How a rank is read byte by byte, and put on the board square by square.
-use Rattle.std.proofs.Common.{◌≡◌, ◌⊎◌, ◌≤◌, ◌<◌, ◌+◌, ◌-◌, ℕ, zero, suc, List, [], ◌∷◌, ◌++◌, length, get_or, Option, Some, None, inl, inr, sym, ap, refl, subst, ◌∙◌, arith, length-append, if◌then◌else◌}
-use Rattle.std.specs.Prelude.{◌==◌, nat_le, replicate, slice_set}
+use Rattle.std.proofs.Common.{◌≡◌, ◌⊎◌, ◌≤◌, ◌<◌, ◌+◌, ◌-◌, ℕ, zero, suc, List, [], ◌∷◌, ◌++◌, length, get_or, Option, Some, None, inl, inr, sym, ap, refl, subst, ◌∙◌, arith, length-append}
+use Rattle.std.specs.Prelude.{replicate, slice_set}
 use Rattle.std.proofs.lemmas.Bool.{cases_eq, cases_lt}
 use Rattle.std.proofs.lemmas.List.{get_or-set_same, get_or-set_other, same_lists, append-nil, append_assoc, length-replicate, get_or-replicate, get_or_past, get_or_append_left, get_or-append_right}
 use Rattle.chess.specs.Squares.{Place}
 use Rattle.chess.specs.Placements.{Placement, man_at, with_man}
 use Rattle.chess.specs.CellFacts.{man_at-same, man_at-other, no_cell}
-use Rattle.chess.specs.Letters.{kind_letter, man_letter}
+use Rattle.chess.specs.Letters.{man_letter}
 use Rattle.chess.specs.Fen.{IsSquares, SpellsRank, row}
 use Rattle.chess.specs.Fen.IsSquares.{letter, step}
 use Rattle.chess.specs.FenWords.{IsByteOf, IsRow, IsPutUpTo}

@@ -10,6 +10,7 @@ ghost use Rattle.chess.specs.declared.board.man.Kind.TheVariants.{King, Knight, 
 use crate::board::fills::{
     diagonal_runs, jumps, meet, near, pawn_hits, reached, straight_runs, word_of,
 };
+use crate::board::sights::hitters_of;
 use crate::board::{Board, Kind, Man, Side, Square, SquareSet};
 
 /// A board of twelve words: the squares of each of White's kinds, in the order of `Kind`, then of Black's. A square's bit is its place in the order
@@ -50,6 +51,11 @@ impl Board for Bits {
         SquareSet::of_word(squares_with(&self.words, man.side, man.kind))
     }
 
+    fn hitters(&self, man: Man, target: Square, among: SquareSet) -> SquareSet {
+        let own = squares_with(&self.words, man.side, man.kind) & among.word();
+        hitters_of(man, target, own, occupied(&self.words))
+    }
+
     ghost on_board = { λ b s man here. on_board-men_of (man_in b.words) s man here };
 }
 
@@ -62,7 +68,8 @@ fn no_words() -> [u64; 12]
 }
 
 /// The number of a man's word.
-fn row(man: Man) -> u8
+#[inline(always)]
+pub(crate) fn row(man: Man) -> u8
     ensures row { result ≡ row_of man }
     ensures below { result < 12 }
 {
@@ -142,16 +149,25 @@ fn place(words: &mut [u64; 12], square: Square, man: Option<Man>)
     set(words, square, man);
 }
 
-/// The squares without men.
-fn unoccupied(words: &[u64; 12]) -> u64
+/// The squares on which men stand.
+#[inline(always)]
+fn occupied(words: &[u64; 12]) -> u64
     requires { AreApart words.now }
-    ensures { IsWordOf (IsEmpty (words_men words.now)) result }
+    ensures { IsWordOf (λ s. ¬ IsEmpty (words_men words.now) s) result }
 {
     let mut all = 0u64;
     for row in 0usize..12 {
         all |= words[row];
     }
-    !all
+    all
+}
+
+/// The squares without men.
+fn unoccupied(words: &[u64; 12]) -> u64
+    requires { AreApart words.now }
+    ensures { IsWordOf (IsEmpty (words_men words.now)) result }
+{
+    !occupied(words)
 }
 
 /// The squares of a man.

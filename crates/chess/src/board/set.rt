@@ -40,6 +40,14 @@ impl SquareSet {
         SquareSet { word }
     }
 
+    /// The word of its squares: bit 0 is a1, bit 1 is b1, and so on to h1, a2 and h8.
+    #[inline(always)]
+    pub(crate) fn word(&self) -> u64
+        ensures { (s : Place) → IsOnBoard s → has_bit result (index_of s) ≡ is_in self.now s }
+    {
+        self.word
+    }
+
     /// Puts a square into the set.
     pub(crate) fn insert(&mut self, square: Square)
         ensures { (s : Place) → is_in self.new s ≡ (same_square square s || is_in self.old s) }
