@@ -1,13 +1,13 @@
 -- The moves that a text names: over the squares of the men that it speaks of.
-use Rattle.std.proofs.Common.{◌≡◌, ◌≢◌, ◌↔◌, ◌&&◌, ◌+◌, ◌⊎◌, ℕ, Bool, true, false, not, inl, inr, ap, refl, sym, subst, ◌∙◌, arith, Option, Some, None, Result, Ok, Err, IsTrue, MatchOption, is_some, IfSome, IfOk, IsErrOf, List, [], ◌∷◌, ◌++◌, ◌≤◌}
+use Rattle.std.proofs.Common.{◌≡◌, ◌≢◌, ◌↔◌, ◌&&◌, ◌+◌, ◌⊎◌, ℕ, Bool, true, false, not, inl, inr, ap, refl, sym, subst, ◌∙◌, arith, Option, Some, None, Result, Ok, Err, IsTrue, MatchOption, is_some, IfSome, IfOk, OnErr, IsErrOf, List, [], ◌∷◌, ◌++◌, ◌≤◌}
 use Rattle.chess.specs.Squares.{Place, IsOnBoard}
 use Rattle.chess.specs.Placements.{man_at}
 use Rattle.chess.specs.Positions.{State}
-use Rattle.chess.specs.Moves.{IsLegal, Goes, Castles}
+use Rattle.chess.specs.Moves.{IsLegal, Goes, Castles, after}
 use Rattle.chess.specs.San.{Said, Spells, IsCastlingText, Agrees, IsNamed, IsOnlyNamed, kind_said, letter_text, file_text, rank_text, IsFileOrRank}
 use Rattle.chess.specs.Letters.{kind_letter, is_sign, square_text}
 use Rattle.chess.specs.SanWords.{Fits, IsNext, HasNone, IsMoveSaid, IsCastlingOn, move_from, castling_on}
-use Rattle.chess.specs.SanAnswers.{IsAnswer}
+use Rattle.chess.specs.SanAnswers.{IsAnswer, IsPlayed}
 use Rattle.chess.specs.Sets.{Places, is_in, IsTakenFirst, IsSquaresOf}
 use Rattle.chess.specs.MoveWords.{IsLeft}
 use Rattle.chess.specs.declared.board.man.Man.{Man}
@@ -142,6 +142,18 @@ same_answer fact own (Err errors.Several) there back answer =
 pub answer_only : (P : State) (x : List ℕ) (result : Result Move SanError) → IsAnswer (IsNamed P x) result → IfOk result (λ m. IsOnlyNamed P x m)
 answer_only P x (Ok m) answer = record { named = answer.0; only = answer.1 }
 answer_only P x (Err e) answer = tt
+
+pub answer_legal : (P : State) (x : List ℕ) (result : Result Move SanError) → IsAnswer (IsNamed P x) result → IfOk result (λ m. IsLegal P m)
+answer_legal P x (Ok m) answer = answer.0.legal
+answer_legal P x (Err e) answer = tt
+
+pub played_after : (old new : State) (result : Result Move SanError) → IsPlayed old new result → IfOk result (λ m. new ≡ after old m)
+played_after old new (Ok m) played = played
+played_after old new (Err e) played = tt
+
+pub played_not : (old new : State) (result : Result Move SanError) → IsPlayed old new result → OnErr result (new ≡ old)
+played_not old new (Ok m) played = tt
+played_not old new (Err e) played = played
 
 pub answer_none : (fact : Move → Type 0) (result : Result Move SanError) → IsAnswer fact result → IsErrOf result errors.None ↔ ((m : Move) → fact m → ⊥)
 answer_none fact (Ok m) answer = ((λ e. absurd (cc)), (λ none. absurd (none m answer.0)))

@@ -27,7 +27,7 @@ pub fn resolve<B: Board>(position: &Position<B>, text: &[u8]) -> Result<Move, Sa
 }
 
 /// The only legal move that the text names.
-fn only_named<B: Board>(position: &Position<B>, text: &[u8]) -> Result<Move, SanError>
+pub(crate) fn only_named<B: Board>(position: &Position<B>, text: &[u8]) -> Result<Move, SanError>
     ensures { IsAnswer (IsNamed position.now text.now) result }
 {
     if let Some(wing) = castling(text) {

@@ -1,0 +1,44 @@
+//! Moves played by their texts (PGN 8.2.3).
+ghost use Rattle.std.specs.Prelude.{◌≡◌, ◌≢◌, ◌↔◌, IfOk, OnErr, IsErrOf};
+ghost use Rattle.chess.specs.Moves.{after, IsLegal};
+ghost use Rattle.chess.specs.San.{IsNamed, IsOnlyNamed};
+ghost use Rattle.chess.specs.SanAnswers.{IsAnswer, IsPlayed};
+ghost use Rattle.chess.specs.declared.moves.Move.{Move};
+ghost use Rattle.chess.specs.declared.move_text.SanError.{SanError};
+
+use crate::board::Board;
+use crate::move_text::SanError;
+use crate::move_text::read::only_named;
+use crate::moves::Move;
+use crate::position::Position;
+
+/// Plays the only legal move that the text names, and reports it; where it names none or several, the position is as it was. No memory is needed.
+pub fn play_word<B: Board>(position: &mut Position<B>, text: &[u8]) -> Result<Move, SanError>
+    ensures ok { IfOk result (λ m. IsOnlyNamed position.old text.now m) }
+    ensures none { IsErrOf result SanError.None ↔ ((m : Move) → IsNamed position.old text.now m → ⊥) }
+    ensures several { IsErrOf result SanError.Several ↔ ((m n : Move) × IsNamed position.old text.now m × IsNamed position.old text.now n × (m ≢ n)) }
+    ensures played { IfOk result (λ m. position.new ≡ after position.old m) }
+    ensures kept { OnErr result (position.new ≡ position.old) }
+{
+    only_played(position, text)
+}
+
+/// Plays the only legal move that the text names.
+fn only_played<B: Board>(position: &mut Position<B>, text: &[u8]) -> Result<Move, SanError>
+    ensures answer { IsAnswer (IsNamed position.old text.now) result }
+    ensures played { IsPlayed position.old position.new result }
+{
+    let found = only_named(position, text);
+    make_found(position, &found);
+    found
+}
+
+/// Makes the move that was found, if one was.
+fn make_found<B: Board>(position: &mut Position<B>, found: &Result<Move, SanError>)
+    requires { IfOk found.now (λ m. IsLegal position.old m) }
+    ensures { IsPlayed position.old position.new found.now }
+{
+    if let Ok(m) = found {
+        position.make(m);
+    }
+}
