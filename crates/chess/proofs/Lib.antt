@@ -18,6 +18,7 @@ pub mod TableFacts
 pub mod HitsTable
 pub mod BetweenTable
 pub mod HitterFacts
+pub mod FileFacts
 pub mod StartFacts
 pub mod UsualFacts
 pub mod FieldFacts
@@ -36,6 +37,7 @@ pub mod CastlingTextFacts
 pub mod TextParts
 pub mod SpelledParts
 pub mod NamedFacts
+pub mod CandidateFacts
 pub mod SanTextFacts
 pub mod SaidOnceFacts
 pub mod OriginFacts

@@ -201,6 +201,18 @@ impl<B: Board> Position<B> {
         true
     }
 
+    /// Makes the move in place if it is legal.
+    pub(crate) fn make_if_legal(&mut self, m: &Move) -> bool
+        requires { m.now.castle ≡ None }
+        ensures legal { IsTrue result ↔ IsLegal self.old m.now }
+        ensures moved { self.new ≡ (if result then after self.old m.now else self.old) }
+    {
+        if !self.is_pseudo_legal(m) {
+            return false;
+        }
+        self.try_move(m)
+    }
+
     /// The position after a legal move.
     pub fn play(&self, m: Move) -> Self
         requires { IsLegal self.now m }
