@@ -5,10 +5,12 @@ use Rattle.chess.specs.Attacks.{Reaches}
 use Rattle.chess.specs.Placements.{Placement, IsEmpty, man_at}
 use Rattle.chess.specs.Sets.{Places, is_in, has_bit, no_places, HoldsExactly, IsTakenFirst}
 use Rattle.chess.specs.SetFacts.{false_of}
-use Rattle.chess.specs.BitWords.{IsWordOf, IsMan}
+use Rattle.chess.specs.BitWords.{IsWordOf, IsMan, IsRunner, IsHitStraight, IsHitDiagonal}
 use Rattle.chess.specs.MoveWords.{IsSifted}
 use Rattle.chess.specs.Sights.{IsInSight, StandsBetween, IsUnblocked}
 use Rattle.chess.specs.declared.board.man.Man.{Man}
+use Rattle.chess.specs.declared.board.man.Side.{Side}
+use Rattle.chess.specs.declared.board.man.Kind.TheVariants.{Rook, Bishop}
 use Rattle.chess.proofs.PlaceFacts.{true_not_false}
 use Rattle.chess.proofs.FillFacts.{bit_of_both}
 use Rattle.chess.proofs.BitFacts.{no_man_or}
@@ -104,3 +106,21 @@ among_own p man t mine word among set own given found s =
           (parts.0, (sym (given s parts.0) ∙ second_true _ _ both, (own s parts.0).0 (first_true _ _ both), parts.1.1))),
       (λ h. (found s).1 (h.0, (bits ∙ both_true _ _ ((own s h.0).1 h.1.1) (given s h.0 ∙ h.1.0), h.1.2))),
     )
+
+-- ---- whether there is one
+
+pub hit_straight : (p : Placement) (side : Side) (t : Place) (runners : ℕ) (set : Places) (r : Bool) → IsWordOf (IsRunner p side Rook) runners
+    → HoldsExactly (λ s. (has_bit runners (index_of s) ≡ true) × Reaches p side Rook s t) set
+    → IsTrue r ↔ ((s : Place) × IsOnBoard s × (is_in set s ≡ true)) → IsTrue r ↔ IsHitStraight p side t
+hit_straight p side t runners set r own hit some = (
+  (λ e. let one = some.0 e in let h = (hit one.0).0 one.2 in (one.0, one.1, (own one.0 one.1).0 h.1.0, h.1.1)),
+  (λ h. some.1 (h.0, h.1, (hit h.0).1 (h.1, ((own h.0 h.1).1 h.2, h.3)))),
+)
+
+pub hit_diagonal : (p : Placement) (side : Side) (t : Place) (runners : ℕ) (set : Places) (r : Bool) → IsWordOf (IsRunner p side Bishop) runners
+    → HoldsExactly (λ s. (has_bit runners (index_of s) ≡ true) × Reaches p side Bishop s t) set
+    → IsTrue r ↔ ((s : Place) × IsOnBoard s × (is_in set s ≡ true)) → IsTrue r ↔ IsHitDiagonal p side t
+hit_diagonal p side t runners set r own hit some = (
+  (λ e. let one = some.0 e in let h = (hit one.0).0 one.2 in (one.0, one.1, (own one.0 one.1).0 h.1.0, h.1.1)),
+  (λ h. some.1 (h.0, h.1, (hit h.0).1 (h.1, ((own h.0 h.1).1 h.2, h.3)))),
+)

@@ -7,9 +7,7 @@ ghost use Rattle.chess.specs.BitWords.{AreApart, IsWordOf, IsCleared, IsBitSet, 
 ghost use Rattle.chess.specs.CellFacts.{on_board-men_of};
 ghost use Rattle.chess.specs.declared.board.man.Kind.TheVariants.{King, Knight, Pawn};
 
-use crate::board::fills::{
-    diagonal_runs, jumps, meet, near, pawn_hits, reached, straight_runs, word_of,
-};
+use crate::board::fills::{jumps, meet, near, pawn_hits, reached, word_of};
 use crate::board::sights::hitters_of;
 use crate::board::{Board, Kind, Man, Side, Square, SquareSet};
 
@@ -214,30 +212,34 @@ fn is_hit_by_pawn(words: &[u64; 12], square: Square, side: Side) -> bool
 }
 
 /// Whether a queen or a rook of the side attacks the square along its rank or file.
-fn is_hit_straight(words: &[u64; 12], square: Square, side: Side, empty: u64) -> bool
+fn is_hit_straight(words: &[u64; 12], square: Square, side: Side, occupied: u64) -> bool
     requires apart { AreApart words.now }
-    requires empty { IsWordOf (IsEmpty (words_men words.now)) empty }
+    requires occupied { IsWordOf (λ s. ¬ IsEmpty (words_men words.now) s) occupied }
     ensures { IsTrue result ↔ IsHitStraight (words_men words.now) side square }
 {
-    meet(
-        squares_of_runners(words, side, Kind::Rook),
-        straight_runs(square, empty),
-    )
+    let runners = squares_of_runners(words, side, Kind::Rook);
+    let rook = Man {
+        side,
+        kind: Kind::Rook,
+    };
+    hitters_of(rook, square, runners, occupied).has_some()
 }
 
 /// Whether a queen or a bishop of the side attacks the square along a diagonal.
-fn is_hit_diagonally(words: &[u64; 12], square: Square, side: Side, empty: u64) -> bool
+fn is_hit_diagonally(words: &[u64; 12], square: Square, side: Side, occupied: u64) -> bool
     requires apart { AreApart words.now }
-    requires empty { IsWordOf (IsEmpty (words_men words.now)) empty }
+    requires occupied { IsWordOf (λ s. ¬ IsEmpty (words_men words.now) s) occupied }
     ensures { IsTrue result ↔ IsHitDiagonal (words_men words.now) side square }
 {
-    meet(
-        squares_of_runners(words, side, Kind::Bishop),
-        diagonal_runs(square, empty),
-    )
+    let runners = squares_of_runners(words, side, Kind::Bishop);
+    let bishop = Man {
+        side,
+        kind: Kind::Bishop,
+    };
+    hitters_of(bishop, square, runners, occupied).has_some()
 }
 
-/// Whether some man of the side attacks the square: a ray reads the same from both its ends.
+/// Whether some man of the side attacks the square.
 fn is_hit(words: &[u64; 12], square: Square, side: Side) -> bool
     requires { AreApart words.now }
     ensures { IsTrue result ↔ IsAttacked (words_men words.now) side square }
@@ -251,9 +253,9 @@ fn is_hit(words: &[u64; 12], square: Square, side: Side) -> bool
     if is_hit_by_pawn(words, square, side) {
         return true;
     }
-    let empty = unoccupied(words);
-    if is_hit_straight(words, square, side, empty) {
+    let men = occupied(words);
+    if is_hit_straight(words, square, side, men) {
         return true;
     }
-    is_hit_diagonally(words, square, side, empty)
+    is_hit_diagonally(words, square, side, men)
 }

@@ -112,7 +112,7 @@ fn fill(square: Square, empty: u64, way: Direction) -> u64
 }
 
 /// The squares that a rook attacks.
-pub(crate) fn straight_runs(square: Square, empty: u64) -> u64
+fn straight_runs(square: Square, empty: u64) -> u64
     ensures { (p : Placement) → IsWordOf (IsEmpty p) empty → IsWordOf (IsStraightRun p square) result }
 {
     let north = fill(square, empty, Direction::North);
@@ -123,7 +123,7 @@ pub(crate) fn straight_runs(square: Square, empty: u64) -> u64
 }
 
 /// The squares that a bishop attacks.
-pub(crate) fn diagonal_runs(square: Square, empty: u64) -> u64
+fn diagonal_runs(square: Square, empty: u64) -> u64
     ensures { (p : Placement) → IsWordOf (IsEmpty p) empty → IsWordOf (IsDiagonalRun p square) result }
 {
     let north_east = fill(square, empty, Direction::NorthEast);
