@@ -4,15 +4,14 @@ use Rattle.std.specs.Int.{trailing_zeros}
 use Rattle.std.proofs.lemmas.Bool.Decides.{nat_tests}
 use Rattle.std.proofs.lemmas.Nat.{and_le_l}
 use Rattle.std.proofs.lemmas.Nat.Bits.{bit_at-trailing_zeros}
-use Rattle.chess.specs.Squares.{Place, IsOnBoard, gap, index_of, square_at}
+use Rattle.chess.specs.Squares.{Place, IsOnBoard, index_of, square_at}
 use Rattle.chess.specs.SquareFacts.{index_of-square_at}
 use Rattle.chess.specs.SetFacts.{on_board-square_at}
-use Rattle.chess.specs.Placements.{Placement, opposite, AreOnBoard}
-use Rattle.chess.specs.Attacks.{IsNear, IsJump, IsForward, IsPawnHit, IsAttacked, Reaches}
+use Rattle.chess.specs.Placements.{Placement, AreOnBoard}
+use Rattle.chess.specs.Attacks.{IsAttacked, Reaches}
 use Rattle.chess.specs.Sets.{has_bit}
 use Rattle.chess.specs.BitWords.{DoMeet, IsMan, IsHitBy, IsHitStraight, IsHitDiagonal}
 use Rattle.chess.specs.declared.board.man.Side.{Side}
-use Rattle.chess.specs.declared.board.man.Side.TheVariants.{White, Black}
 use Rattle.chess.specs.declared.board.man.Kind.{Kind}
 use Rattle.chess.specs.declared.board.man.Kind.TheVariants.{King, Queen, Rook, Bishop, Knight, Pawn}
 use Rattle.chess.proofs.PlaceFacts.{true_not_false, man_of}
@@ -47,32 +46,6 @@ common_square a b fits some =
 pub no_common_square : (a b : ℕ) → bit_and a b ≡ 0 → DoMeet a b → ⊥
 no_common_square a b none h =
     true_not_false _ (bit_of_both a b (index_of h.0) ∙ both_true _ _ h.2 h.3) (ap (λ w. has_bit w (index_of h.0)) none ∙ no_bit (index_of h.0))
-
--- ---- attacks read from the other end
-
-gap_back : (a b : ℕ) → gap a b ≡ gap b a
-gap_back a b = omega arith
-
-pub near_back : (s t : Place) → IsNear s t → IsNear t s
-near_back s t h = let f = gap_back s.file t.file in let r = gap_back s.rank t.rank in let a = h.0 in let b = h.1 in let c = h.2 in (omega arith, omega arith, omega arith)
-
-pub jump_back : (s t : Place) → IsJump s t → IsJump t s
-jump_back s t (inl h) = inl (gap_back t.file s.file ∙ h.0, gap_back t.rank s.rank ∙ h.1)
-jump_back s t (inr h) = inr (gap_back t.file s.file ∙ h.0, gap_back t.rank s.rank ∙ h.1)
-
-forward_back : (side : Side) (a b : ℕ) → IsForward (opposite side) a b → IsForward side b a
-forward_back White a b h = h
-forward_back Black a b h = h
-
-back_forward : (side : Side) (a b : ℕ) → IsForward side b a → IsForward (opposite side) a b
-back_forward White a b h = h
-back_forward Black a b h = h
-
-pub hit_back : (side : Side) (s t : Place) → IsPawnHit (opposite side) t s → IsPawnHit side s t
-hit_back side s t h = (gap_back s.file t.file ∙ h.0, forward_back side t.rank s.rank h.1)
-
-pub back_hit : (side : Side) (s t : Place) → IsPawnHit side s t → IsPawnHit (opposite side) t s
-back_hit side s t h = (gap_back t.file s.file ∙ h.0, back_forward side t.rank s.rank h.1)
 
 -- ---- the men that attack
 

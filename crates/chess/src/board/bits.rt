@@ -7,8 +7,8 @@ ghost use Rattle.chess.specs.BitWords.{AreApart, IsWordOf, IsCleared, IsBitSet, 
 ghost use Rattle.chess.specs.CellFacts.{on_board-men_of};
 ghost use Rattle.chess.specs.declared.board.man.Kind.TheVariants.{King, Knight, Pawn};
 
-use crate::board::fills::{jumps, meet, near, pawn_hits, reached, word_of};
-use crate::board::sights::hitters_of;
+use crate::board::fills::{meet, reached, word_of};
+use crate::board::sights::{hitters_of, sighting};
 use crate::board::{Board, Kind, Man, Side, Square, SquareSet};
 
 /// A board of twelve words: the squares of each of White's kinds, in the order of `Kind`, then of Black's. A square's bit is its place in the order
@@ -189,7 +189,14 @@ fn is_hit_by_knight(words: &[u64; 12], square: Square, side: Side) -> bool
     requires { AreApart words.now }
     ensures { IsTrue result ↔ IsHitBy (words_men words.now) side Knight square }
 {
-    meet(squares_with(words, side, Kind::Knight), jumps(square))
+    let knight = Man {
+        side,
+        kind: Kind::Knight,
+    };
+    meet(
+        squares_with(words, side, Kind::Knight),
+        sighting(knight, square),
+    )
 }
 
 /// Whether a king of the side attacks the square.
@@ -197,7 +204,14 @@ fn is_hit_by_king(words: &[u64; 12], square: Square, side: Side) -> bool
     requires { AreApart words.now }
     ensures { IsTrue result ↔ IsHitBy (words_men words.now) side King square }
 {
-    meet(squares_with(words, side, Kind::King), near(square))
+    let king = Man {
+        side,
+        kind: Kind::King,
+    };
+    meet(
+        squares_with(words, side, Kind::King),
+        sighting(king, square),
+    )
 }
 
 /// Whether a pawn of the side attacks the square.
@@ -205,9 +219,13 @@ fn is_hit_by_pawn(words: &[u64; 12], square: Square, side: Side) -> bool
     requires { AreApart words.now }
     ensures { IsTrue result ↔ IsHitBy (words_men words.now) side Pawn square }
 {
+    let pawn = Man {
+        side,
+        kind: Kind::Pawn,
+    };
     meet(
         squares_with(words, side, Kind::Pawn),
-        pawn_hits(square, side.opposite()),
+        sighting(pawn, square),
     )
 }
 

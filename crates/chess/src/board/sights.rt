@@ -12,7 +12,7 @@ use crate::board::{Man, Square, SquareSet};
 
 /// The squares from which such a man attacks the target on the empty board.
 #[inline(always)]
-fn sighting(man: Man, target: Square) -> u64
+pub(crate) fn sighting(man: Man, target: Square) -> u64
     ensures { IsWordOf (λ s. IsInSight man.side man.kind s target) result }
 {
     HITS[row(man) as usize][target.index() as usize]
