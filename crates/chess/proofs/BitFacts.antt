@@ -1,6 +1,6 @@
 -- Twelve words as a board: the man on a square, a man that is put, and the words of a man and of the empty squares.
 use Rattle.std.proofs.Common.{◌≡◌, ◌↔◌, ◌⊎◌, ◌<◌, ◌≤◌, ◌+◌, ◌-◌, ◌*◌, ◌%◌, ◌^◌, bit_or, bit_and, w64, length, slice_set, ◌&&◌, ◌||◌, ℕ, zero, suc, Bool, true, false, not, nat_eq, inl, inr, ap, refl, sym, subst, ◌∙◌, arith, if◌then◌else◌, List, Option, Some, None}
-use Rattle.std.proofs.lemmas.Bool.{agree_below, agree_below_at, cases_eq}
+use Rattle.std.proofs.lemmas.Bool.{agree_below, agree_below_at, cases_eq, eqb-true, eq-eqb, ne_eqb, not-true, or_cases, or_left, or_right}
 use Rattle.std.specs.Int.{bit_at, bit_not}
 use Rattle.std.proofs.lemmas.Nat.Bits.{bit_at-lt, bit_at_not, bit_at_set_same, bit_at_set_other, bit_at_clear_same, bit_at_clear_other}
 use Rattle.std.specs.Prelude.{replicate}
@@ -18,16 +18,7 @@ use Rattle.chess.specs.declared.board.man.Kind.{Kind}
 use Rattle.chess.specs.declared.board.man.Side.TheVariants.{White, Black}
 use Rattle.chess.specs.declared.board.man.Kind.TheVariants.{King, Queen, Rook, Bishop, Knight, Pawn}
 use Rattle.chess.proofs.PlaceFacts.{true_not_false}
-use Rattle.chess.proofs.FillFacts.{bit_of_either, or_either, or_left, or_right, no_bit}
-
-are_same : (a b : ℕ) → nat_eq a b ≡ true → a ≡ b
-are_same a b e = grind (arith, nat_tests)
-
-same_is : (a b : ℕ) → a ≡ b → nat_eq a b ≡ true
-same_is a b e = grind (arith, nat_tests)
-
-other_is : (a b : ℕ) → (a ≡ b → ⊥) → nat_eq a b ≡ false
-other_is a b h = false_of (nat_eq a b) (λ e. h (are_same a b e))
+use Rattle.chess.proofs.FillFacts.{bit_of_either, no_bit}
 
 -- ---- the words of men
 
@@ -57,7 +48,7 @@ rows_back = refl
 
 row_of-man_of_row : (n : ℕ) → n < 12 → row_of (man_of_row n) ≡ n
 unfolding row_back
-row_of-man_of_row n h = are_same _ _ (agree_below_at row_back (λ _. true) 12 n rows_back h)
+row_of-man_of_row n h = eqb-true _ _ (agree_below_at row_back (λ _. true) 12 n rows_back h)
 
 kind_below : (other : Kind) → number_of_kind other < 6
 kind_below King = omega arith
@@ -134,7 +125,7 @@ union_none words i = (
 pub union_more : (words : List ℕ) (n all : ℕ) → IsUnion words n all → IsUnion words (n + 1) (bit_or all (word_at words n))
 union_more words n all so_far i =
     let bit = bit_of_either all (word_at words n) i in (
-      (λ e. elim (or_either _ _ (sym bit ∙ e)) [
+      (λ e. elim (or_cases _ _ (sym bit ∙ e)) [
         | inl old ↦ let h = (so_far i).0 old in let less = h.1 in (h.0, omega arith, h.2)
         | inr new ↦ (n, omega arith, new)
       ]),
@@ -154,10 +145,6 @@ is_or false = inr refl
 pub no_man_or : (o : Option Man) → (o ≡ None) ⊎ (o ≡ None → ⊥)
 no_man_or None = inl refl
 no_man_or (Some man) = inr (λ e. cc)
-
-not_true : (b : Bool) → not b ≡ true → b ≡ false
-not_true true e = sym e
-not_true false e = refl
 
 pub word_of_men : (words : List ℕ) (all : ℕ) → AreApart words → IsUnion words 12 all → IsWordOf (λ s. ¬ IsEmpty (words_men words) s) all
 word_of_men words all apart union s on =
@@ -180,7 +167,7 @@ word_of_empty p all men fits s on =
     ap (λ n. nat_eq n 1) (bit_at_not w64 all i fits (index_of-below s on)) ∙ not_one (bit_at all i) (bit_at-lt all i) in (
       (λ e. elim (no_man_or (man_at p s)) [
         | inl none ↦ none
-        | inr some ↦ absurd (true_not_false _ ((men s on).1 some) (not_true _ (sym bit ∙ e)))
+        | inr some ↦ absurd (true_not_false _ ((men s on).1 some) (not-true _ (sym bit ∙ e)))
       ]),
       (λ here. bit ∙ ap not (false_of (has_bit all i) (λ one. (men s on).0 one here))),
     )
@@ -194,16 +181,16 @@ IsPut old new at man =
 
 put_here : (old new : List ℕ) (at : ℕ) (man : Option Man) → IsPut old new at man → (k i : ℕ) → k < 12 → i < 64 → i ≡ at → has_bit (word_at new k) i ≡ is_row man k
 put_here old new at man put k i within on e =
-    put k i within on ∙ ap (λ b. if b then is_row man k else has_bit (word_at old k) i) (same_is i at e)
+    put k i within on ∙ ap (λ b. if b then is_row man k else has_bit (word_at old k) i) (eq-eqb i at e)
 
 put_there : (old new : List ℕ) (at : ℕ) (man : Option Man) → IsPut old new at man → (k i : ℕ) → k < 12 → i < 64 → (i ≡ at → ⊥)
     → has_bit (word_at new k) i ≡ has_bit (word_at old k) i
 put_there old new at man put k i within on e =
-    put k i within on ∙ ap (λ b. if b then is_row man k else has_bit (word_at old k) i) (other_is i at e)
+    put k i within on ∙ ap (λ b. if b then is_row man k else has_bit (word_at old k) i) (ne_eqb i at e)
 
 one_row : (man : Option Man) (j k : ℕ) → is_row man j ≡ true → is_row man k ≡ true → j ≡ k
 one_row None j k a b = let f : false ≡ true = a in absurd (cc)
-one_row (Some man) j k a b = are_same j (row_of man) a ∙ sym (are_same k (row_of man) b)
+one_row (Some man) j k a b = eqb-true j (row_of man) a ∙ sym (eqb-true k (row_of man) b)
 
 pub put_apart : (old new : List ℕ) (at : ℕ) (man : Option Man) → AreApart old → IsPut old new at man → AreApart new
 put_apart old new at man apart put j k i in_j in_k on a b = elim (cases_eq i at) [
@@ -216,7 +203,7 @@ man_here : (old new : List ℕ) (at : ℕ) (man : Option Man) → at < 64 → Ar
 man_here old new at None on apart put = no_man new 12 at (λ k less. put_here old new at None put k at less on refl)
 man_here old new at (Some man) on apart put =
     has_man new 12 (row_of man) at apart (omega arith) (row_of-below man) on
-    (put_here old new at (Some man) put (row_of man) at (row_of-below man) on refl ∙ same_is (row_of man) (row_of man) refl)
+    (put_here old new at (Some man) put (row_of man) at (row_of-below man) on refl ∙ eq-eqb (row_of man) (row_of man) refl)
     ∙ ap Some (man_of_row-row_of man)
 
 man_there : (old new : List ℕ) (n i : ℕ) → ((k : ℕ) → k < n → has_bit (word_at new k) i ≡ has_bit (word_at old k) i) → man_below new n i ≡ man_below old n i
@@ -279,10 +266,10 @@ cleared_bit : (word at i : ℕ) → at < 64 → i < 64 → has_bit (bit_and word
 cleared_bit word at i within on = elim (cases_eq i at) [
   | inl same ↦
       ap (λ j. has_bit (bit_and word (bit_not w64 (1 * 2 ^ at % 2 ^ 64))) j) same ∙ ap (λ n. nat_eq n 1) (bit_at_clear_same w64 word at within)
-      ∙ sym (ap (λ b. has_bit word i && not b) (same_is i at same) ∙ and_none (has_bit word i))
+      ∙ sym (ap (λ b. has_bit word i && not b) (eq-eqb i at same) ∙ and_none (has_bit word i))
   | inr other ↦
       ap (λ n. nat_eq n 1) (bit_at_clear_other w64 word at within i on other)
-      ∙ sym (ap (λ b. has_bit word i && not b) (other_is i at other) ∙ and_all (has_bit word i))
+      ∙ sym (ap (λ b. has_bit word i && not b) (ne_eqb i at other) ∙ and_all (has_bit word i))
 ]
 
 pub cleared_more : (old new : List ℕ) (n at : ℕ) → at < 64 → n < 12 → IsClearedTo old new n at
@@ -306,9 +293,9 @@ set_bit : (word at i : ℕ) → at < 64 → has_bit (bit_or word (1 * 2 ^ at % 2
 set_bit word at i within = elim (cases_eq i at) [
   | inl same ↦
       ap (λ j. has_bit (bit_or word (1 * 2 ^ at % 2 ^ 64)) j) same ∙ ap (λ n. nat_eq n 1) (bit_at_set_same w64 word at within)
-      ∙ sym (ap (λ b. b || has_bit word i) (same_is i at same))
+      ∙ sym (ap (λ b. b || has_bit word i) (eq-eqb i at same))
   | inr other ↦
-      ap (λ n. nat_eq n 1) (bit_at_set_other w64 word at within i other) ∙ sym (ap (λ b. b || has_bit word i) (other_is i at other))
+      ap (λ n. nat_eq n 1) (bit_at_set_other w64 word at within i other) ∙ sym (ap (λ b. b || has_bit word i) (ne_eqb i at other))
 ]
 
 pub set_one : (old : List ℕ) (row at : ℕ) → length old ≡ 12 → row < 12 → at < 64
@@ -319,10 +306,10 @@ set_one old row at size in_row within k i less on =
           ap (λ j. has_bit (word_at (slice_set old row word) j) i) same ∙ ap (λ w. has_bit w i) (get_or-set_same old row word 0 (omega arith))
           ∙ set_bit (word_at old row) at i within
           ∙ ap (λ j. nat_eq i at || has_bit (word_at old j) i) (sym same)
-          ∙ sym (ap (λ b. (b && nat_eq i at) || has_bit (word_at old k) i) (same_is k row same))
+          ∙ sym (ap (λ b. (b && nat_eq i at) || has_bit (word_at old k) i) (eq-eqb k row same))
       | inr other ↦
           ap (λ w. has_bit w i) (get_or-set_other old row k word 0 other)
-          ∙ sym (ap (λ b. (b && nat_eq i at) || has_bit (word_at old k) i) (other_is k row other))
+          ∙ sym (ap (λ b. (b && nat_eq i at) || has_bit (word_at old k) i) (ne_eqb k row other))
     ]
 
 -- no words hold no men

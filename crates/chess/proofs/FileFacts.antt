@@ -1,13 +1,12 @@
 -- Words of all squares, of the squares of a file, and of those that two sets have.
 use Rattle.std.proofs.Common.{◌≡◌, ◌⊎◌, ◌<◌, ◌≤◌, ◌-◌, ◌*◌, ◌^◌, ◌%◌, ℕ, true, nat_eq, bit_and, inl, inr, refl, sym, ◌∙◌, arith}
-use Rattle.std.proofs.lemmas.Bool.{agree_below, agree_below_at}
+use Rattle.std.proofs.lemmas.Bool.{agree_below, agree_below_at, and_parts, and_from}
 use Rattle.std.proofs.lemmas.Bool.Decides.{nat_tests}
 use Rattle.chess.specs.Squares.{Place, IsOnBoard, index_of}
 use Rattle.chess.specs.Sets.{Places, is_in, has_bit, HoldsExactly}
 use Rattle.chess.specs.SetFacts.{index_of-below}
 use Rattle.chess.proofs.PlaceFacts.{true_not_false}
 use Rattle.chess.proofs.FillFacts.{bit_of_both, no_bit}
-use Rattle.chess.proofs.HitFacts.{both_true, first_true, second_true}
 
 each_bit : agree_below (has_bit 18446744073709551615) (λ _. true) 64 ≡ true
 each_bit = refl
@@ -70,6 +69,6 @@ common_squares a b one other set first second found s =
       (λ h.
           let parts = (found s).0 h in
           let both = sym bits ∙ parts.1 in
-          (parts.0, (sym (first s parts.0) ∙ first_true _ _ both, sym (second s parts.0) ∙ second_true _ _ both))),
-      (λ h. (found s).1 (h.0, bits ∙ both_true _ _ (first s h.0 ∙ h.1.0) (second s h.0 ∙ h.1.1))),
+          (parts.0, (sym (first s parts.0) ∙ (and_parts _ _ both).0, sym (second s parts.0) ∙ (and_parts _ _ both).1))),
+      (λ h. (found s).1 (h.0, bits ∙ and_from _ _ (first s h.0 ∙ h.1.0) (second s h.0 ∙ h.1.1))),
     )

@@ -1,8 +1,8 @@
 -- Rays filled square by square, from one square and along one way.
-use Rattle.std.proofs.Common.{◌≡◌, ◌⊎◌, ◌<◌, ◌≤◌, ◌+◌, ◌-◌, ◌*◌, ◌^◌, ◌&&◌, ◌||◌, bit_and, bit_or, ℕ, Bool, true, false, nat_eq, inl, inr, ap, refl, sym, subst, ◌∙◌, arith, min, max, pow_pos}
+use Rattle.std.proofs.Common.{◌≡◌, ◌⊎◌, ◌<◌, ◌≤◌, ◌+◌, ◌-◌, ◌*◌, ◌^◌, ◌&&◌, ◌||◌, bit_and, bit_or, ℕ, true, false, nat_eq, inl, inr, ap, refl, sym, subst, ◌∙◌, arith, min, max, pow_pos}
 use Rattle.std.specs.Int.{bit_at}
 use Rattle.std.proofs.lemmas.Nat.{and_mask}
-use Rattle.std.proofs.lemmas.Bool.{cases_eq, cases_lt}
+use Rattle.std.proofs.lemmas.Bool.{cases_eq, cases_lt, eqb-true, eq-eqb, or_cases, or_left, or_right, true_from_ne_false}
 use Rattle.std.proofs.lemmas.Bool.Decides.{nat_tests}
 use Rattle.std.proofs.lemmas.Nat.Bits.{bit_at-zero, bit_at-lt, bit_at_or, bit_at_and, bit_at-pow_same, bit_at-pow_other, and_pow}
 use Rattle.chess.specs.Squares.{Place, IsOnBoard, IsStraight, IsAhead, index_of, square_at}
@@ -11,24 +11,22 @@ use Rattle.chess.specs.Placements.{Placement, IsEmpty}
 use Rattle.chess.specs.Attacks.{IsOnRay, IsClearFor}
 use Rattle.chess.specs.Sets.{has_bit}
 use Rattle.chess.specs.BitWords.{IsWordOf, IsNextWord, IsStraightRun, IsDiagonalRun, square_word}
+use Rattle.chess.proofs.PlaceFacts.{place_of}
 use Rattle.chess.specs.declared.board.direction.Direction.{Direction}
 use Rattle.chess.specs.declared.board.direction.Direction.TheVariants.{North, South, East, West, NorthEast, NorthWest, SouthEast, SouthWest}
 
 -- ---- squares ahead
 
 -- a square is the only one so many steps ahead
-file_rank : (s t : Place) → s.file ≡ t.file → s.rank ≡ t.rank → s ≡ t
-file_rank s t e f = λ i. record { file = e i; rank = f i }
-
 pub one_ahead : (way : Direction) (k : ℕ) (s t u : Place) → IsAhead way k s t → IsAhead way k s u → t ≡ u
-one_ahead North k s t u a b = let a1 = a.0 in let a2 = a.1 in let b1 = b.0 in let b2 = b.1 in file_rank t u (omega arith) (omega arith)
-one_ahead South k s t u a b = let a1 = a.0 in let a2 = a.1 in let b1 = b.0 in let b2 = b.1 in file_rank t u (omega arith) (omega arith)
-one_ahead East k s t u a b = let a1 = a.0 in let a2 = a.1 in let b1 = b.0 in let b2 = b.1 in file_rank t u (omega arith) (omega arith)
-one_ahead West k s t u a b = let a1 = a.0 in let a2 = a.1 in let b1 = b.0 in let b2 = b.1 in file_rank t u (omega arith) (omega arith)
-one_ahead NorthEast k s t u a b = let a1 = a.0 in let a2 = a.1 in let b1 = b.0 in let b2 = b.1 in file_rank t u (omega arith) (omega arith)
-one_ahead NorthWest k s t u a b = let a1 = a.0 in let a2 = a.1 in let b1 = b.0 in let b2 = b.1 in file_rank t u (omega arith) (omega arith)
-one_ahead SouthEast k s t u a b = let a1 = a.0 in let a2 = a.1 in let b1 = b.0 in let b2 = b.1 in file_rank t u (omega arith) (omega arith)
-one_ahead SouthWest k s t u a b = let a1 = a.0 in let a2 = a.1 in let b1 = b.0 in let b2 = b.1 in file_rank t u (omega arith) (omega arith)
+one_ahead North k s t u a b = let a1 = a.0 in let a2 = a.1 in let b1 = b.0 in let b2 = b.1 in place_of t u (omega arith) (omega arith)
+one_ahead South k s t u a b = let a1 = a.0 in let a2 = a.1 in let b1 = b.0 in let b2 = b.1 in place_of t u (omega arith) (omega arith)
+one_ahead East k s t u a b = let a1 = a.0 in let a2 = a.1 in let b1 = b.0 in let b2 = b.1 in place_of t u (omega arith) (omega arith)
+one_ahead West k s t u a b = let a1 = a.0 in let a2 = a.1 in let b1 = b.0 in let b2 = b.1 in place_of t u (omega arith) (omega arith)
+one_ahead NorthEast k s t u a b = let a1 = a.0 in let a2 = a.1 in let b1 = b.0 in let b2 = b.1 in place_of t u (omega arith) (omega arith)
+one_ahead NorthWest k s t u a b = let a1 = a.0 in let a2 = a.1 in let b1 = b.0 in let b2 = b.1 in place_of t u (omega arith) (omega arith)
+one_ahead SouthEast k s t u a b = let a1 = a.0 in let a2 = a.1 in let b1 = b.0 in let b2 = b.1 in place_of t u (omega arith) (omega arith)
+one_ahead SouthWest k s t u a b = let a1 = a.0 in let a2 = a.1 in let b1 = b.0 in let b2 = b.1 in place_of t u (omega arith) (omega arith)
 
 -- no step leads to the square itself
 pub itself : (way : Direction) (s : Place) → IsAhead way 0 s s
@@ -144,23 +142,17 @@ seven_steps SouthWest k s t on on_t a = let a1 = a.0 in let x = on.file_low in l
 
 -- ---- bits
 
-are_same : (a b : ℕ) → nat_eq a b ≡ true → a ≡ b
-are_same a b e = grind (arith, nat_tests)
-
-one_is : (b : ℕ) → b ≡ 1 → nat_eq b 1 ≡ true
-one_is b e = grind (arith, nat_tests)
-
 -- the word of one square has the bit of that square alone
 pub bit_of_square : (s t : Place) → IsOnBoard s → IsOnBoard t → has_bit (square_word s) (index_of t) ≡ true → t ≡ s
 bit_of_square s t on on_t e = elim (cases_eq (index_of t) (index_of s)) [
   | inl same ↦ sym (square_at-index_of t on_t) ∙ ap square_at same ∙ square_at-index_of s on
   | inr other ↦
       let none = bit_at-pow_other (index_of s) (index_of t) other in
-      let one = are_same _ _ e in absurd (omega arith)
+      let one = eqb-true _ _ e in absurd (omega arith)
 ]
 
 pub has_own_bit : (s : Place) → has_bit (square_word s) (index_of s) ≡ true
-has_own_bit s = one_is _ (bit_at-pow_same (index_of s))
+has_own_bit s = eq-eqb _ 1 (bit_at-pow_same (index_of s))
 
 -- a bit of two words joined, and of two words' common part
 max_one : (a b : ℕ) → a < 2 → b < 2 → nat_eq (max a b) 1 ≡ (nat_eq a 1 || nat_eq b 1)
@@ -177,17 +169,6 @@ bit_of_both a b i = ap (λ n. nat_eq n 1) (bit_at_and a b i) ∙ min_one (bit_at
 
 pub no_bit : (i : ℕ) → has_bit 0 i ≡ false
 no_bit i = ap (λ n. nat_eq n 1) (bit_at-zero i)
-
-pub or_either : (a b : Bool) → (a || b) ≡ true → (a ≡ true) ⊎ (b ≡ true)
-or_either true b e = inl refl
-or_either false b e = inr e
-
-pub or_left : (a b : Bool) → a ≡ true → (a || b) ≡ true
-or_left a b e = ap (λ c. c || b) e
-
-pub or_right : (a b : Bool) → b ≡ true → (a || b) ≡ true
-or_right true b e = refl
-or_right false b e = e
 
 -- ---- the loop
 
@@ -221,7 +202,7 @@ pub within_more : (way : Direction) (s u : Place) (k seen last : ℕ) → IsOnBo
     → IsWordOf (IsWithin way s k) seen → IsWordOf (IsWithin way s (k + 1)) (bit_or seen last)
 within_more way s u k seen last on ahead is so_far t on_t =
     let bit = bit_of_either seen last (index_of t) in (
-      (λ e. elim (or_either _ _ (sym bit ∙ e)) [
+      (λ e. elim (or_cases _ _ (sym bit ∙ e)) [
         | inl old ↦ let w = (so_far t on_t).0 old in let a = w.1 in let b = w.2 in (w.0, a, omega arith, w.3)
         | inr new ↦
             let same = bit_of_square u t on on_t (ap (λ w. has_bit w (index_of t)) (sym is) ∙ new) in
@@ -235,16 +216,11 @@ within_more way s u k seen last on ahead is so_far t on_t =
       ]),
     )
 
--- whether the last square is empty
-pub either_bit : (b : Bool) → (b ≡ false → ⊥) → b ≡ true
-either_bit true h = refl
-either_bit false h = absurd (h refl)
-
 zero_times : (b n : ℕ) → nat_eq b 1 ≡ false → b < 2 → b * n ≡ 0
 zero_times b n e h = let zero_bit : b ≡ 0 = grind (arith, nat_tests) in ap (λ m. m * n) zero_bit ∙ omega arith
 
 not_zero : (b n : ℕ) → nat_eq b 1 ≡ true → 0 < n → b * n ≡ 0 → ⊥
-not_zero b n e h z = let one : b ≡ 1 = are_same b 1 e in let f : 1 * n ≡ 0 = ap (λ m. m * n) (sym one) ∙ z in omega arith
+not_zero b n e h z = let one : b ≡ 1 = eqb-true b 1 e in let f : 1 * n ≡ 0 = ap (λ m. m * n) (sym one) ∙ z in omega arith
 
 and_zero : (n : ℕ) → bit_and n 0 ≡ 0
 and_zero n = and_mask n 0 ∙ omega arith
@@ -263,7 +239,7 @@ pub filled_more : (p : Placement) (way : Direction) (s : Place) (k last seen emp
 filled_more p way s k last seen empty word h shows (inl next) some =
     let t = next.0 in
     let ahead = ahead_more way k 1 s h.here t h.ahead next.2 in
-    let bare = (shows t next.1).0 (either_bit (has_bit empty (index_of t)) (λ e. some (common_none empty word t next.3 e))) in record {
+    let bare = (shows t next.1).0 (true_from_ne_false (has_bit empty (index_of t)) (λ e. some (common_none empty word t next.3 e))) in record {
       on_board = h.on_board;
       here = t;
       inside = next.1;
@@ -300,7 +276,7 @@ filled_stop p way s k last seen empty word h shows (inl next) stop t on =
     )
 filled_stop p way s k last seen empty word h shows (inr next) stop t on =
     let bit = bit_of_either seen word (index_of t) in (
-      (λ e. elim (or_either _ _ (sym bit ∙ e)) [
+      (λ e. elim (or_cases _ _ (sym bit ∙ e)) [
         | inl old ↦ let w = (h.seen_is t on).0 old in let low = w.1 in let high = w.2 in on_ray p way s t (k + 1) h.clear (w.0, low, omega arith, w.3)
         | inr new ↦ let f : false ≡ true = sym (ap (λ w. has_bit w (index_of t)) next.1 ∙ no_bit (index_of t)) ∙ new in absurd (cc)
       ]),
@@ -325,7 +301,7 @@ filled_end p way s k last seen h all t on = (
 pub either_word : (A B : Place → Type 0) (a b : ℕ) → IsWordOf A a → IsWordOf B b → IsWordOf (λ t. A t ⊎ B t) (bit_or a b)
 either_word A B a b in_a in_b t on =
     let bit = bit_of_either a b (index_of t) in (
-      (λ e. elim (or_either _ _ (sym bit ∙ e)) [ inl f ↦ inl ((in_a t on).0 f) | inr f ↦ inr ((in_b t on).0 f) ]),
+      (λ e. elim (or_cases _ _ (sym bit ∙ e)) [ inl f ↦ inl ((in_a t on).0 f) | inr f ↦ inr ((in_b t on).0 f) ]),
       (λ h. bit ∙ elim h [ inl f ↦ or_left _ _ ((in_a t on).1 f) | inr f ↦ or_right _ _ ((in_b t on).1 f) ]),
     )
 

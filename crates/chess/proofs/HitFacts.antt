@@ -1,7 +1,7 @@
 -- Men that attack a square, found from the square outwards.
-use Rattle.std.proofs.Common.{◌≡◌, ◌⊎◌, ◌<◌, ◌^◌, bit_and, w64, ℕ, Bool, true, false, nat_eq, inl, inr, ap, refl, sym, ◌∙◌, arith, Some, ◌&&◌}
+use Rattle.std.proofs.Common.{◌≡◌, ◌⊎◌, ◌<◌, ◌^◌, bit_and, w64, ℕ, true, inl, inr, ap, refl, sym, ◌∙◌, arith, Some, ◌&&◌}
 use Rattle.std.specs.Int.{trailing_zeros}
-use Rattle.std.proofs.lemmas.Bool.Decides.{nat_tests}
+use Rattle.std.proofs.lemmas.Bool.{and_parts, and_from, eq-eqb}
 use Rattle.std.proofs.lemmas.Nat.{and_le_l}
 use Rattle.std.proofs.lemmas.Nat.Bits.{bit_at-trailing_zeros}
 use Rattle.chess.specs.Squares.{Place, IsOnBoard, index_of, square_at}
@@ -19,33 +19,18 @@ use Rattle.chess.proofs.FillFacts.{bit_of_both, no_bit, way_is}
 
 -- ---- words that meet
 
-pub both_true : (a b : Bool) → a ≡ true → b ≡ true → (a && b) ≡ true
-both_true true b e f = f
-both_true false b e f = e
-
-pub first_true : (a b : Bool) → (a && b) ≡ true → a ≡ true
-first_true true b e = refl
-first_true false b e = e
-
-pub second_true : (a b : Bool) → (a && b) ≡ true → b ≡ true
-second_true true b e = e
-second_true false b e = let f : false ≡ true = e in absurd (true_not_false false f refl)
-
-one_is : (b : ℕ) → b ≡ 1 → nat_eq b 1 ≡ true
-one_is b e = grind (arith, nat_tests)
-
 pub common_square : (a b : ℕ) → a < 2 ^ 64 → (bit_and a b ≡ 0 → ⊥) → DoMeet a b
 common_square a b fits some =
     let less = and_le_l a b in
     let found = bit_at-trailing_zeros w64 (bit_and a b) (omega arith) (omega arith) in
     let at = trailing_zeros w64 (bit_and a b) in
-    let both : (has_bit a at && has_bit b at) ≡ true = sym (bit_of_both a b at) ∙ one_is _ found.1 in
+    let both : (has_bit a at && has_bit b at) ≡ true = sym (bit_of_both a b at) ∙ eq-eqb _ 1 found.1 in
     let place = index_of-square_at at found.0 in
-    (square_at at, on_board-square_at at found.0, ap (has_bit a) place ∙ first_true _ _ both, ap (has_bit b) place ∙ second_true _ _ both)
+    (square_at at, on_board-square_at at found.0, ap (has_bit a) place ∙ (and_parts _ _ both).0, ap (has_bit b) place ∙ (and_parts _ _ both).1)
 
 pub no_common_square : (a b : ℕ) → bit_and a b ≡ 0 → DoMeet a b → ⊥
 no_common_square a b none h =
-    true_not_false _ (bit_of_both a b (index_of h.0) ∙ both_true _ _ h.2 h.3) (ap (λ w. has_bit w (index_of h.0)) none ∙ no_bit (index_of h.0))
+    true_not_false _ (bit_of_both a b (index_of h.0) ∙ and_from _ _ h.2 h.3) (ap (λ w. has_bit w (index_of h.0)) none ∙ no_bit (index_of h.0))
 
 -- ---- the men that attack
 

@@ -1,5 +1,6 @@
 -- The squares from which a man attacks, out of those from which he sees the target.
-use Rattle.std.proofs.Common.{◌≡◌, ◌↔◌, ◌∙◌, ◌<◌, ◌≤◌, ◌+◌, ◌^◌, ◌&&◌, ◌||◌, ℕ, Bool, true, false, inl, inr, sym, bit_and, Some, None, IsTrue}
+use Rattle.std.proofs.Common.{◌≡◌, ◌↔◌, ◌∙◌, ◌<◌, ◌^◌, ◌&&◌, ◌||◌, ℕ, Bool, true, false, inl, inr, sym, bit_and, Some, None, IsTrue}
+use Rattle.std.proofs.lemmas.Bool.{and_parts, and_from}
 use Rattle.chess.specs.Squares.{Place, IsOnBoard, index_of, same_square}
 use Rattle.chess.specs.Attacks.{Reaches}
 use Rattle.chess.specs.Placements.{Placement, IsEmpty, man_at}
@@ -14,8 +15,8 @@ use Rattle.chess.specs.declared.board.man.Kind.TheVariants.{Rook, Bishop}
 use Rattle.chess.proofs.PlaceFacts.{true_not_false}
 use Rattle.chess.proofs.FillFacts.{bit_of_both}
 use Rattle.chess.proofs.BitFacts.{no_man_or}
-use Rattle.chess.proofs.HitFacts.{common_square, no_common_square, both_true, first_true, second_true}
-use Rattle.chess.proofs.LoopFacts.{sifted_start, sifted_more, sifted_none, sifted_end, was_left}
+use Rattle.chess.proofs.HitFacts.{common_square, no_common_square}
+use Rattle.chess.proofs.LoopFacts.{sifted_start, sifted_more, sifted_none, was_left}
 use Rattle.chess.proofs.OpenFacts.{reaches_is}
 
 -- no square of the word stands between the two
@@ -37,33 +38,29 @@ no_bits_between s t a b fits line clear_way some =
 abbrev pub IsOpenFrom : Place → ℕ → ℕ → Place → Type 0
 IsOpenFrom t seen occupied s = (has_bit seen (index_of s) ≡ true) × HasNoneBetween occupied s t
 
-abbrev pub IsSearched : Place → ℕ → ℕ → ℕ → Places → Places → Type 0
-IsSearched t seen occupied n left set =
-    IsSifted (IsOpenFrom t seen occupied) n left set × ((s : Place) → IsOnBoard s → is_in left s ≡ true → has_bit seen (index_of s) ≡ true)
+abbrev pub IsSearched : Place → ℕ → ℕ → Places → Places → Type 0
+IsSearched t seen occupied left set =
+    IsSifted (IsOpenFrom t seen occupied) left set × ((s : Place) → IsOnBoard s → is_in left s ≡ true → has_bit seen (index_of s) ≡ true)
 
 pub searched_start : (t : Place) (seen occupied : ℕ) (left set : Places) → HoldsExactly (λ s. has_bit seen (index_of s) ≡ true) left → set ≡ no_places
-    → IsSearched t seen occupied 0 left set
+    → IsSearched t seen occupied left set
 searched_start t seen occupied left set all none = (
   sifted_start (IsOpenFrom t seen occupied) left set (λ s on h. (all s).1 (on, h.0)) none,
   (λ s on here. ((all s).0 here).1),
 )
 
-pub searched_more : (t : Place) (seen occupied n : ℕ) (old new set more : Places) (s : Place) (test : Bool) → IsSearched t seen occupied n old set
+pub searched_more : (t : Place) (seen occupied : ℕ) (old new set more : Places) (s : Place) (test : Bool) → IsSearched t seen occupied old set
     → IsTakenFirst old new (Some s) → IsTrue test ↔ HasNoneBetween occupied s t
-    → ((u : Place) → is_in more u ≡ ((test && same_square s u) || is_in set u)) → IsSearched t seen occupied (n + 1) new more
-searched_more t seen occupied n old new set more s test so_far taken tested put = (
-  sifted_more (IsOpenFrom t seen occupied) n old new set more s test so_far.0 taken
+    → ((u : Place) → is_in more u ≡ ((test && same_square s u) || is_in set u)) → IsSearched t seen occupied new more
+searched_more t seen occupied old new set more s test so_far taken tested put = (
+  sifted_more (IsOpenFrom t seen occupied) old new set more s test so_far.0 taken
       ((λ e. (so_far.1 s taken.0 taken.1, tested.0 e)), (λ h. tested.1 h.1)) put,
   (λ u on here. so_far.1 u on (was_left old new s u taken here).0),
 )
 
-pub searched_none : (t : Place) (seen occupied n : ℕ) (old new set : Places) → IsSearched t seen occupied n old set → IsTakenFirst old new None
+pub searched_none : (t : Place) (seen occupied : ℕ) (old new set : Places) → IsSearched t seen occupied old set → IsTakenFirst old new None
     → HoldsExactly (IsOpenFrom t seen occupied) set
-searched_none t seen occupied n old new set so_far none = sifted_none (IsOpenFrom t seen occupied) n old new set so_far.0 none
-
-pub searched_end : (t : Place) (seen occupied n : ℕ) (left set : Places) → IsSearched t seen occupied n left set → 64 ≤ n
-    → HoldsExactly (IsOpenFrom t seen occupied) set
-searched_end t seen occupied n left set so_far far = sifted_end (IsOpenFrom t seen occupied) n left set so_far.0 far
+searched_none t seen occupied old new set so_far none = sifted_none (IsOpenFrom t seen occupied) old new set so_far.0 none
 
 -- ---- what it finds
 
@@ -87,10 +84,10 @@ hitters_are p man t own sight occupied set seen found men s =
       (λ h.
           let parts = (found s).0 h in
           let both = sym bits ∙ parts.1.0 in
-          (parts.0, (first_true _ _ both, reach.1 ((seen s parts.0).0 (second_true _ _ both), clear_way.0 parts.1.1)))),
+          (parts.0, ((and_parts _ _ both).0, reach.1 ((seen s parts.0).0 ((and_parts _ _ both).1), clear_way.0 parts.1.1)))),
       (λ h.
           let parts = reach.0 h.1.1 in
-          (found s).1 (h.0, (bits ∙ both_true _ _ h.1.0 ((seen s h.0).1 parts.0), clear_way.1 parts.1))),
+          (found s).1 (h.0, (bits ∙ and_from _ _ h.1.0 ((seen s h.0).1 parts.0), clear_way.1 parts.1))),
     )
 
 -- the board's own squares of the man, of those among which he is sought
@@ -103,8 +100,8 @@ among_own p man t mine word among set own given found s =
       (λ h.
           let parts = (found s).0 h in
           let both = sym bits ∙ parts.1.0 in
-          (parts.0, (sym (given s parts.0) ∙ second_true _ _ both, (own s parts.0).0 (first_true _ _ both), parts.1.1))),
-      (λ h. (found s).1 (h.0, (bits ∙ both_true _ _ ((own s h.0).1 h.1.1) (given s h.0 ∙ h.1.0), h.1.2))),
+          (parts.0, (sym (given s parts.0) ∙ (and_parts _ _ both).1, (own s parts.0).0 ((and_parts _ _ both).0), parts.1.1))),
+      (λ h. (found s).1 (h.0, (bits ∙ and_from _ _ ((own s h.0).1 h.1.1) (given s h.0 ∙ h.1.0), h.1.2))),
     )
 
 -- ---- whether there is one

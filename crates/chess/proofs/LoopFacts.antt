@@ -1,8 +1,12 @@
 -- Loops over the squares of a set, first to last.
-use Rattle.std.proofs.Common.{◌≡◌, ◌↔◌, ◌≤◌, ◌+◌, ◌&&◌, ◌||◌, ◌⊎◌, ℕ, Bool, true, false, not, inl, inr, ap, refl, sym, subst, ◌∙◌, arith, Option, Some, None, IsTrue}
-use Rattle.chess.specs.Squares.{Place, IsOnBoard, index_of, square_at, same_square}
-use Rattle.chess.specs.SetFacts.{square_at-index_of, index_of-below, is_in-empty}
-use Rattle.chess.specs.Sets.{Places, is_in, no_places, IsTakenFirst, HoldsExactly}
+use Rattle.std.proofs.Common.{◌≡◌, ◌↔◌, ◌<◌, ◌-◌, ◌&&◌, ◌||◌, ◌⊎◌, Bool, true, false, not, inl, inr, ap, refl, sym, subst, ◌∙◌, arith, Option, Some, None, IsTrue, if◌then◌else◌}
+use Rattle.std.specs.Ordering.{eq_by_cmp}
+use Rattle.std.specs.FinSet.{remove, same_set, contains-remove, len-remove, empty_of_len}
+use Rattle.std.proofs.lemmas.Bool.{cases_eq}
+use Rattle.chess.specs.Squares.{Place, IsOnBoard, place_cmp, same_square}
+use Rattle.chess.specs.OrderFacts.{place_total, place_exact}
+use Rattle.chess.specs.SetFacts.{is_in-empty, tied, ties, false_of}
+use Rattle.chess.specs.Sets.{Places, is_in, no_places, size_of, IsTakenFirst, HoldsExactly}
 use Rattle.chess.specs.MoveWords.{HasEach, IsLeft, IsSifted}
 use Rattle.chess.proofs.PlaceFacts.{cases_place, same_square-same, same_square-then, true_not_false}
 
@@ -11,19 +15,44 @@ pub not_in : (set : Places) (s : Place) → set ≡ no_places → is_in set s �
 not_in set s none = ap (λ p. is_in p s) none ∙ is_in-empty s
 
 pub left_start : (range fact : Place → Type 0) (set : Places) → HasEach fact set → ((s : Place) → IsOnBoard s → is_in set s ≡ true → range s)
-    → IsLeft range fact 0 set
-left_start range fact set each within = record { each = each; within = within; low = λ s on here. omega arith }
+    → IsLeft range fact set
+left_start range fact set each within = record { each = each; within = within }
 
-pub left_none : (range fact : Place → Type 0) (n : ℕ) (old new : Places) → IsLeft range fact n old → IsTakenFirst old new None
+pub left_none : (range fact : Place → Type 0) (old new : Places) → IsLeft range fact old → IsTakenFirst old new None
     → (s : Place) → IsOnBoard s → fact s → ⊥
-left_none range fact n old new left none s on holds = true_not_false (is_in old s) (left.each s on holds) (not_in old s none.0)
+left_none range fact old new left none s on holds = true_not_false (is_in old s) (left.each s on holds) (not_in old s none.0)
 
-pub left_end : (range fact : Place → Type 0) (n : ℕ) (set : Places) → IsLeft range fact n set → 64 ≤ n → (s : Place) → IsOnBoard s → fact s → ⊥
-left_end range fact n set left far s on holds =
-    let at = left.low s on (left.each s on holds) in
-    let near = index_of-below s on in omega arith
+-- ---- one square less
 
--- what is left after the first was taken out
+same_is_tied : (s t : Place) → same_square s t ≡ eq_by_cmp place_cmp s t
+same_is_tied s t =
+    elim (same_square s t) as (λ b. same_square s t ≡ b → b ≡ eq_by_cmp place_cmp s t) [
+      | true ↦ λ e. sym (ap (λ u. eq_by_cmp place_cmp u t) (same_square-then s t e) ∙ ties t)
+      | false ↦ λ e. sym (false_of _ (λ same. true_not_false (same_square s t) (same_square-same s t (tied s t _ refl same)) e))
+    ] refl
+
+and_turned : (a b : Bool) → (a && not b) ≡ (not b && a)
+and_turned true true = refl
+and_turned true false = refl
+and_turned false true = refl
+and_turned false false = refl
+
+-- the loop goes on for as many squares as there are
+pub fewer : (old new : Places) (t : Place) → IsTakenFirst old new (Some t) → size_of new < size_of old
+fewer old new t taken =
+    let is : new ≡ remove old t =
+    same_set place_total place_exact new (remove old t)
+    (λ s. taken.3 s ∙ and_turned (is_in old s) (same_square s t) ∙ ap (λ b. not b && is_in old s) (same_is_tied s t)
+    ∙ sym (contains-remove place_total old t s)) in
+    let size : size_of new ≡ size_of old - 1 =
+    ap size_of is ∙ len-remove place_total old t ∙ ap (λ b. if b then size_of old - 1 else size_of old) taken.1 in
+    elim (cases_eq (size_of old) 0) [
+      | inl none ↦ absurd (true_not_false (is_in old t) taken.1 (not_in old t (empty_of_len old none)))
+      | inr some ↦ omega arith
+    ]
+
+-- ---- what is left after the first was taken out
+
 and_both : (a b : Bool) → a ≡ true → b ≡ true → (a && b) ≡ true
 and_both true true e f = refl
 and_both true false e f = f
@@ -56,31 +85,19 @@ was_left old new t s taken here =
       (λ e. not_back (same_square s t) (and_second (is_in old s) (not (same_square s t)) both) (same_square-same s t e)),
     )
 
-later : (n : ℕ) (old new : Places) (t s : Place) → ((u : Place) → IsOnBoard u → is_in old u ≡ true → n ≤ index_of u) → IsTakenFirst old new (Some t)
-    → IsOnBoard s → is_in new s ≡ true → n + 1 ≤ index_of s
-later n old new t s low taken on here =
-    let before = was_left old new t s taken here in
-    let first = taken.2 s before.0 in
-    let above = low t taken.0 taken.1 in
-    let apart : index_of s ≡ index_of t → ⊥ =
-    λ e. before.1 (sym (square_at-index_of s on) ∙ ap square_at e ∙ square_at-index_of t taken.0) in
-    omega arith
-
-pub left_more : (range fact : Place → Type 0) (n : ℕ) (old new : Places) (t : Place) → IsLeft range fact n old → IsTakenFirst old new (Some t)
-    → (fact t → ⊥) → IsLeft range fact (n + 1) new
-left_more range fact n old new t left taken fails = record {
+pub left_more : (range fact : Place → Type 0) (old new : Places) (t : Place) → IsLeft range fact old → IsTakenFirst old new (Some t)
+    → (fact t → ⊥) → IsLeft range fact new
+left_more range fact old new t left taken fails = record {
   each = λ s on holds. still_left old new t s taken (left.each s on holds) (λ e. fails (subst fact e holds));
   within = λ s on here. left.within s on (was_left old new t s taken here).0;
-  low = λ s on here. later n old new t s left.low taken on here;
 }
 
 -- ---- those found among them
 
-pub sifted_start : (fact : Place → Type 0) (set found : Places) → HasEach fact set → found ≡ no_places → IsSifted fact 0 set found
+pub sifted_start : (fact : Place → Type 0) (set found : Places) → HasEach fact set → found ≡ no_places → IsSifted fact set found
 sifted_start fact set found each none = record {
   sound = λ s here. absurd (true_not_false (is_in found s) here (not_in found s none));
   each = λ s on holds. inr (each s on holds);
-  low = λ s on here. omega arith;
 }
 
 or_cases : (a b c : Bool) → ((a && b) || c) ≡ true → ((a ≡ true) × (b ≡ true)) ⊎ (c ≡ true)
@@ -96,10 +113,10 @@ or_first : (a c : Bool) → a ≡ true → (a || c) ≡ true
 or_first true c e = refl
 or_first false c e = let f : false ≡ true = e in cc
 
-pub sifted_more : (fact : Place → Type 0) (n : ℕ) (old new found more : Places) (t : Place) (test : Bool) → IsSifted fact n old found
+pub sifted_more : (fact : Place → Type 0) (old new found more : Places) (t : Place) (test : Bool) → IsSifted fact old found
     → IsTakenFirst old new (Some t) → IsTrue test ↔ fact t
-    → ((s : Place) → is_in more s ≡ ((test && same_square t s) || is_in found s)) → IsSifted fact (n + 1) new more
-sifted_more fact n old new found more t test so_far taken tested put = record {
+    → ((s : Place) → is_in more s ≡ ((test && same_square t s) || is_in found s)) → IsSifted fact new more
+sifted_more fact old new found more t test so_far taken tested put = record {
   sound = λ s here. elim (or_cases test (same_square t s) (is_in found s) (sym (put s) ∙ here)) [
     | inl added ↦
         let same = same_square-then t s added.1 in
@@ -116,24 +133,14 @@ sifted_more fact n old new found more t test so_far taken tested put = record {
       | inr in_old ↦ inr (still_left old new t s taken in_old other)
     ]
   ];
-  low = λ s on here. later n old new t s so_far.low taken on here;
 }
 
-pub sifted_none : (fact : Place → Type 0) (n : ℕ) (old new found : Places) → IsSifted fact n old found → IsTakenFirst old new None → HoldsExactly fact found
-sifted_none fact n old new found so_far none s = (
+pub sifted_none : (fact : Place → Type 0) (old new found : Places) → IsSifted fact old found → IsTakenFirst old new None → HoldsExactly fact found
+sifted_none fact old new found so_far none s = (
   so_far.sound s,
   (λ holds. elim (so_far.each s holds.0 holds.1) [
     | inl here ↦ here
     | inr left ↦ absurd (true_not_false (is_in old s) left (not_in old s none.0))
-  ]),
-)
-
-pub sifted_end : (fact : Place → Type 0) (n : ℕ) (left found : Places) → IsSifted fact n left found → 64 ≤ n → HoldsExactly fact found
-sifted_end fact n left found so_far far s = (
-  so_far.sound s,
-  (λ holds. elim (so_far.each s holds.0 holds.1) [
-    | inl here ↦ here
-    | inr there ↦ let at = so_far.low s holds.0 there in let near = index_of-below s holds.0 in absurd (omega arith)
   ]),
 )
 

@@ -32,12 +32,12 @@ gone old new t s taken here e =
     true_not_false (is_in new s) here
     (taken.3 s ∙ ap (λ b. is_in old s && not b) (same_square-same s t e) ∙ and_not_true (is_in old s))
 
-pub next_found : (fact : Place → Type 0) (n : ℕ) (squares old new : Places) (t : Place)
-    → IsLeft (λ s. is_in squares s ≡ true) (λ s. (is_in squares s ≡ true) × fact s) n old → IsTakenFirst old new (Some t) → fact t → IsNext fact squares new t
-next_found fact n squares old new t left taken fits =
-    let other : IsLeft (λ s. is_in squares s ≡ true) (λ s. (is_in squares s ≡ true) × fact s × (s ≢ t)) n old =
-    record { each = λ s on holds. left.each s on (holds.0, holds.1); within = left.within; low = left.low } in
-    let more = left_more (λ s. is_in squares s ≡ true) (λ s. (is_in squares s ≡ true) × fact s × (s ≢ t)) n old new t other taken (λ holds. holds.2 refl) in record {
+pub next_found : (fact : Place → Type 0) (squares old new : Places) (t : Place)
+    → IsLeft (λ s. is_in squares s ≡ true) (λ s. (is_in squares s ≡ true) × fact s) old → IsTakenFirst old new (Some t) → fact t → IsNext fact squares new t
+next_found fact squares old new t left taken fits =
+    let other : IsLeft (λ s. is_in squares s ≡ true) (λ s. (is_in squares s ≡ true) × fact s × (s ≢ t)) old =
+    record { each = λ s on holds. left.each s on (holds.0, holds.1); within = left.within } in
+    let more = left_more (λ s. is_in squares s ≡ true) (λ s. (is_in squares s ≡ true) × fact s × (s ≢ t)) old new t other taken (λ holds. holds.2 refl) in record {
       on_board = taken.0;
       here = left.within t taken.0 taken.1;
       fits = fits;

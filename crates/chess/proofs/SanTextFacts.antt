@@ -1,5 +1,5 @@
 -- Facts about the text that is written for a move.
-use Rattle.std.proofs.Common.{◌≡◌, ◌↔◌, ◌++◌, ◌∷◌, [], ℕ, List, true, Bool, Some, ap, sym, ◌∙◌, IsTrue, ◌+◌, ◌&&◌, ◌||◌}
+use Rattle.std.proofs.Common.{◌≡◌, ◌↔◌, ◌++◌, ◌∷◌, [], ℕ, List, true, Bool, Some, ap, sym, ◌∙◌, IsTrue, ◌&&◌, ◌||◌}
 use Rattle.std.proofs.lemmas.List.{append-nil}
 use Rattle.chess.specs.Squares.{Place, IsOnBoard, same_square}
 use Rattle.chess.specs.Placements.{man_at}
@@ -27,18 +27,18 @@ square_of_rival P m set fact rivals found = let on = rival_on P m found.0 found.
 -- ---- the loop over the men that are alike
 
 pub rivals_start : (P : State) (m : Move) (man : Man) (squares found : Places) → man_at P.men m.from ≡ Some man → IsSquaresOf P.men man squares
-    → found ≡ no_places → AreRivalsSifted P m man 0 squares found
+    → found ≡ no_places → AreRivalsSifted P m man squares found
 rivals_start P m man squares found here alike none = record {
   sifted = sifted_start (IsRival P m) squares found (λ s on rival. (alike s).1 (on, rival.alike ∙ here)) none;
   alike = left_start (λ s. man_at P.men s ≡ Some man) (λ s. ⊥) squares (λ s on clash. absurd clash) (λ s on in_set. ((alike s).0 in_set).1);
 }
 
-pub rivals_more : (P : State) (m : Move) (man : Man) (n : ℕ) (old new found more : Places) (t : Place) (test : Bool)
-    → AreRivalsSifted P m man n old found → IsTakenFirst old new (Some t) → IsTrue test ↔ IsRival P m t
-    → ((s : Place) → is_in more s ≡ ((test && same_square t s) || is_in found s)) → AreRivalsSifted P m man (n + 1) new more
-rivals_more P m man n old new found more t test so_far taken tested put = record {
-  sifted = sifted_more (IsRival P m) n old new found more t test so_far.sifted taken tested put;
-  alike = left_more (λ s. man_at P.men s ≡ Some man) (λ s. ⊥) n old new t so_far.alike taken (λ clash. clash);
+pub rivals_more : (P : State) (m : Move) (man : Man) (old new found more : Places) (t : Place) (test : Bool)
+    → AreRivalsSifted P m man old found → IsTakenFirst old new (Some t) → IsTrue test ↔ IsRival P m t
+    → ((s : Place) → is_in more s ≡ ((test && same_square t s) || is_in found s)) → AreRivalsSifted P m man new more
+rivals_more P m man old new found more t test so_far taken tested put = record {
+  sifted = sifted_more (IsRival P m) old new found more t test so_far.sifted taken tested put;
+  alike = left_more (λ s. man_at P.men s ≡ Some man) (λ s. ⊥) old new t so_far.alike taken (λ clash. clash);
 }
 
 -- ---- what distinguishes a man from its rivals

@@ -1,7 +1,7 @@
 -- One step of a word is the next square on its way, or none: computed for each square and way.
-use Rattle.std.proofs.Common.{◌≡◌, ◌⊎◌, ◌<◌, ◌≤◌, ◌+◌, ◌-◌, ◌^◌, ◌%◌, ◌/◌, ◌&&◌, ℕ, Bool, true, false, nat_eq, inl, inr, ap, refl, subst, ◌∙◌, arith, if◌then◌else◌}
+use Rattle.std.proofs.Common.{◌≡◌, ◌<◌, ◌≤◌, ◌+◌, ◌-◌, ◌^◌, ◌%◌, ◌/◌, ◌&&◌, ℕ, Bool, true, false, nat_eq, inl, inr, ap, refl, subst, ◌∙◌, arith, if◌then◌else◌}
 use Rattle.std.specs.Prelude.{ltb}
-use Rattle.std.proofs.lemmas.Bool.{agree_below, agree_below_at}
+use Rattle.std.proofs.lemmas.Bool.{agree_below, agree_below_at, and_parts, and_cases, eqb-true}
 use Rattle.std.proofs.lemmas.Bool.Decides.{nat_tests}
 use Rattle.chess.specs.Squares.{Place, IsOnBoard, IsAhead, index_of}
 use Rattle.chess.specs.SetFacts.{index_of-below}
@@ -54,12 +54,9 @@ steps_fit NorthWest = refl
 steps_fit SouthEast = refl
 steps_fit SouthWest = refl
 
-are_same : (a b : ℕ) → nat_eq a b ≡ true → a ≡ b
-are_same a b e = grind (arith, nat_tests)
-
 step_at : (way : Direction) (n : ℕ) → n < 64 → step_word way (2 ^ n) ≡ (if has_next way (n % 8) (n / 8) then 2 ^ next_index way n else 0)
 unfolding fits_step
-step_at way n h = are_same _ _ (agree_below_at (fits_step way) (λ _. true) 64 n (steps_fit way) h)
+step_at way n h = eqb-true _ _ (agree_below_at (fits_step way) (λ _. true) 64 n (steps_fit way) h)
 
 file_of : (s : Place) → IsOnBoard s → index_of s % 8 ≡ s.file - 1
 file_of s h = let low = h.file_low in let high = h.file_high in let bottom = h.rank_low in omega arith
@@ -68,22 +65,11 @@ rank_of : (s : Place) → IsOnBoard s → index_of s / 8 ≡ s.rank - 1
 rank_of s h = let low = h.file_low in let high = h.file_high in let bottom = h.rank_low in omega arith
 
 -- where a next square is, and where none is
-test_on : (f r : ℕ) → 1 ≤ f → f ≤ 8 → 1 ≤ r → r ≤ 8 → IsOnBoard (record { file = f; rank = r })
-test_on f r a b d e = record { file_low = a; file_high = b; rank_low = d; rank_high = e }
-
 below_7 : (n : ℕ) → ltb (n - 1) 7 ≡ true → n + 1 ≤ 8
 below_7 n e = grind (arith, nat_tests)
 
 above_0 : (n : ℕ) → ltb 0 (n - 1) ≡ true → 1 ≤ n - 1
 above_0 n e = grind (arith, nat_tests)
-
-both_left : (a b : Bool) → (a && b) ≡ true → a ≡ true
-both_left true b e = refl
-both_left false b e = e
-
-both_right : (a b : Bool) → (a && b) ≡ true → b ≡ true
-both_right true b e = e
-both_right false b e = let f : false ≡ true = e in cc
 
 next_on : (way : Direction) (s : Place) → IsOnBoard s → has_next way (s.file - 1) (s.rank - 1) ≡ true → IsOnBoard (next_of way s)
 next_on North s h e = let n = below_7 s.rank e in record { file_low = h.file_low; file_high = h.file_high; rank_low = omega arith; rank_high = n }
@@ -91,19 +77,19 @@ next_on South s h e = let n = above_0 s.rank e in let top = h.rank_high in recor
 next_on East s h e = let n = below_7 s.file e in record { file_low = omega arith; file_high = n; rank_low = h.rank_low; rank_high = h.rank_high }
 next_on West s h e = let n = above_0 s.file e in let top = h.file_high in record { file_low = n; file_high = omega arith; rank_low = h.rank_low; rank_high = h.rank_high }
 next_on NorthEast s h e =
-    let n = below_7 s.file (both_left (ltb (s.file - 1) 7) (ltb (s.rank - 1) 7) e) in
-    let m = below_7 s.rank (both_right (ltb (s.file - 1) 7) (ltb (s.rank - 1) 7) e) in record { file_low = omega arith; file_high = n; rank_low = omega arith; rank_high = m }
+    let n = below_7 s.file (and_parts (ltb (s.file - 1) 7) (ltb (s.rank - 1) 7) e).0 in
+    let m = below_7 s.rank (and_parts (ltb (s.file - 1) 7) (ltb (s.rank - 1) 7) e).1 in record { file_low = omega arith; file_high = n; rank_low = omega arith; rank_high = m }
 next_on NorthWest s h e =
-    let n = above_0 s.file (both_left (ltb 0 (s.file - 1)) (ltb (s.rank - 1) 7) e) in
-    let m = below_7 s.rank (both_right (ltb 0 (s.file - 1)) (ltb (s.rank - 1) 7) e) in
+    let n = above_0 s.file (and_parts (ltb 0 (s.file - 1)) (ltb (s.rank - 1) 7) e).0 in
+    let m = below_7 s.rank (and_parts (ltb 0 (s.file - 1)) (ltb (s.rank - 1) 7) e).1 in
     let top = h.file_high in record { file_low = n; file_high = omega arith; rank_low = omega arith; rank_high = m }
 next_on SouthEast s h e =
-    let n = below_7 s.file (both_left (ltb (s.file - 1) 7) (ltb 0 (s.rank - 1)) e) in
-    let m = above_0 s.rank (both_right (ltb (s.file - 1) 7) (ltb 0 (s.rank - 1)) e) in
+    let n = below_7 s.file (and_parts (ltb (s.file - 1) 7) (ltb 0 (s.rank - 1)) e).0 in
+    let m = above_0 s.rank (and_parts (ltb (s.file - 1) 7) (ltb 0 (s.rank - 1)) e).1 in
     let top = h.rank_high in record { file_low = omega arith; file_high = n; rank_low = m; rank_high = omega arith }
 next_on SouthWest s h e =
-    let n = above_0 s.file (both_left (ltb 0 (s.file - 1)) (ltb 0 (s.rank - 1)) e) in
-    let m = above_0 s.rank (both_right (ltb 0 (s.file - 1)) (ltb 0 (s.rank - 1)) e) in
+    let n = above_0 s.file (and_parts (ltb 0 (s.file - 1)) (ltb 0 (s.rank - 1)) e).0 in
+    let m = above_0 s.rank (and_parts (ltb 0 (s.file - 1)) (ltb 0 (s.rank - 1)) e).1 in
     let side = h.file_high in
     let top = h.rank_high in record { file_low = n; file_high = omega arith; rank_low = m; rank_high = omega arith }
 
@@ -133,28 +119,24 @@ not_below_7 n m e at high = grind (arith, nat_tests)
 not_above_0 : (n m : ℕ) → ltb 0 (n - 1) ≡ false → m + 1 ≡ n → 1 ≤ m → ⊥
 not_above_0 n m e at low = grind (arith, nat_tests)
 
-one_fails : (a b : Bool) → (a && b) ≡ false → (a ≡ false) ⊎ (b ≡ false)
-one_fails true b e = inr e
-one_fails false b e = inl refl
-
 no_next : (way : Direction) (s t : Place) → has_next way (s.file - 1) (s.rank - 1) ≡ false → IsOnBoard t → IsAhead way 1 s t → ⊥
 no_next North s t e on ahead = not_below_7 s.rank t.rank e ahead.1 on.rank_high
 no_next South s t e on ahead = not_above_0 s.rank t.rank e ahead.1 on.rank_low
 no_next East s t e on ahead = not_below_7 s.file t.file e ahead.0 on.file_high
 no_next West s t e on ahead = not_above_0 s.file t.file e ahead.0 on.file_low
-no_next NorthEast s t e on ahead = elim (one_fails _ _ e) [
+no_next NorthEast s t e on ahead = elim (and_cases _ _ e) [
   | inl f ↦ not_below_7 s.file t.file f ahead.0 on.file_high
   | inr f ↦ not_below_7 s.rank t.rank f ahead.1 on.rank_high
 ]
-no_next NorthWest s t e on ahead = elim (one_fails _ _ e) [
+no_next NorthWest s t e on ahead = elim (and_cases _ _ e) [
   | inl f ↦ not_above_0 s.file t.file f ahead.0 on.file_low
   | inr f ↦ not_below_7 s.rank t.rank f ahead.1 on.rank_high
 ]
-no_next SouthEast s t e on ahead = elim (one_fails _ _ e) [
+no_next SouthEast s t e on ahead = elim (and_cases _ _ e) [
   | inl f ↦ not_below_7 s.file t.file f ahead.0 on.file_high
   | inr f ↦ not_above_0 s.rank t.rank f ahead.1 on.rank_low
 ]
-no_next SouthWest s t e on ahead = elim (one_fails _ _ e) [
+no_next SouthWest s t e on ahead = elim (and_cases _ _ e) [
   | inl f ↦ not_above_0 s.file t.file f ahead.0 on.file_low
   | inr f ↦ not_above_0 s.rank t.rank f ahead.1 on.rank_low
 ]

@@ -1,6 +1,6 @@
 -- Words for the parts of a move's rules, each the fact of one function.
-use Rattle.std.specs.Prelude.{◌≡◌, ◌⊎◌, ◌≤◌, true, ℕ, Option, Some, None, MatchOption}
-use Rattle.chess.specs.Squares.{Place, IsOnBoard, index_of}
+use Rattle.std.specs.Prelude.{◌≡◌, ◌⊎◌, true, ℕ, Option, Some, None, MatchOption}
+use Rattle.chess.specs.Squares.{Place, IsOnBoard}
 use Rattle.chess.specs.Placements.{man_at, IsEmpty}
 use Rattle.chess.specs.Attacks.{Reaches, IsForward}
 use Rattle.chess.specs.Positions.{State, home_rank, king_to}
@@ -50,16 +50,14 @@ abbrev pub HasEach : (Place → Type 0) → Places → Type 0
 HasEach fact set = (s : Place) → IsOnBoard s → fact s → is_in set s ≡ true
 
 -- the set has each square that has the fact, and none outside a range or before the nth
-pub record IsLeft (range fact : Place → Type 0) (n : ℕ) (left : Places) : Type 0 where
+pub record IsLeft (range fact : Place → Type 0) (left : Places) : Type 0 where
   pub each : HasEach fact left
   pub within : (s : Place) → IsOnBoard s → is_in left s ≡ true → range s
-  pub low : (s : Place) → IsOnBoard s → is_in left s ≡ true → n ≤ index_of s
 
--- the squares with the fact are those found and some of those left, none before the nth
-pub record IsSifted (fact : Place → Type 0) (n : ℕ) (left found : Places) : Type 0 where
+-- the squares with the fact are those found and some of those left
+pub record IsSifted (fact : Place → Type 0) (left found : Places) : Type 0 where
   pub sound : (s : Place) → is_in found s ≡ true → IsOnBoard s × fact s
   pub each : (s : Place) → IsOnBoard s → fact s → (is_in found s ≡ true) ⊎ (is_in left s ≡ true)
-  pub low : (s : Place) → IsOnBoard s → is_in left s ≡ true → n ≤ index_of s
 
 -- where a pawn may go: a square that it attacks, one ahead or two
 abbrev pub IsPawnGoal : State → Place → Place → Type 0

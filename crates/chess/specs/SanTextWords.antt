@@ -17,7 +17,7 @@ Appends fact old new = (text : List ℕ) × fact text × (new ≡ old ++ text)
 abbrev pub HasSquare : Places → (Place → Type 0) → Type 0
 HasSquare set fact = (s : Place) × IsOnBoard s × (is_in set s ≡ true) × fact s
 
--- the rivals are those found and some of those left, which are squares of that man, none before the nth
-pub record AreRivalsSifted (P : State) (m : Move) (man : Man) (n : ℕ) (left found : Places) : Type 0 where
-  pub sifted : IsSifted (IsRival P m) n left found
-  pub alike : IsLeft (λ s. man_at P.men s ≡ Some man) (λ s. ⊥) n left
+-- the rivals are those found and some of those left, which are squares of that man
+pub record AreRivalsSifted (P : State) (m : Move) (man : Man) (left found : Places) : Type 0 where
+  pub sifted : IsSifted (IsRival P m) left found
+  pub alike : IsLeft (λ s. man_at P.men s ≡ Some man) (λ s. ⊥) left

@@ -1,7 +1,9 @@
-//! The letters of men and squares, written into a text of limited length (PGN 8.2.3.1, 8.2.3.2, 16.1.3.1).
-ghost use Rattle.std.specs.Prelude.{◌≡◌, ◌+◌, ◌≤◌, ◌<◌, ◌++◌, ◌∷◌, []};
+//! The letters of men and squares, read, and written into a text of limited length (PGN 8.2.3.1, 8.2.3.2, 16.1.3.1).
+ghost use Rattle.std.specs.Prelude.{◌≡◌, MatchOption, ◌+◌, ◌≤◌, ◌<◌, ◌++◌, ◌∷◌, []};
 ghost use Rattle.arrayvec.specs.ArrayString.{array_string_len};
 ghost use Rattle.chess.specs.Letters.{kind_letter, man_letter, square_text};
+ghost use Rattle.chess.specs.SanWords.{kind_of};
+ghost use Rattle.chess.specs.declared.board.man.Kind.{Kind};
 
 use crate::board::{Kind, Man, Side, Square};
 use arrayvec::ArrayString;
@@ -18,6 +20,22 @@ pub(crate) fn kind_letter(kind: Kind) -> u8
         Kind::Bishop => b'B',
         Kind::Knight => b'N',
         Kind::Pawn => b'P',
+    }
+}
+
+/// The kind of that letter in upper case, if there is one.
+pub(crate) fn kind_of(letter: u8) -> Option<Kind>
+    ensures found { MatchOption result ((other : Kind) → kind_letter other ≡ letter → ⊥) (λ kind. kind_letter kind ≡ letter) }
+    ensures answer { result ≡ kind_of letter }
+{
+    match letter {
+        b'K' => Some(Kind::King),
+        b'Q' => Some(Kind::Queen),
+        b'R' => Some(Kind::Rook),
+        b'B' => Some(Kind::Bishop),
+        b'N' => Some(Kind::Knight),
+        b'P' => Some(Kind::Pawn),
+        _ => None,
     }
 }
 

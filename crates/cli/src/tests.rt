@@ -9,6 +9,7 @@ mod chess_rows;
 mod chess_texts;
 mod criteria;
 mod export_rows;
+mod exports;
 mod faults;
 mod index;
 mod listing;

@@ -1,8 +1,8 @@
 -- Which games are exported: those that have an entry, which the first ply that is looked for is.
-use Rattle.std.proofs.Common.{◌≡◌, ℕ, ◌<◌, ◌≤◌, length, Option, Some, None, sym, subst, arith, refl}
+use Rattle.std.proofs.Common.{◌≡◌, ℕ, ◌<◌, length, Option, Some, None, subst, arith}
 use Rattle.pgn_game.specs.Replays.{Replay}
 use Rattle.pgn_criteria.specs.Meeting.{Tags, IsFirst}
-use Rattle.pgn_extract.specs.Aims.{Aim, IsMet, IsEntry}
+use Rattle.pgn_extract.specs.Aims.{Aim, IsMet}
 use Rattle.pgn_extract.specs.Exports.{HasEntry}
 
 module _ (aim : Aim) (tags : Tags) (replay : Replay) where

@@ -9,6 +9,7 @@ pub mod ExactEntries
 pub mod Exported
 pub mod GameExport
 pub mod GameVerdict
+pub mod Indexed
 pub mod JoinedParts
 pub mod Listed
 pub mod OneReport

@@ -4,7 +4,6 @@ use Rattle.std.specs.Prelude.{nat_le, if◌then◌else◌, Some, None, Ok, Err, 
 use Rattle.std.proofs.lemmas.Bool.Decides.{nat_tests}
 use Rattle.pgn_text.specs.Marks.{MarkedPiece, AreMarkedPieces}
 use Rattle.pgn_text.proofs.ResumedText.{resumed_pieces}
-use Rattle.pgn_game.specs.Laws.{GameHasOneReplay, GameHasOneFault, SoundGameHasNoFault}
 use Rattle.pgn_extract.specs.Outcomes.{Ends}
 use Rattle.pgn_extract.specs.Resuming.{verdicts_at_least, Resumes}
 use Rattle.pgn_extract.specs.Verdicts.{Verdict, AreVerdicts}

@@ -1,6 +1,6 @@
 -- What the parts of a run do with the bytes dropped, with one block and with the blocks in a row: the words between the code and
 -- those of `Outcomes`.
-use Rattle.std.specs.Prelude.{◌≡◌, ◌⊎◌, ℕ, ◌+◌, ◌<◌, ◌≤◌, List, [], ◌∷◌, ◌++◌, length, count_by, Option, IfSome, if◌then◌else◌}
+use Rattle.std.specs.Prelude.{◌≡◌, ◌⊎◌, ℕ, ◌+◌, ◌<◌, ◌≤◌, List, [], ◌∷◌, ◌++◌, length, count_by, Option, IfSome, codes, if◌then◌else◌}
 use Rattle.pgn_text.specs.GameTexts.{GameText, ShowsGame, tag_in}
 use Rattle.pgn_game.specs.Exports.{IsExport}
 use Rattle.pgn_game.specs.Replays.{Replay}
@@ -10,6 +10,8 @@ use Rattle.pgn_text.specs.Limits.{largest_offset}
 use Rattle.pgn_text.specs.Marks.{TooLongBlock, MarkedPiece, marked, AreOfBlock, AreMarkedPieces}
 use Rattle.pgn_text.specs.Parts.{Part}
 use Rattle.pgn_text.specs.Pieces as spec
+use Rattle.pgn_text.specs.declared.pieces.Mark.{Mark}
+use Rattle.pgn_text.specs.declared.pieces.Mark.TheVariants as mark
 use Rattle.pgn_text.specs.declared.pieces.Piece.{Piece}
 use Rattle.pgn_text.specs.Tallies.{Reads}
 use Rattle.pgn_text.specs.declared.blocks.Body.{Body}
@@ -17,7 +19,8 @@ use Rattle.pgn_text.specs.declared.blocks.Body.TheVariants.{Bytes, TooLong}
 use Rattle.pgn_text.specs.declared.blocks.ReadError.{ReadError}
 use Rattle.pgn_text.specs.declared.blocks.ReadError.TheVariants as cause
 use Rattle.pgn_extract.specs.Outcomes.{AppendsFront, Writes, WritesComplete}
-use Rattle.pgn_extract.specs.Verdicts.{Verdict, IsListed, IsExported, IsGameVerdict, IsVerdict, AreVerdicts, output_of, fault_line_of, output_text, fault_lines, is_faulty}
+use Rattle.pgn_extract.specs.Index.{fault_text, mark_line}
+use Rattle.pgn_extract.specs.Verdicts.{Verdict, SoundGame, FaultyGame, IsListed, IsExported, IsGameVerdict, IsVerdict, AreVerdicts, output_of, fault_line_of, output_text, fault_lines, is_faulty}
 use Rattle.pgn_extract.specs.declared.report.Report.{Report}
 use Rattle.pgn_extract.specs.declared.outcome.RunError.{RunError}
 use Rattle.pgn_extract.specs.declared.outcome.RunError.TheVariants.{Read, Write, OutOfMemory, InputTooLong}
@@ -75,6 +78,11 @@ AddsMark aim old new number piece = (verdict : Verdict) × IsVerdict aim number 
 abbrev pub AddsPiece : Aim → Report → Report → ℕ → ℕ → Piece → Type 0
 AddsPiece aim old new number offset piece =
     (shown : spec.Piece) → IsPiece piece shown → AddsMark aim old new number (marked offset shown)
+
+-- what the index reports of the piece whose mark is given, in the block that begins at the offset
+abbrev pub mark_verdict : ℕ → ℕ → Mark → Verdict
+mark_verdict number offset (mark.Game place) = SoundGame (mark_line number (offset + place))
+mark_verdict number offset (mark.Unreadable place) = FaultyGame (fault_text number (offset + place) (codes "unreadable"))
 
 -- the report is of the pieces of the block
 pub record ReportsBlock (aim : Aim) (report : Report) (limit max_depth number offset : ℕ) (block : List ℕ) : Type 0 where

@@ -36,122 +36,145 @@ pub struct Request<'a> {
 /// The width of lines without `-w`.
 pub const DEFAULT_WIDTH: u16 = 79;
 
+/// The version of the program, and the kit that proved it.
+pub const VERSION: &str = "1.0.0 (proved with rattle-kit-13b logic dac8208d650f15bf)";
+
 const ABOUT: &str =
-    "Reads chess games in Portable Game Notation (PGN), plays their moves, and writes \
-    each sound game in the standard's form for export; or with --list for each position of a game's \
-    main line the mark N@O of the game, its number and the offset of its first byte, and the ply; or \
-    with --index the mark of each game. With criteria only the positions that meet them are listed, \
-    and only the games that have one are written.";
+    "Reads chess games in Portable Game Notation (PGN), plays their moves, and writes each sound game\n\
+    in the standard's form; or lists the positions that are looked for, or where each game begins.";
 
-const AFTER_HELP: &str =
-    "A game that cannot be read or played is reported on standard error, and is not written.\n\
-    Status: 0 no game was faulty, 1 a game was faulty, 2 the words were refused or a file could \
-    not be opened, 3 the run failed.";
+const AFTER_HELP: &str = "Examples:\n  \
+    pgn-extract games.pgn > clean.pgn                                # the sound games, in clean form\n  \
+    pgn-extract -CNV --roster games.pgn > bare.pgn                   # their roster and main line alone\n  \
+    echo mate > mate.txt; pgn-extract --criteria mate.txt games.pgn  # the games that end in mate\n  \
+    pgn-extract --list --first --min-ply 80 games.pgn                # the games of 40 moves and more\n  \
+    gzip -dc games.pgn.gz | pgn-extract --index | tail -n 1          # the last game's number and offset\n\
+    \n\
+    A game that cannot be read or played is reported on standard error, and is not written.\n\
+    Status: 0 no game was faulty, 1 a game was faulty, 2 the words were refused or a file could\n\
+    not be opened, 3 the run failed. The manual: man pgn-extract; the criteria: man pgn-extract-criteria.";
 
-/// An option that leaves something out.
-fn flag_option<'a>(alloc: Global, name: &'a str, letter: char, help: &'a str) -> Arg<'a> {
+/// An option without a value.
+fn flag<'a>(alloc: Global, name: &'a str, help: &'a str) -> Arg<'a> {
     Arg::new(alloc, name)
         .long(name)
-        .short(letter)
         .action(ArgAction::SetTrue)
         .help(help)
 }
 
-/// The option for the width of lines.
-fn width_option<'a>(alloc: Global) -> Arg<'a> {
-    Arg::new(alloc, "width")
-        .long("width")
-        .short('w')
-        .value_name("N")
-        .value_parser(value_parser!(u16).range(1..=9999))
-        .help("Fill lines of moves up to N bytes, 1 to 9999; 79 without it")
-}
-
-/// The options for how games are written.
-fn style_options<'a>(alloc: Global, command: Command<'a>) -> Result<Command<'a>, AllocError> {
-    let roster = Arg::new(alloc, "roster")
-        .long("roster")
-        .action(ArgAction::SetTrue)
-        .help("Write only the seven tags of the roster, and FEN and SetUp of a game that has FEN");
-    command
-        .arg(flag_option(alloc, "no-comments", 'C', "Leave comments out"))?
-        .arg(flag_option(alloc, "no-glyphs", 'N', "Leave glyphs ($1, !, ?) out"))?
-        .arg(flag_option(
-            alloc,
-            "no-variations",
-            'V',
-            "Leave variations out; then the main line alone must be sound",
-        ))?
-        .arg(roster)?
-        .arg(width_option(alloc))
-}
-
-/// The option for a file of criteria.
-fn criteria_option<'a>(alloc: Global) -> Arg<'a> {
-    Arg::new(alloc, "criteria")
-        .long("criteria")
-        .value_name("FILE")
-        .help("Look only for positions that meet the criteria in FILE, as in --criteria mate.txt")
+/// An option that is a text.
+fn text_option<'a>(alloc: Global, name: &'a str, value: &'a str, help: &'a str) -> Arg<'a> {
+    Arg::new(alloc, name)
+        .long(name)
+        .value_name(value)
+        .help(help)
 }
 
 /// An option for a bound on the plies.
 fn ply_option<'a>(alloc: Global, name: &'a str, help: &'a str) -> Arg<'a> {
-    Arg::new(alloc, name)
-        .long(name)
-        .value_name("N")
-        .value_parser(value_parser!(u32))
-        .help(help)
+    text_option(alloc, name, "N", help).value_parser(value_parser!(u32))
 }
 
-/// The option for the first entry of each game.
-fn first_option<'a>(alloc: Global) -> Arg<'a> {
-    Arg::new(alloc, "first")
-        .long("first")
-        .action(ArgAction::SetTrue)
-        .help("List only the first entry of each game, as in --list --first --criteria mate.txt")
+/// The options for what is written.
+fn mode_options<'a>(alloc: Global, command: Command<'a>) -> Result<Command<'a>, AllocError> {
+    command
+        .next_help_heading("Output, if not the games themselves")
+        .arg(flag(
+            alloc,
+            "list",
+            "N@O P for each position looked for: the number and offset of its game, its ply",
+        ))?
+        .arg(flag(
+            alloc,
+            "index",
+            "N@O for each readable game; no move is played",
+        ))
 }
 
 /// The options for what is looked for.
 fn search_options<'a>(alloc: Global, command: Command<'a>) -> Result<Command<'a>, AllocError> {
     command
-        .arg(criteria_option(alloc))?
+        .next_help_heading("Positions looked for")
+        .arg(text_option(
+            alloc,
+            "criteria",
+            "FILE",
+            "Only those that meet the criteria in FILE [default: all]",
+        ))?
         .arg(ply_option(
             alloc,
             "min-ply",
-            "Look at no ply below N, as in --min-ply 20; ply 0 is the starting position",
+            "None before ply N; ply 0 is the position before the first move [default: 0]",
         ))?
-        .arg(ply_option(
+        .arg(ply_option(alloc, "max-ply", "None after ply N [default: 4294967295]"))?
+        .arg(flag(alloc, "first", "List only the first of each game"))
+}
+
+/// The options for how games are written.
+fn style_options<'a>(alloc: Global, command: Command<'a>) -> Result<Command<'a>, AllocError> {
+    let no_variations = "Leave variations out; then the main line alone must be sound";
+    let width = text_option(
+        alloc,
+        "width",
+        "N",
+        "Fill lines of moves up to N bytes, 1 to 9999 [default: 79]",
+    );
+    command
+        .next_help_heading("Games as they are written")
+        .arg(flag(alloc, "no-comments", "Leave comments out").short('C'))?
+        .arg(flag(alloc, "no-glyphs", "Leave glyphs ($1, !, ?) out").short('N'))?
+        .arg(flag(alloc, "no-variations", no_variations).short('V'))?
+        .arg(flag(
             alloc,
-            "max-ply",
-            "Look at no ply above N, as in --max-ply 40",
+            "roster",
+            "Keep only the seven tags of the roster, and FEN and SetUp of a game with FEN",
         ))?
-        .arg(first_option(alloc))
+        .arg(
+            width
+                .short('w')
+                .value_parser(value_parser!(u16).range(1..=9999)),
+        )
+}
+
+/// The option for where the input begins.
+fn input_options<'a>(alloc: Global, command: Command<'a>) -> Result<Command<'a>, AllocError> {
+    command.next_help_heading("Input").arg(text_option(
+        alloc,
+        "from",
+        "N@O",
+        "Begin at the game with this mark, as another run printed it [default: 1@0]",
+    ))
+}
+
+/// The options that print a text and end the program.
+fn help_options<'a>(alloc: Global, command: Command<'a>) -> Result<Command<'a>, AllocError> {
+    let help = Arg::new(alloc, "help")
+        .short('h')
+        .long("help")
+        .action(ArgAction::Help)
+        .help("Print this help");
+    let version = Arg::new(alloc, "version")
+        .long("version")
+        .action(ArgAction::Version)
+        .help("Print the version, and the kit that proved it");
+    command.next_help_heading("Help").arg(help)?.arg(version)
 }
 
 /// The command with its options.
 fn make_command<'a>(alloc: Global) -> Result<Command<'a>, AllocError> {
-    let index = Arg::new(alloc, "index")
-        .long("index")
-        .action(ArgAction::SetTrue)
-        .help("Write the mark N@O of each readable game, a line each");
-    let list = Arg::new(alloc, "list")
-        .long("list")
-        .action(ArgAction::SetTrue)
-        .help(
-            "Write N@O P for each ply P of each game whose main line can be replayed, a line each",
-        );
-    let from = Arg::new(alloc, "from").long("from").value_name("N@O").help(
-        "Begin at the game with this mark, as an earlier run printed it",
-    );
-    let file = Arg::new(alloc, "FILE").help("The games; without it standard input is read");
+    let file = Arg::new(alloc, "FILE").help("The games [default: standard input]");
     let command = Command::new(alloc, "pgn-extract")
         .bin_name("pgn-extract")?
+        .version(VERSION)
         .about(ABOUT)
         .after_help(AFTER_HELP)
-        .arg(list)?
-        .arg(index)?;
+        .disable_help_flag(true)
+        .disable_version_flag(true)
+        .arg(file)?;
+    let command = mode_options(alloc, command)?;
     let command = search_options(alloc, command)?;
-    style_options(alloc, command)?.arg(from)?.arg(file)
+    let command = style_options(alloc, command)?;
+    help_options(alloc, input_options(alloc, command)?)
 }
 
 /// Reads the words, of which the first is the program's name.

@@ -10,7 +10,7 @@ ghost use Rattle.pgn_extract.specs.Resuming.{Resumes};
 
 use crate::outcome::{RunError, Summary, of_read};
 use crate::put::{finish, put};
-use crate::report::{Report, report_of};
+use crate::report::{Report, report_block};
 use crate::settings::{Mode, Settings};
 use crate::skip::skip;
 use pgn_text::{Block, Blocks, Tally};
@@ -39,11 +39,12 @@ fn put_report<O: Write, E: Write>(
     }
 }
 
-/// Writes what is reported of the pieces of one block.
+/// Writes what is reported of the pieces of one block, which is gathered in the report.
 fn put_block<'a, O: Write, E: Write>(
     alloc: Global,
     out: &mut Tally<O>,
     err: &mut Tally<E>,
+    report: &mut Report,
     settings: &'a Settings,
     number: u64,
     block: Block<'a>,
@@ -65,11 +66,11 @@ fn put_block<'a, O: Write, E: Write>(
         ↔ ((out.new.faulted ≡ true) ⊎ (err.new.faulted ≡ true)) }
     ensures alone { (out.new.faulted ≡ true) × (err.new.faulted ≡ true) → ⊥ }
 {
-    let report = match report_of(alloc, settings, number, block) {
-        Ok(report) => report,
+    match report_block(alloc, report, settings, number, block) {
+        Ok(()) => {}
         Err(_) => return Err(RunError::OutOfMemory),
-    };
-    match put_report(out, err, &report) {
+    }
+    match put_report(out, err, report) {
         Ok(()) => Ok(Summary {
             games: report.games,
             faulty: report.faulty,
@@ -122,6 +123,7 @@ fn run_blocks<R: Read, O: Write, E: Write>(
     ensures alone { (out.new.faulted ≡ true) × (err.new.faulted ≡ true) → ⊥ }
 {
     let mut blocks = Blocks::new(alloc, settings.offset);
+    let mut report = Report::new(alloc);
     let mut games = 0;
     let mut faulty = 0;
     loop {
@@ -130,6 +132,7 @@ fn run_blocks<R: Read, O: Write, E: Write>(
                 alloc,
                 out,
                 err,
+                &mut report,
                 settings,
                 settings.number + games,
                 block,

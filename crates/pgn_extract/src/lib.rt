@@ -1,4 +1,4 @@
-//! `pgn-extract` as a library: `run` writes the index or the listing of a file of chess games, and `program` is the command-line tool
+//! `pgn-extract` as a library: `run` writes the exports, the listing or the index of a file of chess games, and `program` is the command-line tool
 //! over words and files that are handed in.
 #![tactic(auto)]
 

@@ -1,13 +1,15 @@
 //! What is reported of the pieces of one block.
-ghost use Rattle.std.specs.Prelude.{◌≡◌, ℕ, List, Some, ◌+◌, ◌^◌, ◌<◌, ◌≤◌, [], ◌∷◌, length, OnOk, IfOk};
+ghost use Rattle.std.specs.Prelude.{◌≡◌, ℕ, List, Some, ◌+◌, ◌^◌, ◌<◌, ◌≤◌, [], ◌∷◌, length, OnOk};
 ghost use Rattle.pgn_text.specs.Left.{piece_place};
+ghost use Rattle.pgn_text.specs.LeftMarks.{mark_place};
 ghost use Rattle.pgn_text.specs.Limits.{block_limit, depth_limit, largest_offset};
 ghost use Rattle.pgn_text.specs.Windows.{Shows};
 ghost use Rattle.pgn_extract.specs.Aims.{Aim, aim_of};
-ghost use Rattle.pgn_extract.specs.Blockwise.{IsShown, Reports, ReportsBlock, AddsVerdict, AddsGame, AddsListed, AddsExported, AddsPiece, too_long_piece};
+ghost use Rattle.pgn_extract.specs.Blockwise.{IsShown, Reports, ReportsBlock, AddsVerdict, AddsGame, AddsListed, AddsExported, AddsPiece, mark_verdict, too_long_piece};
 ghost use Rattle.pgn_extract.specs.Index.{fault_text};
 ghost use Rattle.pgn_extract.specs.Listing.{cause_text};
 ghost use Rattle.pgn_extract.specs.Verdicts.{FaultyGame};
+ghost use Rattle.pgn_extract.specs.declared.settings.Mode.TheVariants.{Index};
 ghost use Rattle.pgn_game.specs.Faults.{Fault};
 ghost use Rattle.pgn_game.specs.Replays.{fault_of};
 
@@ -16,10 +18,10 @@ use crate::listing::push_entries;
 use crate::settings::{Mode, Settings};
 use crate::texts::{push_fault_line, push_game_fault, push_mark_line};
 use pgn_game::{GameFault, Lines, replay};
-use pgn_text::{Block, Body, Piece, RawGame, games};
+use pgn_text::{Block, Body, Mark, Piece, RawGame, games, marks};
 use std::alloc::{AllocError, Global};
 
-/// What is reported of pieces in a row, and their counts.
+/// What is reported of pieces in a row, and their counts. One is made for a run, and filled anew for each block.
 #[derive(Drop)]
 pub struct Report {
     /// What goes to the output.
@@ -34,7 +36,7 @@ pub struct Report {
 
 impl Report {
     /// The report on no pieces.
-    fn new(alloc: Global) -> Self
+    pub fn new(alloc: Global) -> Self
         ensures output { result.output.items ≡ [] }
         ensures faults { result.faults.items ≡ [] }
         ensures counts { (result.games ≡ 0) × (result.faulty ≡ 0) }
@@ -45,6 +47,18 @@ impl Report {
             games: 0,
             faulty: 0,
         }
+    }
+
+    /// Makes it the report on no pieces; the room that it has stays.
+    fn clear(&mut self)
+        ensures output { self.new.output.items ≡ [] }
+        ensures faults { self.new.faults.items ≡ [] }
+        ensures counts { (self.new.games ≡ 0) × (self.new.faulty ≡ 0) }
+    {
+        self.output.clear();
+        self.faults.clear();
+        self.games = 0;
+        self.faulty = 0;
     }
 }
 
@@ -128,15 +142,15 @@ fn add_game<'a>(
     }
 }
 
-/// The report on a block over the limit, which is the same whatever is to be reported.
-fn too_long_report(alloc: Global, number: u64, offset: u64) -> Result<Report, AllocError>
-    ensures { IfOk result (λ report. (aim : Aim) → Reports aim report number (too_long_piece offset ∷ [])) }
+/// Reports on a block over the limit, which is the same whatever is to be reported.
+fn report_too_long(report: &mut Report, number: u64, offset: u64) -> Result<(), AllocError>
+    ensures { OnOk result ((aim : Aim) → Reports aim report.new number (too_long_piece offset ∷ [])) }
 {
-    let mut report = Report::new(alloc);
+    report.clear();
     push_fault_line(&mut report.faults, number, offset, b"too long")?;
     report.games = 1;
     report.faulty = 1;
-    Ok(report)
+    Ok(())
 }
 
 /// Adds what is reported of one piece of the block that begins at the offset.
@@ -167,43 +181,102 @@ fn add_piece<'a>(
     }
 }
 
-/// The report on the pieces of a block, which are numbered from `number` on.
-fn block_report<'a>(
+/// Adds what the index has of one piece of the block that begins at the offset.
+fn add_mark(index: &mut Report, number: u64, offset: u64, mark: Mark) -> Result<(), AllocError>
+    requires place { offset + mark_place mark < 2 ^ 64 }
+    requires counts { (index.old.games + 1 < 2 ^ 64) × (index.old.faulty + 1 < 2 ^ 64) }
+    ensures { OnOk result (AddsVerdict index.old index.new (mark_verdict number offset mark) 1) }
+{
+    index.games += 1;
+    match mark {
+        Mark::Game(at) => push_mark_line(&mut index.output, number, offset + at as u64),
+        Mark::Unreadable(at) => {
+            push_fault_line(&mut index.faults, number, offset + at as u64, b"unreadable")?;
+            index.faulty += 1;
+            Ok(())
+        }
+    }
+}
+
+/// Reports the index of a block, whose pieces are numbered from `number` on.
+fn report_marks(
+    index: &mut Report,
+    number: u64,
+    offset: u64,
+    block: &[u8],
+) -> Result<(), AllocError>
+    requires size { length block.now ≤ block_limit }
+    requires number { number ≤ 2 ^ 63 }
+    requires offset { offset ≤ largest_offset }
+    ensures { OnOk result ((aim : Aim) → aim.mode ≡ Index → ReportsBlock aim index.new block_limit depth_limit number offset block.now) }
+{
+    index.clear();
+    for mark in marks(block, offset == 0) {
+        let here = number + index.games;
+        add_mark(index, here, offset, mark)?;
+    }
+    Ok(())
+}
+
+/// Reports on the games of a block, whose pieces are numbered from `number` on.
+fn report_games<'a>(
     alloc: Global,
+    report: &mut Report,
     settings: &'a Settings,
     number: u64,
     offset: u64,
     block: &'a [u8],
-) -> Result<Report, AllocError>
+) -> Result<(), AllocError>
     requires size { length block.now ≤ block_limit }
     requires number { number ≤ 2 ^ 63 }
     requires offset { offset ≤ largest_offset }
-    ensures { IfOk result (λ report. ReportsBlock (aim_of settings.now) report block_limit depth_limit number offset block.now) }
+    ensures { OnOk result (ReportsBlock (aim_of settings.now) report.new block_limit depth_limit number offset block.now) }
 {
-    let mut report = Report::new(alloc);
+    report.clear();
     for piece in games(alloc, block, offset == 0) {
         let piece = piece?;
         let here = number + report.games;
-        add_piece(alloc, &mut report, settings, here, offset, &piece)?;
+        add_piece(alloc, report, settings, here, offset, &piece)?;
     }
-    Ok(report)
+    Ok(())
 }
 
-/// The report on the pieces of a block, which are numbered from `number` on.
-pub fn report_of<'a>(
+/// Reports on the pieces of a block, which are numbered from `number` on.
+fn report_pieces<'a>(
     alloc: Global,
+    report: &mut Report,
+    settings: &'a Settings,
+    number: u64,
+    offset: u64,
+    block: &'a [u8],
+) -> Result<(), AllocError>
+    requires size { length block.now ≤ block_limit }
+    requires number { number ≤ 2 ^ 63 }
+    requires offset { offset ≤ largest_offset }
+    ensures { OnOk result (ReportsBlock (aim_of settings.now) report.new block_limit depth_limit number offset block.now) }
+{
+    match settings.mode {
+        Mode::Index => report_marks(report, number, offset, block),
+        Mode::List | Mode::Export => report_games(alloc, report, settings, number, offset, block),
+    }
+}
+
+/// Reports on a block, whose pieces are numbered from `number` on: the report is of nothing else.
+pub fn report_block<'a>(
+    alloc: Global,
+    report: &mut Report,
     settings: &'a Settings,
     number: u64,
     block: Block<'a>,
-) -> Result<Report, AllocError>
+) -> Result<(), AllocError>
     requires number { number ≤ 2 ^ 63 }
     requires offset { block.offset ≤ largest_offset }
     requires size { IsShown block_limit block.body }
-    ensures { IfOk result (λ report. (bytes : List ℕ) → Shows block_limit block.entry.body bytes
-        → ReportsBlock (aim_of settings.now) report block_limit depth_limit number block.entry.offset bytes) }
+    ensures { OnOk result ((bytes : List ℕ) → Shows block_limit block.entry.body bytes
+        → ReportsBlock (aim_of settings.now) report.new block_limit depth_limit number block.entry.offset bytes) }
 {
     match block.body {
-        Body::Bytes(bytes) => block_report(alloc, settings, number, block.offset, bytes),
-        Body::TooLong => too_long_report(alloc, number, block.offset),
+        Body::Bytes(bytes) => report_pieces(alloc, report, settings, number, block.offset, bytes),
+        Body::TooLong => report_too_long(report, number, block.offset),
     }
 }

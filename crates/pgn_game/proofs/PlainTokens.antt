@@ -6,13 +6,13 @@ use Rattle.std.specs.Fmt.{digit_glyph, digits_onto, digits}
 use Rattle.chess.specs.Letters.{kind_letter, square_text}
 use Rattle.chess.specs.Moves.{after}
 use Rattle.chess.specs.Positions.{State}
-use Rattle.chess.specs.San.{castling_text, capture_text, is_capture, pawn_text, promotion_text, IsDisambiguation, alone, by_file, by_rank, by_both, IsPieceText, IsBody, IsMark, mate, check, quiet}
-use Rattle.chess.specs.declared.man.Kind.{Kind}
-use Rattle.chess.specs.declared.man.Kind.TheVariants.{King, Queen, Rook, Bishop, Knight, Pawn}
-use Rattle.chess.specs.declared.man.Side.{Side}
-use Rattle.chess.specs.declared.man.Side.TheVariants.{White, Black}
-use Rattle.chess.specs.declared.man.Wing.{Wing}
-use Rattle.chess.specs.declared.man.Wing.TheVariants.{KingSide, QueenSide}
+use Rattle.chess.specs.San.{castling_text, capture_text, is_capture, pawn_text, promotion_text, IsDisambiguation, alone, by_file, by_rank, by_both, IsPieceText, IsBody, IsCheckMark, mate, check, quiet}
+use Rattle.chess.specs.declared.board.man.Kind.{Kind}
+use Rattle.chess.specs.declared.board.man.Kind.TheVariants.{King, Queen, Rook, Bishop, Knight, Pawn}
+use Rattle.chess.specs.declared.board.man.Side.{Side}
+use Rattle.chess.specs.declared.board.man.Side.TheVariants.{White, Black}
+use Rattle.chess.specs.declared.board.man.Wing.{Wing}
+use Rattle.chess.specs.declared.board.man.Wing.TheVariants.{KingSide, QueenSide}
 use Rattle.chess.specs.declared.moves.Move.{Move}
 use Rattle.pgn_text.specs.Games.{Item}
 use Rattle.pgn_text.specs.Bytes.{is_white, is_empty, begins}
@@ -191,7 +191,7 @@ body_plain now m None Rook body is = piece_plain now m Rook body is
 body_plain now m None Bishop body is = piece_plain now m Bishop body is
 body_plain now m None Knight body is = piece_plain now m Knight body is
 
-mark_plain : (now : State) (mark : List ℕ) → IsMark now mark → IsPlain mark
+mark_plain : (now : State) (mark : List ℕ) → IsCheckMark now mark → IsPlain mark
 mark_plain now mark (mate mated) = ((ink 35 (omega arith), record {}), (omega arith, omega arith))
 mark_plain now mark (check checked other) = ((ink 43 (omega arith), record {}), (omega arith, omega arith))
 mark_plain now mark (quiet calm) = empty_plain

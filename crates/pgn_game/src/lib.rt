@@ -1,4 +1,4 @@
-//! Games played: the lines of a game as they stand in a file, from its start on.
+//! Games played and written: the lines of a game as they stand in a file, from its start on, and its export.
 #![tactic(auto)]
 
 mod all_lines;

@@ -2,7 +2,7 @@
 use Rattle.std.proofs.Common.{◌≡◌, ℕ, true, false, arith}
 use Rattle.std.proofs.lemmas.Bool.Decides.{nat_tests}
 use Rattle.std.specs.Prelude.{◌==◌}
-use Rattle.pgn_text.specs.Bytes.{is_white, is_name_byte, is_word_byte, is_mark}
+use Rattle.pgn_text.specs.Bytes.{is_white, is_digit, is_letter, is_name_byte, is_word_byte, is_mark}
 
 pub is_white-word : (b : ℕ) → is_word_byte b ≡ true → is_white b ≡ false
 is_white-word b word = grind (arith, nat_tests)
@@ -48,3 +48,12 @@ is_name_byte-white b white = grind (arith, nat_tests)
 
 pub is_white-name : (b : ℕ) → is_name_byte b ≡ true → is_white b ≡ false
 is_white-name b name = grind (arith, nat_tests)
+
+pub is_letter-word : (b : ℕ) → is_letter b ≡ true → is_word_byte b ≡ true
+is_letter-word b letter = grind (arith, nat_tests)
+
+pub is_digit-word : (b : ℕ) → is_digit b ≡ true → is_word_byte b ≡ true
+is_digit-word b digit = grind (arith, nat_tests)
+
+pub is_letter-digit : (b : ℕ) → is_digit b ≡ true → is_letter b ≡ false
+is_letter-digit b digit = grind (arith, nat_tests)

@@ -1,7 +1,6 @@
 -- A block cut off from the bytes held, as the window shows it.
-use Rattle.std.proofs.Common.{◌≡◌, ℕ, ◌+◌, ◌-◌, ◌<◌, ◌≤◌, Bool, true, false, List, [], ◌++◌, length, take, drop, Option, sym, ap, ◌∙◌, arith, length-drop}
-use Rattle.std.proofs.lemmas.List.{drop_all, length-take-le}
-use Rattle.pgn_text.specs.Held.{IsHeld}
+use Rattle.std.proofs.Common.{◌≡◌, ℕ, ◌+◌, ◌-◌, ◌≤◌, Bool, false, List, length, take, drop, Option, sym, ap, ◌∙◌, arith, length-drop}
+use Rattle.std.proofs.lemmas.List.{drop_all}
 use Rattle.pgn_text.specs.Limits.{block_limit}
 use Rattle.pgn_text.specs.Searches.{FindsEnd, EndsIn}
 use Rattle.pgn_text.specs.Tallies.{Reads}

@@ -8,10 +8,9 @@ use Rattle.pgn_text.specs.Blocks.{IsFirstBlock}
 use Rattle.pgn_text.specs.Cuts.{is_cut, NoCutBefore}
 use Rattle.pgn_text.specs.Held.{IsHeld}
 use Rattle.pgn_text.specs.Limits.{block_limit, largest_offset, window_limit}
-use Rattle.pgn_text.specs.Searches.{IsNextCut, AppendsRead, FindsMore, FindsEnd, FailsFrom, GivesUp, EndsIn}
+use Rattle.pgn_text.specs.Searches.{IsNextCut, AppendsRead, FindsMore, FindsEnd, FailsFrom, GivesUp}
 use Rattle.pgn_text.specs.Tallies.{Reads}
 use Rattle.pgn_text.specs.Windows.{FailsAfter}
-use Rattle.pgn_text.specs.declared.blocks.BlockEnd.{BlockEnd}
 use Rattle.pgn_text.specs.declared.blocks.ReadError.{ReadError}
 use Rattle.pgn_text.specs.declared.blocks.ReadError.TheVariants.{Read, OutOfMemory, InputTooLong, Failed}
 use Rattle.pgn_text.proofs.BlockCuts.{cut_stays, cut_moved, no_cut_moved, no_cut_join, first_block_at_cut, first_block_at_end}

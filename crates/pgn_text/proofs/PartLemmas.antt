@@ -16,7 +16,7 @@ kept-or None b = refl
 kept-or (Some found) b = refl
 
 -- behind a word's byte, or a mark, no gap part stands
-no_gap-word : (place : Standing) (b : ℕ) (rest : List ℕ) → is_word_byte b ≡ true → gap_front place (b ∷ rest) ≡ None
+pub no_gap-word : (place : Standing) (b : ℕ) (rest : List ℕ) → is_word_byte b ≡ true → gap_front place (b ∷ rest) ≡ None
 no_gap-word place b rest word =
     rw (is_white-word b word, brace-word b word, semicolon-word b word, percent-word b word, order_mark-word b word) refl
 

@@ -1,5 +1,5 @@
 -- A game read part by part at places of a block.
-use Rattle.std.proofs.Common.{◌≡◌, ◌≢◌, ℕ, ◌+◌, ◌-◌, ◌<◌, ◌≤◌, Bool, true, false, List, [], ◌∷◌, ◌++◌, length, take, drop, refl, sym, ap, ◌∙◌, subst, append_assoc, append-nil, arith, length-append}
+use Rattle.std.proofs.Common.{◌≡◌, ◌≢◌, ℕ, ◌+◌, ◌-◌, ◌<◌, ◌≤◌, Bool, true, false, List, [], ◌∷◌, ◌++◌, length, take, drop, refl, sym, ap, ◌∙◌, subst, append_assoc, append-nil, arith, length-append, ◌⊎◌, inl, inr}
 use Rattle.std.specs.Prelude.{Option, Some, None, IsTrue}
 use Rattle.std.specs.Option.{option_or}
 use Rattle.std.proofs.lemmas.Bool.{not_from_false}
@@ -10,7 +10,8 @@ use Rattle.pgn_text.specs.GameTexts.{IsPaired}
 use Rattle.pgn_text.specs.Pieces.{NoGame}
 use Rattle.pgn_text.specs.Steps.{State, start, step}
 use Rattle.pgn_text.specs.Reading.{Kept, KeptResult, kept, is_kept_result, step_kept, items_of_kept, named_kept}
-use Rattle.pgn_text.specs.Walk.{PartAt, KeptAt, NothingAt, NoGapPartAt, GameTo}
+use Rattle.pgn_text.specs.Readings.{GoesOn, StuckAt, EndsAt}
+use Rattle.pgn_text.specs.Walk.{PartAt, KeptAt, NothingAt, NoGapPartAt, GameRead}
 use Rattle.pgn_text.proofs.Halfway.{Reads, Halfway, halfway_start, halfway_more, halfway_end, halfway_stuck, halfway_none, game_reads, reads_game, before_more}
 use Rattle.pgn_text.proofs.KeptLemmas.{is_result-kept, step-kept, items-push, kept_result}
 use Rattle.pgn_text.proofs.Pairing.{leads_paired}
@@ -114,14 +115,6 @@ part_bytes f block at end part found within =
     ap (take (end - at)) found.parted ∙ take_at (spelled_part part) (drop end block) (end - at) (omega arith)
 
 -- a result outside all variations ends the game
-pub record GameRead (max_depth : ℕ) (f : Bool) (block : List ℕ) (begin at end : ℕ) (tags : List ℕ → Option (List ℕ)) (elements : List Item) : Type 0 where
-  pub parts : List Part
-  pub game : GameTo max_depth f block begin parts end
-  pub tags_kept : (wanted : List ℕ) → tags wanted ≡ first_tag wanted parts
-  pub elements_kept : elements ≡ items_of parts
-  pub paired : IsPaired 0 elements
-  pub result : take (end - at) (drop at block) ≡ result_of parts
-
 pub read_end : (max_depth : ℕ) (f : Bool) (block : List ℕ) (begin at end : ℕ) (state : State) (tags : List ℕ → Option (List ℕ)) (elements : List Item) (token : Kept)
     → ReadTo max_depth f block begin at state tags elements → NoGapPartAt f block begin → KeptAt f block at token end → is_kept_result token ≡ true → state.depth ≡ 0
     → GameRead max_depth f block begin at end tags elements
@@ -150,4 +143,53 @@ read_end max_depth f block begin at end state tags elements token read outside h
       elements_kept = elements_is;
       paired = subst (IsPaired 0) (sym elements_is) (leads_paired max_depth start (read.done ++ here.part ∷ []) reads.leads);
       result = part_bytes f block at end here.part found read.within ∙ sym (result_of-push read.done here.part);
+      result_at = (let b : at < end = found.forward in omega arith);
     }
+
+-- the game has been read up to the place `at`; what was kept then is what is kept now
+pub record KeptUpTo (kept_first kept_now : (List ℕ → Option (List ℕ)) → List Item → Type 0) (max_depth : ℕ) (f : Bool) (block : List ℕ) (begin at : ℕ) (state : State) : Type 0 where
+  pub tags : List ℕ → Option (List ℕ)
+  pub elements : List Item
+  pub read : ReadTo max_depth f block begin at state tags elements
+  pub keeps : kept_first (λ wanted. None) [] → kept_now tags elements
+
+pub kept_start : (kept : (List ℕ → Option (List ℕ)) → List Item → Type 0) (max_depth : ℕ) (f : Bool) (block : List ℕ) (begin : ℕ) (state : State) → begin ≤ length block → state ≡ start
+    → KeptUpTo kept kept max_depth f block begin begin state
+kept_start kept max_depth f block begin state within is_start = record {
+  tags = λ wanted. None;
+  elements = [];
+  read = read_start max_depth f block begin state (λ wanted. None) [] within is_start (λ wanted. refl) refl;
+  keeps = λ first. first;
+}
+
+-- one more part
+pub kept_more : {kept_first kept_now kept_next : (List ℕ → Option (List ℕ)) → List Item → Type 0} {max_depth : ℕ} {f : Bool} {block : List ℕ} {begin at end : ℕ} {state next : State}
+    → KeptUpTo kept_first kept_now max_depth f block begin at state → GoesOn kept_now kept_next max_depth f block at state next end
+    → KeptUpTo kept_first kept_next max_depth f block begin end next
+kept_more {max_depth = max_depth} {f = f} {block = block} {begin = begin} {at = at} {end = end} {state = state} {next = next} up more = record {
+  tags = λ wanted. option_or (up.tags wanted) (named_kept wanted more.token);
+  elements = up.elements ++ items_of_kept more.token;
+  read = read_more max_depth f block begin at end state next up.tags (λ wanted. option_or (up.tags wanted) (named_kept wanted more.token))
+      up.elements (up.elements ++ items_of_kept more.token) more.token up.read more.here more.no_result more.steps (λ wanted. refl) refl;
+  keeps = λ first. more.keeps up.tags up.elements (up.keeps first);
+}
+
+-- where nothing stands that may, there is no game
+pub kept_stuck : {kept_first kept_now : (List ℕ → Option (List ℕ)) → List Item → Type 0} {max_depth : ℕ} {f : Bool} {block : List ℕ} {begin at : ℕ} {state : State}
+    → KeptUpTo kept_first kept_now max_depth f block begin at state → NothingAt f block at ⊎ StuckAt max_depth f block at state
+    → NoGame max_depth f (take begin block) (drop begin block)
+kept_stuck {max_depth = max_depth} {f = f} {block = block} {begin = begin} {at = at} {state = state} up (inl nothing) =
+    read_nothing max_depth f block begin at state up.tags up.elements up.read nothing
+kept_stuck {max_depth = max_depth} {f = f} {block = block} {begin = begin} {at = at} {state = state} up (inr stuck) =
+    read_stuck max_depth f block begin at stuck.end state up.tags up.elements stuck.token up.read stuck.here stuck.deep stuck.stuck
+
+-- the result ends the game
+pub kept_end : {kept_first kept_now kept_next : (List ℕ → Option (List ℕ)) → List Item → Type 0} {max_depth : ℕ} {f : Bool} {block : List ℕ} {begin at end : ℕ} {state : State}
+    → KeptUpTo kept_first kept_now max_depth f block begin at state → NoGapPartAt f block begin → EndsAt kept_now kept_next f block at state end
+    → (tags : List ℕ → Option (List ℕ)) × (elements : List Item) × GameRead max_depth f block begin at end tags elements × (kept_first (λ wanted. None) [] → kept_next tags elements)
+kept_end {max_depth = max_depth} {f = f} {block = block} {begin = begin} {at = at} {end = end} {state = state} up outside ends = (
+  up.tags,
+  up.elements,
+  read_end max_depth f block begin at end state up.tags up.elements ends.token up.read outside ends.here ends.is_result ends.closed,
+  λ first. ends.same up.tags up.elements (up.keeps first),
+)

@@ -10,6 +10,7 @@ use Rattle.pgn_text.specs.Parts.{Part, ByteOrderMark, White, Brace, Line, Escape
 use Rattle.pgn_text.specs.Games.{is_gap_part, begins_outside_gap, IsGame}
 use Rattle.pgn_text.specs.Pieces.{IsGap, IsLongestGap, NoGame, Piece, Game, Unreadable, ArePieces}
 use Rattle.pgn_text.proofs.PartLemmas.{part_has_byte}
+use Rattle.pgn_text.proofs.ShorterText.{game_elsewhere}
 use Rattle.pgn_text.proofs.OneList.{no_bytes, game_has_byte}
 use Rattle.pgn_text.proofs.Halfway.{spelled-append, stands_join}
 
@@ -109,22 +110,6 @@ stands_anywhere there (Marks marks) after h = h
 stands_anywhere there Open after h = h
 stands_anywhere there Close after h = h
 
--- a game's parts, where they stand elsewhere too
-game_at : (max_depth : ℕ) (file_start there_start : Bool) (before there : List ℕ) (parts : List Part) (after : List ℕ)
-    → IsGame max_depth file_start before parts after → AllStand there_start there parts after
-    → IsGame max_depth there_start there parts after
-game_at max_depth file_start there_start before there parts after g stand = record {
-  stand = stand;
-  begins = g.begins;
-  tags_first = g.tags_first;
-  result_last = g.result_last;
-  meant = g.meant;
-  closed_were_open = g.closed_were_open;
-  depth = g.depth;
-  all_closed = g.all_closed;
-  variations = g.variations;
-}
-
 first_outside : (p : Part) (back : List Part) → IsTrue (begins_outside_gap (p ∷ back)) → is_gap_part p ≡ false
 first_outside p back b = not-true (is_gap_part p) b
 
@@ -133,7 +118,7 @@ pub game_there : (max_depth : ℕ) (file_start : Bool) (before : List ℕ) (part
     → IsClear file_start before → IsGame max_depth file_start before parts after → IsGame max_depth false [] parts after
 game_there max_depth file_start before [] after clear g = let b = g.begins in cc
 game_there max_depth file_start before (p ∷ back) after clear g =
-    game_at max_depth file_start false before [] (p ∷ back) after g (
+    game_elsewhere max_depth file_start false before [] (p ∷ back) after after g (
       stands_elsewhere (standing_of file_start before) (standing_of false []) p (spelled back ++ after)
           (first_outside p back g.begins) g.stand.0,
       stand_there file_start before (spelled_part p) back after clear (part_has_byte (standing_of file_start before) p
@@ -145,7 +130,7 @@ pub game_back : (max_depth : ℕ) (file_start : Bool) (before : List ℕ) (parts
     → IsClear file_start before → IsGame max_depth false [] parts after → IsGame max_depth file_start before parts after
 game_back max_depth file_start before [] after clear g = let b = g.begins in cc
 game_back max_depth file_start before (p ∷ back) after clear g =
-    game_at max_depth false file_start [] before (p ∷ back) after g (
+    game_elsewhere max_depth false file_start [] before (p ∷ back) after after g (
       stands_elsewhere (standing_of false []) (standing_of file_start before) p (spelled back ++ after)
           (first_outside p back g.begins) g.stand.0,
       stand_back file_start before (spelled_part p) back after clear (part_has_byte (standing_of false []) p
@@ -250,7 +235,7 @@ pieces_there max_depth file_start before z (Game at parts ∷ more) text clear s
         length-append z
             (spelled h.0),
       ),
-      game_at max_depth file_start false ((before ++ z) ++ spelled h.0) (z ++ spelled h.0) parts h.1 h.5
+      game_elsewhere max_depth file_start false ((before ++ z) ++ spelled h.0) (z ++ spelled h.0) parts h.1 h.1 h.5
           (stand_there file_start before (z ++ spelled h.0) parts h.1 clear some_here (rw place at h.5.stand)),
       pieces_there max_depth file_start before ((z ++ spelled h.0) ++ spelled parts) more h.1 clear
           (some_bytes (z ++ spelled h.0) (spelled parts) some_here)
@@ -272,8 +257,8 @@ pieces_there max_depth file_start before z (Unreadable at ∷ more) text clear s
             (spelled h.0),
       ),
       h.5,
-      λ parts after e g. h.6 parts after e (game_at max_depth false file_start (z ++ spelled h.0)
-          ((before ++ z) ++ spelled h.0) parts after g
+      λ parts after e g. h.6 parts after e (game_elsewhere max_depth false file_start (z ++ spelled h.0)
+          ((before ++ z) ++ spelled h.0) parts after after g
           (rw place (stand_back file_start before (z ++ spelled h.0) parts after clear some_here g.stand))),
       rw h.7 refl,
     )

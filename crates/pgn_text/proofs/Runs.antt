@@ -1,10 +1,9 @@
 -- Longest fronts of bytes that pass a test.
 use Rattle.std.proofs.Common.{◌≡◌, ℕ, zero, suc, ◌+◌, ◌<◌, ◌≤◌, Bool, true, false, not, List, [], ◌∷◌, length, take, drop, get_or, refl, sym, ap, ◌∙◌, arith}
-use Rattle.std.specs.List.{prefix_len}
-use Rattle.std.proofs.lemmas.Bool.{ltb-false, eqb-true, not_from_true, not_from_false, false_from_ne_true, ne_eqb}
+use Rattle.std.proofs.lemmas.Bool.{eqb-true, not_from_true, not_from_false, false_from_ne_true, ne_eqb}
 use Rattle.std.proofs.lemmas.List.{drop_more, drop_all}
 use Rattle.memchr.specs.Find.{IsFirstByte, is_byte}
-use Rattle.std.specs.Prelude.{if◌then◌else◌, position, nat_lt, Some, None, ◌==◌}
+use Rattle.std.specs.Prelude.{if◌then◌else◌, Some, None, ◌==◌}
 use Rattle.pgn_text.specs.Bytes.{is_empty}
 use Rattle.pgn_text.specs.Reading.{run_of, after_run}
 
@@ -32,15 +31,6 @@ length-run test (b ∷ rest) =
       | false ↦ omega arith
     ]
 
--- the number of bytes before the first that fails the test, as `position` counts them
-pub prefix_len-run : (test : ℕ → Bool) (xs : List ℕ) → prefix_len (λ x. not (not (test x))) xs ≡ length (run_of test xs)
-prefix_len-run test [] = refl
-prefix_len-run test (b ∷ rest) =
-    elim (test b) as (λ v. (if not (not v) then 1 + prefix_len (λ x. not (not (test x))) rest else 0) ≡ length (if v then b ∷ run_of test rest else [])) [
-      | true ↦ (let h : prefix_len (λ x. not (not (test x))) rest ≡ length (run_of test rest) = prefix_len-run test rest in omega arith)
-      | false ↦ refl
-    ]
-
 -- a place before which all bytes pass, and at which one fails or the text ends, is the run's length
 pub run_length_is : (test : ℕ → Bool) (xs : List ℕ) (n : ℕ) → ((k : ℕ) → k < n → test (get_or xs k 0) ≡ true) → n ≤ length xs → (n < length xs → test (get_or xs n 0) ≡ false) → n ≡ length (run_of test xs)
 run_length_is test [] zero below within at = refl
@@ -50,30 +40,6 @@ run_length_is test (b ∷ rest) zero below within at =
 run_length_is test (b ∷ rest) (suc n) below within at =
     let passes : test b ≡ true = below 0 (omega arith) in
     rw passes (ap suc (run_length_is test rest n (λ k h. below (suc k) (omega arith)) (omega arith) (λ h. at (omega arith))))
-
--- a choice of Some that was made
-some_chosen : (b : Bool) (m n : ℕ) → (if b then Some m else None) ≡ Some n → m ≡ n
-some_chosen true m n is = cc
-some_chosen false m n is = cc
-
--- a choice of None that was made
-none_chosen : (b : Bool) (m : ℕ) → (if b then Some m else None) ≡ None → b ≡ false
-none_chosen true m is = cc
-none_chosen false m is = refl
-
--- the first place that fails the test is the run's length
-pub position-run : (test : ℕ → Bool) (xs : List ℕ) (n : ℕ) → position (λ x. not (test x)) xs ≡ Some n → n ≡ length (run_of test xs)
-position-run test xs n is =
-    sym (some_chosen (nat_lt (prefix_len (λ x. not (not (test x))) xs) (length xs)) (prefix_len (λ x. not (not (test x))) xs) n is)
-    ∙ prefix_len-run test xs
-
--- where no place fails the test, the run is the whole text
-pub position-run-none : (test : ℕ → Bool) (xs : List ℕ) → position (λ x. not (test x)) xs ≡ None → length xs ≡ length (run_of test xs)
-position-run-none test xs is =
-    let above : length xs ≤ prefix_len (λ x. not (not (test x))) xs = ltb-false _ _ (none_chosen _ _ is) in
-    let same : prefix_len (λ x. not (not (test x))) xs ≡ length (run_of test xs) = prefix_len-run test xs in
-    let within : length (run_of test xs) ≤ length xs = length-run test xs in
-    omega arith
 
 -- the first place of a byte is the length of the run of other bytes
 pub first_byte-run : (b : ℕ) (xs : List ℕ) (n : ℕ) → IsFirstByte (is_byte b) xs (Some n) → n ≡ length (run_of (λ x. not (x == b)) xs)

@@ -36,10 +36,12 @@ all_front file_start before (p ∷ back) u v h = (
   all_front file_start (before ++ spelled_part p) back u v h.1,
 )
 
-pub game_front : (max_depth : ℕ) (file_start : Bool) (before : List ℕ) (parts : List Part) (u v : List ℕ)
-    → IsGame max_depth file_start before parts (u ++ v) → IsGame max_depth file_start before parts u
-game_front max_depth file_start before parts u v g = record {
-  stand = all_front file_start before parts u v g.stand;
+-- a game's parts are a game wherever they may stand
+pub game_elsewhere : (max_depth : ℕ) (file_start there_start : Bool) (before there : List ℕ) (parts : List Part) (after after' : List ℕ)
+    → IsGame max_depth file_start before parts after → AllStand there_start there parts after'
+    → IsGame max_depth there_start there parts after'
+game_elsewhere max_depth file_start there_start before there parts after after' g stand = record {
+  stand = stand;
   begins = g.begins;
   tags_first = g.tags_first;
   result_last = g.result_last;
@@ -49,6 +51,11 @@ game_front max_depth file_start before parts u v g = record {
   all_closed = g.all_closed;
   variations = g.variations;
 }
+
+pub game_front : (max_depth : ℕ) (file_start : Bool) (before : List ℕ) (parts : List Part) (u v : List ℕ)
+    → IsGame max_depth file_start before parts (u ++ v) → IsGame max_depth file_start before parts u
+game_front max_depth file_start before parts u v g =
+    game_elsewhere max_depth file_start file_start before before parts (u ++ v) u g (all_front file_start before parts u v g.stand)
 
 -- a gap before a game is the longest, whatever is behind the game: no part of a gap can stand where the game's first part does
 pub gap_front : (max_depth : ℕ) (file_start : Bool) (before : List ℕ) (gap parts : List Part) (u v : List ℕ)

@@ -1,6 +1,6 @@
 -- What a read into the room behind some bytes leaves.
-use Rattle.std.proofs.Common.{◌≡◌, ℕ, ◌+◌, ◌≤◌, List, ◌++◌, length, take, sym, ap, ◌∙◌, arith, append_assoc}
-use Rattle.std.proofs.lemmas.List.{take-take, take-append-le, take_all, take_at}
+use Rattle.std.proofs.Common.{◌≡◌, ℕ, ◌+◌, ◌≤◌, List, ◌++◌, length, take, sym, ap, ◌∙◌, append_assoc}
+use Rattle.std.proofs.lemmas.List.{take-take, take-append-le}
 use Rattle.std.proofs.Math.Seq.{take-append-add}
 
 -- of the room behind `old` the first n bytes were filled, and the rest was cut off

@@ -14,11 +14,14 @@ pub mod Windows
 pub mod GameTexts
 pub mod Elements
 pub mod Left
+pub mod LeftMarks
 -- Private words: functions on lists that the code equals, and what its loops keep. No public contract cites them.
 pub mod Cuts
+pub mod Drafts
 pub mod Held
 pub mod Phases
 pub mod Reading
+pub mod Readings
 pub mod Searches
 pub mod Steps
 pub mod Tokens

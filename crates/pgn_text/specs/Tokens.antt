@@ -1,12 +1,12 @@
 -- The values of the lexer's types, as the definitions of `Reading` see them.
-use Rattle.std.specs.Prelude.{ℕ, Bool, List}
+use Rattle.std.specs.Prelude.{◌≡◌, ◌≤◌, ◌-◌, ℕ, Bool, List, length, take, drop}
 use Rattle.std.specs.Borrow.{Bor}
-use Rattle.pgn_text.specs.Bytes.{is_white, is_digit, is_name_byte, is_word_byte, is_mark}
+use Rattle.pgn_text.specs.Bytes.{is_white, is_digit, is_letter, is_name_byte, is_word_byte, is_mark}
 use Rattle.pgn_text.specs.Parts.{Standing as StandingOf}
-use Rattle.pgn_text.specs.Reading.{Kept, KeptGap, KeptComment, KeptTag, KeptMove, KeptNumber, KeptResult, KeptStray, KeptDot, KeptGlyph, KeptMarks, KeptOpen, KeptClose}
+use Rattle.pgn_text.specs.Reading.{run_of, after_run, Kept, KeptGap, KeptComment, KeptTag, KeptMove, KeptNumber, KeptResult, KeptStray, KeptDot, KeptGlyph, KeptMarks, KeptOpen, KeptClose}
 use Rattle.pgn_text.specs.Steps.{State}
 use Rattle.pgn_text.specs.declared.class.Class.{Class}
-use Rattle.pgn_text.specs.declared.class.Class.TheVariants.{White, Digit, Name, Word, Mark}
+use Rattle.pgn_text.specs.declared.class.Class.TheVariants.{White, Digit, Letter, Name, Word, Mark}
 use Rattle.pgn_text.specs.declared.progress.Progress.{Progress}
 use Rattle.pgn_text.specs.declared.scan.Standing.{Standing}
 use Rattle.pgn_text.specs.declared.token.Token.{Token}
@@ -16,9 +16,26 @@ use Rattle.pgn_text.specs.declared.token.Token.TheVariants.{Gap, Comment, Tag, M
 abbrev pub test_of : Class → ℕ → Bool
 test_of White = is_white
 test_of Digit = is_digit
+test_of Letter = is_letter
 test_of Name = is_name_byte
 test_of Word = is_word_byte
 test_of Mark = is_mark
+
+-- the flag of a class
+abbrev pub flag_of : Class → ℕ
+flag_of White = 1
+flag_of Digit = 8
+flag_of Letter = 4
+flag_of Name = 16
+flag_of Word = 2
+flag_of Mark = 32
+
+-- the longest run from the place `from` of a block reaches to the place `end`
+pub record RunTo (test : ℕ → Bool) (block : List ℕ) (from end : ℕ) : Type 0 where
+  pub run : take (end - from) (drop from block) ≡ run_of test (drop from block)
+  pub rest : drop end block ≡ after_run test (drop from block)
+  pub forward : from ≤ end
+  pub within : end ≤ length block
 
 -- what a token keeps of a part
 abbrev pub token_of : Token → Kept

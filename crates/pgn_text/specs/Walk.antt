@@ -1,7 +1,8 @@
 -- Parts at places of a block: what the functions of `place` answer.
-use Rattle.std.specs.Prelude.{◌≡◌, ℕ, Bool, false, ◌<◌, ◌≤◌, List, ◌++◌, length, take, drop, IsTrue}
+use Rattle.std.specs.Prelude.{◌≡◌, ℕ, Bool, false, ◌-◌, ◌<◌, ◌≤◌, List, ◌++◌, length, take, drop, Option, IsTrue}
 use Rattle.pgn_text.specs.Parts.{Part, Stands, standing_of, spelled_part, spelled}
-use Rattle.pgn_text.specs.Games.{is_gap_part, IsGame}
+use Rattle.pgn_text.specs.Games.{is_gap_part, IsGame, Item, first_tag, items_of, result_of}
+use Rattle.pgn_text.specs.GameTexts.{IsPaired}
 use Rattle.pgn_text.specs.Pieces.{IsGap, IsLongestGap}
 use Rattle.pgn_text.specs.Reading.{Kept, kept}
 
@@ -55,3 +56,13 @@ pub record GameTo (max_depth : ℕ) (file_start : Bool) (block : List ℕ) (begi
   pub passed : take end block ≡ take begin block ++ spelled parts
   pub forward : begin < end
   pub within : end ≤ length block
+
+-- a game was read from the place `begin` to the place `end`, with the result at the place `at`, and it has these tags and elements
+pub record GameRead (max_depth : ℕ) (f : Bool) (block : List ℕ) (begin at end : ℕ) (tags : List ℕ → Option (List ℕ)) (elements : List Item) : Type 0 where
+  pub parts : List Part
+  pub game : GameTo max_depth f block begin parts end
+  pub tags_kept : (wanted : List ℕ) → tags wanted ≡ first_tag wanted parts
+  pub elements_kept : elements ≡ items_of parts
+  pub paired : IsPaired 0 elements
+  pub result : take (end - at) (drop at block) ≡ result_of parts
+  pub result_at : at ≤ end

@@ -23,8 +23,8 @@ pub record Window : Type 0 where
 abbrev pub fresh_window : ℕ → Window
 fresh_window offset = record { done = []; ahead = []; place = offset; failed = false; ended = false; over = false }
 
--- the bytes of the next block, cut off from those held ahead and those read in the call: they are its first block
--- whatever follows, and the last one where the reader is at its end
+-- the bytes of the next block, cut off from those held ahead and those read in the call, so a stretch of what was held as the call
+-- began and what it read: they are the first block whatever follows, and the last one where the reader is at its end
 pub record IsCutOff (old new : Window) (left' : Option (List ℕ)) (read bytes : List ℕ) : Type 0 where
   pub going : old.ended ≡ false
   pub parted : old.ahead ++ read ≡ bytes ++ new.ahead

@@ -13,19 +13,13 @@ ghost use Rattle.pgn_text.specs.Windows.{IsBlock, Gives, fresh_window};
 ghost use Rattle.pgn_text.specs.contracts.blocks.Blocks.{the_row};
 
 use crate::buffer::Buffer;
-use crate::limits::{BLOCK_LIMIT, LARGEST_OFFSET};
+use crate::limits::{BLOCK_LIMIT, LARGEST_OFFSET, READ_LIMIT, WINDOW_LIMIT};
 use crate::tally::Tally;
 use memchr::memchr;
 use std::alloc::Global;
 use std::io::Read;
 use std::marker::Model;
 use thiserror::Error;
-
-/// The most bytes that one read asks for.
-const CHUNK: usize = 8192;
-
-/// The most bytes that are held at once: a block of the limit, and what one read gives.
-const WINDOW_LIMIT: usize = BLOCK_LIMIT + CHUNK;
 
 /// What begins a block, directly after a line feed.
 const EVENT_LINE: &[u8; 8] = b"[Event \"";
@@ -342,7 +336,7 @@ fn find_end<R: Read>(
                 Err(error) => Err(error),
             };
         }
-        let count = CHUNK.min(WINDOW_LIMIT - held).min(room as usize);
+        let count = READ_LIMIT.min(WINDOW_LIMIT - held).min(room as usize);
         match buf.read_more(count, input) {
             Ok(0) => return Ok(end),
             Ok(_) => {}

@@ -4,6 +4,7 @@ ghost use Rattle.pgn_text.specs.Searches.{AppendsRead};
 ghost use Rattle.pgn_text.specs.Tallies.{Reads};
 
 use crate::blocks::ReadError;
+use crate::limits::WINDOW_LIMIT;
 use crate::tally::Tally;
 use std::alloc::{AllocError, Global};
 use std::io::Read;
@@ -101,6 +102,19 @@ impl Buffer {
     }
 }
 
+/// Makes sure of memory for so many bytes in all: twice what there is, but past the window no more than they need.
+fn reserve(room: &mut Vec<u8>, size: usize) -> Result<(), AllocError>
+    requires { vec_len room.old ≤ size }
+    ensures { room.new.items ≡ room.old.items }
+{
+    let capacity = room.capacity();
+    if size <= capacity {
+        return Ok(());
+    }
+    let doubled = capacity.saturating_mul(2).min(WINDOW_LIMIT);
+    room.reserve_exact(doubled.max(size) - room.len())
+}
+
 /// Makes room for so many bytes in all.
 fn grow(room: &mut Vec<u8>, size: usize) -> Result<(), AllocError>
     ensures kept { (more : List ℕ) × (room.new.items ≡ room.old.items ++ more) }
@@ -109,6 +123,7 @@ fn grow(room: &mut Vec<u8>, size: usize) -> Result<(), AllocError>
     if size <= room.len() {
         return Ok(());
     }
+    reserve(room, size)?;
     room.resize(size, 0)
 }
 

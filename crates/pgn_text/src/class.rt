@@ -3,16 +3,68 @@
 ghost use Rattle.std.specs.Prelude.{◌≡◌, ◌≤◌, not, length, position};
 ghost use Rattle.pgn_text.specs.Bytes.{is_plain as is_plain_byte};
 ghost use Rattle.pgn_text.specs.Reading.{run_of, after_run};
-ghost use Rattle.pgn_text.specs.Tokens.{test_of};
+ghost use Rattle.pgn_text.specs.Tokens.{flag_of, test_of, RunTo};
 
-/// A class of bytes that make up runs.
+/// A class of bytes.
 #[derive(Clone, Copy)]
 pub(crate) enum Class {
     White,
     Digit,
+    Letter,
     Name,
     Word,
     Mark,
+}
+
+// For each byte the sum of the flags of the classes that it belongs to.
+static CLASSES: [u8; 256] = [
+    // from 0x00
+    0, 0, 0, 0, 0, 0, 0, 0, 0, 1, 1, 1, 1, 1, 0, 0,
+    // from 0x10
+    0, 0, 0, 0, 0, 0, 0, 0, 0, 0, 0, 0, 0, 0, 0, 0,
+    // from 0x20
+    1, 32, 0, 2, 0, 0, 0, 0, 0, 0, 0, 2, 0, 2, 0, 2,
+    // from 0x30
+    26, 26, 26, 26, 26, 26, 26, 26, 26, 26, 2, 0, 0, 2, 0, 32,
+    // from 0x40
+    0, 22, 22, 22, 22, 22, 22, 22, 22, 22, 22, 22, 22, 22, 22, 22,
+    // from 0x50
+    22, 22, 22, 22, 22, 22, 22, 22, 22, 22, 22, 0, 0, 0, 0, 18,
+    // from 0x60
+    0, 22, 22, 22, 22, 22, 22, 22, 22, 22, 22, 22, 22, 22, 22, 22,
+    // from 0x70
+    22, 22, 22, 22, 22, 22, 22, 22, 22, 22, 22, 0, 0, 0, 0, 0,
+    // from 0x80
+    0, 0, 0, 0, 0, 0, 0, 0, 0, 0, 0, 0, 0, 0, 0, 0,
+    // from 0x90
+    0, 0, 0, 0, 0, 0, 0, 0, 0, 0, 0, 0, 0, 0, 0, 0,
+    // from 0xA0
+    0, 0, 0, 0, 0, 0, 0, 0, 0, 0, 0, 0, 0, 0, 0, 0,
+    // from 0xB0
+    0, 0, 0, 0, 0, 0, 0, 0, 0, 0, 0, 0, 0, 0, 0, 0,
+    // from 0xC0
+    0, 0, 0, 0, 0, 0, 0, 0, 0, 0, 0, 0, 0, 0, 0, 0,
+    // from 0xD0
+    0, 0, 0, 0, 0, 0, 0, 0, 0, 0, 0, 0, 0, 0, 0, 0,
+    // from 0xE0
+    0, 0, 0, 0, 0, 0, 0, 0, 0, 0, 0, 0, 0, 0, 0, 0,
+    // from 0xF0
+    0, 0, 0, 0, 0, 0, 0, 0, 0, 0, 0, 0, 0, 0, 0, 0,
+];
+
+/// The class's flag.
+#[inline(always)]
+fn flag(class: Class) -> u8
+    ensures { result ≡ flag_of class }
+{
+    match class {
+        Class::White => 1,
+        Class::Word => 2,
+        Class::Letter => 4,
+        Class::Digit => 8,
+        Class::Name => 16,
+        Class::Mark => 32,
+    }
 }
 
 /// Whether the byte belongs to the class.
@@ -20,16 +72,7 @@ pub(crate) enum Class {
 pub(crate) fn is_in(class: Class, byte: u8) -> bool
     ensures { result ≡ test_of class byte }
 {
-    match class {
-        Class::White => matches!(byte, 9..=13 | b' '),
-        Class::Digit => byte.is_ascii_digit(),
-        Class::Name => byte.is_ascii_alphanumeric() || byte == b'_',
-        Class::Word => {
-            byte.is_ascii_alphanumeric()
-                || matches!(byte, b'_' | b'+' | b'#' | b'=' | b':' | b'-' | b'/')
-        }
-        Class::Mark => matches!(byte, b'!' | b'?'),
-    }
+    CLASSES[byte as usize] & flag(class) != 0
 }
 
 /// Whether the byte may stand in a string: a tab, or anything from the space on but the delete byte.
@@ -40,32 +83,25 @@ pub(crate) fn is_plain(byte: u8) -> bool
     matches!(byte, b'\t' | 32..=126 | 128..=255)
 }
 
-/// The index of the first byte outside the class, if there is one.
-#[inline(always)]
-fn first_outside(class: Class, text: &[u8]) -> Option<usize>
-    ensures { result ≡ position (λ byte. not (test_of class byte)) text.now }
-{
-    text.iter().position(|byte| !is_in(class, *byte))
-}
-
-/// How many bytes the longest front within the class has.
-#[inline(always)]
-fn run_len(class: Class, text: &[u8]) -> usize
-    ensures value { result ≡ length (run_of (test_of class) text.now) }
-    ensures within { result ≤ length text.now }
-{
-    match first_outside(class, text) {
-        Some(len) => len,
-        None => text.len(),
-    }
-}
-
 /// The longest front of the text within the class, and what follows it.
 #[inline(always)]
 pub(crate) fn run(class: Class, text: &[u8]) -> (&[u8], &[u8])
     ensures front { result.0.now ≡ run_of (test_of class) text.now }
     ensures rest { result.1.now ≡ after_run (test_of class) text.now }
 {
-    let len = run_len(class, text);
+    let len = run_end(class, text, 0);
     (&text[..len], &text[len..])
+}
+
+/// The first place from there on whose byte is outside the class, or the end.
+#[inline(always)]
+pub(crate) fn run_end(class: Class, block: &[u8], from: usize) -> usize
+    requires { from ≤ length block.now }
+    ensures { RunTo (test_of class) block.now from result }
+{
+    let mut at = from;
+    while at < block.len() && is_in(class, block[at]) {
+        at += 1;
+    }
+    at
 }

@@ -69,6 +69,7 @@ fn push_marks<'a>(elements: &mut Vec<Element<'a>>, marks: &[u8]) -> Result<(), A
 }
 
 /// Adds the elements of a part.
+#[inline(always)]
 fn push_elements<'a>(elements: &mut Vec<Element<'a>>, token: Token<'a>) -> Result<(), AllocError>
     ensures { OnOk result (map item_of elements.new.items ≡ map item_of elements.old.items ++ items_of_kept (token_of token.entry)) }
 {
@@ -85,6 +86,7 @@ fn push_elements<'a>(elements: &mut Vec<Element<'a>>, token: Token<'a>) -> Resul
 }
 
 /// Keeps a tag, unless there is one of its name.
+#[inline(always)]
 fn keep_tag<'a>(tags: &mut BTreeMap<&'a [u8], &'a [u8]>, token: Token<'a>) -> Result<(), AllocError>
     ensures ordered { OnOk result (AreOrdered tags.old → AreOrdered tags.new) }
     ensures first { OnOk result ((wanted : List ℕ) → tag_at tags.new wanted ≡ option_or (tag_at tags.old wanted) (named_kept wanted (token_of token.entry))) }
@@ -109,7 +111,7 @@ impl<'a> Draft<'a> {
 
     /// Adds what a part gives.
     #[inline(always)]
-    pub(crate) fn keep(&mut self, token: Token<'a>) -> Result<(), AllocError>
+    pub(crate) fn add(&mut self, token: Token<'a>) -> Result<(), AllocError>
         ensures ordered { OnOk result (AreOrdered self.old.tags → AreOrdered self.new.tags) }
         ensures tags { OnOk result ((wanted : List ℕ) → tag_at self.new.tags wanted ≡ option_or (tag_at self.old.tags wanted) (named_kept wanted (token_of token.entry))) }
         ensures elements { OnOk result (map item_of self.new.elements.items ≡ map item_of self.old.elements.items ++ items_of_kept (token_of token.entry)) }

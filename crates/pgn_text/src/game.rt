@@ -1,21 +1,27 @@
 //! A game as it stands in a block.
 
-ghost use Rattle.std.specs.Prelude.{◌≡◌, ◌≤◌, List, length, take, drop, map, IfOk, MatchOption};
+ghost use Rattle.std.specs.Prelude.{◌≡◌, ◌≤◌, ℕ, List, [], Option, None, length, take, drop, map, IfOk, MatchOption, ◌<◌, get_or, Bool};
 ghost use Rattle.std.specs.Cmp.Lexicographic.{slice_cmp};
 ghost use Rattle.std.specs.List.Sorted.{IsStrictlySortedBy};
 ghost use Rattle.std.specs.Ordering.{nat_cmp};
 ghost use Rattle.pgn_text.specs.Elements.{item_of, tags_of};
 ghost use Rattle.pgn_text.specs.GameTexts.{GameText, HoldStrings, IsGameText, IsPaired, ShowsGame, tag_names};
+ghost use Rattle.pgn_text.specs.Games.{Item};
 ghost use Rattle.pgn_text.specs.Limits.{depth_limit};
 ghost use Rattle.pgn_text.specs.Parts.{Part};
 ghost use Rattle.pgn_text.specs.Pieces.{NoGame};
-ghost use Rattle.pgn_text.specs.Walk.{GameTo, NoGapPartAt};
+ghost use Rattle.pgn_text.specs.Readings.{IsReading, IsStep};
+ghost use Rattle.pgn_text.specs.Tokens.{state_of, token_of};
+ghost use Rattle.pgn_text.specs.Walk.{GameTo, GameRead, NoGapPartAt};
 
+use crate::class::{Class, is_in, run_end};
 use crate::draft::Draft;
-use crate::place::part_at;
+use crate::place::{comment_at, number_at, part_at};
 use crate::progress::Progress;
+use crate::token::Token;
 use std::alloc::{AllocError, Global};
 use std::collections::BTreeMap;
+use std::convert::Infallible;
 use std::marker::Model;
 
 /// An element of a game. Each slice is a slice of the block.
@@ -90,6 +96,178 @@ impl<'a> RawGame<'a> {
     }
 }
 
+/// What is kept of the parts of a game.
+trait Keeper<'a>: Drop {
+    type Error;
+
+    ghost use Rattle.std.specs.Prelude.{ℕ, List, ◌++◌, Option, OnOk};
+    ghost use Rattle.std.specs.Option.{option_or};
+    ghost use Rattle.pgn_text.specs.Games.{Item};
+    ghost use Rattle.pgn_text.specs.Reading.{items_of_kept, named_kept};
+    ghost use Rattle.pgn_text.specs.Tokens.{token_of};
+
+    // Holds where these tags and elements were kept.
+    ghost kept: { Self → (List ℕ → Option (List ℕ)) → List Item → Type 0 };
+
+    fn keep(&mut self, token: Token<'a>) -> Result<(), Self::Error>
+        ensures { OnOk result ((tags : List ℕ → Option (List ℕ)) (items : List Item) → kept self.old tags items → kept self.new (λ wanted. option_or (tags wanted) (named_kept wanted (token_of token.entry))) (items ++ items_of_kept (token_of token.entry))) };
+}
+
+/// Keeps nothing: for what asks only where a game ends.
+#[derive(Drop)]
+struct Nothing {}
+
+impl<'a> Keeper<'a> for Nothing {
+    type Error = Infallible;
+
+    ghost kept = { λ keeper tags items. Unit {0} };
+
+    #[inline(always)]
+    fn keep(&mut self, _token: Token<'a>) -> Result<(), Infallible> {
+        Ok(())
+    }
+}
+
+impl<'a> Keeper<'a> for Draft<'a> {
+    ghost use Rattle.pgn_text.specs.Drafts.{IsDraftOf};
+
+    type Error = AllocError;
+
+    ghost kept = { IsDraftOf };
+
+    #[inline(always)]
+    fn keep(&mut self, token: Token<'a>) -> Result<(), AllocError> {
+        self.add(token)
+    }
+}
+
+/// What stands at a place of a game.
+enum Reading {
+    /// A part that may stand there, and the place behind it.
+    Part(usize),
+    /// The result that ends the game, and the place behind it.
+    Result(usize),
+    /// Nothing that may stand there.
+    Stuck,
+}
+
+/// Keeps the part and steps behind it, if it may stand there.
+#[inline(always)]
+fn step_behind<'a, K: Keeper<'a>>(
+    token: Token<'a>,
+    end: usize,
+    progress: &mut Progress,
+    keeper: &mut K,
+) -> Result<Reading, K::Error>
+    ensures { IfOk result (λ reading. IsStep (K.kept keeper.old) (K.kept keeper.new) depth_limit (token_of token.entry) end (state_of progress.old) (state_of progress.new) reading) }
+{
+    let Some(next) = progress.step(token) else {
+        return Ok(Reading::Stuck);
+    };
+    keeper.keep(token)?;
+    *progress = next;
+    Ok(Reading::Part(end))
+}
+
+/// Reads the brace comment at the place of the block.
+#[inline(always)]
+fn read_comment<'a, K: Keeper<'a>>(
+    block: &'a [u8],
+    at: usize,
+    progress: &mut Progress,
+    keeper: &mut K,
+) -> Result<Reading, K::Error>
+    requires place { at < length block.now }
+    requires brace { get_or block.now at 0 ≡ 123 }
+    ensures { IfOk result (λ reading. (file_start : Bool) → IsReading (K.kept keeper.old) (K.kept keeper.new) depth_limit file_start block.now at (state_of progress.old) (state_of progress.new) reading) }
+{
+    match comment_at(block, at) {
+        Some((comment, end)) => step_behind(Token::Comment(comment), end, progress, keeper),
+        None => Ok(Reading::Stuck),
+    }
+}
+
+/// Reads the part at the place of the block, of whatever kind.
+#[inline(always)]
+fn read_other<'a, K: Keeper<'a>>(
+    block: &'a [u8],
+    at: usize,
+    file_start: bool,
+    progress: &mut Progress,
+    keeper: &mut K,
+) -> Result<Reading, K::Error>
+    requires { at ≤ length block.now }
+    ensures { IfOk result (λ reading. IsReading (K.kept keeper.old) (K.kept keeper.new) depth_limit file_start block.now at (state_of progress.old) (state_of progress.new) reading) }
+{
+    let Some((token, end)) = part_at(block, at, file_start) else {
+        return Ok(Reading::Stuck);
+    };
+    if !token.is_result() {
+        return step_behind(token, end, progress, keeper);
+    }
+    if progress.is_closed() {
+        Ok(Reading::Result(end))
+    } else {
+        Ok(Reading::Stuck)
+    }
+}
+
+/// Reads the part at the place of the block; the frequent kinds by their first byte.
+#[inline(always)]
+fn read_part<'a, K: Keeper<'a>>(
+    block: &'a [u8],
+    at: usize,
+    file_start: bool,
+    progress: &mut Progress,
+    keeper: &mut K,
+) -> Result<Reading, K::Error>
+    requires { at < length block.now }
+    ensures { IfOk result (λ reading. IsReading (K.kept keeper.old) (K.kept keeper.new) depth_limit file_start block.now at (state_of progress.old) (state_of progress.new) reading) }
+{
+    let byte = block[at];
+    if is_in(Class::Letter, byte) {
+        let end = run_end(Class::Word, block, at + 1);
+        return step_behind(Token::Move(&block[at..end]), end, progress, keeper);
+    }
+    if is_in(Class::White, byte) {
+        return step_behind(Token::Gap, at + 1, progress, keeper);
+    }
+    if let Some(end) = number_at(block, at) {
+        return step_behind(Token::Number, end, progress, keeper);
+    }
+    match byte {
+        b'.' => step_behind(Token::Dot, at + 1, progress, keeper),
+        b'(' => step_behind(Token::Open, at + 1, progress, keeper),
+        b')' => step_behind(Token::Close, at + 1, progress, keeper),
+        b'{' => read_comment(block, at, progress, keeper),
+        _ => read_other(block, at, file_start, progress, keeper),
+    }
+}
+
+/// Reads the game at the place of the block, if one begins there: the places of its result and behind it.
+#[inline(always)]
+fn read_parts<'a, K: Keeper<'a>>(
+    block: &'a [u8],
+    begin: usize,
+    file_start: bool,
+    keeper: &mut K,
+) -> Result<Option<(usize, usize)>, K::Error>
+    requires place { begin ≤ length block.now }
+    requires outside { NoGapPartAt file_start block.now begin }
+    ensures { IfOk result (λ read. MatchOption read (NoGame depth_limit file_start (take begin block.now) (drop begin block.now)) (λ found. (tags : List ℕ → Option (List ℕ)) × (items : List Item) × GameRead depth_limit file_start block.now begin found.0 found.1 tags items × (K.kept keeper.old (λ wanted. None) [] → K.kept keeper.new tags items))) }
+{
+    let mut progress = Progress::start();
+    let mut at = begin;
+    while at < block.len() {
+        match read_part(block, at, file_start, &mut progress, keeper)? {
+            Reading::Part(end) => at = end,
+            Reading::Result(end) => return Ok(Some((at, end))),
+            Reading::Stuck => return Ok(None),
+        }
+    }
+    Ok(None)
+}
+
 /// The game at the place of the block, and the place behind it, if a game begins there.
 pub(crate) fn read_game<'a>(
     alloc: Global,
@@ -102,28 +280,28 @@ pub(crate) fn read_game<'a>(
     ensures { IfOk result (λ read. MatchOption read (NoGame depth_limit file_start (take begin block.now) (drop begin block.now)) (λ found. (parts : List Part) × GameTo depth_limit file_start block.now begin parts found.1 × ShowsGame found.0 begin parts)) }
 {
     let mut draft = Draft::new(alloc);
-    let mut progress = Progress::start();
-    let mut at = begin;
-    while let Some((token, end)) = part_at(block, at, file_start) {
-        if token.is_result() {
-            if !progress.is_closed() {
-                return Ok(None);
-            }
-            let Draft { tags, elements } = draft;
-            let game = RawGame {
-                at: begin,
-                tags,
-                elements,
-                result: &block[at..end],
-            };
-            return Ok(Some((game, end)));
-        }
-        let Some(next) = progress.step(token) else {
-            return Ok(None);
-        };
-        draft.keep(token)?;
-        progress = next;
-        at = end;
+    let Some((at, end)) = read_parts(block, begin, file_start, &mut draft)? else {
+        return Ok(None);
+    };
+    let Draft { tags, elements } = draft;
+    let game = RawGame {
+        at: begin,
+        tags,
+        elements,
+        result: &block[at..end],
+    };
+    Ok(Some((game, end)))
+}
+
+/// The place behind the game that begins at the place of the block, if one begins there.
+pub(crate) fn game_end(block: &[u8], begin: usize, file_start: bool) -> Option<usize>
+    requires place { begin ≤ length block.now }
+    requires outside { NoGapPartAt file_start block.now begin }
+    ensures { MatchOption result (NoGame depth_limit file_start (take begin block.now) (drop begin block.now)) (λ end. (parts : List Part) × GameTo depth_limit file_start block.now begin parts end) }
+{
+    match read_parts(block, begin, file_start, &mut Nothing {}) {
+        Ok(Some((_, end))) => Some(end),
+        Ok(None) => None,
+        Err(never) => match never {},
     }
-    Ok(None)
 }

@@ -8,3 +8,9 @@ pub const MAX_DEPTH: usize = 255;
 
 /// The largest offset that a text may reach.
 pub const LARGEST_OFFSET: u64 = 4_611_686_018_427_387_904;
+
+/// The most bytes that one read asks for.
+pub const READ_LIMIT: usize = 8192;
+
+/// The most bytes that are held at once: a block of the limit, and what one read gives.
+pub const WINDOW_LIMIT: usize = BLOCK_LIMIT + READ_LIMIT;

@@ -2,7 +2,7 @@
 
 ghost use Rattle.std.specs.Prelude.{◌≡◌, ◌≤◌, false, length};
 
-use crate::game::{RawGame, read_game};
+use crate::game::{RawGame, game_end, read_game};
 use crate::place::gap_end;
 use std::alloc::{AllocError, Global};
 use std::marker::Model;
@@ -86,6 +86,76 @@ impl<'a> Iterator for Games<'a> {
                 self.at = self.block.len();
                 self.failed = true;
                 Some(Err(error))
+            }
+        }
+    }
+}
+
+/// Where a piece of a block begins, and what it is.
+#[derive(Clone, Copy, Debug, PartialEq, Eq)]
+pub enum Mark {
+    /// A game begins at this place.
+    Game(usize),
+    /// Bytes from this place to the block's end, of which no front is a game.
+    Unreadable(usize),
+}
+
+/// The places of the pieces of a block, in their order.
+#[derive(Drop)]
+pub struct Marks<'a> {
+    block: &'a [u8],
+    file_start: bool,
+    at: usize,
+}
+
+impl<'a> Model for Marks<'a> {
+    ghost use Rattle.std.specs.Prelude.{◌≤◌, false, length};
+    ghost use Rattle.pgn_text.specs.Left.{Left};
+
+    ghost Value = { Left };
+
+    ghost view = { λ marks. record { block = marks.block.now; file_start = marks.file_start; at = marks.at; failed = false } };
+
+    ghost invariant = { λ marks. marks.at ≤ length marks.block.now };
+}
+
+impl<'a> Marks<'a> {
+    pub(crate) fn new(block: &'a [u8], file_start: bool) -> Self
+        ensures { result ≡ record { block = block.now; file_start = file_start; at = 0; failed = false } }
+    {
+        Marks {
+            block,
+            file_start,
+            at: 0,
+        }
+    }
+}
+
+impl<'a> Iterator for Marks<'a> {
+    ghost use Rattle.std.specs.Iterator.{at_most};
+    ghost use Rattle.std.specs.Prelude.{◌-◌, length};
+    ghost use Rattle.pgn_text.specs.LeftMarks.{GivesMark};
+    ghost use Rattle.pgn_text.specs.Limits.{depth_limit};
+
+    type Item = Mark;
+
+    ghost next_gives = { GivesMark depth_limit };
+
+    ghost remaining = { λ marks. at_most (length marks.block - marks.at) };
+
+    fn next(&mut self) -> Option<Mark> {
+        let begin = gap_end(self.block, self.at, self.file_start);
+        if begin == self.block.len() {
+            return None;
+        }
+        match game_end(self.block, begin, self.file_start) {
+            Some(end) => {
+                self.at = end;
+                Some(Mark::Game(begin))
+            }
+            None => {
+                self.at = self.block.len();
+                Some(Mark::Unreadable(begin))
             }
         }
     }

@@ -1,12 +1,15 @@
 //! Parts at places of a block.
 
-ghost use Rattle.std.specs.Prelude.{◌≡◌, ◌≤◌, length, take, drop, MatchOption};
+ghost use Rattle.std.specs.Prelude.{◌≡◌, ◌<◌, ◌≤◌, Bool, length, take, drop, get_or, MatchOption};
 ghost use Rattle.pgn_text.specs.Parts.{is_column_one as is_in_column_one, standing_of};
+ghost use Rattle.pgn_text.specs.Reading.{KeptComment, KeptNumber};
 ghost use Rattle.pgn_text.specs.Tokens.{standing_view, token_of};
 ghost use Rattle.pgn_text.specs.Walk.{KeptAt, NothingAt, GapPartAt, NoGapPartAt, LongestGapTo};
 
+use crate::class::{Class, is_in, run_end};
 use crate::scan::{Found, Standing, gap_part, part};
 use crate::token::Token;
+use memchr::memchr;
 
 const BYTE_ORDER_MARK: [u8; 3] = [0xEF, 0xBB, 0xBF];
 
@@ -33,8 +36,37 @@ fn standing_at(block: &[u8], at: usize, file_start: bool) -> Standing
     }
 }
 
-/// The part at the place of the block, and the place behind it.
+/// The place behind the move number at the place of the block, if one stands there.
 #[inline(always)]
+pub(crate) fn number_at(block: &[u8], at: usize) -> Option<usize>
+    requires { at < length block.now }
+    ensures { MatchOption result (Unit {0}) (λ end. (file_start : Bool) → KeptAt file_start block.now at KeptNumber end) }
+{
+    if !is_in(Class::Digit, block[at]) {
+        return None;
+    }
+    let end = run_end(Class::Digit, block, at + 1);
+    if end < block.len() && is_in(Class::Word, block[end]) {
+        return None;
+    }
+    Some(end)
+}
+
+/// The bytes of the brace comment at the place of the block, and the place behind it.
+#[inline(always)]
+pub(crate) fn comment_at(block: &[u8], at: usize) -> Option<(&[u8], usize)>
+    requires place { at < length block.now }
+    requires brace { get_or block.now at 0 ≡ 123 }
+    ensures { (file_start : Bool) → MatchOption result (NothingAt file_start block.now at) (λ found. KeptAt file_start block.now at (KeptComment found.0.now) found.1) }
+{
+    let Some(len) = memchr(b'}', &block[at + 1..]) else {
+        return None;
+    };
+    let end = at + 1 + len;
+    Some((&block[at + 1..end], end + 1))
+}
+
+/// The part at the place of the block, and the place behind it.
 pub(crate) fn part_at(block: &[u8], at: usize, file_start: bool) -> Option<(Token<'_>, usize)>
     requires { at ≤ length block.now }
     ensures { MatchOption result (NothingAt file_start block.now at) (λ found. KeptAt file_start block.now at (token_of found.0) found.1) }
@@ -51,6 +83,9 @@ fn gap_part_at(block: &[u8], at: usize, file_start: bool) -> Option<usize>
     requires { at ≤ length block.now }
     ensures { MatchOption result (NoGapPartAt file_start block.now at) (λ end. GapPartAt file_start block.now at end) }
 {
+    if at < block.len() && is_in(Class::White, block[at]) {
+        return Some(at + 1);
+    }
     let Some((_, rest)) = gap_part(&block[at..], standing_at(block, at, file_start)) else {
         return None;
     };

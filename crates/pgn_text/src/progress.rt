@@ -41,7 +41,8 @@ impl Progress {
         self.depth == 0
     }
 
-    fn in_movetext(self) -> Self
+    #[inline(always)]
+    pub(crate) fn in_movetext(self) -> Self
         ensures { state_of result ≡ in_movetext_state (state_of self) }
     {
         Progress {
@@ -50,7 +51,8 @@ impl Progress {
         }
     }
 
-    fn behind_move(self) -> Self
+    #[inline(always)]
+    pub(crate) fn behind_move(self) -> Self
         ensures { state_of result ≡ record { in_tags = false; depth = self.depth; has_move = true } }
     {
         Progress {
@@ -60,7 +62,8 @@ impl Progress {
         }
     }
 
-    fn opened(self) -> Option<Self>
+    #[inline(always)]
+    pub(crate) fn opened(self) -> Option<Self>
         ensures { option_map state_of result ≡ step_kept depth_limit (state_of self) KeptOpen }
     {
         if self.has_move && self.depth < MAX_DEPTH {
@@ -74,7 +77,8 @@ impl Progress {
         }
     }
 
-    fn closed(self) -> Option<Self>
+    #[inline(always)]
+    pub(crate) fn closed(self) -> Option<Self>
         ensures { option_map state_of result ≡ step_kept depth_limit (state_of self) KeptClose }
     {
         if self.depth > 0 {

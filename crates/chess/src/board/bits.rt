@@ -1,11 +1,14 @@
 //! The board over words of 64 bits.
-ghost use Rattle.std.specs.Prelude.{◌≡◌, ◌↔◌, ◌<◌, IsTrue, length, replicate};
+ghost use Rattle.std.specs.Prelude.{◌≡◌, ◌↔◌, ◌<◌, IsTrue, replicate};
 ghost use Rattle.chess.specs.Squares.{IsOnBoard, index_of};
-ghost use Rattle.chess.specs.Placements.{with_man, man_at, no_men, IsEmpty};
+ghost use Rattle.chess.specs.Placements.{with_man, man_at, IsEmpty};
 ghost use Rattle.chess.specs.Attacks.{IsAttacked};
 ghost use Rattle.chess.specs.BitWords.{AreApart, IsWordOf, IsCleared, IsBitSet, IsMan, IsRunner, IsHitBy, IsHitStraight, IsHitDiagonal, words_men, man_in, man_of_row, row_of};
 ghost use Rattle.chess.specs.CellFacts.{on_board-men_of};
 ghost use Rattle.chess.specs.declared.board.man.Kind.TheVariants.{King, Knight, Pawn};
+
+#[cfg(test)]
+mod tests;
 
 use crate::board::fills::{meet, reached, word_of};
 use crate::board::sights::{hitters_of, sighting};

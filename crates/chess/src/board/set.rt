@@ -108,7 +108,7 @@ impl SquareSet {
         self.word == 0
     }
 
-    /// Whether some square is in the set.
+    /// Whether some square is in the set: the contrary of `is_empty`, said of a square that is there.
     pub(crate) fn has_some(&self) -> bool
         ensures { IsTrue result ↔ ((s : Place) × IsOnBoard s × (is_in self.now s ≡ true)) }
     {

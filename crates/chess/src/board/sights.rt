@@ -49,10 +49,7 @@ pub(crate) fn hitters_of(man: Man, target: Square, own: u64, occupied: u64) -> S
     let seen = own & sighting(man, target);
     let mut left = SquareSet::of_word(seen);
     let mut set = SquareSet::new();
-    for step in 0u8..64 {
-        let Some(square) = left.take_first() else {
-            return set;
-        };
+    while let Some(square) = left.take_first() {
         set.insert_if(square, is_unblocked(square, target, occupied));
     }
     set

@@ -43,18 +43,10 @@ fn split_fields(text: &[u8]) -> Option<FirstFields>
     ensures { MatchOption result ((a b c d : List ℕ) (more : List (List ℕ)) → fields_of text.now ≡ a ∷ b ∷ c ∷ d ∷ more → ⊥)
         (λ f. fields_of text.now ≡ f.men.now ∷ f.side.now ∷ f.rights.now ∷ f.en_passant.now ∷ fields_of f.rest.now) }
 {
-    let Some((men, rest)) = next_field(text) else {
-        return None;
-    };
-    let Some((side, rest)) = next_field(rest) else {
-        return None;
-    };
-    let Some((rights, rest)) = next_field(rest) else {
-        return None;
-    };
-    let Some((en_passant, rest)) = next_field(rest) else {
-        return None;
-    };
+    let (men, rest) = next_field(text)?;
+    let (side, rest) = next_field(rest)?;
+    let (rights, rest) = next_field(rest)?;
+    let (en_passant, rest) = next_field(rest)?;
     Some(FirstFields {
         men,
         side,
@@ -75,24 +67,12 @@ fn read_spelled<B: Board>(text: &[u8]) -> Option<Spelled<B>>
       fullmove_number = d.fullmove_number;
     })) }
 {
-    let Some(fields) = split_fields(text) else {
-        return None;
-    };
-    let Some(board) = read_men::<B>(fields.men) else {
-        return None;
-    };
-    let Some(turn) = read_side(fields.side) else {
-        return None;
-    };
-    let Some(rights) = read_rights(fields.rights) else {
-        return None;
-    };
-    let Some(en_passant) = read_en_passant(fields.en_passant) else {
-        return None;
-    };
-    let Some((halfmove_clock, fullmove_number)) = read_counts(fields.rest) else {
-        return None;
-    };
+    let fields = split_fields(text)?;
+    let board = read_men::<B>(fields.men)?;
+    let turn = read_side(fields.side)?;
+    let rights = read_rights(fields.rights)?;
+    let en_passant = read_en_passant(fields.en_passant)?;
+    let (halfmove_clock, fullmove_number) = read_counts(fields.rest)?;
     Some(Spelled {
         board,
         turn,

@@ -26,7 +26,7 @@ pub fn resolve<B: Board>(position: &Position<B>, text: &[u8]) -> Result<Move, Sa
     only_named(position, text)
 }
 
-/// The only legal move that the text names.
+/// The only legal move that the text names: what `resolve` answers, as one fact of the answer.
 fn only_named<B: Board>(position: &Position<B>, text: &[u8]) -> Result<Move, SanError>
     ensures { IsAnswer (IsNamed position.now text.now) result }
 {
@@ -89,10 +89,7 @@ fn next_origin<B: Board>(
         (λ found. IsNext (Fits position.now (said_by said.now)) squares found.1 found.0) }
 {
     let mut left = squares;
-    for step in 0u8..64 {
-        let Some(from) = left.take_first() else {
-            return None;
-        };
+    while let Some(from) = left.take_first() {
         if fits(position, said, from) {
             return Some((from, left));
         }

@@ -23,7 +23,7 @@ pub fn san<B: Board>(position: &Position<B>, m: Move) -> ArrayString<8>
     written(position, m)
 }
 
-/// The text of a legal move.
+/// The text of a legal move: what `san` answers, before it is known that the text names that move alone.
 fn written<B: Board>(position: &Position<B>, m: Move) -> ArrayString<8>
     requires { IsLegal position.now m }
     ensures { IsSan position.now m result.bytes }
@@ -174,10 +174,7 @@ fn rivals<B: Board>(position: &Position<B>, m: &Move, man: Man) -> SquareSet
 {
     let mut left = position.squares_of(man);
     let mut found = SquareSet::new();
-    for step in 0u8..64 {
-        let Some(from) = left.take_first() else {
-            return found;
-        };
+    while let Some(from) = left.take_first() {
         found.insert_if(from, is_rival(position, m, from));
     }
     found

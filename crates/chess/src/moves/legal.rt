@@ -29,10 +29,7 @@ impl<B: Board> Position<B> {
     {
         let mut left = self.candidates(square);
         let mut found = SquareSet::new();
-        for step in 0u8..64 {
-            let Some(to) = left.take_first() else {
-                return found;
-            };
+        while let Some(to) = left.take_first() {
             found.insert_if(to, self.can_go(square, to));
         }
         found
@@ -223,10 +220,7 @@ impl<B: Board> Position<B> {
         ensures { IsTrue result ↔ CanLeave self.now from }
     {
         let mut left = self.candidates(from);
-        for step in 0u8..64 {
-            let Some(to) = left.take_first() else {
-                return false;
-            };
+        while let Some(to) = left.take_first() {
             if self.can_go(from, to) {
                 return true;
             }
@@ -242,10 +236,7 @@ impl<B: Board> Position<B> {
             side: self.side(),
             kind,
         });
-        for step in 0u8..64 {
-            let Some(from) = left.take_first() else {
-                return false;
-            };
+        while let Some(from) = left.take_first() {
             if self.can_leave(from) {
                 return true;
             }

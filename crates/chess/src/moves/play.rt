@@ -10,7 +10,7 @@ use crate::moves::Move;
 use crate::moves::castling::{king_leaves, rook_arrives, rook_leaves};
 use crate::position::Position;
 
-/// Whether the two are the same square.
+/// Whether the two are the same square: `Square::is`, answered as the definition of the men after a move asks it.
 fn same(a: Square, b: Square) -> bool
     ensures { result ≡ same_square a b }
 {

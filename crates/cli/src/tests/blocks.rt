@@ -3,11 +3,21 @@ ghost use Rattle.std.specs.Prelude.{◌^◌, ◌≤◌};
 
 use super::support::{Pieces, TWO_GAMES};
 use pgn_text::{Block, Blocks, Body, Tally};
-use std::alloc::Global;
+use std::alloc::{AllocError, Global};
+use std::io::Read;
 use std::test::Fail;
 
-/// Whether the calls of `next`, up to the end and once more, answer this: each block as its offset and its length.
-fn is_answered(alloc: Global, reader: Pieces<'_>, offset: u64, wanted: &str) -> Result<bool, Fail>
+/// The most bytes that may be held: a block of the limit, and what one read gives.
+const WINDOW: usize = 16_785_408;
+
+/// Whether the calls of `next`, up to the end and once more, answer this, and no more is held than the window takes: each block as its
+/// offset and its length.
+fn is_answered<R: Read + Drop>(
+    alloc: Global,
+    reader: R,
+    offset: u64,
+    wanted: &str,
+) -> Result<bool, Fail>
     requires { offset ≤ 2 ^ 62 }
 {
     let mut blocks = Blocks::new(alloc, offset);
@@ -44,6 +54,9 @@ fn is_answered(alloc: Global, reader: Pieces<'_>, offset: u64, wanted: &str) -> 
                 write!(answers, "{error:?} ")?;
                 is_over = true;
             }
+        }
+        if blocks.held() > WINDOW {
+            answers.push_str("held too much ")?;
         }
         if was_over {
             break;
@@ -116,13 +129,18 @@ fn a_fault_comes_behind_the_complete_blocks(rt: HostRuntime) -> Result<(), Fail>
 #[test]
 fn blocks_at_the_limit(rt: HostRuntime) -> Result<(), Fail> {
     let rows: [(usize, &[u8], usize, &str); 3] = [
-        (16_777_216, b"", 8192, "3+16777216 end end "),
         (16_777_217, b"", 8192, "3+long end end "),
         (
             16_777_215,
             b"\n[Event \"A\"",
             1000,
             "3+16777216 16777219+10 end end ",
+        ),
+        (
+            16_800_000,
+            b"\n[Event \"A\"\n[Event \"B\"",
+            1021,
+            "3+long 16800004+11 16800015+10 end end ",
         ),
     ];
     for (spaces, rest, size, wanted) in rows {
@@ -131,6 +149,34 @@ fn blocks_at_the_limit(rt: HostRuntime) -> Result<(), Fail> {
         let reader = Pieces::new(text.as_slice(), size);
         assert!(rt; is_answered(rt.alloc(), reader, 3, wanted)?, "{spaces}");
     }
+    Ok(())
+}
+
+/// The first bytes of a block of the limit: a read of them alone makes later ones of 8,192 bytes end seven bytes behind the block.
+const SEVEN_SPACES: &[u8] = b"       ";
+
+/// The block's other bytes, and more behind it than the window takes.
+fn limit_and_more(alloc: Global) -> Result<Vec<u8>, AllocError> {
+    let mut text = vec![in alloc; b' '; 16_777_208]?;
+    text.extend_from_slice(b"\n[Event \"A\"")?;
+    text.resize(16_799_993, b' ')?;
+    text.extend_from_slice(b"\n[Event \"B\"")?;
+    Ok(text)
+}
+
+#[test]
+fn a_read_keeps_the_bound(rt: HostRuntime) -> Result<(), Fail> {
+    let text = limit_and_more(rt.alloc())?;
+    let reader = Pieces::new(SEVEN_SPACES, 7).chain(Pieces::new(text.as_slice(), 8192));
+    let wanted = "0+16777216 16777216+22785 16800001+10 end end ";
+    assert!(rt; is_answered(rt.alloc(), reader, 0, wanted)?);
+    let mut blocks = Blocks::new(rt.alloc(), 0);
+    let reader = Pieces::new(SEVEN_SPACES, 7).chain(Pieces::new(text.as_slice(), 8192));
+    let mut input = Tally::new(reader);
+    assert!(rt; blocks.next(&mut input).is_ok());
+    assert!(rt; blocks.held() == WINDOW);
+    assert!(rt; blocks.next(&mut input).is_ok());
+    assert!(rt; blocks.held() < 32_768);
     Ok(())
 }
 

@@ -1,6 +1,6 @@
-//! Squares, sets of squares, the plain board, and the calls that ask a position for its parts.
-use super::chess_rows::{played, position, square};
-use chess::{Board, Kind, Mailbox, Man, Position, Side, Square};
+//! Squares, sets of squares, both boards, and the calls that ask a position for its parts.
+use super::chess_rows::{move_of, played, position, square};
+use chess::{Bits, Board, Kind, Mailbox, Man, Position, Side, Square, resolve};
 use std::test::Fail;
 
 const fn white(kind: Kind) -> Man {
@@ -17,13 +17,23 @@ const fn black(kind: Kind) -> Man {
     }
 }
 
-/// Whether the set has just the squares of the names, and the side of the man attacks each of them.
-fn reaches(
-    board: &Mailbox,
-    man: Man,
-    from: Square,
-    names: &[&'static [u8; 2]],
-) -> Result<bool, Fail> {
+/// A man on a square, other men, and the squares that the man attacks.
+type Reach = (
+    Man,
+    &'static [u8; 2],
+    &'static [&'static [u8; 2]],
+    &'static [&'static [u8; 2]],
+);
+
+/// Whether the man attacks just the squares of the names, and so does its side.
+fn reaches<B: Board>(row: &Reach) -> Result<bool, Fail> {
+    let (man, name, others, names) = *row;
+    let mut board = B::empty();
+    let from = square(name[0], name[1])?;
+    board.put(from, Some(man));
+    for other in others {
+        board.put(square(other[0], other[1])?, Some(black(Kind::Knight)));
+    }
     let reach = board.reach(from);
     for name in names {
         let to = square(name[0], name[1])?;
@@ -33,14 +43,6 @@ fn reaches(
     }
     Ok(reach.count() as usize == names.len() && board.at(from) == Some(man))
 }
-
-/// A man on a square, other men, and the squares that the man attacks.
-type Reach = (
-    Man,
-    &'static [u8; 2],
-    &'static [&'static [u8; 2]],
-    &'static [&'static [u8; 2]],
-);
 
 #[test]
 fn men_reach_the_squares_of_the_laws(rt: HostRuntime) -> Result<(), Fail> {
@@ -65,14 +67,13 @@ fn men_reach_the_squares_of_the_laws(rt: HostRuntime) -> Result<(), Fail> {
             &[b"a2", b"a3", b"b1", b"c1"],
         ),
     ];
-    for (man, name, others, names) in rows {
-        let mut board = Mailbox::empty();
-        let from = square(name[0], name[1])?;
-        board.put(from, Some(man));
-        for other in others {
-            board.put(square(other[0], other[1])?, Some(black(Kind::Knight)));
-        }
-        assert!(rt; reaches(&board, man, from, names)?, "{man:?} on {name:?}");
+    for row in rows {
+        assert!(rt;
+            reaches::<Mailbox>(&row)? && reaches::<Bits>(&row)?,
+            "{:?} on {:?}",
+            row.0,
+            row.1
+        );
     }
     Ok(())
 }
@@ -91,9 +92,9 @@ fn squares_have_numbers() -> bool {
 }
 
 /// Whether an empty board has no men, and men that are put and taken away are counted.
-fn men_are_put_and_taken(a1: Square, h4: Square) -> bool {
+fn men_are_put_and_taken<B: Board>(a1: Square, h4: Square) -> bool {
     let queen = black(Kind::Queen);
-    let mut board = Mailbox::empty();
+    let mut board = B::empty();
     let is_bare = board.squares_of(queen).is_empty()
         && board.reach(h4).is_empty()
         && !board.attacked(h4, Side::Black)
@@ -107,7 +108,7 @@ fn men_are_put_and_taken(a1: Square, h4: Square) -> bool {
 }
 
 /// Whether the position after 1. e4 reports its parts, and so does its copy.
-fn parts_are_reported(first: &Position<Mailbox>, e4: Square) -> bool {
+fn parts_are_reported<B: Board>(first: &Position<B>, e4: Square) -> bool {
     let copy = first.copy();
     let pawn = Some(white(Kind::Pawn));
     first.side() == Side::Black
@@ -119,27 +120,90 @@ fn parts_are_reported(first: &Position<Mailbox>, e4: Square) -> bool {
         && copy.fen() == first.fen()
 }
 
+/// Whether squares, a board, a position and the starting position report their parts.
+fn report_parts<B: Board>() -> Result<[bool; 4], Fail> {
+    let start: Position<B> = Position::start();
+    let first = played(&start, &move_of(&start, b"e2e4")?).ok_or("an illegal move")?;
+    let text = b"rnbqkbnr/pppppppp/8/8/8/8/PPPPPPPP/RNBQKBNR w KQkq - 0 1";
+    Ok([
+        squares_have_numbers(),
+        men_are_put_and_taken::<B>(square(b'a', b'1')?, square(b'h', b'4')?),
+        parts_are_reported(&first, square(b'e', b'4')?),
+        start.fen() == position::<B>(text)?.fen(),
+    ])
+}
+
 #[test]
 fn calls_that_ask_for_parts(rt: HostRuntime) -> Result<(), Fail> {
-    let e4 = square(b'e', b'4')?;
-    let start: Position<Mailbox> = Position::start();
-    let m = super::chess_rows::move_of(&start, b"e2e4")?;
-    let first = played(&start, &m).ok_or("an illegal move")?;
-    let rows = [
-        ("squares", squares_have_numbers()),
-        (
-            "a board",
-            men_are_put_and_taken(square(b'a', b'1')?, square(b'h', b'4')?),
-        ),
-        ("a position", parts_are_reported(&first, e4)),
-        (
-            "the starting position",
-            start.fen()
-                == position(b"rnbqkbnr/pppppppp/8/8/8/8/PPPPPPPP/RNBQKBNR w KQkq - 0 1")?.fen(),
-        ),
+    assert_eq!(rt; report_parts::<Mailbox>()?, [true; 4]);
+    assert_eq!(rt; report_parts::<Bits>()?, [true; 4]);
+    Ok(())
+}
+
+/// Whether both boards have the same man on the square, attacks on it, and squares that are attacked from it.
+fn agree_on(plain: &Mailbox, words: &Bits, square: Square) -> bool {
+    let (reach, other) = (plain.reach(square), words.reach(square));
+    for place in 0u8..64 {
+        if let Some(target) = Square::new(place % 8 + 1, place / 8 + 1)
+            && reach.has(target) != other.has(target)
+        {
+            return false;
+        }
+    }
+    plain.at(square) == words.at(square)
+        && plain.attacked(square, Side::White) == words.attacked(square, Side::White)
+        && plain.attacked(square, Side::Black) == words.attacked(square, Side::Black)
+}
+
+/// Puts the men of the position on both boards, and reports whether these agree on each square.
+fn agree(position: &Position<Bits>, plain: &mut Mailbox, words: &mut Bits) -> bool {
+    for place in 0u8..64 {
+        if let Some(square) = Square::new(place % 8 + 1, place / 8 + 1) {
+            plain.put(square, position.at(square));
+            words.put(square, position.at(square));
+        }
+    }
+    for place in 0u8..64 {
+        if let Some(square) = Square::new(place % 8 + 1, place / 8 + 1)
+            && !agree_on(plain, words, square)
+        {
+            return false;
+        }
+    }
+    true
+}
+
+/// The ply from which the boards no longer agree, if there is one, in a game from the starting position.
+fn first_difference(game: &[&str]) -> Result<Option<usize>, Fail> {
+    let mut position: Position<Bits> = Position::start();
+    let (mut plain, mut words) = (Mailbox::empty(), Bits::empty());
+    for ply in 0..game.len() {
+        if !agree(&position, &mut plain, &mut words) {
+            return Ok(Some(ply));
+        }
+        match resolve(&position, game[ply].as_bytes()) {
+            Ok(m) => position = position.play(m),
+            Err(_) => return Err("an illegal move")?,
+        }
+    }
+    if agree(&position, &mut plain, &mut words) {
+        return Ok(None);
+    }
+    Ok(Some(game.len()))
+}
+
+#[test]
+fn both_boards_agree_along_games(rt: HostRuntime) -> Result<(), Fail> {
+    let games: [&[&str]; 2] = [
+        &["f4", "e5", "fxe5", "d6", "exd6", "Bxd6"],
+        &[
+            "e4", "e5", "Nf3", "d6", "d4", "Bg4", "dxe5", "Bxf3", "Qxf3", "dxe5", "Bc4", "Nf6",
+            "Qb3", "Qe7", "Nc3", "c6", "Bg5", "b5", "Nxb5", "cxb5", "Bxb5+", "Nbd7", "O-O-O",
+            "Rd8", "Rxd7", "Rxd7", "Rd1", "Qe6", "Bxd7+", "Nxd7", "Qb8+", "Nxb8", "Rd8#",
+        ],
     ];
-    for (name, is_so) in rows {
-        assert!(rt; is_so, "{name}");
+    for game in games {
+        assert_eq!(rt; first_difference(game)?, None);
     }
     Ok(())
 }

@@ -1,6 +1,6 @@
-//! How many games of so many moves there are: published counts of legal move sequences.
+//! How many games of so many moves there are: published counts of legal move sequences. The longest are counted over the board of words alone.
 use super::chess_rows::{played, position};
-use chess::{Kind, Mailbox, Move, Position, Square, Wing};
+use chess::{Bits, Board, Kind, Mailbox, Move, Position, Square, Wing};
 use std::test::Fail;
 
 /// What a pawn may become, and the wings: each way in which a move may go between two squares.
@@ -16,7 +16,7 @@ const WAYS: [(Option<Kind>, Option<Wing>); 7] = [
 
 /// How many games of so many moves there are from here.
 #[cycle(count)]
-fn count(position: &Position<Mailbox>, depth: u8) -> u32 {
+fn count<B: Board>(position: &Position<B>, depth: u8) -> u32 {
     if depth == 0 {
         return 1;
     }
@@ -31,7 +31,7 @@ fn count(position: &Position<Mailbox>, depth: u8) -> u32 {
 
 /// How many of them begin with a move from the square.
 #[cycle(count)]
-fn count_from(position: &Position<Mailbox>, from: Square, depth: u8) -> u32 {
+fn count_from<B: Board>(position: &Position<B>, from: Square, depth: u8) -> u32 {
     if depth == 0 {
         return 0;
     }
@@ -49,7 +49,7 @@ fn count_from(position: &Position<Mailbox>, from: Square, depth: u8) -> u32 {
 
 /// How many of them begin with a move from the one square to the other.
 #[cycle(count)]
-fn count_between(position: &Position<Mailbox>, from: Square, to: Square, depth: u8) -> u32 {
+fn count_between<B: Board>(position: &Position<B>, from: Square, to: Square, depth: u8) -> u32 {
     if depth == 0 {
         return 0;
     }
@@ -69,8 +69,8 @@ fn count_between(position: &Position<Mailbox>, from: Square, to: Square, depth: 
 }
 
 /// Whether so many games of each length, from one move on, begin in the position.
-fn has_counts(fen: &str, counts: &[u32]) -> Result<bool, Fail> {
-    let position = position(fen.as_bytes())?;
+fn has_counts<B: Board>(fen: &str, counts: &[u32]) -> Result<bool, Fail> {
+    let position = position::<B>(fen.as_bytes())?;
     let mut depth = 0u8;
     for games in counts {
         depth = depth.saturating_add(1);
@@ -84,21 +84,24 @@ fn has_counts(fen: &str, counts: &[u32]) -> Result<bool, Fail> {
 #[test]
 fn counts_from_the_start(rt: HostRuntime) -> Result<(), Fail> {
     let start = "rnbqkbnr/pppppppp/8/8/8/8/PPPPPPPP/RNBQKBNR w KQkq - 0 1";
-    assert!(rt; has_counts(start, &[20, 400, 8902, 197_281])?);
+    assert!(rt; has_counts::<Mailbox>(start, &[20, 400, 8902])?);
+    assert!(rt; has_counts::<Bits>(start, &[20, 400, 8902, 197_281])?);
     Ok(())
 }
 
 #[test]
 fn counts_with_castling_and_pins(rt: HostRuntime) -> Result<(), Fail> {
     let text = "r3k2r/p1ppqpb1/bn2pnp1/3PN3/1p2P3/2N2Q1p/PPPBBPPP/R3K2R w KQkq - 0 1";
-    assert!(rt; has_counts(text, &[48, 2039, 97_862])?);
+    assert!(rt; has_counts::<Mailbox>(text, &[48, 2039])?);
+    assert!(rt; has_counts::<Bits>(text, &[48, 2039, 97_862])?);
     Ok(())
 }
 
 #[test]
 fn counts_with_captures_en_passant(rt: HostRuntime) -> Result<(), Fail> {
     let text = "8/2p5/3p4/KP5r/1R3p1k/8/4P1P1/8 w - - 0 1";
-    assert!(rt; has_counts(text, &[14, 191, 2812, 43_238])?);
+    assert!(rt; has_counts::<Mailbox>(text, &[14, 191, 2812])?);
+    assert!(rt; has_counts::<Bits>(text, &[14, 191, 2812, 43_238])?);
     Ok(())
 }
 
@@ -115,7 +118,10 @@ fn counts_with_promotions(rt: HostRuntime) -> Result<(), Fail> {
         ),
     ];
     for (fen, counts) in rows {
-        assert!(rt; has_counts(fen, counts)?, "{fen}");
+        assert!(rt;
+            has_counts::<Mailbox>(fen, counts)? && has_counts::<Bits>(fen, counts)?,
+            "{fen}"
+        );
     }
     Ok(())
 }

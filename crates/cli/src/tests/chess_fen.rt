@@ -1,10 +1,10 @@
 //! Texts in FEN: which are read, what is dropped of them, and which are refused for what (PGN 16.1).
-use chess::{FenError, Mailbox, Position};
+use chess::{Bits, Board, FenError, Mailbox, Position};
 use std::test::Fail;
 
 /// Whether the text is read, and written so.
-fn is_written(given: &str, written: &str) -> bool {
-    match Position::<Mailbox>::from_fen(given.as_bytes()) {
+fn is_written<B: Board>(given: &str, written: &str) -> bool {
+    match Position::<B>::from_fen(given.as_bytes()) {
         Ok(position) => position.fen().as_str() == written,
         Err(_) => false,
     }
@@ -145,14 +145,17 @@ fn texts_are_read_and_written(rt: HostRuntime) -> Result<(), Fail> {
         ),
     ];
     for (given, written) in rows {
-        assert!(rt; is_written(given, written), "of {given}");
+        assert!(rt;
+            is_written::<Mailbox>(given, written) && is_written::<Bits>(given, written),
+            "of {given}"
+        );
     }
     Ok(())
 }
 
 /// Whether the text is refused for that.
-fn is_refused(text: &str, error: FenError) -> bool {
-    match Position::<Mailbox>::from_fen(text.as_bytes()) {
+fn is_refused<B: Board>(text: &str, error: FenError) -> bool {
+    match Position::<B>::from_fen(text.as_bytes()) {
         Ok(_) => false,
         Err(found) => found == error,
     }
@@ -211,7 +214,11 @@ fn texts_of_another_form_are_refused(rt: HostRuntime) -> Result<(), Fail> {
         "4k3/8/8/8/8/8/8/4K3 w KK - 0 1",
     ];
     for text in rows {
-        assert!(rt; is_refused(text, FenError::Syntax), "of {text}");
+        assert!(rt;
+            is_refused::<Mailbox>(text, FenError::Syntax)
+                && is_refused::<Bits>(text, FenError::Syntax),
+            "of {text}"
+        );
     }
     Ok(())
 }
@@ -242,7 +249,10 @@ fn positions_that_can_not_be_are_refused(rt: HostRuntime) -> Result<(), Fail> {
         ("4k3/4R3/8/8/8/8/8/P3K3 w - - 0 1", FenError::Pawns),
     ];
     for (text, error) in rows {
-        assert!(rt; is_refused(text, error), "of {text}");
+        assert!(rt;
+            is_refused::<Mailbox>(text, error) && is_refused::<Bits>(text, error),
+            "of {text}"
+        );
     }
     Ok(())
 }

@@ -1,10 +1,11 @@
 //! Legal moves and the positions after them (Laws 3.1 to 3.9; PGN 16.1.3).
 use super::chess_rows::{move_of, played, position, square};
+use chess::{Bits, Board, Mailbox};
 use std::test::Fail;
 
 /// Whether the move is legal in the position, and leads to that one.
-fn leads(fen: &str, tried: &str, after: &str) -> Result<bool, Fail> {
-    let position = position(fen.as_bytes())?;
+fn leads<B: Board>(fen: &str, tried: &str, after: &str) -> Result<bool, Fail> {
+    let position = position::<B>(fen.as_bytes())?;
     let m = move_of(&position, tried.as_bytes())?;
     Ok(match played(&position, &m) {
         Some(next) => next.fen().as_str() == after,
@@ -133,14 +134,17 @@ fn moves_lead_to_these_positions(rt: HostRuntime) -> Result<(), Fail> {
         ),
     ];
     for (fen, tried, after) in rows {
-        assert!(rt; leads(fen, tried, after)?, "{tried} in {fen}");
+        assert!(rt;
+            leads::<Mailbox>(fen, tried, after)? && leads::<Bits>(fen, tried, after)?,
+            "{tried} in {fen}"
+        );
     }
     Ok(())
 }
 
 /// Whether the move is legal in the position.
-fn is_legal(fen: &str, tried: &str) -> Result<bool, Fail> {
-    let position = position(fen.as_bytes())?;
+fn is_legal<B: Board>(fen: &str, tried: &str) -> Result<bool, Fail> {
+    let position = position::<B>(fen.as_bytes())?;
     Ok(position.is_legal(move_of(&position, tried.as_bytes())?))
 }
 
@@ -196,14 +200,17 @@ fn moves_against_the_laws_are_illegal(rt: HostRuntime) -> Result<(), Fail> {
         ("4k3/8/8/8/8/8/8/4K3 w - - 0 1", "e1e3"),
     ];
     for (fen, tried) in rows {
-        assert!(rt; !is_legal(fen, tried)?, "{tried} in {fen}");
+        assert!(rt;
+            !is_legal::<Mailbox>(fen, tried)? && !is_legal::<Bits>(fen, tried)?,
+            "{tried} in {fen}"
+        );
     }
     Ok(())
 }
 
 /// Whether the side to move is in check, and whether it has a legal move.
-fn stands(fen: &str, in_check: bool, has_move: bool) -> Result<bool, Fail> {
-    let position = position(fen.as_bytes())?;
+fn stands<B: Board>(fen: &str, in_check: bool, has_move: bool) -> Result<bool, Fail> {
+    let position = position::<B>(fen.as_bytes())?;
     Ok(position.in_check() == in_check && position.has_move() == has_move)
 }
 
@@ -250,14 +257,17 @@ fn check_mate_and_stalemate(rt: HostRuntime) -> Result<(), Fail> {
         ),
     ];
     for (fen, in_check, has_move) in rows {
-        assert!(rt; stands(fen, in_check, has_move)?, "{fen}");
+        assert!(rt;
+            stands::<Mailbox>(fen, in_check, has_move)? && stands::<Bits>(fen, in_check, has_move)?,
+            "{fen}"
+        );
     }
     Ok(())
 }
 
 /// Whether the targets of the square are as many, and the set is empty exactly where there is none.
-fn has_targets(fen: &str, name: [u8; 2], count: u32) -> Result<bool, Fail> {
-    let targets = position(fen.as_bytes())?.targets(square(name[0], name[1])?);
+fn has_targets<B: Board>(fen: &str, name: [u8; 2], count: u32) -> Result<bool, Fail> {
+    let targets = position::<B>(fen.as_bytes())?.targets(square(name[0], name[1])?);
     Ok(targets.count() == count && targets.is_empty() == (count == 0))
 }
 
@@ -284,7 +294,10 @@ fn targets_are_counted(rt: HostRuntime) -> Result<(), Fail> {
         ("1r2k3/8/8/8/8/8/8/R3K3 w Q - 0 1", *b"e1", 6),
     ];
     for (fen, name, count) in rows {
-        assert!(rt; has_targets(fen, name, count)?, "{fen}");
+        assert!(rt;
+            has_targets::<Mailbox>(fen, name, count)? && has_targets::<Bits>(fen, name, count)?,
+            "{fen}"
+        );
     }
     Ok(())
 }

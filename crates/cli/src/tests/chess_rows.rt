@@ -1,9 +1,9 @@
-//! What the rows on chess share: positions and moves by their texts, over the plain board.
-use chess::{Kind, Mailbox, Move, Position, Square, Wing};
+//! What the rows on chess share: positions and moves by their texts, over any board.
+use chess::{Board, Kind, Move, Position, Square, Wing};
 use std::test::Fail;
 
 /// The position of a text in FEN.
-pub fn position(text: &[u8]) -> Result<Position<Mailbox>, Fail> {
+pub fn position<B: Board>(text: &[u8]) -> Result<Position<B>, Fail> {
     match Position::from_fen(text) {
         Ok(position) => Ok(position),
         Err(_) => Err("a position was refused")?,
@@ -29,7 +29,7 @@ fn promotion(letter: Option<&u8>) -> Option<Kind> {
 }
 
 /// The wing on which the king of the e-file castles to the file.
-fn wing(position: &Position<Mailbox>, from: Square, to: Square) -> Option<Wing> {
+fn wing<B: Board>(position: &Position<B>, from: Square, to: Square) -> Option<Wing> {
     let is_king = match position.at(from) {
         Some(man) => man.kind == Kind::King,
         None => false,
@@ -45,7 +45,7 @@ fn wing(position: &Position<Mailbox>, from: Square, to: Square) -> Option<Wing> 
 }
 
 /// The move that is written as its two squares, with the letter of a promotion; a king's step of two files is castling.
-pub fn move_of(position: &Position<Mailbox>, text: &[u8]) -> Result<Move, Fail> {
+pub fn move_of<B: Board>(position: &Position<B>, text: &[u8]) -> Result<Move, Fail> {
     if text.len() < 4 {
         return Err("a move has two squares")?;
     }
@@ -60,7 +60,7 @@ pub fn move_of(position: &Position<Mailbox>, text: &[u8]) -> Result<Move, Fail> 
 }
 
 /// The position after the move, if it is legal.
-pub fn played(position: &Position<Mailbox>, m: &Move) -> Option<Position<Mailbox>> {
+pub fn played<B: Board>(position: &Position<B>, m: &Move) -> Option<Position<B>> {
     if position.is_legal(*m) {
         Some(position.play(*m))
     } else {

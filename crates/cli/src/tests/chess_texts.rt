@@ -1,6 +1,6 @@
 //! Texts of moves: which moves they name, and the text of each move (PGN 8.2.3).
 use super::chess_rows::{move_of, position};
-use chess::{Mailbox, Move, Position, SanError, resolve, san};
+use chess::{Bits, Board, Mailbox, Move, Position, SanError, resolve, san};
 use std::test::Fail;
 
 const ROOKS: &str = "r3k2r/8/8/8/8/8/8/R3K2R w KQkq - 0 1";
@@ -16,8 +16,8 @@ const TAKES: &str = "4k3/8/8/3pp3/2P1P3/8/8/4K3 w - - 0 1";
 const EN_PASSANT: &str = "4k3/8/8/3pP3/8/8/8/4K3 w - d6 0 1";
 
 /// Whether the text names the move, and no other.
-fn names(fen: &str, text: &str, named: &str) -> Result<bool, Fail> {
-    let position = position(fen.as_bytes())?;
+fn names<B: Board>(fen: &str, text: &str, named: &str) -> Result<bool, Fail> {
+    let position = position::<B>(fen.as_bytes())?;
     Ok(resolve(&position, text.as_bytes()) == Ok(move_of(&position, named.as_bytes())?))
 }
 
@@ -75,14 +75,17 @@ fn texts_name_these_moves(rt: HostRuntime) -> Result<(), Fail> {
         ("4k3/8/8/8/1b6/2N5/8/4K1N1 w - - 0 1", "Ne2", "g1e2"),
     ];
     for (fen, text, named) in rows {
-        assert!(rt; names(fen, text, named)?, "{text} in {fen}");
+        assert!(rt;
+            names::<Mailbox>(fen, text, named)? && names::<Bits>(fen, text, named)?,
+            "{text} in {fen}"
+        );
     }
     Ok(())
 }
 
 /// Whether the text names no move, for that reason.
-fn is_refused(fen: &str, text: &str, error: SanError) -> Result<bool, Fail> {
-    Ok(resolve(&position(fen.as_bytes())?, text.as_bytes()) == Err(error))
+fn is_refused<B: Board>(fen: &str, text: &str, error: SanError) -> Result<bool, Fail> {
+    Ok(resolve(&position::<B>(fen.as_bytes())?, text.as_bytes()) == Err(error))
 }
 
 #[test]
@@ -134,13 +137,16 @@ fn texts_name_no_move_or_several(rt: HostRuntime) -> Result<(), Fail> {
         (START, "Kx", SanError::None),
     ];
     for (fen, text, error) in rows {
-        assert!(rt; is_refused(fen, text, error)?, "{text} in {fen}");
+        assert!(rt;
+            is_refused::<Mailbox>(fen, text, error)? && is_refused::<Bits>(fen, text, error)?,
+            "{text} in {fen}"
+        );
     }
     Ok(())
 }
 
 /// Whether the move is legal, and that is its text.
-fn writes(position: &Position<Mailbox>, m: &Move, text: &str) -> bool {
+fn writes<B: Board>(position: &Position<B>, m: &Move, text: &str) -> bool {
     if !position.is_legal(*m) {
         return false;
     }
@@ -148,8 +154,8 @@ fn writes(position: &Position<Mailbox>, m: &Move, text: &str) -> bool {
 }
 
 /// Whether the move that is written as its squares is legal, and that is its text.
-fn is_text(fen: &str, tried: &str, text: &str) -> Result<bool, Fail> {
-    let position = position(fen.as_bytes())?;
+fn is_text<B: Board>(fen: &str, tried: &str, text: &str) -> Result<bool, Fail> {
+    let position = position::<B>(fen.as_bytes())?;
     let m = move_of(&position, tried.as_bytes())?;
     Ok(writes(&position, &m, text))
 }
@@ -190,7 +196,10 @@ fn moves_have_these_texts(rt: HostRuntime) -> Result<(), Fail> {
         ),
     ];
     for (fen, tried, text) in rows {
-        assert!(rt; is_text(fen, tried, text)?, "{tried} in {fen}");
+        assert!(rt;
+            is_text::<Mailbox>(fen, tried, text)? && is_text::<Bits>(fen, tried, text)?,
+            "{tried} in {fen}"
+        );
     }
     Ok(())
 }

@@ -42,13 +42,21 @@ type Wanted = (
 );
 
 /// Which positions meet criteria.
-const MEETS: [Wanted; 21] = [
+const MEETS: [Wanted; 22] = [
     (LIST, b"mate", b"1. f3 e5 2. g4 Qh4 0-1", AT_4, b"", 0),
     (
         LIST,
         b"turn white\nor\nturn white",
         E4_E5,
         b"1@0 0\n1@0 2\n",
+        b"",
+        0,
+    ),
+    (
+        &["--criteria", "wanted.txt"],
+        b"turn black",
+        b"1. c4 *\n*\n1. e4 e5 2. d4 *",
+        b"[Event \"?\"]\n[Site \"?\"]\n[Date \"????.??.??\"]\n[Round \"?\"]\n[White \"?\"]\n[Black \"?\"]\n[Result \"*\"]\n\n1. c4 *\n\n[Event \"?\"]\n[Site \"?\"]\n[Date \"????.??.??\"]\n[Round \"?\"]\n[White \"?\"]\n[Black \"?\"]\n[Result \"*\"]\n\n1. e4 e5 2. d4 *\n\n",
         b"",
         0,
     ),

@@ -162,7 +162,7 @@ fn movetexts_are_exported_and_read_back(rt: HostRuntime) -> Result<(), Fail> {
 }
 
 /// Whole outputs, faults and which games are written.
-const ROWS: [Row; 21] = [
+const ROWS: [Row; 24] = [
     (&[], b"", b"", b"", 0),
     (
         &[],
@@ -175,6 +175,27 @@ const ROWS: [Row; 21] = [
         &["--roster"],
         b"[FEN \"4k3/8/8/8/1b6/2N5/8/4K1N1 w - - 0 1\"]\n[ECO \"A00\"]\n\n1. Nge2 *",
         b"[Event \"?\"]\n[Site \"?\"]\n[Date \"????.??.??\"]\n[Round \"?\"]\n[White \"?\"]\n[Black \"?\"]\n[Result \"*\"]\n[FEN \"4k3/8/8/8/1b6/2N5/8/4K1N1 w - - 0 1\"]\n\n1. Ne2 *\n\n",
+        b"",
+        0,
+    ),
+    (
+        &["--roster"],
+        b"[SetUp \"1\"][FEN \"4k3/8/8/8/8/8/8/4K3 w - - 0 1\"][Eco \"x\"]\n\n*",
+        b"[Event \"?\"]\n[Site \"?\"]\n[Date \"????.??.??\"]\n[Round \"?\"]\n[White \"?\"]\n[Black \"?\"]\n[Result \"*\"]\n[FEN \"4k3/8/8/8/8/8/8/4K3 w - - 0 1\"]\n[SetUp \"1\"]\n\n*\n\n",
+        b"",
+        0,
+    ),
+    (
+        &["--roster"],
+        b"[SetUp \"0\"]\n\n*",
+        b"[Event \"?\"]\n[Site \"?\"]\n[Date \"????.??.??\"]\n[Round \"?\"]\n[White \"?\"]\n[Black \"?\"]\n[Result \"*\"]\n\n*\n\n",
+        b"",
+        0,
+    ),
+    (
+        &[],
+        b"[SetUp \"0\"][Site \"a\\n\"]\n\n*",
+        b"[Event \"?\"]\n[Site \"a\\\\n\"]\n[Date \"????.??.??\"]\n[Round \"?\"]\n[White \"?\"]\n[Black \"?\"]\n[Result \"*\"]\n[SetUp \"0\"]\n\n*\n\n",
         b"",
         0,
     ),

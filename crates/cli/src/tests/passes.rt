@@ -1,10 +1,10 @@
 //! Positions with the one that a pass leads to: the other side is to move, and nobody took a step.
-use chess::{Mailbox, Position};
+use chess::{Bits, Board, Mailbox, Position};
 use std::test::Fail;
 
 /// Whether a pass in the first position leads to the second, both in FEN; `None` where the side to move is in check.
-fn passes_to(from: &str, to: Option<&str>) -> bool {
-    let Ok(position) = Position::<Mailbox>::from_fen(from.as_bytes()) else {
+fn passes_to<B: Board>(from: &str, to: Option<&str>) -> bool {
+    let Ok(position) = Position::<B>::from_fen(from.as_bytes()) else {
         return false;
     };
     match (position.pass(), to) {
@@ -49,7 +49,10 @@ fn a_pass_leads_to_its_position(rt: HostRuntime) -> Result<(), Fail> {
         ),
     ];
     for (from, to) in rows {
-        assert!(rt; passes_to(from, to), "{from}");
+        assert!(rt;
+            passes_to::<Mailbox>(from, to) && passes_to::<Bits>(from, to),
+            "{from}"
+        );
     }
     Ok(())
 }

@@ -131,18 +131,10 @@ fn limits_of(text: &[u8]) -> Option<Limits>
 pub(super) fn material_of(text: &[u8]) -> Option<(Limits, Limits)>
     ensures { MatchOption result ((white black : Limits) → SpellsCondition text.now (Material white black) → ⊥) (λ found. SpellsCondition text.now (Material found.0 found.1)) }
 {
-    let Some(rest) = behind_key(text, b"material") else {
-        return None;
-    };
+    let rest = behind_key(text, b"material")?;
     let (white, rest) = split_first(rest);
-    let Some(black) = behind_key(rest, b"v") else {
-        return None;
-    };
-    let Some(white) = limits_of(white) else {
-        return None;
-    };
-    let Some(black) = limits_of(black) else {
-        return None;
-    };
+    let black = behind_key(rest, b"v")?;
+    let white = limits_of(white)?;
+    let black = limits_of(black)?;
     Some((white, black))
 }

@@ -54,9 +54,7 @@ fn are_move_words(text: &[u8]) -> bool
 pub(super) fn moves_of(text: &[u8]) -> Option<&[u8]>
     ensures { MatchOption result ((words : List ℕ) → SpellsCondition text.now (Moves words) → ⊥) (λ words. SpellsCondition text.now (Moves words.now)) }
 {
-    let Some(words) = behind_key(text, b"moves") else {
-        return None;
-    };
+    let words = behind_key(text, b"moves")?;
     if are_move_words(words) {
         Some(words)
     } else {

@@ -63,20 +63,14 @@ fn contents_of(text: &[u8]) -> Option<&[u8]>
 pub(super) fn tag_of(text: &[u8]) -> Option<Condition<&[u8]>>
     ensures { MatchOption result ((name contents : List ℕ) (relation : Relation) → SpellsCondition text.now (Tag name relation contents) → ⊥) (λ found. SpellsCondition text.now (seen (λ bytes. bytes.now) found)) }
 {
-    let Some(rest) = behind_key(text, b"tag") else {
-        return None;
-    };
+    let rest = behind_key(text, b"tag")?;
     let (name, rest) = split_first(rest);
     if !is_name(name) {
         return None;
     }
     let (operator, string) = split_first(rest);
-    let Some(relation) = relation_of(operator) else {
-        return None;
-    };
-    let Some(contents) = contents_of(string) else {
-        return None;
-    };
+    let relation = relation_of(operator)?;
+    let contents = contents_of(string)?;
     Some(Condition::Tag {
         name,
         relation,

@@ -119,10 +119,7 @@ pub(crate) fn read_en_passant(text: &[u8]) -> Option<Option<Square>>
     if let [b'-'] = text {
         return Some(None);
     }
-    match square_of(text) {
-        Some(square) => Some(Some(square)),
-        None => None,
-    }
+    Some(Some(square_of(text)?))
 }
 
 /// The number that one to seven digits write.
@@ -152,15 +149,11 @@ pub(crate) fn read_counts(text: &[u8]) -> Option<(u32, u32)>
     let Some((clock_field, rest)) = next_field(text) else {
         return Some((0, 1));
     };
-    let Some(clock) = read_count(clock_field) else {
-        return None;
-    };
+    let clock = read_count(clock_field)?;
     let Some((number_field, rest)) = next_field(rest) else {
         return Some((clock, 1));
     };
-    let Some(number) = read_count(number_field) else {
-        return None;
-    };
+    let number = read_count(number_field)?;
     if next_field(rest).is_some() {
         return None;
     }

@@ -86,9 +86,7 @@ pub(crate) fn kept_en_passant<B: Board>(
 ) -> Option<Square>
     ensures { (s : Place) → (result ≡ Some s) ↔ ((given ≡ Some s) × FitsEnPassant (B.men board.now) turn s) }
 {
-    let Some(square) = given else {
-        return None;
-    };
+    let square = given?;
     if fits_en_passant(board, turn, square) {
         Some(square)
     } else {
@@ -104,9 +102,7 @@ pub(crate) fn only_king<B: Board>(board: &B, side: Side) -> Option<Square>
         side,
         kind: Kind::King,
     });
-    let Some(square) = kings.take_first() else {
-        return None;
-    };
+    let square = kings.take_first()?;
     if kings.take_first().is_some() {
         return None;
     }

@@ -2,29 +2,14 @@
 ghost use Rattle.std.specs.Prelude.{◌≡◌, ◌⊎◌, ◌<◌, ◌≤◌, ℕ, List, Option, None, length, replicate, MatchOption, IfSome};
 ghost use Rattle.chess.specs.Squares.{Place};
 ghost use Rattle.chess.specs.Placements.{Placement, man_at};
-ghost use Rattle.chess.specs.Letters.{kind_letter, man_letter};
+ghost use Rattle.chess.specs.Letters.{man_letter};
 ghost use Rattle.chess.specs.Fen.{IsSquares, SpellsRank, SpellRanks, SpellsMen, parted_at, row};
 ghost use Rattle.chess.specs.FenWords.{IsRow, IsByteOf};
 ghost use Rattle.chess.specs.declared.board.man.Man.{Man};
-ghost use Rattle.chess.specs.declared.board.man.Kind.{Kind};
 
-use crate::board::{Board, Kind, Man, Side, Square};
+use crate::board::{Board, Man, Side, Square};
 use crate::fen::read::fields::next_rank;
-
-/// The kind of White's letter.
-fn kind_of(letter: u8) -> Option<Kind>
-    ensures { MatchOption result ((other : Kind) → kind_letter other ≡ letter → ⊥) (λ kind. kind_letter kind ≡ letter) }
-{
-    match letter {
-        b'K' => Some(Kind::King),
-        b'Q' => Some(Kind::Queen),
-        b'R' => Some(Kind::Rook),
-        b'B' => Some(Kind::Bishop),
-        b'N' => Some(Kind::Knight),
-        b'P' => Some(Kind::Pawn),
-        _ => None,
-    }
-}
+use crate::letters::kind_of;
 
 /// The man of the letter: White's in upper case, Black's in lower case.
 fn man_of(letter: u8) -> Option<Man>
@@ -39,13 +24,10 @@ fn man_of(letter: u8) -> Option<Man>
     if letter < 32 {
         return None;
     }
-    match kind_of(letter - 32) {
-        Some(kind) => Some(Man {
-            side: Side::Black,
-            kind,
-        }),
-        None => None,
-    }
+    Some(Man {
+        side: Side::Black,
+        kind: kind_of(letter - 32)?,
+    })
 }
 
 /// What stands on each of the squares that the byte spells, and how many they are.
@@ -55,10 +37,7 @@ fn squares_spelled(byte: u8) -> Option<(Option<Man>, usize)>
     if b'1' <= byte && byte <= b'8' {
         return Some((None, (byte - b'0') as usize));
     }
-    match man_of(byte) {
-        Some(man) => Some((Some(man), 1)),
-        None => None,
-    }
+    Some((Some(man_of(byte)?), 1))
 }
 
 /// The eight squares that the text of a rank spells, from the a-file on.
@@ -70,9 +49,7 @@ fn read_row(text: &[u8]) -> Option<[Option<Man>; 8]>
     let mut file = 0;
     let mut rest = text;
     while let [byte, behind @ ..] = rest {
-        let Some((man, count)) = squares_spelled(*byte) else {
-            return None;
-        };
+        let (man, count) = squares_spelled(*byte)?;
         if file + count > 8 {
             return None;
         }
@@ -104,9 +81,7 @@ fn put_ranks<B: Board>(mut board: B, rank: u8, text: &[u8]) -> Option<B>
     ensures above { IfSome result (λ b. (s : Place) → rank < s.rank → man_at (B.men b) s ≡ man_at (B.men board) s) }
 {
     let (first, rest) = next_rank(text);
-    let Some(squares) = read_row(first) else {
-        return None;
-    };
+    let squares = read_row(first)?;
     put_row(&mut board, rank, &squares);
     let Some(rest) = rest else {
         return if rank == 1 { Some(board) } else { None };

@@ -6,6 +6,7 @@ ghost use Rattle.chess.specs.declared.board.man.Wing.{Wing};
 ghost use Rattle.chess.specs.declared.move_text.read.said.ByteClass.TheVariants.{Digit, FileLetter, KindLetter, PromotionLetter};
 
 use crate::board::{Kind, Square, Wing};
+use crate::letters::kind_of;
 
 /// What a move text that is not castling says.
 #[derive(Drop)]
@@ -38,21 +39,6 @@ struct Parts<'a> {
     file: Option<u8>,
     letter: Option<u8>,
     rest: &'a [u8],
-}
-
-/// The kind of that letter.
-fn kind_of(byte: u8) -> Option<Kind>
-    ensures { result ≡ kind_of byte }
-{
-    match byte {
-        b'K' => Some(Kind::King),
-        b'Q' => Some(Kind::Queen),
-        b'R' => Some(Kind::Rook),
-        b'B' => Some(Kind::Bishop),
-        b'N' => Some(Kind::Knight),
-        b'P' => Some(Kind::Pawn),
-        _ => None,
-    }
 }
 
 /// Whether the byte is of the class.
@@ -165,9 +151,7 @@ pub(crate) fn read_said(text: &[u8]) -> Option<SaidMove>
     let (Some(file), Some(rank)) = (parts.target_file, parts.target_rank) else {
         return None;
     };
-    let Some(target) = Square::new(file.saturating_sub(b'`'), rank.saturating_sub(b'0')) else {
-        return None;
-    };
+    let target = Square::new(file.saturating_sub(b'`'), rank.saturating_sub(b'0'))?;
     Some(SaidMove {
         letter: kind_given(parts.letter),
         file: number_given(parts.file, b'`'),

@@ -33,12 +33,13 @@ returns-then-eq c =
     means_it c.args.line.now c.core_of-text.result.now Or c.core_of-text.ensures
     (same_text c.core_of-text.result.now c.as_slice.result.now (sym c.if-eq.true ∙ c.eq.ensures) ∙ c.as_slice.ensures)
 
-pub returns-in-Some : goal.returns-in-Some
-returns-in-Some c =
-    means_it c.args.line.now c.core_of-text.result.now (Asks (seen (λ bytes. bytes.now) c.in-Some.condition)) c.core_of-text.ensures c.in-Some.ensures
+pub returns : goal.returns
+returns c =
+    means_it c.args.line.now c.core_of-text.result.now (Asks (seen (λ bytes. bytes.now) c.in_ok-condition_of.field-0)) c.core_of-text.ensures
+    c.in_ok-condition_of.ensures
 
-pub returns-in-None : goal.returns-in-None
-returns-in-None c =
+pub returns-in_err-condition_of : goal.returns-in_err-condition_of
+returns-in_err-condition_of c =
     let no_or : c.core_of-text.result.now ≢ codes "or" = search rules in
     let some : Spells c.core_of-text.result.now Nothing → ⊥ = λ spells. let t = c.is_nothing.ensures.1 spells in absurd (cc (t, c.if-is_nothing.false)) in
-    means_none c.args.line.now c.core_of-text.result.now c.core_of-text.ensures some no_or c.in-None.ensures
+    rw c.from_residual.ensures (means_none c.args.line.now c.core_of-text.result.now c.core_of-text.ensures some no_or c.in_err-condition_of.ensures)

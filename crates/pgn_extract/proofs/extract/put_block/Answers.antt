@@ -8,6 +8,6 @@ pub returns-in-Ok-put_report-clause-ok : goal.returns-in-Ok-put_report-clause-ok
 returns-in-Ok-put_report-clause-ok g c = λ bytes shows.
     writes_report (c.in-Ok.ensures bytes shows) _ _ _ _ c.in-Ok-put_report.ensures.ok.0 c.in-Ok-put_report.ensures.ok.1
 
-pub returns-clause-err : goal.returns-clause-err
-returns-clause-err g c = λ bytes shows.
+pub returns-in-Err-put_report-clause-err : goal.returns-in-Err-put_report-clause-err
+returns-in-Err-put_report-clause-err g c = λ bytes shows.
     begins_report (c.in-Ok.ensures bytes shows) _ _ _ _ c.in-Err-put_report.ensures.err.0 c.in-Err-put_report.ensures.err.1

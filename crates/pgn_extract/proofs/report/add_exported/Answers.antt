@@ -1,9 +1,8 @@
-use Rattle.std.proofs.Common.{refl, subst, sym}
+use Rattle.std.proofs.Common.{refl, subst}
 use Rattle.std.specs.Prelude.{IfSome}
 use Rattle.std.proofs.lemmas.Result.{on_ok_weaker}
 use Rattle.pgn_text.specs.GameTexts.{tag_in}
 use Rattle.pgn_game.specs.Faults.{IsFault}
-use Rattle.pgn_game.specs.Replays.{IsReplay}
 use Rattle.pgn_game.specs.Starts.{fen_tag}
 use Rattle.pgn_extract.specs.Aims.{aim_of}
 use Rattle.pgn_extract.specs.Exports.{written_lines}

@@ -3,7 +3,6 @@ use Rattle.std.proofs.lemmas.Option.{IfSome_then}
 use Rattle.std.proofs.lemmas.Result.{err_from_is_err_and}
 use Rattle.pgn_text.specs.Elements.{item_of}
 use Rattle.pgn_game.specs.MainLines.{main_words, IsMainLine}
-use Rattle.pgn_game.specs.Replays.{fault_of}
 use Rattle.pgn_game.specs.AllLines.{ArePlayed}
 use Rattle.pgn_game.specs.LineWalks.{main_now}
 use Rattle.pgn_game.proofs.OneReplay.{line_length}

@@ -3,7 +3,6 @@ use Rattle.std.proofs.lemmas.Option.{IfSome_then}
 use Rattle.std.proofs.lemmas.Result.{err_from_is_err_and}
 use Rattle.pgn_text.specs.Elements.{item_of}
 use Rattle.pgn_game.specs.LineWalks.{RunsOn, StopsOn, MainOn, main_now}
-use Rattle.pgn_game.specs.Replays.{fault_of}
 use Rattle.pgn_game.proofs.MainFacts.{runs_begin, stops_begin, main_begin, within_begin}
 use Rattle.pgn_game.proofs.WalkFacts.{items_step, items_end}
 use Rattle.pgn_game.proofs.all_lines.play_elements.Goals as goal

@@ -2,7 +2,7 @@ use Rattle.std.proofs.Common.{◌≡◌, ◌+◌, ◌≤◌, [], length, drop, m
 use Rattle.std.proofs.lemmas.Option.{IfSome_then}
 use Rattle.std.proofs.lemmas.Result.{err_from_is_err_and}
 use Rattle.pgn_text.specs.Elements.{item_of}
-use Rattle.pgn_game.specs.Replays.{Replay, fault_of}
+use Rattle.pgn_game.specs.Replays.{Replay}
 use Rattle.pgn_game.specs.Walks.{Completes, MeetsFault}
 use Rattle.pgn_game.proofs.WalkFacts.{items_step, items_end, starts, starts_fault, ends}
 use Rattle.pgn_game.proofs.main_line.play_main_line.Goals as goal

@@ -1,4 +1,4 @@
-use Rattle.std.proofs.Common.{◌≡◌, refl, sym, arith}
+use Rattle.std.proofs.Common.{refl, arith}
 use Rattle.std.proofs.lemmas.Bool.{false_from_ne_true}
 use Rattle.std.proofs.lemmas.List.{nil_from_length}
 use Rattle.pgn_text.proofs.EndSearch.{nothing_joined, search_start, cut_found, passed, end_found, past_limit, failed_so_far, read_failed, search_more}

@@ -1,4 +1,4 @@
-use Rattle.std.proofs.Common.{◌≡◌, ℕ, ◌+◌, ◌<◌, ◌≤◌, length, take, arith, sym, ap, refl, ◌∙◌, length-take, length-drop}
+use Rattle.std.proofs.Common.{◌≡◌, ℕ, ◌+◌, ◌≤◌, length, take, arith, sym, ap, refl, ◌∙◌, length-take, length-drop}
 use Rattle.std.specs.Prelude.{vec_len}
 use Rattle.std.proofs.lemmas.List.{length-take-le}
 use Rattle.pgn_text.proofs.Joined.{reads_counted}

@@ -1,13 +1,9 @@
-use Rattle.std.proofs.Common.{◌∙◌}
+use Rattle.std.proofs.Common.{take, ap, ◌∙◌, arith}
 use Rattle.std.proofs.lemmas.List.{take_rest}
-use Rattle.pgn_text.specs.Tokens.{test_of}
-use Rattle.pgn_text.proofs.Runs.{take_run, drop_run}
 use Rattle.pgn_text.proofs.class.run.Goals as goal
 
 pub returns-clause-front : goal.returns-clause-front
-returns-clause-front c = rw c.run_len-len.ensures.value (take_run (test_of c.args.class) c.args.text.now)
+returns-clause-front c = ap (λ n. take n c.args.text.now) (omega arith) ∙ c.run_end-len.ensures.run
 
 pub returns-clause-rest : goal.returns-clause-rest
-returns-clause-rest c =
-    take_rest c.args.text.now c.run_len-len.result
-    ∙ rw c.run_len-len.ensures.value (drop_run (test_of c.args.class) c.args.text.now)
+returns-clause-rest c = take_rest c.args.text.now c.run_end-len.result ∙ c.run_end-len.ensures.rest

@@ -2,7 +2,8 @@ use Rattle.std.proofs.Common.{◌∙◌, ap, sym, arith, Some}
 use Rattle.chess.specs.Squares.{index_of}
 use Rattle.chess.specs.SetFacts.{index_of-below, false_of}
 use Rattle.chess.specs.BitWords.{word_at}
-use Rattle.chess.proofs.FillFacts.{common_none, common_some, either_bit}
+use Rattle.chess.proofs.FillFacts.{common_none, common_some}
+use Rattle.std.proofs.lemmas.Bool.{true_from_ne_false}
 use Rattle.chess.proofs.BitFacts.{has_man, no_man, man_at-words}
 use Rattle.chess.proofs.board.bits.man_on.Goals as goal
 
@@ -15,7 +16,7 @@ returns-then-words-row-ne0 c =
     ap Some c.man_of.ensures
     ∙ sym (man_at-words words s on
     ∙ has_man words 12 c.loop-row.row (index_of s) c.requires (omega arith) near (index_of-below s on)
-    (either_bit _ (λ e. c.if-words-row-ne0.true (common_none (word_at words c.loop-row.row) c.word_of-bit.result s c.word_of-bit.ensures.word e))))
+    (true_from_ne_false _ (λ e. c.if-words-row-ne0.true (common_none (word_at words c.loop-row.row) c.word_of-bit.result s c.word_of-bit.ensures.word e))))
 
 pub returns : goal.returns
 returns c =

@@ -1,5 +1,9 @@
+use Rattle.chess.specs.Sets.{size_of}
 use Rattle.chess.specs.SanTextWords.{AreRivalsSifted}
 use Rattle.chess.proofs.move_text.write.rivals.Given as goal
 
-abbrev pub invariant-loop-step : goal.invariant-loop-step
-invariant-loop-step g l = AreRivalsSifted l.position l.m l.fn.man l.step l.left l.found
+abbrev pub invariant-loop-from : goal.invariant-loop-from
+invariant-loop-from g l = AreRivalsSifted l.position l.m l.fn.man l.left l.found
+
+abbrev pub decreases-loop-from : goal.decreases-loop-from
+decreases-loop-from g l = size_of l.left

@@ -1,6 +1,10 @@
+use Rattle.chess.specs.Sets.{size_of}
 use Rattle.chess.specs.Moves.{CanGo}
 use Rattle.chess.specs.MoveWords.{IsLeft}
 use Rattle.chess.proofs.position.Position.can_leave.Given as goal
 
-abbrev pub invariant-loop-step : goal.invariant-loop-step
-invariant-loop-step g l = IsLeft (λ t. Unit {0}) (λ t. CanGo l.self l.from t) l.step l.left
+abbrev pub invariant-loop-to : goal.invariant-loop-to
+invariant-loop-to g l = IsLeft (λ t. Unit {0}) (λ t. CanGo l.self l.from t) l.left
+
+abbrev pub decreases-loop-to : goal.decreases-loop-to
+decreases-loop-to g l = size_of l.left

@@ -3,36 +3,34 @@ use Rattle.chess.specs.Squares.{Place}
 use Rattle.chess.specs.Sets.{IsTakenFirst}
 use Rattle.chess.specs.MoveWords.{IsMover, CanLeave}
 use Rattle.chess.proofs.PlaceFacts.{true_not_false}
-use Rattle.chess.proofs.LoopFacts.{left_more, left_none, left_end}
+use Rattle.chess.proofs.LoopFacts.{fewer, left_more, left_none}
 use Rattle.chess.proofs.position.Position.can_move.Goals as goal
 
-pub loop-step-preserved : goal.loop-step-preserved
-loop-step-preserved g c =
+pub loop-from-preserved : goal.loop-from-preserved
+loop-from-preserved g c =
     left_more (λ s. IsMover c.args.self.now c.args.kind s) (λ s. IsMover c.args.self.now c.args.kind s × CanLeave c.args.self.now s)
-    c.loop-step.step c.loop-step.left c.take_first.new.self c.in-Some.from
-    c.loop-step.invariant
-    (subst (λ (o : Option Place). IsTakenFirst c.loop-step.left c.take_first.new.self o) c.in-Some.is c.take_first.ensures)
+    c.loop-from.left c.take_first.new.self c.in-Some.from
+    c.loop-from.invariant
+    (subst (λ (o : Option Place). IsTakenFirst c.loop-from.left c.take_first.new.self o) c.in-Some.is c.take_first.ensures)
     (λ moves. true_not_false c.can_leave.result (c.can_leave.ensures.1 moves.1) c.if-can_leave.false)
 
 pub returns-then-can_leave : goal.returns-then-can_leave
 returns-then-can_leave g c =
-    let taken : IsTakenFirst c.loop-step.left c.take_first.new.self (Some c.in-Some.from) =
-    subst (λ (o : Option Place). IsTakenFirst c.loop-step.left c.take_first.new.self o) c.in-Some.is c.take_first.ensures in (
-      (λ e. (c.in-Some.from, taken.0, c.loop-step.invariant.within c.in-Some.from taken.0 taken.1, c.can_leave.ensures.0 c.if-can_leave.true)),
+    let taken : IsTakenFirst c.loop-from.left c.take_first.new.self (Some c.in-Some.from) =
+    subst (λ (o : Option Place). IsTakenFirst c.loop-from.left c.take_first.new.self o) c.in-Some.is c.take_first.ensures in (
+      (λ e. (c.in-Some.from, taken.0, c.loop-from.invariant.within c.in-Some.from taken.0 taken.1, c.can_leave.ensures.0 c.if-can_leave.true)),
       (λ h. refl),
     )
 
 pub returns : goal.returns
 returns g c = (
   (λ e. let f : false ≡ true = e in absurd (cc)),
-  (λ h. absurd (left_end (λ s. IsMover c.args.self.now c.args.kind s) (λ s. IsMover c.args.self.now c.args.kind s × CanLeave c.args.self.now s)
-      c.loop-step.step c.loop-step.left c.loop-step.invariant c.loop-step-test.false h.0 h.1 (h.2, h.3))),
+  (λ h. absurd (left_none (λ s. IsMover c.args.self.now c.args.kind s) (λ s. IsMover c.args.self.now c.args.kind s × CanLeave c.args.self.now s)
+      c.loop-from.left c.take_first.new.self c.loop-from.invariant
+      (subst (λ (o : Option Place). IsTakenFirst c.loop-from.left c.take_first.new.self o) c.in_default.is c.take_first.ensures) h.0 h.1 (h.2, h.3))),
 )
 
-pub returns-in_default : goal.returns-in_default
-returns-in_default g c = (
-  (λ e. let f : false ≡ true = e in absurd (cc)),
-  (λ h. absurd (left_none (λ s. IsMover c.args.self.now c.args.kind s) (λ s. IsMover c.args.self.now c.args.kind s × CanLeave c.args.self.now s)
-      c.loop-step.step c.loop-step.left c.take_first.new.self c.loop-step.invariant
-      (subst (λ (o : Option Place). IsTakenFirst c.loop-step.left c.take_first.new.self o) c.in_default.is c.take_first.ensures) h.0 h.1 (h.2, h.3))),
-)
+pub loop-from-smaller : goal.loop-from-smaller
+loop-from-smaller g c =
+    fewer c.loop-from.left c.take_first.new.self c.in-Some.from
+    (subst (λ (o : Option Place). IsTakenFirst c.loop-from.left c.take_first.new.self o) c.in-Some.is c.take_first.ensures)

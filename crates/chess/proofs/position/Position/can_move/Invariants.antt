@@ -1,5 +1,9 @@
+use Rattle.chess.specs.Sets.{size_of}
 use Rattle.chess.specs.MoveWords.{IsLeft, IsMover, CanLeave}
 use Rattle.chess.proofs.position.Position.can_move.Given as goal
 
-abbrev pub invariant-loop-step : goal.invariant-loop-step
-invariant-loop-step g l = IsLeft (λ s. IsMover l.self l.fn.kind s) (λ s. IsMover l.self l.fn.kind s × CanLeave l.self s) l.step l.left
+abbrev pub invariant-loop-from : goal.invariant-loop-from
+invariant-loop-from g l = IsLeft (λ s. IsMover l.self l.fn.kind s) (λ s. IsMover l.self l.fn.kind s × CanLeave l.self s) l.left
+
+abbrev pub decreases-loop-from : goal.decreases-loop-from
+decreases-loop-from g l = size_of l.left

@@ -1,6 +1,10 @@
+use Rattle.chess.specs.Sets.{size_of}
 use Rattle.chess.specs.Moves.{CanGo}
 use Rattle.chess.specs.MoveWords.{IsSifted}
 use Rattle.chess.proofs.position.Position.targets.Given as goal
 
-abbrev pub invariant-loop-step : goal.invariant-loop-step
-invariant-loop-step g l = IsSifted (λ t. CanGo l.self l.square t) l.step l.left l.found
+abbrev pub invariant-loop-to : goal.invariant-loop-to
+invariant-loop-to g l = IsSifted (λ t. CanGo l.self l.square t) l.left l.found
+
+abbrev pub decreases-loop-to : goal.decreases-loop-to
+decreases-loop-to g l = size_of l.left

@@ -5,37 +5,41 @@ use Rattle.pgn_criteria.specs.Reading.{run_of, behind_word}
 use Rattle.pgn_criteria.proofs.TagFacts.{tag_read, tag_spelled}
 use Rattle.pgn_criteria.proofs.line.tag.tag_of.Goals as goal
 
-pub returns-in_default : goal.returns-in_default
-returns-in_default c name contents relation spells = c.in_default.ensures (tag_read c.args.text.now name relation contents spells).key_is
+pub returns-in_err-rest : goal.returns-in_err-rest
+returns-in_err-rest c =
+    rw c.from_residual.ensures λ name contents relation spells.
+    c.in_err-rest.ensures (tag_read c.args.text.now name relation contents spells).key_is
 
 pub returns-then-not-is_name : goal.returns-then-not-is_name
 returns-then-not-is_name c name contents relation spells =
     let read = tag_read c.args.text.now name relation contents spells in
-    let same : name ≡ c.split_first.result.0.now = sym read.name_is ∙ ap run_of (sym c.in-Some.ensures.1) ∙ sym c.split_first.ensures.word in
+    let same : name ≡ c.split_first.result.0.now = sym read.name_is ∙ ap run_of (sym c.in_ok-rest.ensures.1) ∙ sym c.split_first.ensures.word in
     let t = c.is_name.ensures.1 (subst (λ (x : List ℕ). (x ≢ []) × IsTrue (list_all is_name_byte x)) same (spells.7, spells.8)) in
     absurd (cc (t, c.if-not-is_name.true))
 
-pub returns-in_default-relation_of : goal.returns-in_default-relation_of
-returns-in_default-relation_of c name contents relation spells =
+pub returns-in_err-relation : goal.returns-in_err-relation
+returns-in_err-relation c =
+    rw c.from_residual-in_err-relation.ensures λ name contents relation spells.
     let read = tag_read c.args.text.now name relation contents spells in
-    let rest : c.split_first.result.1.now ≡ behind_word (behind_word c.args.text.now) = c.split_first.ensures.rest ∙ ap behind_word c.in-Some.ensures.1 in
-    c.in_default-relation_of.ensures relation (c.split_first-2.ensures.word ∙ ap run_of rest ∙ read.operator_is)
+    let rest : c.split_first.result.1.now ≡ behind_word (behind_word c.args.text.now) = c.split_first.ensures.rest ∙ ap behind_word c.in_ok-rest.ensures.1 in
+    c.in_err-relation.ensures relation (c.split_first-2.ensures.word ∙ ap run_of rest ∙ read.operator_is)
 
-pub returns-in_default-contents_of : goal.returns-in_default-contents_of
-returns-in_default-contents_of c name contents relation spells =
+pub returns-in_err-contents : goal.returns-in_err-contents
+returns-in_err-contents c =
+    rw c.from_residual-in_err-contents.ensures λ name contents relation spells.
     let read = tag_read c.args.text.now name relation contents spells in
-    let rest : c.split_first.result.1.now ≡ behind_word (behind_word c.args.text.now) = c.split_first.ensures.rest ∙ ap behind_word c.in-Some.ensures.1 in
-    c.in_default-contents_of.ensures contents (c.split_first-2.ensures.rest ∙ ap behind_word rest ∙ read.string_is) spells.9
+    let rest : c.split_first.result.1.now ≡ behind_word (behind_word c.args.text.now) = c.split_first.ensures.rest ∙ ap behind_word c.in_ok-rest.ensures.1 in
+    c.in_err-contents.ensures contents (c.split_first-2.ensures.rest ∙ ap behind_word rest ∙ read.string_is) spells.9
 
 pub returns : goal.returns
 returns c =
-    let rest : c.split_first.result.1.now ≡ behind_word (behind_word c.args.text.now) = c.split_first.ensures.rest ∙ ap behind_word c.in-Some.ensures.1 in
+    let rest : c.split_first.result.1.now ≡ behind_word (behind_word c.args.text.now) = c.split_first.ensures.rest ∙ ap behind_word c.in_ok-rest.ensures.1 in
     let good = c.is_name.ensures.0 c.if-not-is_name.false in
-    tag_spelled c.args.text.now c.split_first.result.0.now c.in-Some-relation_of.relation c.in-Some-contents_of.contents.now
+    tag_spelled c.args.text.now c.split_first.result.0.now c.in_ok-relation.relation c.in_ok-contents.contents.now
     (record {
-      key_is = c.in-Some.ensures.0;
-      name_is = ap run_of (sym c.in-Some.ensures.1) ∙ sym c.split_first.ensures.word;
-      operator_is = ap run_of (sym rest) ∙ sym c.split_first-2.ensures.word ∙ c.in-Some-relation_of.ensures;
-      string_is = ap behind_word (sym rest) ∙ sym c.split_first-2.ensures.rest ∙ c.in-Some-contents_of.ensures.0;
+      key_is = c.in_ok-rest.ensures.0;
+      name_is = ap run_of (sym c.in_ok-rest.ensures.1) ∙ sym c.split_first.ensures.word;
+      operator_is = ap run_of (sym rest) ∙ sym c.split_first-2.ensures.word ∙ c.in_ok-relation.ensures;
+      string_is = ap behind_word (sym rest) ∙ sym c.split_first-2.ensures.rest ∙ c.in_ok-contents.ensures.0;
     })
-    good.0 good.1 c.in-Some-contents_of.ensures.1
+    good.0 good.1 c.in_ok-contents.ensures.1

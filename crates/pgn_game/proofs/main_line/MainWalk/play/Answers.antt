@@ -2,7 +2,6 @@ use Rattle.std.proofs.Common.{◌≡◌, ◌+◌, length, ◌∙◌, arith}
 use Rattle.std.proofs.lemmas.Option.{IfSome_then}
 use Rattle.chess.specs.Moves.{after}
 use Rattle.std.proofs.lemmas.Result.{err_from_is_err_and}
-use Rattle.pgn_game.specs.Replays.{fault_of}
 use Rattle.pgn_game.proofs.WalkFacts.{word_refused, word_completes, word_faults, both_grow}
 use Rattle.pgn_game.proofs.main_line.MainWalk.play.Goals as goal
 

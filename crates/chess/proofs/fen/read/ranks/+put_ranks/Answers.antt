@@ -20,7 +20,7 @@ returns-then-rank-eq1-2-clause-spelled g t c p spelled =
     let first = c.next_rank.result.0.now in
     let text = c.args.text.now in
     let last : c.args.rank ≡ 1 = omega arith in
-    let parted : parted_at 47 text ≡ first ∷ parted_at 47 c.in-Some-rest.rest.now =
-    subst (λ o. MatchOption o (parted_at 47 text ≡ first ∷ []) (λ rest. parted_at 47 text ≡ first ∷ parted_at 47 rest.now)) c.in-Some-rest.is
+    let parted : parted_at 47 text ≡ first ∷ parted_at 47 c.in-Some.rest.now =
+    subst (λ o. MatchOption o (parted_at 47 text ≡ first ∷ []) (λ rest. parted_at 47 text ≡ first ∷ parted_at 47 rest.now)) c.in-Some.is
     c.next_rank.ensures in
-    two_ranks p text first c.in-Some-rest.rest.now parted (subst (λ n. SpellRanks p n (parted_at 47 text)) last spelled)
+    two_ranks p text first c.in-Some.rest.now parted (subst (λ n. SpellRanks p n (parted_at 47 text)) last spelled)

@@ -43,13 +43,13 @@ returns-in_default c said = (
 
 -- what the parts that were read say
 read_parts : (c : goal.After-kind_given-2) (b : Bytes) → ReadAs (reverse c.args.text.now) b
-    → said_of b ≡ record { letter = c.kind_given.result; file = c.number_given.result; rank = c.number_given-2.result; target = c.in-Some.target; promote = c.kind_given-2.result }
+    → said_of b ≡ record { letter = c.kind_given.result; file = c.number_given.result; rank = c.number_given-2.result; target = c.in_ok-target.target; promote = c.kind_given-2.result }
 read_parts c b read =
     let found = c.split_parts-parts.ensures in
     let file = some_number _ _ (sym c.in-Some-Some.is-0 ∙ found.target_file ∙ read.target_file) in
     let rank = some_number _ _ (sym c.in-Some-Some.is-1 ∙ found.target_rank ∙ read.target_rank) in
-    let target : c.in-Some.target ≡ record { file = b.target_file - 96; rank = b.target_rank - 48 } =
-    c.in-Some.ensures.0
+    let target : c.in_ok-target.target ≡ record { file = b.target_file - 96; rank = b.target_rank - 48 } =
+    c.in_ok-target.ensures.0
     ∙ (λ i. record { file = (c.saturating_sub.ensures ∙ ap (λ n. n - 96) file) i; rank = (c.saturating_sub-2.ensures ∙ ap (λ n. n - 48) rank) i }) in
     sym (λ i. record {
       letter = (c.kind_given.ensures ∙ ap kind_given (found.letter ∙ read.letter)) i;

@@ -1,6 +1,6 @@
 use Rattle.std.proofs.Common.{◌∙◌, refl}
 use Rattle.pgn_extract.proofs.Listed.{listed_more, listed_all}
-use Rattle.pgn_extract.proofs.report.block_report.Goals as goal
+use Rattle.pgn_extract.proofs.report.report_games.Goals as goal
 
 pub loop-piece-preserved-in_ok-add_piece : goal.loop-piece-preserved-in_ok-add_piece
 loop-piece-preserved-in_ok-add_piece c =

@@ -1,6 +1,6 @@
 use Rattle.pgn_extract.specs.Aims.{aim_of}
 use Rattle.pgn_extract.proofs.Listed.{Listed}
-use Rattle.pgn_extract.proofs.report.block_report.Given as goal
+use Rattle.pgn_extract.proofs.report.report_games.Given as goal
 
 abbrev pub invariant-loop-piece : goal.invariant-loop-piece
 invariant-loop-piece l =

@@ -1,0 +1,9 @@
+use Rattle.std.proofs.Common.{refl}
+use Rattle.pgn_text.specs.Limits.{depth_limit}
+use Rattle.pgn_text.specs.Tokens.{state_of}
+use Rattle.pgn_text.proofs.ReadingLemmas.{readings_of}
+use Rattle.pgn_text.proofs.game.read_comment.Goals as goal
+
+pub returns-in-Some : goal.returns-in-Some
+returns-in-Some g c = readings_of (g.K.Keeper.kept c.args.keeper.now) (g.K.Keeper.kept c.step_behind.new.keeper) depth_limit (state_of c.args.progress.now) (state_of c.step_behind.new.progress)
+    c.in-Some.ensures refl c.step_behind.result c.step_behind.ensures

@@ -1,0 +1,34 @@
+use Rattle.std.proofs.Common.{refl, sym, ◌∙◌}
+use Rattle.pgn_text.proofs.PartsAt.{kept_letters, kept_white, kept_dot, kept_open, kept_close}
+use Rattle.pgn_text.specs.Limits.{depth_limit}
+use Rattle.pgn_text.specs.Tokens.{state_of}
+use Rattle.pgn_text.proofs.ReadingLemmas.{reading_of}
+use Rattle.pgn_text.proofs.game.read_part.Goals as goal
+
+pub returns-then-is_in : goal.returns-then-is_in
+returns-then-is_in g c =
+    reading_of (g.K.Keeper.kept c.args.keeper.now) (g.K.Keeper.kept c.step_behind.new.keeper) depth_limit (state_of c.args.progress.now) (state_of c.step_behind.new.progress)
+    (kept_letters c.args.file_start c.args.block.now c.args.at c.run_end-end.result c.requires (sym c.is_in.ensures ∙ c.if-is_in.true) c.run_end-end.ensures) refl
+    c.step_behind.result c.step_behind.ensures
+
+pub returns-then-is_in-2 : goal.returns-then-is_in-2
+returns-then-is_in-2 g c =
+    reading_of (g.K.Keeper.kept c.args.keeper.now) (g.K.Keeper.kept c.step_behind-then-is_in-2.new.keeper) depth_limit (state_of c.args.progress.now) (state_of c.step_behind-then-is_in-2.new.progress)
+    (kept_white c.args.file_start c.args.block.now c.args.at c.requires (sym c.is_in-2.ensures ∙ c.if-is_in-2.true)) refl
+    c.step_behind-then-is_in-2.result c.step_behind-then-is_in-2.ensures
+
+pub returns-in-Some : goal.returns-in-Some
+returns-in-Some g c = reading_of (g.K.Keeper.kept c.args.keeper.now) (g.K.Keeper.kept c.step_behind-in-Some.new.keeper) depth_limit (state_of c.args.progress.now) (state_of c.step_behind-in-Some.new.progress)
+    (c.in-Some.ensures c.args.file_start) refl c.step_behind-in-Some.result c.step_behind-in-Some.ensures
+
+pub returns-in-46 : goal.returns-in-46
+returns-in-46 g c = reading_of (g.K.Keeper.kept c.args.keeper.now) (g.K.Keeper.kept c.step_behind-in-46.new.keeper) depth_limit (state_of c.args.progress.now) (state_of c.step_behind-in-46.new.progress)
+    (kept_dot c.args.file_start c.args.block.now c.args.at c.requires c.in-46.is) refl c.step_behind-in-46.result c.step_behind-in-46.ensures
+
+pub returns-in-40 : goal.returns-in-40
+returns-in-40 g c = reading_of (g.K.Keeper.kept c.args.keeper.now) (g.K.Keeper.kept c.step_behind-in-40.new.keeper) depth_limit (state_of c.args.progress.now) (state_of c.step_behind-in-40.new.progress)
+    (kept_open c.args.file_start c.args.block.now c.args.at c.requires c.in-40.is) refl c.step_behind-in-40.result c.step_behind-in-40.ensures
+
+pub returns-in-41 : goal.returns-in-41
+returns-in-41 g c = reading_of (g.K.Keeper.kept c.args.keeper.now) (g.K.Keeper.kept c.step_behind-in-41.new.keeper) depth_limit (state_of c.args.progress.now) (state_of c.step_behind-in-41.new.progress)
+    (kept_close c.args.file_start c.args.block.now c.args.at c.requires c.in-41.is) refl c.step_behind-in-41.result c.step_behind-in-41.ensures

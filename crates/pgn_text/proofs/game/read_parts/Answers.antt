@@ -1,0 +1,24 @@
+use Rattle.std.proofs.Common.{inl, arith}
+use Rattle.pgn_text.specs.Tokens.{state_of}
+use Rattle.pgn_text.specs.Limits.{depth_limit}
+use Rattle.pgn_text.proofs.PartsAt.{no_part_at_end}
+use Rattle.pgn_text.proofs.ReadLemmas.{kept_start, kept_more, kept_stuck, kept_end}
+use Rattle.pgn_text.proofs.game.read_parts.Goals as goal
+
+pub loop-at-init : goal.loop-at-init
+loop-at-init g c =
+    kept_start (g.K.Keeper.kept c.args.keeper.now) depth_limit c.args.file_start c.args.block.now c.args.begin (state_of c.start-progress.result)
+    c.requires.place c.start-progress.ensures
+
+pub loop-at-preserved : goal.loop-at-preserved
+loop-at-preserved g c = kept_more c.loop-at.invariant (rw c.in-Part.is at c.in_ok-end.ensures)
+
+pub returns-in-Result : goal.returns-in-Result
+returns-in-Result g c = kept_end c.loop-at.invariant c.requires.outside (rw c.in-Result.is at c.in_ok-end.ensures)
+
+pub returns-in-Stuck : goal.returns-in-Stuck
+returns-in-Stuck g c = kept_stuck c.loop-at.invariant (rw c.in-Stuck.is at c.in_ok-end.ensures)
+
+pub returns : goal.returns
+returns g c =
+    kept_stuck c.loop-at.invariant (inl (no_part_at_end c.args.file_start c.args.block.now c.loop-at.at (omega arith)))
