@@ -1,5 +1,5 @@
 -- Twelve words as a board: the man on a square, a man that is put, and the words of a man and of the empty squares.
-use Rattle.std.proofs.Common.{◌≡◌, ◌↔◌, ◌<◌, ◌≤◌, ◌+◌, ◌-◌, ◌*◌, ◌%◌, ◌^◌, bit_or, bit_and, w64, length, slice_set, ◌&&◌, ◌||◌, ℕ, zero, suc, Bool, true, false, not, nat_eq, inl, inr, ap, refl, sym, subst, ◌∙◌, arith, if◌then◌else◌, List, Option, Some, None}
+use Rattle.std.proofs.Common.{◌≡◌, ◌↔◌, ◌⊎◌, ◌<◌, ◌≤◌, ◌+◌, ◌-◌, ◌*◌, ◌%◌, ◌^◌, bit_or, bit_and, w64, length, slice_set, ◌&&◌, ◌||◌, ℕ, zero, suc, Bool, true, false, not, nat_eq, inl, inr, ap, refl, sym, subst, ◌∙◌, arith, if◌then◌else◌, List, Option, Some, None}
 use Rattle.std.proofs.lemmas.Bool.{agree_below, agree_below_at, cases_eq, eqb-true, eq-eqb, ne_eqb, not-true, or_cases, or_left, or_right}
 use Rattle.std.specs.Int.{bit_at, bit_not}
 use Rattle.std.proofs.lemmas.Nat.Bits.{bit_at-lt, bit_at_not, bit_at_set_same, bit_at_set_other, bit_at_clear_same, bit_at_clear_other}
@@ -7,7 +7,7 @@ use Rattle.std.specs.Prelude.{replicate}
 use Rattle.std.proofs.lemmas.List.{get_or-set_same, get_or-set_other, get_or-replicate, length-set}
 use Rattle.std.proofs.lemmas.Bool.Decides.{nat_tests}
 use Rattle.chess.specs.Squares.{Place, IsOnBoard, index_of}
-use Rattle.chess.specs.Placements.{no_men, man_at, with_man, IsEmpty}
+use Rattle.chess.specs.Placements.{Placement, no_men, man_at, with_man, IsEmpty}
 use Rattle.chess.specs.Sets.{has_bit}
 use Rattle.chess.specs.SetFacts.{index_of-below, false_of}
 use Rattle.chess.specs.CellFacts.{man_at-men_of, men_of-put, men_of-none}
@@ -138,20 +138,38 @@ union_more words n all so_far i =
 not_one : (b : ℕ) → b < 2 → nat_eq (1 - b) 1 ≡ not (nat_eq b 1)
 not_one b h = grind (arith, nat_tests)
 
-pub word_of_empty : (words : List ℕ) (all : ℕ) → AreApart words → IsUnion words 12 all → all < 2 ^ 64
-    → IsWordOf (IsEmpty (words_men words)) (bit_not w64 all)
-word_of_empty words all apart union fits s on =
+is_or : (b : Bool) → (b ≡ true) ⊎ (b ≡ false)
+is_or true = inl refl
+is_or false = inr refl
+
+pub no_man_or : (o : Option Man) → (o ≡ None) ⊎ (o ≡ None → ⊥)
+no_man_or None = inl refl
+no_man_or (Some man) = inr (λ e. cc)
+
+pub word_of_men : (words : List ℕ) (all : ℕ) → AreApart words → IsUnion words 12 all → IsWordOf (λ s. ¬ IsEmpty (words_men words) s) all
+word_of_men words all apart union s on =
     let at = man_at-words words s on in
-    let i = index_of s in
-    let below = index_of-below s on in
-    let bit : has_bit (bit_not w64 all) i ≡ not (has_bit all i) =
-    ap (λ n. nat_eq n 1) (bit_at_not w64 all i fits below) ∙ not_one (bit_at all i) (bit_at-lt all i) in (
-      (λ e. at ∙ no_man words 12 i (λ k less. false_of _ (λ one.
-          true_not_false _ ((union i).1 (k, less, one)) (not-true _ (sym bit ∙ e))))),
-      (λ here. bit ∙ ap not (false_of (has_bit all i) (λ one.
+    let i = index_of s in (
+      (λ one here.
           let k = (union i).0 one in
-          let man = has_man words 12 k.0 i apart (omega arith) k.1 below k.2 in
-          let clash : None ≡ Some (man_of_row k.0) = sym here ∙ at ∙ man in cc))),
+          let man = has_man words 12 k.0 i apart (omega arith) k.1 (index_of-below s on) k.2 in
+          let clash : None ≡ Some (man_of_row k.0) = sym here ∙ at ∙ man in cc),
+      (λ some. elim (is_or (has_bit all i)) [
+        | inl bit ↦ bit
+        | inr none ↦ absurd (some (at ∙ no_man words 12 i (λ k less. false_of _ (λ one. true_not_false _ ((union i).1 (k, less, one)) none))))
+      ]),
+    )
+
+pub word_of_empty : (p : Placement) (all : ℕ) → IsWordOf (λ s. ¬ IsEmpty p s) all → all < 2 ^ 64 → IsWordOf (IsEmpty p) (bit_not w64 all)
+word_of_empty p all men fits s on =
+    let i = index_of s in
+    let bit : has_bit (bit_not w64 all) i ≡ not (has_bit all i) =
+    ap (λ n. nat_eq n 1) (bit_at_not w64 all i fits (index_of-below s on)) ∙ not_one (bit_at all i) (bit_at-lt all i) in (
+      (λ e. elim (no_man_or (man_at p s)) [
+        | inl none ↦ none
+        | inr some ↦ absurd (true_not_false _ ((men s on).1 some) (not-true _ (sym bit ∙ e)))
+      ]),
+      (λ here. bit ∙ ap not (false_of (has_bit all i) (λ one. (men s on).0 one here))),
     )
 
 -- ---- a man that is put

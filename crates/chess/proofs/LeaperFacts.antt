@@ -26,13 +26,13 @@ word_by_test word test fits s t on_s on_t =
     bit ∙ (λ i. test (square_at-index_of s on_s i) (square_at-index_of t on_t i))
 
 -- the tests
-is_near : Place → Place → Bool
+unfoldable pub is_near : Place → Place → Bool
 is_near s t = ltb (gap s.file t.file) 2 && (ltb (gap s.rank t.rank) 2 && ltb 0 (gap s.file t.file + gap s.rank t.rank))
 
-is_jump : Place → Place → Bool
+unfoldable pub is_jump : Place → Place → Bool
 is_jump s t = (gap s.file t.file == 1 && gap s.rank t.rank == 2) || (gap s.file t.file == 2 && gap s.rank t.rank == 1)
 
-is_pawn_hit : Side → Place → Place → Bool
+unfoldable pub is_pawn_hit : Side → Place → Place → Bool
 is_pawn_hit White s t = gap s.file t.file == 1 && t.rank == s.rank + 1
 is_pawn_hit Black s t = gap s.file t.file == 1 && s.rank == t.rank + 1
 
@@ -59,15 +59,15 @@ jump_numbers f r = ((λ e. grind (arith, nat_tests)), (λ h. grind (arith, nat_t
 hit_numbers : (f a b : ℕ) → ((f == 1 && a == b + 1) ≡ true) ↔ ((f ≡ 1) × (a ≡ b + 1))
 hit_numbers f a b = ((λ e. (grind (arith, nat_tests), grind (arith, nat_tests))), (λ h. grind (arith, nat_tests)))
 
-near_is : (s t : Place) → (is_near s t ≡ true) ↔ IsNear s t
+pub near_is : (s t : Place) → (is_near s t ≡ true) ↔ IsNear s t
 unfolding is_near
 near_is s t = near_numbers (gap s.file t.file) (gap s.rank t.rank)
 
-jump_is : (s t : Place) → (is_jump s t ≡ true) ↔ IsJump s t
+pub jump_is : (s t : Place) → (is_jump s t ≡ true) ↔ IsJump s t
 unfolding is_jump
 jump_is s t = jump_numbers (gap s.file t.file) (gap s.rank t.rank)
 
-pawn_is : (side : Side) (s t : Place) → (is_pawn_hit side s t ≡ true) ↔ IsPawnHit side s t
+pub pawn_is : (side : Side) (s t : Place) → (is_pawn_hit side s t ≡ true) ↔ IsPawnHit side s t
 unfolding is_pawn_hit
 pawn_is White s t = hit_numbers (gap s.file t.file) t.rank s.rank
 pawn_is Black s t = hit_numbers (gap s.file t.file) s.rank t.rank

@@ -12,6 +12,13 @@ pub mod WayFacts
 pub mod SetBits
 pub mod BoardFacts
 pub mod LoopFacts
+pub mod SightFacts
+pub mod OpenFacts
+pub mod TableFacts
+pub mod HitsTable
+pub mod BetweenTable
+pub mod HitterFacts
+pub mod FileFacts
 pub mod StartFacts
 pub mod UsualFacts
 pub mod FieldFacts
@@ -30,6 +37,7 @@ pub mod CastlingTextFacts
 pub mod TextParts
 pub mod SpelledParts
 pub mod NamedFacts
+pub mod CandidateFacts
 pub mod SanTextFacts
 pub mod SaidOnceFacts
 pub mod OriginFacts

@@ -78,7 +78,7 @@ pub still_left : (old new : Places) (t s : Place) → IsTakenFirst old new (Some
 still_left old new t s taken here other =
     taken.3 s ∙ and_both (is_in old s) (not (same_square s t)) here (not_of (same_square s t) (λ e. other (same_square-then s t e)))
 
-was_left : (old new : Places) (t s : Place) → IsTakenFirst old new (Some t) → is_in new s ≡ true → (is_in old s ≡ true) × (s ≡ t → ⊥)
+pub was_left : (old new : Places) (t s : Place) → IsTakenFirst old new (Some t) → is_in new s ≡ true → (is_in old s ≡ true) × (s ≡ t → ⊥)
 was_left old new t s taken here =
     let both = sym (taken.3 s) ∙ here in (
       and_first (is_in old s) (not (same_square s t)) both,

@@ -1,13 +1,13 @@
 -- The moves that a text names: over the squares of the men that it speaks of.
-use Rattle.std.proofs.Common.{◌≡◌, ◌≢◌, ◌↔◌, ◌&&◌, ◌+◌, ◌⊎◌, ℕ, Bool, true, false, not, inl, inr, ap, refl, sym, subst, ◌∙◌, arith, Option, Some, None, Result, Ok, Err, IsTrue, MatchOption, is_some, IfSome, IfOk, IsErrOf, List, [], ◌∷◌, ◌++◌, ◌≤◌}
+use Rattle.std.proofs.Common.{◌≡◌, ◌≢◌, ◌↔◌, ◌&&◌, ◌+◌, ◌⊎◌, ℕ, Bool, true, false, not, inl, inr, ap, refl, sym, subst, ◌∙◌, arith, Option, Some, None, Result, Ok, Err, IsTrue, MatchOption, is_some, IfSome, IfOk, OnErr, IsErrOf, List, [], ◌∷◌, ◌++◌, ◌≤◌}
 use Rattle.chess.specs.Squares.{Place, IsOnBoard}
 use Rattle.chess.specs.Placements.{man_at}
 use Rattle.chess.specs.Positions.{State}
-use Rattle.chess.specs.Moves.{IsLegal, Goes, Castles}
-use Rattle.chess.specs.San.{Said, Spells, IsCastlingText, Agrees, IsNamed, IsOnlyNamed, kind_said, letter_text, file_text, rank_text, IsFileOrRank}
+use Rattle.chess.specs.Moves.{IsLegal, Goes, Castles, after}
+use Rattle.chess.specs.San.{Said, Spells, IsCastlingText, Agrees, IsNamed, IsOnlyNamed, letter_text, file_text, rank_text, IsFileOrRank}
 use Rattle.chess.specs.Letters.{kind_letter, is_sign, square_text}
-use Rattle.chess.specs.SanWords.{Fits, IsNext, HasNone, IsMoveSaid, IsCastlingOn, move_from, castling_on}
-use Rattle.chess.specs.SanAnswers.{IsAnswer}
+use Rattle.chess.specs.SanWords.{Fits, IsNext, HasNone, IsMoveSaid, IsCastlingOn, move_from, castling_on, man_said}
+use Rattle.chess.specs.SanAnswers.{IsAnswer, IsPlayed}
 use Rattle.chess.specs.Sets.{Places, is_in, IsTakenFirst, IsSquaresOf}
 use Rattle.chess.specs.MoveWords.{IsLeft}
 use Rattle.chess.specs.declared.board.man.Man.{Man}
@@ -47,11 +47,7 @@ next_found fact squares old new t left taken fits =
 
 -- ---- the man and the move that are spoken of
 
--- the man that is spoken of
-abbrev pub man_said : State → Said → Man
-man_said P said = record { side = P.turn; kind = kind_said said.letter }
-
-said_move : (P : State) (said : Said) (m : Move) → Agrees P said m → move_from said m.from ≡ m
+pub said_move : (P : State) (said : Said) (m : Move) → Agrees P said m → move_from said m.from ≡ m
 said_move P said m agrees = λ i. record {
   from = m.from;
   to = sym agrees.target i;
@@ -59,7 +55,7 @@ said_move P said m agrees = λ i. record {
   castle = sym agrees.not_castling i;
 }
 
-said_fits : (P : State) (said : Said) (m : Move) → IsMoveSaid P said m → Fits P said m.from
+pub said_fits : (P : State) (said : Said) (m : Move) → IsMoveSaid P said m → Fits P said m.from
 said_fits P said m named =
     let agrees = named.1 in record {
       file = agrees.file;
@@ -68,7 +64,7 @@ said_fits P said m named =
       legal = subst (IsLegal P) (sym (said_move P said m agrees)) named.0;
     }
 
-said_on : (P : State) (said : Said) (m : Move) → IsMoveSaid P said m → IsOnBoard m.from
+pub said_on : (P : State) (said : Said) (m : Move) → IsMoveSaid P said m → IsOnBoard m.from
 said_on P said m named = named.0.pseudo_legal.from
 
 pub said_man : (P : State) (said : Said) (m : Move) → IsMoveSaid P said m → man_at P.men m.from ≡ Some (man_said P said)
@@ -78,7 +74,7 @@ said_man P said m named =
     let side : agrees.man.side ≡ P.turn = same_side agrees.man rules.man (sym agrees.here ∙ rules.here) ∙ rules.own in
     agrees.here ∙ ap (λ (man : Man). Some man) (man_of agrees.man (man_said P said) side agrees.kind)
 
-fits_said : (P : State) (said : Said) (s : Place) → man_at P.men s ≡ Some (man_said P said) → Fits P said s → IsMoveSaid P said (move_from said s)
+pub fits_said : (P : State) (said : Said) (s : Place) → man_at P.men s ≡ Some (man_said P said) → Fits P said s → IsMoveSaid P said (move_from said s)
 fits_said P said s here fits = (
   fits.legal,
   record {
@@ -142,6 +138,14 @@ same_answer fact own (Err errors.Several) there back answer =
 pub answer_only : (P : State) (x : List ℕ) (result : Result Move SanError) → IsAnswer (IsNamed P x) result → IfOk result (λ m. IsOnlyNamed P x m)
 answer_only P x (Ok m) answer = record { named = answer.0; only = answer.1 }
 answer_only P x (Err e) answer = tt
+
+pub played_after : (old new : State) (result : Result Move SanError) → IsPlayed old new result → IfOk result (λ m. new ≡ after old m)
+played_after old new (Ok m) played = played
+played_after old new (Err e) played = tt
+
+pub played_not : (old new : State) (result : Result Move SanError) → IsPlayed old new result → OnErr result (new ≡ old)
+played_not old new (Ok m) played = tt
+played_not old new (Err e) played = played
 
 pub answer_none : (fact : Move → Type 0) (result : Result Move SanError) → IsAnswer fact result → IsErrOf result errors.None ↔ ((m : Move) → fact m → ⊥)
 answer_none fact (Ok m) answer = ((λ e. absurd (cc)), (λ none. absurd (none m answer.0)))

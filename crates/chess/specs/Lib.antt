@@ -13,6 +13,7 @@ pub mod Sets
 pub mod Laws
 -- Private words: what the code equals on the way, what its loops keep, and facts that types rest on. No public contract cites them.
 pub mod BitWords
+pub mod Sights
 pub mod Cells
 pub mod CellFacts
 pub mod Codes

@@ -1,11 +1,13 @@
 -- What the reader of move texts knows on its way: the bytes of a text by their classes, from its end.
 use Rattle.std.specs.Prelude.{◌≡◌, ◌↔◌, ◌⊎◌, ◌≢◌, ℕ, ◌-◌, Bool, true, ◌||◌, ◌&&◌, ◌==◌, ltb, if◌then◌else◌, List, [], ◌∷◌, Option, Some, None, IfSome, is_some, option_map}
 use Rattle.chess.specs.Squares.{Place, IsOnBoard}
+use Rattle.chess.specs.Placements.{man_at}
 use Rattle.chess.specs.Positions.{State, king_from, king_to}
 use Rattle.chess.specs.Moves.{IsLegal}
 use Rattle.chess.specs.Letters.{is_check_mark, is_sign}
 use Rattle.chess.specs.San.{Said, Spells, Agrees, kind_said, castling_text, castling_with_zeros}
 use Rattle.chess.specs.Sets.{Places, is_in}
+use Rattle.chess.specs.declared.board.man.Man.{Man}
 use Rattle.chess.specs.declared.board.man.Kind.{Kind}
 use Rattle.chess.specs.declared.board.man.Kind.TheVariants.{King, Queen, Rook, Bishop, Knight, Pawn}
 use Rattle.chess.specs.declared.board.man.Side.{Side}
@@ -104,6 +106,21 @@ pub record Fits (P : State) (said : Said) (s : Place) : Type 0 where
   pub rank : IfSome said.rank (λ rank. s.rank ≡ rank)
   pub stays : kind_said said.letter ≡ Pawn → said.file ≡ None → s.file ≡ said.target.file
   pub legal : IsLegal P (move_from said s)
+
+-- the man that is spoken of
+abbrev pub man_said : State → Said → Man
+man_said P said = record { side = P.turn; kind = kind_said said.letter }
+
+-- that man stands on each square of the set; each of his squares that fits is in it; each square that fits by its file is in it
+abbrev pub AreMenSaid : State → Said → Places → Type 0
+AreMenSaid P said set = (s : Place) → is_in set s ≡ true → man_at P.men s ≡ Some (man_said P said)
+
+abbrev pub HasEachSaid : State → Said → Places → Type 0
+HasEachSaid P said set = (s : Place) → IsOnBoard s → man_at P.men s ≡ Some (man_said P said) → Fits P said s → is_in set s ≡ true
+
+abbrev pub HasFileSaid : Said → Places → Type 0
+HasFileSaid said set = (s : Place) → IsOnBoard s → IfSome said.file (λ file. s.file ≡ file)
+    → (kind_said said.letter ≡ Pawn → said.file ≡ None → s.file ≡ said.target.file) → is_in set s ≡ true
 
 -- a square of the set that fits was taken out, with some that do not fit; or none fits
 pub record IsNext (fact : Place → Type 0) (old new : Places) (t : Place) : Type 0 where

@@ -5,7 +5,7 @@ use Rattle.std.specs.Int.{bit_at}
 use Rattle.std.specs.FinSet.{FinSet, empty, insert, contains, len, code}
 use Rattle.chess.specs.Squares.{Place, IsOnBoard, place_cmp, square_at, index_of, same_square, coded_place}
 use Rattle.chess.specs.Placements.{Placement, man_at}
-use Rattle.chess.specs.Attacks.{IsInReach}
+use Rattle.chess.specs.Attacks.{IsInReach, Reaches}
 use Rattle.chess.specs.declared.board.man.Man.{Man}
 
 -- a set of squares
@@ -30,6 +30,10 @@ IsReachOf p s set = HoldsExactly (IsInReach p s) set
 -- the squares on which that man stands
 abbrev pub IsSquaresOf : Placement → Man → Places → Type 0
 IsSquaresOf p man set = HoldsExactly (λ s. man_at p s ≡ Some man) set
+
+-- that man stands on s, one of the squares, and attacks the target
+abbrev pub IsHitter : Placement → Man → Place → Places → Place → Type 0
+IsHitter p man target among s = (is_in among s ≡ true) × (man_at p s ≡ Some man) × Reaches p man.side man.kind s target
 
 -- those of the first n squares that pass the test
 unfoldable pub first_places : (ℕ → Bool) → ℕ → Places

@@ -2,7 +2,7 @@
 ghost use Rattle.std.specs.Prelude.{◌≡◌, ◌↔◌, IsTrue};
 ghost use Rattle.chess.specs.Placements.{Placement, no_men, man_at, with_man, AreOnBoard};
 ghost use Rattle.chess.specs.Attacks.{IsAttacked};
-ghost use Rattle.chess.specs.Sets.{IsReachOf, IsSquaresOf};
+ghost use Rattle.chess.specs.Sets.{IsReachOf, IsSquaresOf, HoldsExactly, IsHitter};
 
 mod bits;
 mod direction;
@@ -10,6 +10,7 @@ mod fills;
 mod mailbox;
 mod man;
 mod set;
+mod sights;
 mod square;
 
 pub use bits::Bits;
@@ -47,6 +48,10 @@ pub trait Board: Copy {
     /// The squares on which that man stands.
     fn squares_of(&self, man: Man) -> SquareSet
         ensures { IsSquaresOf (men self.now) man result };
+
+    /// Those of the squares on which that man stands and attacks the target.
+    fn hitters(&self, man: Man, target: Square, among: SquareSet) -> SquareSet
+        ensures { HoldsExactly (IsHitter (men self.now) man target among) result };
 
     ghost on_board: { (b : Self) → AreOnBoard (men b) };
 }

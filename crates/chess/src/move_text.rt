@@ -1,8 +1,10 @@
 //! Moves in standard algebraic notation (PGN 8.2.3): read, and written.
 
+mod play;
 mod read;
 mod write;
 
+pub use play::play_word;
 pub use read::resolve;
 pub use write::san;
 

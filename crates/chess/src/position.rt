@@ -4,7 +4,7 @@ ghost use Rattle.chess.specs.Placements.{man_at, IsHeld, IsEmpty};
 ghost use Rattle.chess.specs.Attacks.{IsAttacked};
 ghost use Rattle.chess.specs.Positions.{State, IsSound, IsOnlyKing, IsCheck, has_right};
 ghost use Rattle.chess.specs.Moves.{is_square};
-ghost use Rattle.chess.specs.Sets.{IsReachOf, IsSquaresOf};
+ghost use Rattle.chess.specs.Sets.{IsReachOf, IsSquaresOf, HoldsExactly, IsHitter};
 
 use crate::board::{Board, CastlingRights, Man, Side, Square, SquareSet, Wing};
 use std::marker::Model;
@@ -132,6 +132,13 @@ impl<B: Board> Position<B> {
         ensures { IsSquaresOf self.now.men man result }
     {
         self.board.squares_of(man)
+    }
+
+    /// Those of the squares on which that man stands and attacks the target.
+    pub(crate) fn hitters(&self, man: Man, target: Square, among: SquareSet) -> SquareSet
+        ensures { HoldsExactly (IsHitter self.now.men man target among) result }
+    {
+        self.board.hitters(man, target, among)
     }
 
     /// Whether no man stands on the square.

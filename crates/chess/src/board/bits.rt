@@ -10,9 +10,8 @@ ghost use Rattle.chess.specs.declared.board.man.Kind.TheVariants.{King, Knight, 
 #[cfg(test)]
 mod tests;
 
-use crate::board::fills::{
-    diagonal_runs, jumps, meet, near, pawn_hits, reached, straight_runs, word_of,
-};
+use crate::board::fills::{meet, reached, word_of};
+use crate::board::sights::{hitters_of, sighting};
 use crate::board::{Board, Kind, Man, Side, Square, SquareSet};
 
 /// A board of twelve words: the squares of each of White's kinds, in the order of `Kind`, then of Black's. A square's bit is its place in the order
@@ -53,6 +52,11 @@ impl Board for Bits {
         SquareSet::of_word(squares_with(&self.words, man.side, man.kind))
     }
 
+    fn hitters(&self, man: Man, target: Square, among: SquareSet) -> SquareSet {
+        let own = squares_with(&self.words, man.side, man.kind) & among.word();
+        hitters_of(man, target, own, occupied(&self.words))
+    }
+
     ghost on_board = { λ b s man here. on_board-men_of (man_in b.words) s man here };
 }
 
@@ -65,7 +69,8 @@ fn no_words() -> [u64; 12]
 }
 
 /// The number of a man's word.
-fn row(man: Man) -> u8
+#[inline(always)]
+pub(crate) fn row(man: Man) -> u8
     ensures row { result ≡ row_of man }
     ensures below { result < 12 }
 {
@@ -145,16 +150,25 @@ fn place(words: &mut [u64; 12], square: Square, man: Option<Man>)
     set(words, square, man);
 }
 
-/// The squares without men.
-fn unoccupied(words: &[u64; 12]) -> u64
+/// The squares on which men stand.
+#[inline(always)]
+fn occupied(words: &[u64; 12]) -> u64
     requires { AreApart words.now }
-    ensures { IsWordOf (IsEmpty (words_men words.now)) result }
+    ensures { IsWordOf (λ s. ¬ IsEmpty (words_men words.now) s) result }
 {
     let mut all = 0u64;
     for row in 0usize..12 {
         all |= words[row];
     }
-    !all
+    all
+}
+
+/// The squares without men.
+fn unoccupied(words: &[u64; 12]) -> u64
+    requires { AreApart words.now }
+    ensures { IsWordOf (IsEmpty (words_men words.now)) result }
+{
+    !occupied(words)
 }
 
 /// The squares of a man.
@@ -178,7 +192,14 @@ fn is_hit_by_knight(words: &[u64; 12], square: Square, side: Side) -> bool
     requires { AreApart words.now }
     ensures { IsTrue result ↔ IsHitBy (words_men words.now) side Knight square }
 {
-    meet(squares_with(words, side, Kind::Knight), jumps(square))
+    let knight = Man {
+        side,
+        kind: Kind::Knight,
+    };
+    meet(
+        squares_with(words, side, Kind::Knight),
+        sighting(knight, square),
+    )
 }
 
 /// Whether a king of the side attacks the square.
@@ -186,7 +207,14 @@ fn is_hit_by_king(words: &[u64; 12], square: Square, side: Side) -> bool
     requires { AreApart words.now }
     ensures { IsTrue result ↔ IsHitBy (words_men words.now) side King square }
 {
-    meet(squares_with(words, side, Kind::King), near(square))
+    let king = Man {
+        side,
+        kind: Kind::King,
+    };
+    meet(
+        squares_with(words, side, Kind::King),
+        sighting(king, square),
+    )
 }
 
 /// Whether a pawn of the side attacks the square.
@@ -194,37 +222,45 @@ fn is_hit_by_pawn(words: &[u64; 12], square: Square, side: Side) -> bool
     requires { AreApart words.now }
     ensures { IsTrue result ↔ IsHitBy (words_men words.now) side Pawn square }
 {
+    let pawn = Man {
+        side,
+        kind: Kind::Pawn,
+    };
     meet(
         squares_with(words, side, Kind::Pawn),
-        pawn_hits(square, side.opposite()),
+        sighting(pawn, square),
     )
 }
 
 /// Whether a queen or a rook of the side attacks the square along its rank or file.
-fn is_hit_straight(words: &[u64; 12], square: Square, side: Side, empty: u64) -> bool
+fn is_hit_straight(words: &[u64; 12], square: Square, side: Side, occupied: u64) -> bool
     requires apart { AreApart words.now }
-    requires empty { IsWordOf (IsEmpty (words_men words.now)) empty }
+    requires occupied { IsWordOf (λ s. ¬ IsEmpty (words_men words.now) s) occupied }
     ensures { IsTrue result ↔ IsHitStraight (words_men words.now) side square }
 {
-    meet(
-        squares_of_runners(words, side, Kind::Rook),
-        straight_runs(square, empty),
-    )
+    let runners = squares_of_runners(words, side, Kind::Rook);
+    let rook = Man {
+        side,
+        kind: Kind::Rook,
+    };
+    hitters_of(rook, square, runners, occupied).has_some()
 }
 
 /// Whether a queen or a bishop of the side attacks the square along a diagonal.
-fn is_hit_diagonally(words: &[u64; 12], square: Square, side: Side, empty: u64) -> bool
+fn is_hit_diagonally(words: &[u64; 12], square: Square, side: Side, occupied: u64) -> bool
     requires apart { AreApart words.now }
-    requires empty { IsWordOf (IsEmpty (words_men words.now)) empty }
+    requires occupied { IsWordOf (λ s. ¬ IsEmpty (words_men words.now) s) occupied }
     ensures { IsTrue result ↔ IsHitDiagonal (words_men words.now) side square }
 {
-    meet(
-        squares_of_runners(words, side, Kind::Bishop),
-        diagonal_runs(square, empty),
-    )
+    let runners = squares_of_runners(words, side, Kind::Bishop);
+    let bishop = Man {
+        side,
+        kind: Kind::Bishop,
+    };
+    hitters_of(bishop, square, runners, occupied).has_some()
 }
 
-/// Whether some man of the side attacks the square: a ray reads the same from both its ends.
+/// Whether some man of the side attacks the square.
 fn is_hit(words: &[u64; 12], square: Square, side: Side) -> bool
     requires { AreApart words.now }
     ensures { IsTrue result ↔ IsAttacked (words_men words.now) side square }
@@ -238,9 +274,9 @@ fn is_hit(words: &[u64; 12], square: Square, side: Side) -> bool
     if is_hit_by_pawn(words, square, side) {
         return true;
     }
-    let empty = unoccupied(words);
-    if is_hit_straight(words, square, side, empty) {
+    let men = occupied(words);
+    if is_hit_straight(words, square, side, men) {
         return true;
     }
-    is_hit_diagonally(words, square, side, empty)
+    is_hit_diagonally(words, square, side, men)
 }

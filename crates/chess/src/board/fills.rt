@@ -60,7 +60,7 @@ fn upright(word: u64) -> u64
 }
 
 /// The squares that a king attacks (Laws 3.8.1).
-pub(crate) fn near(square: Square) -> u64
+fn near(square: Square) -> u64
     ensures { IsWordOf (IsNear square) result }
 {
     let here = word_of(square);
@@ -69,7 +69,7 @@ pub(crate) fn near(square: Square) -> u64
 }
 
 /// The squares that a knight attacks (Laws 3.6).
-pub(crate) fn jumps(square: Square) -> u64
+fn jumps(square: Square) -> u64
     ensures { IsWordOf (IsJump square) result }
 {
     let here = word_of(square);
@@ -89,7 +89,7 @@ fn forward(side: Side) -> Direction
 }
 
 /// The squares that a pawn of the side attacks (Laws 3.7.3).
-pub(crate) fn pawn_hits(square: Square, side: Side) -> u64
+fn pawn_hits(square: Square, side: Side) -> u64
     ensures { IsWordOf (IsPawnHit side square) result }
 {
     beside(step(word_of(square), forward(side)))
@@ -112,7 +112,7 @@ fn fill(square: Square, empty: u64, way: Direction) -> u64
 }
 
 /// The squares that a rook attacks.
-pub(crate) fn straight_runs(square: Square, empty: u64) -> u64
+fn straight_runs(square: Square, empty: u64) -> u64
     ensures { (p : Placement) → IsWordOf (IsEmpty p) empty → IsWordOf (IsStraightRun p square) result }
 {
     let north = fill(square, empty, Direction::North);
@@ -123,7 +123,7 @@ pub(crate) fn straight_runs(square: Square, empty: u64) -> u64
 }
 
 /// The squares that a bishop attacks.
-pub(crate) fn diagonal_runs(square: Square, empty: u64) -> u64
+fn diagonal_runs(square: Square, empty: u64) -> u64
     ensures { (p : Placement) → IsWordOf (IsEmpty p) empty → IsWordOf (IsDiagonalRun p square) result }
 {
     let north_east = fill(square, empty, Direction::NorthEast);

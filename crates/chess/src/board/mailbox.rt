@@ -4,7 +4,7 @@ ghost use Rattle.chess.specs.declared.board.direction.Direction.{Direction};
 ghost use Rattle.chess.specs.Squares.{IsStraight, gap};
 ghost use Rattle.chess.specs.Placements.{man_at};
 ghost use Rattle.chess.specs.Attacks.{IsOnRay, IsClearFor, IsNear, IsJump, IsPawnHit, Reaches, IsForward, IsHitFrom};
-ghost use Rattle.chess.specs.Sets.{HoldsExactly};
+ghost use Rattle.chess.specs.Sets.{HoldsExactly, IsHitter};
 ghost use Rattle.chess.specs.Cells.{cells_men, cell_of};
 ghost use Rattle.chess.specs.CellFacts.{on_board-men_of};
 
@@ -53,6 +53,15 @@ impl Board for Mailbox {
         for index in 0u8..64 {
             let square = Square::of_index(index);
             set.insert_if(square, self.holds(square, man));
+        }
+        set
+    }
+
+    fn hitters(&self, man: Man, target: Square, among: SquareSet) -> SquareSet {
+        let mut set = SquareSet::new();
+        for index in 0u8..64 {
+            let square = Square::of_index(index);
+            set.insert_if(square, self.is_hitter(man, square, target, &among));
         }
         set
     }
@@ -114,6 +123,13 @@ impl Mailbox {
         ensures { IsTrue result ↔ (man_at (cells_men self.now.cells) square ≡ Some man) }
     {
         self.man(square) == Some(man)
+    }
+
+    /// Whether that man stands on the square, one of those given, and attacks the target.
+    fn is_hitter(&self, man: Man, square: Square, target: Square, among: &SquareSet) -> bool
+        ensures { IsTrue result ↔ IsHitter (cells_men self.now.cells) man target among.now square }
+    {
+        among.has(square) && self.holds(square, man) && self.reaches(man, square, target)
     }
 
     /// Whether no man stands on the squares that are fewer than so many steps ahead.

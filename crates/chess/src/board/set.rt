@@ -6,6 +6,9 @@ ghost use Rattle.chess.specs.Sets.{is_in, has_bit, no_places, size_of, HoldsExac
 use crate::board::Square;
 use std::marker::Model;
 
+/// The squares of the a-file.
+const FILE_A: u64 = 0x0101_0101_0101_0101;
+
 /// A set of squares.
 #[derive(Debug, Drop)]
 pub struct SquareSet {
@@ -38,6 +41,41 @@ impl SquareSet {
         ensures { HoldsExactly (λ (s : Place). has_bit word (index_of s) ≡ true) result }
     {
         SquareSet { word }
+    }
+
+    /// The word of its squares: bit 0 is a1, bit 1 is b1, and so on to h1, a2 and h8.
+    #[inline(always)]
+    pub(crate) fn word(&self) -> u64
+        ensures { (s : Place) → IsOnBoard s → has_bit result (index_of s) ≡ is_in self.now s }
+    {
+        self.word
+    }
+
+    /// All squares.
+    #[inline(always)]
+    pub(crate) fn all() -> Self
+        ensures { HoldsExactly (λ s. IsOnBoard s) result }
+    {
+        SquareSet::of_word(u64::MAX)
+    }
+
+    /// The squares of that file.
+    #[inline(always)]
+    pub(crate) fn of_file(file: u8) -> Self
+        ensures { HoldsExactly (λ s. s.file ≡ file) result }
+    {
+        if file < 1 || file > 8 {
+            return SquareSet::of_word(0);
+        }
+        SquareSet::of_word(FILE_A << (file - 1))
+    }
+
+    /// The squares that both sets have.
+    #[inline(always)]
+    pub(crate) fn common(self, other: SquareSet) -> Self
+        ensures { HoldsExactly (λ s. (is_in self s ≡ true) × (is_in other s ≡ true)) result }
+    {
+        SquareSet::of_word(self.word() & other.word())
     }
 
     /// Puts a square into the set.

@@ -13,7 +13,7 @@ use crate::moves::Move;
 use crate::moves::castling::{king_arrives, king_leaves};
 use crate::position::Position;
 
-mod said;
+pub(crate) mod said;
 
 use said::{SaidMove, castling, read_said};
 
@@ -40,7 +40,7 @@ fn only_named<B: Board>(position: &Position<B>, text: &[u8]) -> Result<Move, San
 }
 
 /// Castling on the wing, if it is legal.
-fn castled<B: Board>(position: &Position<B>, wing: Wing) -> Result<Move, SanError>
+pub(crate) fn castled<B: Board>(position: &Position<B>, wing: Wing) -> Result<Move, SanError>
     ensures { IsAnswer (IsCastlingOn position.now wing) result }
 {
     let side = position.side();
@@ -63,7 +63,7 @@ fn castling_move(side: Side, wing: Wing) -> Move
 }
 
 /// The only legal move that agrees with what is said.
-fn moved<B: Board>(position: &Position<B>, said: &SaidMove) -> Result<Move, SanError>
+pub(crate) fn moved<B: Board>(position: &Position<B>, said: &SaidMove) -> Result<Move, SanError>
     ensures { IsAnswer (IsMoveSaid position.now (said_by said.now)) result }
 {
     let squares = position.squares_of(Man {
@@ -114,7 +114,7 @@ fn fits<B: Board>(position: &Position<B>, said: &SaidMove, from: Square) -> bool
 }
 
 /// Whether the number is the one given, if one is given.
-fn agrees(given: Option<u8>, number: u8) -> bool
+pub(crate) fn agrees(given: Option<u8>, number: u8) -> bool
     ensures { IsTrue result ↔ IfSome given (λ n. number ≡ n) }
 {
     match given {
@@ -125,7 +125,7 @@ fn agrees(given: Option<u8>, number: u8) -> bool
 
 impl SaidMove {
     /// The kind of man that is spoken of: a pawn without a letter.
-    fn kind(&self) -> Kind
+    pub(crate) fn kind(&self) -> Kind
         ensures { result ≡ kind_said self.now.letter }
     {
         match self.letter {
@@ -135,7 +135,7 @@ impl SaidMove {
     }
 
     /// The move from the square that is spoken of.
-    fn from(&self, from: Square) -> Move
+    pub(crate) fn from(&self, from: Square) -> Move
         ensures { result ≡ move_from (said_by self.now) from }
     {
         Move {
@@ -147,7 +147,7 @@ impl SaidMove {
     }
 
     /// Whether a pawn without a given file stays on its file.
-    fn keeps_file(&self, from: Square) -> bool
+    pub(crate) fn keeps_file(&self, from: Square) -> bool
         ensures { IsTrue result ↔ (kind_said self.now.letter ≡ Pawn → self.now.file ≡ None → from.file ≡ self.now.target.file) }
     {
         if self.kind() != Kind::Pawn {

@@ -1,5 +1,5 @@
 //! The position after a move (Laws 3.7, 3.8; PGN 16.1.3.3 to 16.1.3.6).
-ghost use Rattle.std.specs.Prelude.{◌≡◌};
+ghost use Rattle.std.specs.Prelude.{◌≡◌, ◌↔◌, IsTrue, None, if◌then◌else◌};
 ghost use Rattle.chess.specs.Squares.{same_square};
 ghost use Rattle.chess.specs.Positions.{IsSound, IsOnlyKing};
 ghost use Rattle.chess.specs.Moves.{is_pawn, is_en_passant, taken, arriving, men_after, keeps_right, rights_after, en_passant_after, one_more, halfmove_clock_after, fullmove_number_after, after, IsPseudoLegal, IsLegal};
@@ -155,6 +155,62 @@ impl<B: Board> Position<B> {
         self.known();
         let king = self.king(side);
         if king.is(m.from) { m.to } else { king }
+    }
+
+    /// Makes a legal move in place.
+    pub(crate) fn make(&mut self, m: &Move)
+        requires { IsLegal self.old m.now }
+        ensures { self.new ≡ after self.old m.now }
+    {
+        let board = self.board_after(m);
+        self.settle(m, board);
+    }
+
+    /// Makes a legal move in place, where the board after it is given.
+    fn settle(&mut self, m: &Move, board: B)
+        requires legal { IsLegal self.old m.now }
+        requires board { B.men board ≡ men_after self.old m.now }
+        ensures { self.new ≡ after self.old m.now }
+    {
+        self.known();
+        *self = Position {
+            board,
+            turn: self.turn_after(),
+            rights: self.rights_after(m),
+            en_passant: self.en_passant_after(m),
+            halfmove_clock: self.halfmove_clock_after(m),
+            fullmove_number: self.fullmove_number_after(),
+            white_king: self.king_after(m, Side::White),
+            black_king: self.king_after(m, Side::Black),
+        };
+    }
+
+    /// Makes the move in place if it leaves the own king unattacked.
+    pub(crate) fn try_move(&mut self, m: &Move) -> bool
+        requires pseudo_legal { IsPseudoLegal self.old m.now }
+        requires plain { m.now.castle ≡ None }
+        ensures legal { IsTrue result ↔ IsLegal self.old m.now }
+        ensures moved { self.new ≡ (if result then after self.old m.now else self.old) }
+    {
+        let side = self.side();
+        let board = self.board_after(m);
+        if board.attacked(self.king_after(m, side), side.opposite()) {
+            return false;
+        }
+        self.settle(m, board);
+        true
+    }
+
+    /// Makes the move in place if it is legal.
+    pub(crate) fn make_if_legal(&mut self, m: &Move) -> bool
+        requires { m.now.castle ≡ None }
+        ensures legal { IsTrue result ↔ IsLegal self.old m.now }
+        ensures moved { self.new ≡ (if result then after self.old m.now else self.old) }
+    {
+        if !self.is_pseudo_legal(m) {
+            return false;
+        }
+        self.try_move(m)
     }
 
     /// The position after a legal move.

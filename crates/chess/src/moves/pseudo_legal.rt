@@ -4,7 +4,7 @@ ghost use Rattle.chess.specs.Attacks.{Reaches};
 ghost use Rattle.chess.specs.Moves.{IsSingleStep, IsDoubleStep, IsPawnCapture, IsPawnMove, IsPromotion, Promotes, Castles, IsKingMove, Goes, IsPseudoLegal};
 ghost use Rattle.chess.specs.MoveWords.{IsMover, IsOpen, IsPlainMove, IsSquareAhead};
 
-use crate::board::{Board, Direction, Kind, Side, Square, Wing};
+use crate::board::{Board, Direction, Kind, Man, Side, Square, SquareSet, Wing};
 use crate::moves::Move;
 use crate::moves::castling::{at_home, king_arrives, king_leaves, rank_of_pawns, rank_of_pieces};
 use crate::position::Position;
@@ -45,7 +45,11 @@ impl<B: Board> Position<B> {
         requires { IsMover self.now kind from }
         ensures { IsTrue result ↔ Reaches self.now.men self.now.turn kind from to }
     {
-        self.reach(from).has(to)
+        let man = Man {
+            side: self.side(),
+            kind,
+        };
+        self.hitters(man, to, SquareSet::all()).has(from)
     }
 
     /// Whether a pawn steps so, one square forward.

@@ -1,9 +1,9 @@
 use Rattle.chess.specs.BitWords.{words_men}
-use Rattle.chess.proofs.HitFacts.{hit_diagonal}
+use Rattle.chess.proofs.HitterFacts.{hit_diagonal}
 use Rattle.chess.proofs.board.bits.is_hit_diagonally.Goals as goal
 
 pub returns : goal.returns
 returns c =
     let men = words_men c.args.words.now in
-    hit_diagonal men c.args.side c.args.square c.squares_of_runners.result c.diagonal_runs.result c.meet.result c.meet.ensures c.squares_of_runners.ensures
-    (c.diagonal_runs.ensures men c.requires.empty)
+    hit_diagonal men c.args.side c.args.square c.squares_of_runners-runners.result c.hitters_of.result c.has_some.result c.squares_of_runners-runners.ensures
+    (c.hitters_of.ensures men c.requires.occupied) c.has_some.ensures

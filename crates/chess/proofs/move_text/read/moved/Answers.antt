@@ -1,9 +1,9 @@
 use Rattle.std.proofs.Common.{◌≡◌, sym, subst}
 use Rattle.chess.specs.Sets.{IsSquaresOf}
-use Rattle.chess.specs.SanWords.{said_by, IsMoveSaid}
+use Rattle.chess.specs.SanWords.{said_by, IsMoveSaid, man_said}
 use Rattle.chess.specs.declared.board.man.Man.{Man}
 use Rattle.chess.specs.declared.moves.Move.{Move}
-use Rattle.chess.proofs.NamedFacts.{man_said, said_only, said_several, none_given, some_given}
+use Rattle.chess.proofs.NamedFacts.{said_only, said_several, none_given, some_given}
 use Rattle.chess.proofs.move_text.read.moved.Goals as goal
 
 pub returns-then-is_some : goal.returns-then-is_some

@@ -1,0 +1,74 @@
+-- Words of all squares, of the squares of a file, and of those that two sets have.
+use Rattle.std.proofs.Common.{◌≡◌, ◌⊎◌, ◌<◌, ◌≤◌, ◌-◌, ◌*◌, ◌^◌, ◌%◌, ℕ, true, nat_eq, bit_and, inl, inr, refl, sym, ◌∙◌, arith}
+use Rattle.std.proofs.lemmas.Bool.{agree_below, agree_below_at, and_parts, and_from}
+use Rattle.std.proofs.lemmas.Bool.Decides.{nat_tests}
+use Rattle.chess.specs.Squares.{Place, IsOnBoard, index_of}
+use Rattle.chess.specs.Sets.{Places, is_in, has_bit, HoldsExactly}
+use Rattle.chess.specs.SetFacts.{index_of-below}
+use Rattle.chess.proofs.PlaceFacts.{true_not_false}
+use Rattle.chess.proofs.FillFacts.{bit_of_both, no_bit}
+
+each_bit : agree_below (has_bit 18446744073709551615) (λ _. true) 64 ≡ true
+each_bit = refl
+
+pub all_squares : (set : Places) → HoldsExactly (λ s. has_bit 18446744073709551615 (index_of s) ≡ true) set → HoldsExactly (λ s. IsOnBoard s) set
+all_squares set found s = (
+  (λ h. let on = ((found s).0 h).0 in (on, on)),
+  (λ h. (found s).1 (h.0, agree_below_at (has_bit 18446744073709551615) (λ _. true) 64 (index_of s) each_bit (index_of-below s h.0))),
+)
+
+abbrev pub file_word : ℕ → ℕ
+file_word n = 72340172838076673 * 2 ^ n % 2 ^ 64
+
+files_fit : agree_below (λ f. agree_below (has_bit (file_word f)) (λ n. nat_eq (n % 8) f) 64) (λ _. true) 8 ≡ true
+files_fit = refl
+
+are_same : (a b : ℕ) → nat_eq a b ≡ true → a ≡ b
+are_same a b e = grind (arith, nat_tests)
+
+same_is : (a b : ℕ) → a ≡ b → nat_eq a b ≡ true
+same_is a b e = grind (arith, nat_tests)
+
+file_bit : (file : ℕ) (s : Place) → 1 ≤ file → file ≤ 8 → IsOnBoard s → has_bit (file_word (file - 1)) (index_of s) ≡ nat_eq (index_of s % 8) (file - 1)
+file_bit file s low high on =
+    let row = agree_below_at (λ f. agree_below (has_bit (file_word f)) (λ n. nat_eq (n % 8) f) 64) (λ _. true) 8 (file - 1) files_fit (omega arith) in
+    agree_below_at (has_bit (file_word (file - 1))) (λ n. nat_eq (n % 8) (file - 1)) 64 (index_of s) row (index_of-below s on)
+
+pub file_squares : (file : ℕ) (set : Places) → 1 ≤ file → file ≤ 8 → HoldsExactly (λ s. has_bit (file_word (file - 1)) (index_of s) ≡ true) set
+    → HoldsExactly (λ s. s.file ≡ file) set
+file_squares file set low high found s = (
+  (λ h.
+      let parts = (found s).0 h in
+      let on = parts.0 in
+      let f1 = on.file_low in let f2 = on.file_high in let r1 = on.rank_low in let r2 = on.rank_high in
+      let same = are_same (index_of s % 8) (file - 1) (sym (file_bit file s low high on) ∙ parts.1) in
+      let at : s.file - 1 ≡ index_of s % 8 = omega arith in
+      (on, omega arith)),
+  (λ h.
+      let on = h.0 in let same = h.1 in
+      let f1 = on.file_low in let f2 = on.file_high in let r1 = on.rank_low in let r2 = on.rank_high in
+      let at : s.file - 1 ≡ index_of s % 8 = omega arith in
+      (found s).1 (on, file_bit file s low high on ∙ same_is (index_of s % 8) (file - 1) (omega arith))),
+)
+
+-- a number that is no file has no squares
+pub no_file : (file : ℕ) (set : Places) → (file < 1) ⊎ ((1 ≤ file) × (8 < file)) → HoldsExactly (λ s. has_bit 0 (index_of s) ≡ true) set → HoldsExactly (λ s. s.file ≡ file) set
+no_file file set out found s = (
+  (λ h. let bit = ((found s).0 h).1 in absurd (true_not_false (has_bit 0 (index_of s)) bit (no_bit (index_of s)))),
+  (λ h.
+      let on = h.0 in let same = h.1 in
+      let low = on.file_low in let high = on.file_high in
+      absurd (elim out [ inl less ↦ omega arith | inr more ↦ let beyond = more.1 in omega arith ])),
+)
+
+pub common_squares : (a b : ℕ) (one other set : Places) → ((s : Place) → IsOnBoard s → has_bit a (index_of s) ≡ is_in one s)
+    → ((s : Place) → IsOnBoard s → has_bit b (index_of s) ≡ is_in other s) → HoldsExactly (λ s. has_bit (bit_and a b) (index_of s) ≡ true) set
+    → HoldsExactly (λ s. (is_in one s ≡ true) × (is_in other s ≡ true)) set
+common_squares a b one other set first second found s =
+    let bits = bit_of_both a b (index_of s) in (
+      (λ h.
+          let parts = (found s).0 h in
+          let both = sym bits ∙ parts.1 in
+          (parts.0, (sym (first s parts.0) ∙ (and_parts _ _ both).0, sym (second s parts.0) ∙ (and_parts _ _ both).1))),
+      (λ h. (found s).1 (h.0, bits ∙ and_from _ _ (first s h.0 ∙ h.1.0) (second s h.0 ∙ h.1.1))),
+    )

@@ -1,0 +1,82 @@
+-- A man attacks the squares that it sees on the empty board, if no man stands between.
+use Rattle.std.proofs.Common.{◌≡◌, ◌↔◌, ◌<◌, ◌≤◌, ℕ, inl, inr, sym, subst, arith}
+use Rattle.chess.specs.Squares.{Place, IsAhead, gap}
+use Rattle.chess.specs.Attacks.{IsJump, IsForward, IsOnRay, Reaches}
+use Rattle.chess.specs.Placements.{Placement}
+use Rattle.chess.proofs.BoardFacts.{one_count}
+use Rattle.chess.specs.Sights.{IsInLine, IsInSight, IsUnblocked}
+use Rattle.chess.specs.declared.board.direction.Direction.{Direction}
+use Rattle.chess.specs.declared.board.direction.Direction.TheVariants.{North, South, East, West, NorthEast, NorthWest, SouthEast, SouthWest}
+use Rattle.chess.specs.declared.board.man.Side.{Side}
+use Rattle.chess.specs.declared.board.man.Side.TheVariants.{White, Black}
+use Rattle.chess.specs.declared.board.man.Kind.{Kind}
+use Rattle.chess.specs.declared.board.man.Kind.TheVariants.{King, Queen, Rook, Bishop, Knight, Pawn}
+use Rattle.chess.proofs.SightFacts.{one_way}
+
+far_near : (way : Direction) (k : ℕ) (s t : Place) → 2 ≤ k → IsAhead way k s t → gap s.file t.file ≤ 1 → gap s.rank t.rank ≤ 1 → ⊥
+far_near North k s t far a f r = let x = a.0 in let y = a.1 in omega arith
+far_near South k s t far a f r = let x = a.0 in let y = a.1 in omega arith
+far_near East k s t far a f r = let x = a.0 in let y = a.1 in omega arith
+far_near West k s t far a f r = let x = a.0 in let y = a.1 in omega arith
+far_near NorthEast k s t far a f r = let x = a.0 in let y = a.1 in omega arith
+far_near NorthWest k s t far a f r = let x = a.0 in let y = a.1 in omega arith
+far_near SouthEast k s t far a f r = let x = a.0 in let y = a.1 in omega arith
+far_near SouthWest k s t far a f r = let x = a.0 in let y = a.1 in omega arith
+
+no_line_one : (way : Direction) (k : ℕ) (s t : Place) → IsAhead way k s t → gap s.file t.file ≡ 1 → gap s.rank t.rank ≡ 2 → ⊥
+no_line_one North k s t a f r = let x = a.0 in let y = a.1 in omega arith
+no_line_one South k s t a f r = let x = a.0 in let y = a.1 in omega arith
+no_line_one East k s t a f r = let x = a.0 in let y = a.1 in omega arith
+no_line_one West k s t a f r = let x = a.0 in let y = a.1 in omega arith
+no_line_one NorthEast k s t a f r = let x = a.0 in let y = a.1 in omega arith
+no_line_one NorthWest k s t a f r = let x = a.0 in let y = a.1 in omega arith
+no_line_one SouthEast k s t a f r = let x = a.0 in let y = a.1 in omega arith
+no_line_one SouthWest k s t a f r = let x = a.0 in let y = a.1 in omega arith
+
+no_line_two : (way : Direction) (k : ℕ) (s t : Place) → IsAhead way k s t → gap s.file t.file ≡ 2 → gap s.rank t.rank ≡ 1 → ⊥
+no_line_two North k s t a f r = let x = a.0 in let y = a.1 in omega arith
+no_line_two South k s t a f r = let x = a.0 in let y = a.1 in omega arith
+no_line_two East k s t a f r = let x = a.0 in let y = a.1 in omega arith
+no_line_two West k s t a f r = let x = a.0 in let y = a.1 in omega arith
+no_line_two NorthEast k s t a f r = let x = a.0 in let y = a.1 in omega arith
+no_line_two NorthWest k s t a f r = let x = a.0 in let y = a.1 in omega arith
+no_line_two SouthEast k s t a f r = let x = a.0 in let y = a.1 in omega arith
+no_line_two SouthWest k s t a f r = let x = a.0 in let y = a.1 in omega arith
+
+two : (j k : ℕ) → 1 ≤ j → j < k → 2 ≤ k
+two j k low less = omega arith
+
+near_open : (p : Placement) (s t : Place) → gap s.file t.file ≤ 1 → gap s.rank t.rank ≤ 1 → IsUnblocked p s t
+near_open p s t f r u on h = absurd (far_near h.0 h.1 s t (two h.2 h.1 h.5 h.6) h.3 f r)
+
+jump_open : (p : Placement) (s t : Place) → IsJump s t → IsUnblocked p s t
+jump_open p s t (inl one) u on h = absurd (no_line_one h.0 h.1 s t h.3 one.0 one.1)
+jump_open p s t (inr other) u on h = absurd (no_line_two h.0 h.1 s t h.3 other.0 other.1)
+
+next_rank : (side : Side) (a b : ℕ) → IsForward side a b → gap a b ≤ 1
+next_rank White a b h = omega arith
+next_rank Black a b h = omega arith
+
+ray_open : (p : Placement) (way : Direction) (s t : Place) → IsOnRay p way s t → IsUnblocked p s t
+ray_open p way s t ray u on h =
+    let low = h.5 in let less = h.6 in
+    let some : 1 ≤ h.1 = omega arith in
+    let same : way ≡ h.0 = one_way way h.0 ray.steps h.1 s t ray.far some ray.ahead h.3 in
+    let steps : ray.steps ≡ h.1 = one_count way ray.steps h.1 s t ray.ahead (subst (λ w. IsAhead w h.1 s t) (sym same) h.3) in
+    ray.clear h.2 u on low (omega arith) (subst (λ w. IsAhead w h.2 s u) (sym same) h.4)
+
+open_ray : (p : Placement) (way : Direction) (s t : Place) → IsInLine way s t → IsUnblocked p s t → IsOnRay p way s t
+open_ray p way s t line clear_way =
+    record { steps = line.0; far = line.1; ahead = line.2; clear = λ j u on low less a. clear_way u on (way, line.0, j, line.2, a, low, less) }
+
+line_of : (p : Placement) (way : Direction) (s t : Place) → IsOnRay p way s t → IsInLine way s t
+line_of p way s t ray = (ray.steps, ray.far, ray.ahead)
+
+pub reaches_is : (p : Placement) (side : Side) (kind : Kind) (s t : Place) → Reaches p side kind s t ↔ (IsInSight side kind s t × IsUnblocked p s t)
+reaches_is p side King s t = ((λ h. (h, near_open p s t h.0 h.1)), (λ h. h.0))
+reaches_is p side Queen s t = ((λ h. ((h.0, line_of p h.0 s t h.1), ray_open p h.0 s t h.1)), (λ h. (h.0.0, open_ray p h.0.0 s t h.0.1 h.1)))
+reaches_is p side Rook s t = ((λ h. ((h.0, h.1, line_of p h.0 s t h.2), ray_open p h.0 s t h.2)), (λ h. (h.0.0, h.0.1, open_ray p h.0.0 s t h.0.2 h.1)))
+reaches_is p side Bishop s t = ((λ h. ((h.0, h.1, line_of p h.0 s t h.2), ray_open p h.0 s t h.2)), (λ h. (h.0.0, h.0.1, open_ray p h.0.0 s t h.0.2 h.1)))
+reaches_is p side Knight s t = ((λ h. (h, jump_open p s t h)), (λ h. h.0))
+reaches_is p side Pawn s t =
+    ((λ h. (h, near_open p s t (let one = h.0 in omega arith) (next_rank side s.rank t.rank h.1))), (λ h. h.0))

@@ -1,0 +1,33 @@
+use Rattle.std.proofs.Common.{◌≡◌, sym, subst}
+use Rattle.chess.specs.Positions.{State, IsKept}
+use Rattle.chess.specs.Moves.{after}
+use Rattle.chess.proofs.SoundFacts.{after_sound}
+use Rattle.chess.proofs.position.Position.settle.Goals as goal
+
+pub invariant_of-self : goal.invariant_of-self
+invariant_of-self g c =
+    let P = c.args.self.now in
+    let m = c.args.m.now in
+    let shown : record {
+      men = g.B.Board.men c.args.board;
+      turn = c.turn_after.result;
+      rights = c.rights_after.result;
+      en_passant = c.en_passant_after.result;
+      halfmove_clock = c.halfmove_clock_after.result;
+      fullmove_number = c.fullmove_number_after.result;
+    }
+    ≡ after P m =
+    λ i. record {
+      men = c.requires.board i;
+      turn = c.turn_after.ensures i;
+      rights = c.rights_after.ensures i;
+      en_passant = c.en_passant_after.ensures i;
+      halfmove_clock = c.halfmove_clock_after.ensures i;
+      fullmove_number = c.fullmove_number_after.ensures i;
+    } in
+    subst (λ (Q : State). IsKept Q c.king_after.result c.king_after-2.result) (sym shown)
+    (record {
+      sound = after_sound P m (record { sound = c.known.ensures; rules = c.requires.legal.pseudo_legal }) c.requires.legal.safe;
+      white = c.king_after.ensures;
+      black = c.king_after-2.ensures;
+    })
