@@ -1,6 +1,5 @@
 //! All lines, played element by element.
 ghost use Rattle.std.specs.Prelude.{◌≡◌, ◌&&◌, ◌+◌, ◌<◌, ◌≤◌, ◌++◌, ℕ, List, [], ◌∷◌, length, map, reverse, MatchResult, IfErr, IfOk, IfSome, OnOk};
-ghost use Rattle.chess.specs.Moves.{after, IsLegal};
 ghost use Rattle.chess.specs.Positions.{State};
 ghost use Rattle.chess.specs.declared.moves.Move.{Move};
 ghost use Rattle.pgn_text.specs.Elements.{item_of};
@@ -13,7 +12,7 @@ ghost use Rattle.pgn_game.specs.Replays.{fault_of};
 ghost use Rattle.pgn_game.specs.LineWalks.{is_inside, RunsOn, StopsOn, MainOn, HasTurned, AreWithin, Keeps, begun, first_level, main_now, Runs, Stops};
 
 use crate::fault::GameFault;
-use crate::naming::named;
+use crate::naming::play_named;
 use crate::replayed::{GamePosition, Replayed};
 use crate::turn::Turn;
 use chess::Move;
@@ -48,34 +47,28 @@ fn passes(inside: bool, word: &[u8]) -> bool
     inside && (word == b"--".as_slice() || word == b"Z0".as_slice())
 }
 
-/// The position after a legal move.
-fn after_move(position: &GamePosition, m: &Move) -> GamePosition
-    requires { IsLegal position.now m.now }
-    ensures { result ≡ after position.now m.now }
-{
-    position.play(*m)
-}
-
-/// What the word says in the position, and the position after it; or the fault of this ply.
-fn turn_of<'a>(
-    position: &GamePosition,
+/// Plays what the word says in the position, in a variation or not; or answers the fault of this ply.
+fn play_turn<'a>(
+    position: &mut GamePosition,
     inside: bool,
     word: &'a [u8],
     ply: usize,
-) -> Result<(Turn, GamePosition), GameFault<'a>>
+) -> Result<Turn, GameFault<'a>>
     ensures { MatchResult result
-        (λ answer. IsTurn inside position.now word.now answer.0 × (answer.1 ≡ after_turn position.now answer.0))
-        (λ fault. (plies : ℕ) → ply ≡ plies + 1 → IfSome (fault_of fault) (IsRefusedTurn inside position.now plies word.now)) }
+        (λ turn. IsTurn inside position.old word.now turn × (position.new ≡ after_turn position.old turn))
+        (λ fault. (plies : ℕ) → ply ≡ plies + 1 → IfSome (fault_of fault) (IsRefusedTurn inside position.old plies word.now)) }
 {
     if passes(inside, word) {
         return match position.pass() {
-            Some(next) => Ok((Turn::Passed, next)),
+            Some(next) => {
+                *position = next;
+                Ok(Turn::Passed)
+            }
             None => Err(GameFault::Illegal { word, ply }),
         };
     }
-    let m = named(position, word, ply)?;
-    let next = after_move(position, &m);
-    Ok((Turn::Played(m), next))
+    let m = play_named(position, word, ply)?;
+    Ok(Turn::Played(m))
 }
 
 impl LinesWalk {
@@ -134,7 +127,8 @@ impl LinesWalk {
     {
         let inside = self.is_inside();
         let ply = self.line.plies + 1;
-        let (turn, next) = turn_of(&self.line.now, inside, word, ply)?;
+        let mut next = self.line.now.copy();
+        let turn = play_turn(&mut next, inside, word, ply)?;
         self.keep(inside, turn)?;
         self.line.before = mem::replace(&mut self.line.now, next);
         self.line.plies = ply;

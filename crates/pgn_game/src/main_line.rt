@@ -1,7 +1,5 @@
 //! The main line, played element by element.
 ghost use Rattle.std.specs.Prelude.{◌≡◌, ◌+◌, ◌<◌, ◌≤◌, ◌++◌, ℕ, List, [], ◌∷◌, length, map, MatchResult, IfErr, IfOk, IfSome, OnOk};
-ghost use Rattle.chess.specs.Moves.{after, IsLegal};
-ghost use Rattle.chess.specs.Positions.{State};
 ghost use Rattle.pgn_text.specs.Elements.{item_of};
 ghost use Rattle.pgn_text.specs.Games.{MoveText};
 ghost use Rattle.pgn_game.specs.MainLines.{main_words, IsMainLine};
@@ -10,7 +8,7 @@ ghost use Rattle.pgn_game.specs.Replays.{fault_of};
 ghost use Rattle.pgn_game.specs.Walks.{IsLast, HasStepped, IsStuck};
 
 use crate::fault::GameFault;
-use crate::naming::named;
+use crate::naming::play_named;
 use crate::replayed::{GamePosition, Replayed};
 use chess::Move;
 use pgn_text::Element;
@@ -58,17 +56,14 @@ impl MainWalk {
         &self.positions[self.played.len()]
     }
 
-    /// Keeps a legal move of the last position, and the position after it.
-    fn advance(&mut self, m: &Move) -> Result<(), AllocError>
-        requires count { length self.old.positions.items ≡ length self.old.played.items + 1 }
-        requires legal { (now : State) → IsLast self.old now → IsLegal now m.now }
-        ensures positions { OnOk result ((now : State) → IsLast self.old now → self.new.positions.items ≡ self.old.positions.items ++ after now m.now ∷ []) }
-        ensures played { OnOk result (self.new.played.items ≡ self.old.played.items ++ m.now ∷ []) }
+    /// Keeps a move, and the position after it.
+    fn keep(&mut self, next: GamePosition, m: Move) -> Result<(), AllocError>
+        ensures positions { OnOk result (self.new.positions.items ≡ self.old.positions.items ++ next ∷ []) }
+        ensures played { OnOk result (self.new.played.items ≡ self.old.played.items ++ m ∷ []) }
         ensures depth { self.new.depth ≡ self.old.depth }
     {
-        let next = self.last().play(*m);
         self.positions.push(next)?;
-        self.played.push(*m)?;
+        self.played.push(m)?;
         Ok(())
     }
 
@@ -79,8 +74,9 @@ impl MainWalk {
         ensures played { OnOk result (HasStepped self.old self.new (MoveText word.now)) }
         ensures stuck { IfErr result (λ fault. IsStuck self.old (MoveText word.now) fault) }
     {
-        let m = named(self.last(), word, self.positions.len())?;
-        self.advance(&m)?;
+        let mut next = self.last().copy();
+        let m = play_named(&mut next, word, self.positions.len())?;
+        self.keep(next, m)?;
         Ok(())
     }
 

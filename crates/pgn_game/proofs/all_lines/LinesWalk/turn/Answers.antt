@@ -7,9 +7,10 @@ pub returns-clause-turned : goal.returns-clause-turned
 returns-clause-turned c =
     let old = c.args.self.now in
     let new = c.keep.new.self in
+    let said = rw c.copy-next.ensures at c.in_ok-turn.ensures in
     record {
       turn = c.in_ok-turn.turn;
-      is_turn = subst (λ b. IsTurn b old.line.now c.args.word.now c.in_ok-turn.turn) c.is_inside-inside.ensures c.in_ok-turn.ensures.0;
+      is_turn = subst (λ b. IsTurn b old.line.now c.args.word.now c.in_ok-turn.turn) c.is_inside-inside.ensures said.0;
       turns = search rules;
       line = search rules;
       outer = search rules;
