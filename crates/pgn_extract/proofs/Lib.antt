@@ -12,6 +12,7 @@ pub mod GameVerdict
 pub mod Indexed
 pub mod JoinedParts
 pub mod Listed
+pub mod OneExports
 pub mod OneReport
 pub mod OneVerdict
 pub mod Picks

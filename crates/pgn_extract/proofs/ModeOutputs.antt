@@ -56,7 +56,7 @@ export_of_piece UnreadableRest aim exports number offset verdict is = ap output_
 export_of_piece TooLongBlock aim exports number offset verdict is = ap output_of is
 
 -- the exports of pieces in a row
-exports_of_pieces : (aim : Aim) → aim.mode ≡ modes.Export → (number : ℕ) (pieces : List MarkedPiece) (verdicts : List Verdict) → AreVerdicts aim number pieces verdicts
+pub exports_of_pieces : (aim : Aim) → aim.mode ≡ modes.Export → (number : ℕ) (pieces : List MarkedPiece) (verdicts : List Verdict) → AreVerdicts aim number pieces verdicts
     → AreExports aim pieces (output_text verdicts)
 exports_of_pieces aim exports number [] verdicts none = ap output_text none
 exports_of_pieces aim exports number (piece ∷ more) verdicts (verdict, rest, parted, is, others) = (

@@ -18,6 +18,14 @@ use Rattle.pgn_extract.proofs.GameExport.{PartsHaveOneExport}
 use Rattle.pgn_extract.specs.declared.settings.Mode.{Mode}
 use Rattle.pgn_extract.specs.declared.settings.Mode.TheVariants as modes
 
+-- what is written of a game, where its parts have one export
+pub one_written : PartsHaveOneExport → (aim : Aim) (parts : List Part) (replay : Replay) (x y : List ℕ)
+    → IsWritten aim parts replay x → IsWritten aim parts replay y → x ≡ y
+one_written one_export aim parts replay x y (with_entry has first) (with_entry also second) = one_export aim.style parts x y first second
+one_written one_export aim parts replay x y (with_entry has first) (without_entry none second) = absurd (none has)
+one_written one_export aim parts replay x y (without_entry none first) (with_entry has second) = absurd (none has)
+one_written one_export aim parts replay x y (without_entry none first) (without_entry also second) = first ∙ sym second
+
 module _ (one_replay : GameHasOneReplay) (one_fault : GameHasOneFault) (no_fault : SoundGameHasNoFault) (one_export : PartsHaveOneExport) where
   -- a game in the listing
   one_listed : (aim : Aim) (a b : Verdict) (number offset : ℕ) (parts : List Part) → IsListed aim a number offset parts → IsListed aim b number offset parts → a ≡ b
@@ -32,18 +40,11 @@ module _ (one_replay : GameHasOneReplay) (one_fault : GameHasOneFault) (no_fault
   one_listed aim (FaultyGame x) (FaultyGame y) number offset parts (first, is, text) (second, also, other) =
       ap FaultyGame (text ∙ ap (λ (f : Fault). fault_text number offset (cause_text f)) (one_fault Main (first_tag fen_tag parts) (items_of parts) first second is also) ∙ sym other)
 
-  -- what is written of a game
-  one_written : (aim : Aim) (parts : List Part) (replay : Replay) (x y : List ℕ) → IsWritten aim parts replay x → IsWritten aim parts replay y → x ≡ y
-  one_written aim parts replay x y (with_entry has first) (with_entry also second) = one_export aim.style parts x y first second
-  one_written aim parts replay x y (with_entry has first) (without_entry none second) = absurd (none has)
-  one_written aim parts replay x y (without_entry none first) (with_entry has second) = absurd (none has)
-  one_written aim parts replay x y (without_entry none first) (without_entry also second) = first ∙ sym second
-
   -- a game in the export
   one_exported : (aim : Aim) (a b : Verdict) (number offset : ℕ) (parts : List Part) → IsExported aim a number offset parts → IsExported aim b number offset parts → a ≡ b
   one_exported aim (SoundGame x) (SoundGame y) number offset parts (first, is, text) (second, also, other) =
       let of : second ≡ first = one_replay (written_lines aim) (first_tag fen_tag parts) (items_of parts) second first also is in
-      ap SoundGame (one_written aim parts first x y text (subst (λ (r : Replay). IsWritten aim parts r y) of other))
+      ap SoundGame (one_written one_export aim parts first x y text (subst (λ (r : Replay). IsWritten aim parts r y) of other))
   one_exported aim (SoundGame x) (FaultyGame y) number offset parts (first, is, text) (second, also, other) =
       absurd (no_fault (written_lines aim) (first_tag fen_tag parts) (items_of parts) second (first, is) also)
   one_exported aim (FaultyGame x) (SoundGame y) number offset parts (first, is, text) (second, also, other) =

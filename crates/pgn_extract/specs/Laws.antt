@@ -6,9 +6,11 @@ use Rattle.pgn_text.specs.Parts.{Part}
 use Rattle.pgn_game.specs.Replays.{Replay}
 use Rattle.pgn_game.specs.declared.replayer.Lines.TheVariants.{Main}
 use Rattle.pgn_extract.specs.Listing.{Entry, IsReplayOf, tags_in, AreEntries}
+use Rattle.pgn_extract.specs.Exports.{AreExports}
 use Rattle.pgn_extract.specs.Resuming.{IsMarkAmong}
 use Rattle.pgn_extract.specs.Verdicts.{Verdict, AreVerdicts, output_text, fault_lines, is_faulty}
 use Rattle.pgn_extract.specs.Aims.{Aim, IsEntry}
+use Rattle.pgn_extract.specs.declared.settings.Mode.TheVariants as modes
 
 -- the entry names a sound game, by its place among the pieces and the offset of its first byte, and a ply of its main line that is listed
 pub record IsPlyOfGame (aim : Aim) (number : ℕ) (pieces : List MarkedPiece) (entry : Entry) : Type 0 where
@@ -64,6 +66,17 @@ pub record IsTextReported (aim : Aim) (limit max_depth number offset : ℕ) (tex
     (reported : List Verdict) : Type 0 where
   pub each : AreMarkedPieces limit max_depth offset text pieces
   pub written : AreVerdicts aim number pieces reported
+
+-- in the export's mode what a run writes of pieces, by their verdicts, is the exports of the games among them
+abbrev pub ExportsAreWritten : Type 0
+ExportsAreWritten =
+    (aim : Aim) (number : ℕ) (pieces : List MarkedPiece) (verdicts : List Verdict)
+    → aim.mode ≡ modes.Export → AreVerdicts aim number pieces verdicts → AreExports aim pieces (output_text verdicts)
+
+-- which are one text
+abbrev pub TextHasOneExport : Type 0
+TextHasOneExport =
+    (aim : Aim) (pieces : List MarkedPiece) (text other : List ℕ) → AreExports aim pieces text → AreExports aim pieces other → text ≡ other
 
 -- two parts of a text have its pieces, one part those before the cut and the other those behind, and what is reported of them, one behind
 -- the other, is what is reported of the whole: on the output and on standard error, and counted

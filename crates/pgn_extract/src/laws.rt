@@ -1,6 +1,6 @@
 //! What holds of every text, whatever lists or reports it. Each law is the contract of a function that does nothing.
 
-ghost use Rattle.pgn_extract.specs.Laws.{EntriesAreExact, EntriesAscend, EachPieceHasAMark, TextHasAReport, TextHasOneReport, PartsJoin};
+ghost use Rattle.pgn_extract.specs.Laws.{EntriesAreExact, EntriesAscend, EachPieceHasAMark, TextHasAReport, TextHasOneReport, ExportsAreWritten, TextHasOneExport, PartsJoin};
 
 /// The entries of a text are exactly those plies of its sound games that are within the bounds and whose position meets the criteria, or the
 /// least such of each game; each is listed once, in the order of the games and their plies.
@@ -18,6 +18,12 @@ pub fn marks()
 pub fn one_report()
     ensures some { TextHasAReport }
     ensures one { TextHasOneReport }
+{}
+
+/// What a run writes in the export's mode is the exports of the games among the pieces of the text, and these are one text.
+pub fn one_export()
+    ensures written { ExportsAreWritten }
+    ensures one { TextHasOneExport }
 {}
 
 /// What is reported of a text is what is reported of its parts, one behind the other, where it is cut at one of its pieces. The text begins

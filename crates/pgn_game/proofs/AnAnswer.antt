@@ -16,14 +16,14 @@ use Rattle.pgn_text.specs.Strings.{IsContents, value_of_sign}
 use Rattle.pgn_game.specs.Laws.{GameHasAnAnswer}
 use Rattle.pgn_game.specs.MainLines.{main_words, IsMainLine}
 use Rattle.pgn_game.specs.Starts.{IsValueOf, IsStart, IsBadStart}
-use Rattle.pgn_game.specs.AllLines.{Line, LineEnd, ThenMove, ThenGlyph, ThenComment, ThenVariation, is_pass, SaysTurn, after_turn, IsPlayed}
+use Rattle.pgn_game.specs.AllLines.{Line, LineEnd, ThenMove, ThenGlyph, ThenComment, ThenVariation, is_pass, SaysTurn, after_turn, IsPlayed, own_words}
 use Rattle.pgn_game.specs.Faults.{Fault, BadStart, IllegalMove, AmbiguousMove, IsMoveFault, RefusesTurn, IsLineFault, HasLineFault}
 use Rattle.pgn_game.specs.Replays.{AreTurns}
 use Rattle.pgn_game.specs.declared.replayer.Lines.{Lines}
 use Rattle.pgn_game.specs.declared.replayer.Lines.TheVariants.{Main, All}
 use Rattle.pgn_game.specs.declared.turn.Turn.{Turn}
 use Rattle.pgn_game.specs.declared.turn.Turn.TheVariants.{Played, Passed}
-use Rattle.pgn_game.proofs.OneLine.{own_words, main_of_all, main_words_of}
+use Rattle.pgn_game.proofs.OneLine.{main_of_all, main_words_of}
 use Rattle.pgn_game.proofs.Spelling.{one_spelt}
 
 -- the words are played, or one of them is the first that can't be

@@ -8,18 +8,10 @@ use Rattle.chess.specs.declared.moves.Move.{Move}
 use Rattle.pgn_text.specs.Games.{Item, VariationClose}
 use Rattle.pgn_game.specs.MainLines.{main_words, IsMainLine}
 use Rattle.pgn_game.specs.Faults.{Fault, RefusesTurn, IsLineFault}
-use Rattle.pgn_game.specs.AllLines.{Line, LineEnd, ThenMove, ThenGlyph, ThenComment, ThenVariation, spelled, is_pass, SaysTurn, after_turn, IsPlayed}
+use Rattle.pgn_game.specs.AllLines.{Line, LineEnd, ThenMove, ThenGlyph, ThenComment, ThenVariation, spelled, own_words, is_pass, SaysTurn, after_turn, IsPlayed}
 use Rattle.pgn_game.specs.declared.turn.Turn.{Turn}
 use Rattle.pgn_game.specs.declared.turn.Turn.TheVariants.{Played, Passed}
 use Rattle.pgn_game.proofs.OneWord.{named_or_refused, one_refused}
-
--- the words of its own moves
-abbrev pub own_words : Line → List (List ℕ)
-own_words LineEnd = []
-own_words (ThenMove word rest) = word ∷ own_words rest
-own_words (ThenGlyph number rest) = own_words rest
-own_words (ThenComment text rest) = own_words rest
-own_words (ThenVariation inner rest) = own_words rest
 
 pub one_turn : (passes : Bool) (now : State) (word : List ℕ) (turn other : Turn) → SaysTurn passes now word turn → SaysTurn passes now word other → turn ≡ other
 one_turn true now word (Played m) other a b = absurd a

@@ -7,7 +7,7 @@ use Rattle.chess.specs.Moves.{after}
 use Rattle.chess.specs.declared.moves.Move.{Move}
 use Rattle.chess.proofs.OnBoard.{men_stay_on_board}
 use Rattle.chess.proofs.SanSettled.{some_san}
-use Rattle.pgn_game.specs.AllLines.{Line, LineEnd, ThenMove, ThenGlyph, ThenComment, ThenVariation, spelled, is_pass, SaysTurn, after_turn, IsPlayed}
+use Rattle.pgn_game.specs.AllLines.{Line, LineEnd, ThenMove, ThenGlyph, ThenComment, ThenVariation, spelled, is_pass, SaysTurn, after_turn, IsPlayed, own_words}
 use Rattle.pgn_game.specs.Comments.{comment_tokens}
 use Rattle.pgn_game.specs.Exports.{number_tokens, IsTurnText, kept, AreTokens}
 use Rattle.pgn_game.specs.Laws.{MovetextHasTokens}
@@ -17,7 +17,7 @@ use Rattle.pgn_game.specs.declared.style.Style.{Style}
 use Rattle.pgn_game.specs.declared.turn.Turn.{Turn}
 use Rattle.pgn_game.specs.declared.turn.Turn.TheVariants.{Played, Passed}
 use Rattle.pgn_game.proofs.AnAnswer.{start_on_board}
-use Rattle.pgn_game.proofs.OneLine.{own_words, main_words_of}
+use Rattle.pgn_game.proofs.OneLine.{main_words_of}
 use Rattle.pgn_game.proofs.Spelling.{one_spelt, one_tree}
 
 -- a turn has a text, and behind it men stand on the board alone

@@ -24,6 +24,14 @@ spelled (ThenGlyph number rest) = GlyphNumber number ∷ spelled rest
 spelled (ThenComment text rest) = CommentText text ∷ spelled rest
 spelled (ThenVariation inner rest) = VariationOpen ∷ (spelled inner ++ VariationClose ∷ spelled rest)
 
+-- the words of its own moves, without those of its variations
+abbrev pub own_words : Line → List (List ℕ)
+own_words LineEnd = []
+own_words (ThenMove word rest) = word ∷ own_words rest
+own_words (ThenGlyph number rest) = own_words rest
+own_words (ThenComment text rest) = own_words rest
+own_words (ThenVariation inner rest) = own_words rest
+
 -- the texts that are a pass where they stand in a variation
 abbrev pub is_pass : List ℕ → Bool
 is_pass word = bytes_eq word (codes "--") || bytes_eq word (codes "Z0")

@@ -9,6 +9,7 @@ use Rattle.pgn_text.specs.Blocks.{event_line}
 use Rattle.pgn_text.specs.Games.{Item, MoveText, GlyphNumber, CommentText, VariationOpen, VariationClose}
 use Rattle.pgn_text.specs.GameTexts.{GameText, IsGameText, IsPaired, tag_in}
 use Rattle.pgn_text.specs.Strings.{IsContents}
+use Rattle.pgn_game.specs.AllLines.{Line, spelled, own_words}
 use Rattle.pgn_game.specs.MainLines.{main_words}
 use Rattle.pgn_game.specs.Faults.{Fault, IsFault}
 use Rattle.pgn_game.specs.Replays.{Replay, IsReplay, IsSoundGame}
@@ -60,6 +61,10 @@ move_count (GlyphNumber number ∷ items) = move_count items
 move_count (CommentText text ∷ items) = move_count items
 move_count (VariationOpen ∷ items) = move_count items
 move_count (VariationClose ∷ items) = move_count items
+
+-- the words of the main line, counted by how many variations are open, are those of the line that the elements spell, without its variations
+abbrev pub MainLineIsTheLine : Type 0
+MainLineIsTheLine = (line : Line) → main_words (spelled line) 0 ≡ own_words line
 
 -- where all lines are replayed, each move text has a turn
 abbrev pub EachMoveHasATurn : Type 0

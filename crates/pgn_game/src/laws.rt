@@ -2,11 +2,16 @@
 
 ghost use Rattle.pgn_game.specs.Exports.{MovetextHasOneList};
 ghost use Rattle.pgn_game.specs.TextLines.{TokensHaveAText, TokensHaveOneText};
-ghost use Rattle.pgn_game.specs.Laws.{EachMoveIsNamed, EachMoveHasATurn, GameHasOneReplay, GameHasOneFault, SoundGameHasNoFault, GameHasAnAnswer, MovetextHasTokens, GameHasAnExport, GameHasOneExport, NoLineIsMisread};
+ghost use Rattle.pgn_game.specs.Laws.{EachMoveIsNamed, MainLineIsTheLine, EachMoveHasATurn, GameHasOneReplay, GameHasOneFault, SoundGameHasNoFault, GameHasAnAnswer, MovetextHasTokens, GameHasAnExport, GameHasOneExport, NoLineIsMisread};
 
 /// Whichever lines are replayed, each move of the main line is the only legal move that its word names in the position before it.
 pub fn one_legal_move()
     ensures { EachMoveIsNamed }
+{}
+
+/// The main line, of which the moves that stand in no variation are, is the line that the elements spell as a tree, without its variations.
+pub fn one_main_line()
+    ensures { MainLineIsTheLine }
 {}
 
 /// Where all lines are replayed, there is one turn for each move text.

@@ -7,7 +7,7 @@ use std::test::Fail;
 /// Words, a text of one game, and the lines of its movetext in the export.
 type Movetext = (&'static [&'static str], &'static [u8], &'static [u8]);
 
-const MOVETEXTS: [Movetext; 32] = [
+const MOVETEXTS: [Movetext; 40] = [
     (
         &[],
         b"[FEN \"4k3/8/8/8/1b6/2N5/8/4K1N1 w - - 0 1\"]\n\n1. Nge2 *",
@@ -128,6 +128,39 @@ const MOVETEXTS: [Movetext; 32] = [
         b"1. e4 {one wonderful comment} *",
         b"1. e4\n{one\nwonderful\ncomment}\n*\n",
     ),
+    (&["-V"], b"1. e4 (1. d4 {y}) e5 *", b"1. e4 e5 *\n"),
+    (
+        &[],
+        b"1. e4 { a \t\n b\x0B\x0Cc\r } *",
+        b"1. e4 {a b c} *\n",
+    ),
+    (
+        &[],
+        b"[Event \"A\"] {%x [Event [Events %} 1. e4 *",
+        b"{%x (Event [Events (%} 1. e4 *\n",
+    ),
+    (&[], b"1. e4 ;} [Event\n*", b"1. e4 {) (Event} *\n"),
+    (
+        &[],
+        b"[FEN \"4k3/8/8/8/8/8/8/4K3 b - - 0 0\"]\n\nKd7 Kd2 *",
+        b"0... Kd7 1. Kd2 *\n",
+    ),
+    (
+        &[],
+        b"[FEN \"4k3/8/8/8/8/8/8/4K3 w - - 0 7\"]\n\nKd2 Kd7 Kd1 *",
+        b"7. Kd2 Kd7 8. Kd1 *\n",
+    ),
+    (
+        &[],
+        b"[FEN \"4k3/8/8/8/8/8/8/4K3 b - - 0 7\"]\n\n{c} Kd7 (7... Ke7 8. Kd1) Kd2 *",
+        b"{c} 7... Kd7 ( 7... Ke7 8. Kd1 ) 8. Kd2 *\n",
+    ),
+    // The game that the standard gives as its example, with its line breaks.
+    (
+        &[],
+        b"e4 e5 Nf3 Nc6 Bb5 a6 Ba4 Nf6 O-O Be7 Re1 b5 Bb3 d6 c3 O-O h3 Nb8 d4 Nbd7 c4 c6 cxb5 axb5 Nc3 Bb7 Bg5 b4 Nb1 h6 Bh4 c5 dxe5 Nxe4 Bxe7 Qxe7 exd6 Qf6 Nbd2 Nxd6 Nc4 Nxc4 Bxc4 Nb6 Ne5 Rae8 Bxf7+ Rxf7 Nxf7 Rxe1+ Qxe1 Kxf7 Qe3 Qg5 Qxg5 hxg5 b3 Ke6 a3 Kd6 axb4 cxb4 Ra5 Nd5 f3 Bc8 Kf2 Bf5 Ra7 g6 Ra6+ Kc5 Ke1 Nf4 g3 Nxh3 Kd2 Kb5 Rd6 Kc5 Ra6 Nf2 g4 Bd3 Re6 1/2-1/2",
+        b"1. e4 e5 2. Nf3 Nc6 3. Bb5 a6 4. Ba4 Nf6 5. O-O Be7 6. Re1 b5 7. Bb3 d6 8. c3\nO-O 9. h3 Nb8 10. d4 Nbd7 11. c4 c6 12. cxb5 axb5 13. Nc3 Bb7 14. Bg5 b4 15.\nNb1 h6 16. Bh4 c5 17. dxe5 Nxe4 18. Bxe7 Qxe7 19. exd6 Qf6 20. Nbd2 Nxd6 21.\nNc4 Nxc4 22. Bxc4 Nb6 23. Ne5 Rae8 24. Bxf7+ Rxf7 25. Nxf7 Rxe1+ 26. Qxe1 Kxf7\n27. Qe3 Qg5 28. Qxg5 hxg5 29. b3 Ke6 30. a3 Kd6 31. axb4 cxb4 32. Ra5 Nd5 33.\nf3 Bc8 34. Kf2 Bf5 35. Ra7 g6 36. Ra6+ Kc5 37. Ke1 Nf4 38. g3 Nxh3 39. Kd2 Kb5\n40. Rd6 Kc5 41. Ra6 Nf2 42. g4 Bd3 43. Re6 1/2-1/2\n",
+    ),
 ];
 
 /// The lines between the tags' empty line and the last one.
@@ -162,7 +195,7 @@ fn movetexts_are_exported_and_read_back(rt: HostRuntime) -> Result<(), Fail> {
 }
 
 /// Whole outputs, faults and which games are written.
-const ROWS: [Row; 24] = [
+const ROWS: [Row; 27] = [
     (&[], b"", b"", b"", 0),
     (
         &[],
@@ -325,12 +358,56 @@ const ROWS: [Row; 24] = [
         b"pgn-extract: cannot open input\n",
         2,
     ),
+    (
+        &["--first"],
+        TWO_GAMES,
+        b"[Event \"A\"]\n[Site \"?\"]\n[Date \"????.??.??\"]\n[Round \"?\"]\n[White \"?\"]\n[Black \"?\"]\n[Result \"*\"]\n\n1. e4 *\n\n[Event \"B\"]\n[Site \"?\"]\n[Date \"????.??.??\"]\n[Round \"?\"]\n[White \"?\"]\n[Black \"?\"]\n[Result \"*\"]\n\n1. d4 *\n\n",
+        b"",
+        0,
+    ),
+    (
+        &[],
+        b"[event \"x\"][FEn \"y\"]\n\n*",
+        b"[Event \"?\"]\n[Site \"?\"]\n[Date \"????.??.??\"]\n[Round \"?\"]\n[White \"?\"]\n[Black \"?\"]\n[Result \"*\"]\n[FEn \"y\"]\n[event \"x\"]\n\n*\n\n",
+        b"",
+        0,
+    ),
+    (
+        &["--roster"],
+        b"[event \"x\"][FEn \"y\"]\n\n*",
+        b"[Event \"?\"]\n[Site \"?\"]\n[Date \"????.??.??\"]\n[Round \"?\"]\n[White \"?\"]\n[Black \"?\"]\n[Result \"*\"]\n\n*\n\n",
+        b"",
+        0,
+    ),
 ];
 
 #[test]
 fn exports_give_their_bytes(rt: HostRuntime) -> Result<(), Fail> {
     for row in &ROWS {
         assert!(rt; holds(rt.alloc(), row)?, "{:?} over {:?}", row.0, row.1);
+    }
+    Ok(())
+}
+
+/// Whether the output of the row, if it is one of games, is exported as the same bytes.
+fn is_read_back(alloc: Global, row: &Row) -> Result<bool, AllocError> {
+    let out = row.2;
+    if !out.starts_with(b"[Event ") {
+        return Ok(true);
+    }
+    let again = run_over(alloc, &[], out)?;
+    Ok(again.is(out, b"", 0))
+}
+
+#[test]
+fn exports_are_read_back(rt: HostRuntime) -> Result<(), Fail> {
+    for row in &ROWS {
+        assert!(rt;
+            is_read_back(rt.alloc(), row)?,
+            "{:?} over {:?}",
+            row.0,
+            row.1
+        );
     }
     Ok(())
 }
