@@ -1,5 +1,5 @@
-//! The public calls of every crate and the program over words and texts in memory: worked rows, whose expected values stand in them.
-//! They stand here, at the top, since a crate with tests is proved twice and this one is small.
+//! The public calls of the crates, those of `pgn_criteria` in runs of the program, and the program over words and texts in memory: worked rows, whose expected values stand in them.
+//! They stand here, at the top, since a crate with tests is proved twice and this one is small; those of `pgn_criteria` alone stand beside its modules.
 mod blocks;
 mod chess_board;
 mod chess_counts;

@@ -47,12 +47,13 @@ const AFTER_HELP: &str = "Examples:\n  \
     pgn-extract games.pgn > clean.pgn                                # the sound games, in clean form\n  \
     pgn-extract -CNV --roster games.pgn > bare.pgn                   # their roster and main line alone\n  \
     echo mate > mate.txt; pgn-extract --criteria mate.txt games.pgn  # the games that end in mate\n  \
-    pgn-extract --list --first --min-ply 80 games.pgn                # the games of 40 moves and more\n  \
+    pgn-extract --list --first --min-ply 80 games.pgn                # the games of 80 plies and more\n  \
     gzip -dc games.pgn.gz | pgn-extract --index | tail -n 1          # the last game's number and offset\n\
     \n\
     A game that cannot be read or played is reported on standard error, and is not written.\n\
-    Status: 0 no game was faulty, 1 a game was faulty, 2 the words were refused or a file could\n\
-    not be opened, 3 the run failed. The manual: man pgn-extract; the criteria: man pgn-extract-criteria.";
+    Status: 0 no game was faulty, 1 a game was faulty, 2 the words or the criteria were refused or a\n\
+    file could not be opened, 3 the run failed. The manual: man pgn-extract; the criteria:\n\
+    man pgn-extract-criteria.";
 
 /// An option without a value.
 fn flag<'a>(alloc: Global, name: &'a str, help: &'a str) -> Arg<'a> {

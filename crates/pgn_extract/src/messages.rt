@@ -1,4 +1,4 @@
-//! What the program writes to standard error, each message a line.
+//! The fixed lines of refusals and of failed runs, which go to standard error.
 
 /// Two mode words were given.
 pub const BOTH_MODES: &str = "pgn-extract: --list and --index exclude each other\n";

@@ -268,7 +268,7 @@ fn report_line<E: Write>(err: &mut Tally<E>, text: &str) {
 
 /// Does what the words ask for, of which the first is the program's name, and answers the exit status:
 /// 0 where no game was faulty (or the help was asked for), 1 where a game was faulty, 2 where the
-/// words were refused or a file could not be opened, 3 where the run failed.
+/// words or the criteria were refused or a file could not be opened, 3 where the run failed.
 pub fn program<F: Files, O: Write, E: Write>(
     alloc: Global,
     words: Vec<String>,

@@ -1,4 +1,4 @@
--- Parts told by the byte at their place, and by the place behind them.
+-- Parts told apart by the byte at their place, and by the place behind them.
 use Rattle.std.proofs.Common.{◌≡◌, ℕ, suc, ◌+◌, ◌-◌, ◌<◌, ◌≤◌, Bool, true, false, List, [], ◌∷◌, ◌++◌, length, take, drop, get_or, refl, sym, ap, ◌∙◌, subst, arith, length-drop, length-append, drop-drop}
 use Rattle.std.specs.Prelude.{Option, Some, None, option_map, IsTrue}
 use Rattle.std.specs.Option.{option_or}
