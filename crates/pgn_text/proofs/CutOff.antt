@@ -2,9 +2,9 @@
 use Rattle.std.proofs.Common.{◌≡◌, ℕ, ◌+◌, ◌-◌, ◌≤◌, Bool, false, List, length, take, drop, Option, sym, ap, ◌∙◌, arith, length-drop}
 use Rattle.std.proofs.lemmas.List.{drop_all}
 use Rattle.pgn_text.specs.Limits.{block_limit}
-use Rattle.pgn_text.specs.Searches.{FindsEnd, EndsIn}
+use Rattle.pgn_text.specs.Searches.{FindsEnd}
 use Rattle.pgn_text.specs.Tallies.{Reads}
-use Rattle.pgn_text.specs.Windows.{Window, IsCutOff}
+use Rattle.pgn_text.specs.Windows.{Window, EndsIn, IsCutOff}
 use Rattle.pgn_text.specs.declared.blocks.BlockEnd.{BlockEnd}
 
 -- the window over some bytes, of which those before a place are done with

@@ -5,7 +5,7 @@ use Rattle.pgn_text.specs.Blocks.{IsFirstBlock}
 use Rattle.pgn_text.specs.Limits.{block_limit, largest_offset, window_limit}
 use Rattle.pgn_text.specs.Cuts.{is_cut, NoCutBefore}
 use Rattle.pgn_text.specs.Tallies.{Reads}
-use Rattle.pgn_text.specs.Windows.{Window, IsCutOff, FailsAfter}
+use Rattle.pgn_text.specs.Windows.{Window, IsCutOff, FailsAfter, EndsIn}
 use Rattle.pgn_text.specs.declared.blocks.BlockEnd.{BlockEnd}
 use Rattle.pgn_text.specs.declared.blocks.ReadError.{ReadError}
 use Rattle.pgn_text.specs.declared.blocks.ReadError.TheVariants.{Failed}
@@ -36,10 +36,6 @@ pub record FindsMore (left left' : Option (List ℕ)) (moved moved' : ℕ) (foun
   pub reads : Reads left left' moved moved' read
   pub one : found ≡ true → length read ≡ 1
   pub end : found ≡ false → (read ≡ []) × IsAtEnd left'
-
--- the bytes are the last of these, so many
-abbrev pub EndsIn : List ℕ → ℕ → List ℕ → Type 0
-EndsIn done size bytes = (size ≤ length done) × (drop (length done - size) done ≡ bytes)
 
 -- before the next read the first bytes held are given up, so many: those done with, and those searched of a block over the limit, of
 -- which eight are kept, since an event line may begin among them. `lost` of the block's bytes were given up earlier

@@ -1,5 +1,5 @@
 -- What contracts see of a `Blocks`, and what one call of `next` does to it.
-use Rattle.std.specs.Prelude.{◌≡◌, ◌≢◌, ℕ, ◌+◌, ◌<◌, ◌≤◌, Bool, true, false, List, [], ◌∷◌, ◌++◌, length, Option, Some, None, Result, Ok, Err}
+use Rattle.std.specs.Prelude.{◌≡◌, ◌≢◌, ℕ, ◌+◌, ◌-◌, ◌<◌, ◌≤◌, Bool, true, false, List, [], ◌∷◌, ◌++◌, length, drop, Option, Some, None, Result, Ok, Err}
 use Rattle.std.specs.Io.KnownBytes.{IsAtEnd}
 use Rattle.pgn_text.specs.Limits.{largest_offset}
 use Rattle.pgn_text.specs.Blocks.{IsFirstBlock}
@@ -60,9 +60,15 @@ abbrev pub Shows : ℕ → Body → List ℕ → Type 0
 Shows limit (Bytes shown) bytes = (shown.now ≡ bytes) × (length bytes ≤ limit)
 Shows limit TooLong bytes = limit < length bytes
 
--- the block has these bytes, which end where the window now begins
+-- the bytes are the last of these, so many
+abbrev pub EndsIn : List ℕ → ℕ → List ℕ → Type 0
+EndsIn done size bytes = (size ≤ length done) × (drop (length done - size) done ≡ bytes)
+
+-- the block has these bytes, which end where the window now begins; those of a block within the limit are the last of those done with
 abbrev pub IsBlock : ℕ → Window → List ℕ → Block → Type 0
-IsBlock limit window bytes block = Shows limit block.body bytes × (block.offset + length bytes ≡ window.place)
+IsBlock limit window bytes block =
+    Shows limit block.body bytes × (block.offset + length bytes ≡ window.place)
+    × (length bytes ≤ limit → EndsIn window.done (length bytes) bytes)
 
 -- what a call of `next` that took the bytes `read` did, by its answer
 abbrev pub Gives : ℕ → Window → Window → Option (List ℕ) → List ℕ → Result (Option Block) ReadError → Type 0

@@ -7,9 +7,9 @@ ghost use Rattle.pgn_text.specs.Cuts.{is_cut};
 ghost use Rattle.pgn_text.specs.Held.{IsHeld};
 ghost use Rattle.pgn_text.specs.Limits.{block_limit, largest_offset, window_limit};
 ghost use Rattle.pgn_text.specs.Phases.{is_failed, is_ended, is_over};
-ghost use Rattle.pgn_text.specs.Searches.{FindsCut, FindsMore, FindsEnd, FailsFrom, GivesUp, EndsIn, StepGives};
+ghost use Rattle.pgn_text.specs.Searches.{FindsCut, FindsMore, FindsEnd, FailsFrom, GivesUp, StepGives};
 ghost use Rattle.pgn_text.specs.Tallies.{Reads};
-ghost use Rattle.pgn_text.specs.Windows.{IsBlock, Gives, fresh_window};
+ghost use Rattle.pgn_text.specs.Windows.{EndsIn, IsBlock, Gives, fresh_window};
 ghost use Rattle.pgn_text.specs.contracts.blocks.Blocks.{the_row};
 
 use crate::buffer::Buffer;
