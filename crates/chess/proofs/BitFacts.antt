@@ -1,8 +1,8 @@
 -- Twelve words as a board: the man on a square, a man that is put, and the words of a man and of the empty squares.
-use Rattle.std.proofs.Common.{◌≡◌, ◌↔◌, ◌⊎◌, ◌<◌, ◌≤◌, ◌+◌, ◌-◌, ◌*◌, ◌%◌, ◌^◌, bit_or, bit_and, w64, length, slice_set, ◌&&◌, ◌||◌, ℕ, zero, suc, Bool, true, false, not, nat_eq, inl, inr, ap, refl, sym, subst, ◌∙◌, arith, if◌then◌else◌, List, Option, Some, None}
+use Rattle.std.proofs.Common.{◌≡◌, ◌↔◌, ◌⊎◌, ◌<◌, ◌≤◌, ◌+◌, ◌-◌, ◌^◌, bit_or, bit_and, w64, length, slice_set, ◌&&◌, ◌||◌, ℕ, zero, suc, Bool, true, false, not, nat_eq, inl, inr, ap, refl, sym, subst, ◌∙◌, arith, if◌then◌else◌, List, Option, Some, None}
 use Rattle.std.proofs.lemmas.Bool.{agree_below, agree_below_at, cases_eq, eqb-true, eq-eqb, ne_eqb, not-true, or_cases, or_left, or_right}
 use Rattle.std.specs.Int.{bit_at, bit_not}
-use Rattle.std.proofs.lemmas.Nat.Bits.{bit_at-lt, bit_at_not, bit_at_set_same, bit_at_set_other, bit_at_clear_same, bit_at_clear_other}
+use Rattle.std.proofs.lemmas.Nat.Bits.{bit_at-lt, bit_at_not, bit_at-pow_same, bit_at-pow_other}
 use Rattle.std.specs.Prelude.{replicate}
 use Rattle.std.proofs.lemmas.List.{get_or-set_same, get_or-set_other, get_or-replicate, length-set}
 use Rattle.std.proofs.lemmas.Bool.Decides.{nat_tests}
@@ -11,14 +11,14 @@ use Rattle.chess.specs.Placements.{Placement, no_men, man_at, with_man, IsEmpty}
 use Rattle.chess.specs.Sets.{has_bit}
 use Rattle.chess.specs.SetFacts.{index_of-below, false_of}
 use Rattle.chess.specs.CellFacts.{man_at-men_of, men_of-put, men_of-none}
-use Rattle.chess.specs.BitWords.{IsWordOf, AreApart, man_below, man_in, words_men, word_at, row_of, man_of_row, is_row, IsCleared, IsBitSet, number_of_side, number_of_kind}
+use Rattle.chess.specs.BitWords.{IsWordOf, AreApart, man_below, man_in, words_men, word_at, square_word, row_of, man_of_row, is_row, IsCleared, IsBitSet, number_of_side, number_of_kind}
 use Rattle.chess.specs.declared.board.man.Man.{Man}
 use Rattle.chess.specs.declared.board.man.Side.{Side}
 use Rattle.chess.specs.declared.board.man.Kind.{Kind}
 use Rattle.chess.specs.declared.board.man.Side.TheVariants.{White, Black}
 use Rattle.chess.specs.declared.board.man.Kind.TheVariants.{King, Queen, Rook, Bishop, Knight, Pawn}
 use Rattle.chess.proofs.PlaceFacts.{true_not_false}
-use Rattle.chess.proofs.FillFacts.{bit_of_either, no_bit}
+use Rattle.chess.proofs.FillFacts.{bit_of_either, bit_of_both, no_bit, common_none, common_some}
 
 -- ---- the words of men
 
@@ -160,17 +160,29 @@ word_of_men words all apart union s on =
       ]),
     )
 
+pub bit_of_rest : (word i : ℕ) → word < 2 ^ 64 → i < 64 → has_bit (bit_not w64 word) i ≡ not (has_bit word i)
+bit_of_rest word i fits on = ap (λ n. nat_eq n 1) (bit_at_not w64 word i fits on) ∙ not_one (bit_at word i) (bit_at-lt word i)
+
 pub word_of_empty : (p : Placement) (all : ℕ) → IsWordOf (λ s. ¬ IsEmpty p s) all → all < 2 ^ 64 → IsWordOf (IsEmpty p) (bit_not w64 all)
 word_of_empty p all men fits s on =
     let i = index_of s in
-    let bit : has_bit (bit_not w64 all) i ≡ not (has_bit all i) =
-    ap (λ n. nat_eq n 1) (bit_at_not w64 all i fits (index_of-below s on)) ∙ not_one (bit_at all i) (bit_at-lt all i) in (
+    let bit : has_bit (bit_not w64 all) i ≡ not (has_bit all i) = bit_of_rest all i fits (index_of-below s on) in (
       (λ e. elim (no_man_or (man_at p s)) [
         | inl none ↦ none
         | inr some ↦ absurd (true_not_false _ ((men s on).1 some) (not-true _ (sym bit ∙ e)))
       ]),
       (λ here. bit ∙ ap not (false_of (has_bit all i) (λ one. (men s on).0 one here))),
     )
+
+pub empty_by_word : (p : Placement) (all word : ℕ) (s : Place) → IsOnBoard s → word ≡ square_word s → IsWordOf (λ s. ¬ IsEmpty p s) all
+    → (nat_eq (bit_and all word) 0 ≡ true) ↔ IsEmpty p s
+empty_by_word p all word s on is men = (
+  (λ e. elim (no_man_or (man_at p s)) [
+    | inl none ↦ none
+    | inr some ↦ absurd (common_some all word s is ((men s on).1 some) (eqb-true _ 0 e))
+  ]),
+  (λ here. eq-eqb _ 0 (common_none all word s is (false_of (has_bit all (index_of s)) (λ one. (men s on).0 one here)))),
+)
 
 -- ---- a man that is put
 
@@ -221,19 +233,23 @@ put_men old new s man on apart put =
     (λ i within other. man_there old new 12 i (λ k less. put_there old new (index_of s) man put k i less within other))
 
 -- the code's two steps
-and_none : (b : Bool) → (b && not true) ≡ false
-and_none true = refl
-and_none false = refl
-
-and_all : (b : Bool) → (b && not false) ≡ b
-and_all true = refl
-and_all false = refl
+pub square_bit : (at i : ℕ) → has_bit (2 ^ at) i ≡ nat_eq i at
+square_bit at i = elim (cases_eq i at) [
+  | inl same ↦ ap (λ j. has_bit (2 ^ at) j) same ∙ eq-eqb _ 1 (bit_at-pow_same at) ∙ sym (eq-eqb i at same)
+  | inr other ↦ ap (λ n. nat_eq n 1) (bit_at-pow_other at i other) ∙ sym (ne_eqb i at other)
+]
 
 cleared_put : (b c : Bool) → (b && not c) ≡ (if c then false else b)
 cleared_put true true = refl
 cleared_put true false = refl
 cleared_put false true = refl
 cleared_put false false = refl
+
+or_turned : (a b : Bool) → (a || b) ≡ (b || a)
+or_turned true true = refl
+or_turned true false = refl
+or_turned false true = refl
+or_turned false false = refl
 
 set_put : (b c r : Bool) → ((r && c) || (b && not c)) ≡ (if c then r else b)
 set_put true true true = refl
@@ -245,66 +261,50 @@ set_put false true false = refl
 set_put false false true = refl
 set_put false false false = refl
 
-pub put_none : (old new : List ℕ) (at : ℕ) → IsCleared old new at → IsPut old new at None
-put_none old new at cleared k i less on = cleared k i less on ∙ cleared_put (has_bit (word_at old k) i) (nat_eq i at)
+pub put_none : (old new : List ℕ) (at : ℕ) → IsCleared old new (2 ^ at) → IsPut old new at None
+put_none old new at cleared k i less on =
+    cleared k i less on ∙ ap (λ b. has_bit (word_at old k) i && not b) (square_bit at i) ∙ cleared_put (has_bit (word_at old k) i) (nat_eq i at)
 
-pub put_some : (old mid new : List ℕ) (at : ℕ) (man : Man) → IsCleared old mid at → IsBitSet mid new (row_of man) at → IsPut old new at (Some man)
+pub put_some : (old mid new : List ℕ) (at : ℕ) (man : Man) → IsCleared old mid (2 ^ at) → IsBitSet mid new (row_of man) at → IsPut old new at (Some man)
 put_some old mid new at man cleared set k i less on =
     set k i less on ∙ ap (λ b. (nat_eq k (row_of man) && nat_eq i at) || b) (cleared k i less on)
+    ∙ ap (λ b. (nat_eq k (row_of man) && nat_eq i at) || (has_bit (word_at old k) i && not b)) (square_bit at i)
     ∙ set_put (has_bit (word_at old k) i) (nat_eq i at) (nat_eq k (row_of man))
 
 -- the first n words are cleared
-pub record IsClearedTo (old new : List ℕ) (n at : ℕ) : Type 0 where
+pub record IsClearedTo (old new : List ℕ) (n squares : ℕ) : Type 0 where
   pub size : length new ≡ 12
-  pub before : (k i : ℕ) → k < n → i < 64 → has_bit (word_at new k) i ≡ (has_bit (word_at old k) i && not (nat_eq i at))
+  pub before : (k i : ℕ) → k < n → i < 64 → has_bit (word_at new k) i ≡ (has_bit (word_at old k) i && not (has_bit squares i))
   pub behind : (k : ℕ) → n ≤ k → word_at new k ≡ word_at old k
 
-pub cleared_none : (words : List ℕ) (at : ℕ) → length words ≡ 12 → IsClearedTo words words 0 at
-cleared_none words at size = record { size = size; before = λ k i less on. absurd (omega arith); behind = λ k more. refl }
+pub cleared_bit : (word squares i : ℕ) → squares < 2 ^ 64 → i < 64
+    → has_bit (bit_and word (bit_not w64 squares)) i ≡ (has_bit word i && not (has_bit squares i))
+cleared_bit word squares i fits on = bit_of_both word (bit_not w64 squares) i ∙ ap (λ b. has_bit word i && b) (bit_of_rest squares i fits on)
 
-cleared_bit : (word at i : ℕ) → at < 64 → i < 64 → has_bit (bit_and word (bit_not w64 (1 * 2 ^ at % 2 ^ 64))) i ≡ (has_bit word i && not (nat_eq i at))
-cleared_bit word at i within on = elim (cases_eq i at) [
-  | inl same ↦
-      ap (λ j. has_bit (bit_and word (bit_not w64 (1 * 2 ^ at % 2 ^ 64))) j) same ∙ ap (λ n. nat_eq n 1) (bit_at_clear_same w64 word at within)
-      ∙ sym (ap (λ b. has_bit word i && not b) (eq-eqb i at same) ∙ and_none (has_bit word i))
-  | inr other ↦
-      ap (λ n. nat_eq n 1) (bit_at_clear_other w64 word at within i on other)
-      ∙ sym (ap (λ b. has_bit word i && not b) (ne_eqb i at other) ∙ and_all (has_bit word i))
-]
-
-pub cleared_more : (old new : List ℕ) (n at : ℕ) → at < 64 → n < 12 → IsClearedTo old new n at
-    → IsClearedTo old (slice_set new n (bit_and (word_at new n) (bit_not w64 (1 * 2 ^ at % 2 ^ 64)))) (n + 1) at
-cleared_more old new n at within on so_far =
+pub cleared_more : (old new : List ℕ) (n squares : ℕ) → squares < 2 ^ 64 → n < 12 → IsClearedTo old new n squares
+    → IsClearedTo old (slice_set new n (bit_and (word_at new n) (bit_not w64 squares))) (n + 1) squares
+cleared_more old new n squares fits on so_far =
     let size = so_far.size in
-    let word = bit_and (word_at new n) (bit_not w64 (1 * 2 ^ at % 2 ^ 64)) in record {
+    let word = bit_and (word_at new n) (bit_not w64 squares) in record {
       size = length-set new n word ∙ size;
       before = λ k i less in_word. elim (cases_eq k n) [
         | inl same ↦
             ap (λ j. has_bit (word_at (slice_set new n word) j) i) same ∙ ap (λ w. has_bit w i) (get_or-set_same new n word 0 (omega arith))
-            ∙ cleared_bit (word_at new n) at i within in_word
-            ∙ ap (λ w. has_bit w i && not (nat_eq i at)) (so_far.behind n (omega arith))
-            ∙ ap (λ j. has_bit (word_at old j) i && not (nat_eq i at)) (sym same)
+            ∙ cleared_bit (word_at new n) squares i fits in_word
+            ∙ ap (λ w. has_bit w i && not (has_bit squares i)) (so_far.behind n (omega arith))
+            ∙ ap (λ j. has_bit (word_at old j) i && not (has_bit squares i)) (sym same)
         | inr other ↦ ap (λ w. has_bit w i) (get_or-set_other new n k word 0 other) ∙ so_far.before k i (omega arith) in_word
       ];
       behind = λ k more. get_or-set_other new n k word 0 (λ e. omega arith) ∙ so_far.behind k (omega arith);
     }
 
-set_bit : (word at i : ℕ) → at < 64 → has_bit (bit_or word (1 * 2 ^ at % 2 ^ 64)) i ≡ (nat_eq i at || has_bit word i)
-set_bit word at i within = elim (cases_eq i at) [
-  | inl same ↦
-      ap (λ j. has_bit (bit_or word (1 * 2 ^ at % 2 ^ 64)) j) same ∙ ap (λ n. nat_eq n 1) (bit_at_set_same w64 word at within)
-      ∙ sym (ap (λ b. b || has_bit word i) (eq-eqb i at same))
-  | inr other ↦
-      ap (λ n. nat_eq n 1) (bit_at_set_other w64 word at within i other) ∙ sym (ap (λ b. b || has_bit word i) (ne_eqb i at other))
-]
-
-pub set_one : (old : List ℕ) (row at : ℕ) → length old ≡ 12 → row < 12 → at < 64
-    → IsBitSet old (slice_set old row (bit_or (word_at old row) (1 * 2 ^ at % 2 ^ 64))) row at
-set_one old row at size in_row within k i less on =
-    let word = bit_or (word_at old row) (1 * 2 ^ at % 2 ^ 64) in elim (cases_eq k row) [
+pub set_one : (old : List ℕ) (row at : ℕ) → length old ≡ 12 → row < 12 → IsBitSet old (slice_set old row (bit_or (word_at old row) (2 ^ at))) row at
+set_one old row at size in_row k i less on =
+    let word = bit_or (word_at old row) (2 ^ at) in elim (cases_eq k row) [
       | inl same ↦
           ap (λ j. has_bit (word_at (slice_set old row word) j) i) same ∙ ap (λ w. has_bit w i) (get_or-set_same old row word 0 (omega arith))
-          ∙ set_bit (word_at old row) at i within
+          ∙ bit_of_either (word_at old row) (2 ^ at) i ∙ or_turned (has_bit (word_at old row) i) (has_bit (2 ^ at) i)
+          ∙ ap (λ b. b || has_bit (word_at old row) i) (square_bit at i)
           ∙ ap (λ j. nat_eq i at || has_bit (word_at old j) i) (sym same)
           ∙ sym (ap (λ b. (b && nat_eq i at) || has_bit (word_at old k) i) (eq-eqb k row same))
       | inr other ↦

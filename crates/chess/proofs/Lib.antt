@@ -1,6 +1,8 @@
 pub mod PlaceFacts
 pub mod StepFacts
 pub mod BitFacts
+pub mod CarryFacts
+pub mod RightsFacts
 pub mod HitFacts
 pub mod FillFacts
 pub mod LeaperFacts

@@ -65,9 +65,9 @@ man_in words i = man_below words 12 i
 abbrev pub words_men : List ℕ → Placement
 words_men words = men_of (man_in words)
 
--- the bit is taken from each word, or set in one of them, and all else is as it was
+-- the squares of a word are taken from each of the twelve, or one square is set in one of them, and all else is as it was
 abbrev pub IsCleared : List ℕ → List ℕ → ℕ → Type 0
-IsCleared old new at = (k i : ℕ) → k < 12 → i < 64 → has_bit (word_at new k) i ≡ (has_bit (word_at old k) i && not (i == at))
+IsCleared old new squares = (k i : ℕ) → k < 12 → i < 64 → has_bit (word_at new k) i ≡ (has_bit (word_at old k) i && not (has_bit squares i))
 
 abbrev pub IsBitSet : List ℕ → List ℕ → ℕ → ℕ → Type 0
 IsBitSet old new row at = (k i : ℕ) → k < 12 → i < 64 → has_bit (word_at new k) i ≡ ((k == row && i == at) || has_bit (word_at old k) i)

@@ -1,6 +1,6 @@
 //! What a board is: a map from squares to men.
-ghost use Rattle.std.specs.Prelude.{◌≡◌, ◌↔◌, IsTrue};
-ghost use Rattle.chess.specs.Placements.{Placement, no_men, man_at, with_man, AreOnBoard};
+ghost use Rattle.std.specs.Prelude.{◌≡◌, ◌↔◌, IsTrue, None};
+ghost use Rattle.chess.specs.Placements.{Placement, no_men, man_at, with_man, AreOnBoard, IsEmpty};
 ghost use Rattle.chess.specs.Attacks.{IsAttacked};
 ghost use Rattle.chess.specs.Sets.{IsReachOf, IsSquaresOf, HoldsExactly, IsHitter};
 
@@ -36,6 +36,14 @@ pub trait Board: Copy {
     /// Puts the man, or none, on the square. No other square changes.
     fn put(&mut self, square: Square, man: Option<Man>)
         ensures { men self.new ≡ with_man (men self.old) square man };
+
+    /// Takes the men off `taken` and `from`, and puts that man, or none, on `to`. No other square changes.
+    fn carry(&mut self, man: Option<Man>, from: Square, taken: Square, to: Square)
+        ensures { men self.new ≡ with_man (with_man (with_man (men self.old) taken None) from None) to man };
+
+    /// Whether no man stands on the square.
+    fn is_empty(&self, square: Square) -> bool
+        ensures { IsTrue result ↔ IsEmpty (men self.now) square };
 
     /// Whether some man of the side attacks the square (Laws 3.1.2).
     fn attacked(&self, square: Square, side: Side) -> bool

@@ -145,7 +145,7 @@ impl<B: Board> Position<B> {
     pub(crate) fn is_empty(&self, square: Square) -> bool
         ensures { IsTrue result ↔ IsEmpty self.now.men square }
     {
-        self.at(square).is_none()
+        self.board.is_empty(square)
     }
 
     /// Whether a man of the side stands on the square.

@@ -1,5 +1,5 @@
 //! The board over words of 64 bits.
-ghost use Rattle.std.specs.Prelude.{◌≡◌, ◌↔◌, ◌<◌, IsTrue, replicate};
+ghost use Rattle.std.specs.Prelude.{◌≡◌, ◌↔◌, ◌<◌, IsTrue, None, replicate};
 ghost use Rattle.chess.specs.Squares.{IsOnBoard, index_of};
 ghost use Rattle.chess.specs.Placements.{with_man, man_at, IsEmpty};
 ghost use Rattle.chess.specs.Attacks.{IsAttacked};
@@ -35,6 +35,14 @@ impl Board for Bits {
 
     fn put(&mut self, square: Square, man: Option<Man>) {
         place(&mut self.words, square, man);
+    }
+
+    fn carry(&mut self, man: Option<Man>, from: Square, taken: Square, to: Square) {
+        carried(&mut self.words, man, from, taken, to);
+    }
+
+    fn is_empty(&self, square: Square) -> bool {
+        occupied(&self.words) & word_of(square) == 0
     }
 
     fn attacked(&self, square: Square, side: Side) -> bool {
@@ -119,22 +127,22 @@ fn man_on(words: &[u64; 12], square: Square) -> Option<Man>
     None
 }
 
-/// Takes the square out of each word.
-fn clear(words: &mut [u64; 12], square: Square)
-    ensures cleared { IsCleared words.old words.new (index_of square) }
-    ensures on_board { IsOnBoard square }
+/// Takes the squares of the word out of each of the twelve.
+#[inline(always)]
+fn clear(words: &mut [u64; 12], squares: u64)
+    ensures { IsCleared words.old words.new squares }
 {
-    let place = square.index();
     for row in 0usize..12 {
-        words[row] &= !(1u64 << place);
+        words[row] &= !squares;
     }
 }
 
 /// Puts the square into the word of the man.
+#[inline(always)]
 fn set(words: &mut [u64; 12], square: Square, man: Man)
     ensures { IsBitSet words.old words.new (row_of man) (index_of square) }
 {
-    words[row(man) as usize] |= 1u64 << square.index();
+    words[row(man) as usize] |= word_of(square);
 }
 
 /// Puts the man, or none, on the square. No other square changes.
@@ -143,11 +151,25 @@ fn place(words: &mut [u64; 12], square: Square, man: Option<Man>)
     ensures apart { AreApart words.new }
     ensures men { words_men words.new ≡ with_man (words_men words.old) square man }
 {
-    clear(words, square);
+    clear(words, word_of(square));
     let Some(man) = man else {
         return;
     };
     set(words, square, man);
+}
+
+/// Takes the men off two squares, and puts the man, or none, on a third. No other square changes.
+#[inline(always)]
+fn carried(words: &mut [u64; 12], man: Option<Man>, from: Square, taken: Square, to: Square)
+    requires { AreApart words.old }
+    ensures apart { AreApart words.new }
+    ensures men { words_men words.new ≡ with_man (with_man (with_man (words_men words.old) taken None) from None) to man }
+{
+    clear(words, word_of(taken) | word_of(from) | word_of(to));
+    let Some(man) = man else {
+        return;
+    };
+    set(words, to, man);
 }
 
 /// The squares on which men stand.

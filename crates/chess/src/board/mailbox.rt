@@ -32,6 +32,16 @@ impl Board for Mailbox {
         self.cells[square.index() as usize] = man;
     }
 
+    fn carry(&mut self, man: Option<Man>, from: Square, taken: Square, to: Square) {
+        self.put(taken, None);
+        self.put(from, None);
+        self.put(to, man);
+    }
+
+    fn is_empty(&self, square: Square) -> bool {
+        self.man(square).is_none()
+    }
+
     fn attacked(&self, square: Square, side: Side) -> bool {
         for index in 0u8..64 {
             if self.is_hit_from(Square::of_index(index), square, side) {

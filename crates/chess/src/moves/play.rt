@@ -1,9 +1,9 @@
 //! The position after a move (Laws 3.7, 3.8; PGN 16.1.3.3 to 16.1.3.6).
-ghost use Rattle.std.specs.Prelude.{◌≡◌, ◌↔◌, IsTrue, None, if◌then◌else◌};
+ghost use Rattle.std.specs.Prelude.{◌≡◌, ◌↔◌, ◌⊎◌, IsTrue, None, if◌then◌else◌};
 ghost use Rattle.chess.specs.Squares.{same_square};
-ghost use Rattle.chess.specs.Positions.{IsSound, IsOnlyKing};
+ghost use Rattle.chess.specs.Positions.{IsSound, IsOnlyKing, king_from, rook_from};
 ghost use Rattle.chess.specs.Moves.{is_pawn, is_en_passant, taken, arriving, men_after, keeps_right, rights_after, en_passant_after, one_more, halfmove_clock_after, fullmove_number_after, after, IsPseudoLegal, IsLegal};
-ghost use Rattle.chess.specs.Placements.{opposite};
+ghost use Rattle.chess.specs.Placements.{man_at, opposite};
 
 use crate::board::{Board, CastlingRights, Kind, Man, Side, Square, Wing};
 use crate::moves::Move;
@@ -15,6 +15,17 @@ fn same(a: Square, b: Square) -> bool
     ensures { result ≡ same_square a b }
 {
     a.is(b)
+}
+
+/// The squares from which kings and rooks castle: a1, e1, h1, a8, e8, h8.
+const HOMES: u64 = 0x9100_0000_0000_0091;
+
+/// Whether a king or a rook castles from there.
+#[inline(always)]
+fn is_home(square: Square) -> bool
+    ensures { (side : Side) (wing : Wing) → (square ≡ king_from side) ⊎ (square ≡ rook_from side wing) → IsTrue result }
+{
+    (HOMES >> square.index()) & 1 == 1
 }
 
 /// A count goes up by one, and stays at the largest number.
@@ -35,29 +46,42 @@ fn is_pawn(man: Option<Man>) -> bool
 }
 
 impl<B: Board> Position<B> {
-    /// Whether the move is a capture en passant.
-    fn is_en_passant(&self, m: &Move) -> bool
+    /// Whether the move of that man is a capture en passant.
+    #[inline(always)]
+    fn is_en_passant(&self, man: Option<Man>, m: &Move) -> bool
+        requires { man ≡ man_at self.now.men m.now.from }
         ensures { result ≡ is_en_passant self.now m.now }
     {
-        self.passes(m.to) && m.from.file() != m.to.file() && is_pawn(self.at(m.from))
+        self.passes(m.to) && m.from.file() != m.to.file() && is_pawn(man)
+    }
+
+    /// The square of the man that the move of that man takes, if it takes one.
+    #[inline(always)]
+    fn taken_by(&self, man: Option<Man>, m: &Move) -> Square
+        requires { man ≡ man_at self.now.men m.now.from }
+        ensures { result ≡ taken self.now m.now }
+    {
+        if self.is_en_passant(man, m) {
+            return Square::at(m.to.file(), m.from.rank());
+        }
+        m.to
     }
 
     /// The square of the man that the move takes, if it takes one.
     pub(crate) fn taken(&self, m: &Move) -> Square
         ensures { result ≡ taken self.now m.now }
     {
-        if self.is_en_passant(m) {
-            return Square::at(m.to.file(), m.from.rank());
-        }
-        m.to
+        self.taken_by(self.at(m.from), m)
     }
 
     /// The man that arrives: the one that moves, or what the pawn becomes.
-    fn arriving(&self, m: &Move) -> Option<Man>
+    #[inline(always)]
+    fn arriving(&self, man: Option<Man>, m: &Move) -> Option<Man>
+        requires { man ≡ man_at self.now.men m.now.from }
         ensures { result ≡ arriving self.now m.now.promote m.now.from }
     {
         match m.promote {
-            None => self.at(m.from),
+            None => man,
             Some(kind) => Some(Man {
                 side: self.side(),
                 kind,
@@ -69,11 +93,18 @@ impl<B: Board> Position<B> {
     pub(crate) fn board_after(&self, m: &Move) -> B
         ensures { B.men result ≡ men_after self.now m.now }
     {
+        self.board_after_of(self.at(m.from), m)
+    }
+
+    /// The board after the move of that man.
+    #[inline(always)]
+    fn board_after_of(&self, man: Option<Man>, m: &Move) -> B
+        requires { man ≡ man_at self.now.men m.now.from }
+        ensures { B.men result ≡ men_after self.now m.now }
+    {
         let side = self.side();
         let mut board = self.board();
-        board.put(self.taken(m), None);
-        board.put(m.from, None);
-        board.put(m.to, self.arriving(m));
+        board.carry(self.arriving(man, m), m.from, self.taken_by(man, m), m.to);
         if let Some(wing) = m.castle {
             board.put(rook_leaves(side, wing), None);
             board.put(
@@ -97,8 +128,9 @@ impl<B: Board> Position<B> {
             && !same(m.to, rook_leaves(side, wing))
     }
 
-    /// The castling rights after the move.
-    fn rights_after(&self, m: &Move) -> CastlingRights
+    /// The castling rights that are left after the move.
+    #[cold]
+    fn rights_left(&self, m: &Move) -> CastlingRights
         ensures { result ≡ rights_after self.now.rights m.now }
     {
         CastlingRights {
@@ -109,22 +141,37 @@ impl<B: Board> Position<B> {
         }
     }
 
-    /// The en passant square after the move.
-    fn en_passant_after(&self, m: &Move) -> Option<Square>
+    /// The castling rights after the move: as they were, where it touches no square of castling.
+    #[inline(always)]
+    fn rights_after(&self, m: &Move) -> CastlingRights
+        ensures { result ≡ rights_after self.now.rights m.now }
+    {
+        if is_home(m.from) || is_home(m.to) {
+            return self.rights_left(m);
+        }
+        self.rights
+    }
+
+    /// The en passant square after the move of that man.
+    #[inline(always)]
+    fn en_passant_after(&self, man: Option<Man>, m: &Move) -> Option<Square>
+        requires { man ≡ man_at self.now.men m.now.from }
         ensures { result ≡ en_passant_after self.now m.now }
     {
         let (from, to) = (m.from.rank(), m.to.rank());
-        if is_pawn(self.at(m.from)) && from.abs_diff(to) == 2 {
+        if is_pawn(man) && from.abs_diff(to) == 2 {
             return Some(Square::at(m.from.file(), (from + to) / 2));
         }
         None
     }
 
-    /// The halfmove clock after the move.
-    fn halfmove_clock_after(&self, m: &Move) -> u32
+    /// The halfmove clock after the move of that man.
+    #[inline(always)]
+    fn halfmove_clock_after(&self, man: Option<Man>, m: &Move) -> u32
+        requires { man ≡ man_at self.now.men m.now.from }
         ensures { result ≡ halfmove_clock_after self.now m.now }
     {
-        if is_pawn(self.at(m.from)) || self.at(m.to).is_some() {
+        if is_pawn(man) || !self.is_empty(m.to) {
             return 0;
         }
         one_more(self.clock())
@@ -172,13 +219,24 @@ impl<B: Board> Position<B> {
         requires board { B.men board ≡ men_after self.old m.now }
         ensures { self.new ≡ after self.old m.now }
     {
+        self.settle_of(self.at(m.from), m, board);
+    }
+
+    /// Makes a legal move of that man in place, where the board after it is given.
+    #[inline(always)]
+    fn settle_of(&mut self, man: Option<Man>, m: &Move, board: B)
+        requires man { man ≡ man_at self.old.men m.now.from }
+        requires legal { IsLegal self.old m.now }
+        requires board { B.men board ≡ men_after self.old m.now }
+        ensures { self.new ≡ after self.old m.now }
+    {
         self.known();
         *self = Position {
             board,
             turn: self.turn_after(),
             rights: self.rights_after(m),
-            en_passant: self.en_passant_after(m),
-            halfmove_clock: self.halfmove_clock_after(m),
+            en_passant: self.en_passant_after(man, m),
+            halfmove_clock: self.halfmove_clock_after(man, m),
             fullmove_number: self.fullmove_number_after(),
             white_king: self.king_after(m, Side::White),
             black_king: self.king_after(m, Side::Black),
@@ -192,12 +250,24 @@ impl<B: Board> Position<B> {
         ensures legal { IsTrue result ↔ IsLegal self.old m.now }
         ensures moved { self.new ≡ (if result then after self.old m.now else self.old) }
     {
+        self.try_move_of(self.at(m.from), m)
+    }
+
+    /// Makes the move of that man in place if it leaves the own king unattacked.
+    #[inline(always)]
+    pub(crate) fn try_move_of(&mut self, man: Option<Man>, m: &Move) -> bool
+        requires man { man ≡ man_at self.old.men m.now.from }
+        requires pseudo_legal { IsPseudoLegal self.old m.now }
+        requires plain { m.now.castle ≡ None }
+        ensures legal { IsTrue result ↔ IsLegal self.old m.now }
+        ensures moved { self.new ≡ (if result then after self.old m.now else self.old) }
+    {
         let side = self.side();
-        let board = self.board_after(m);
+        let board = self.board_after_of(man, m);
         if board.attacked(self.king_after(m, side), side.opposite()) {
             return false;
         }
-        self.settle(m, board);
+        self.settle_of(man, m, board);
         true
     }
 
@@ -219,16 +289,9 @@ impl<B: Board> Position<B> {
         ensures position { result ≡ after self.now m }
         ensures sound { IsSound result }
     {
-        self.known();
-        Position {
-            board: self.board_after(&m),
-            turn: self.turn_after(),
-            rights: self.rights_after(&m),
-            en_passant: self.en_passant_after(&m),
-            halfmove_clock: self.halfmove_clock_after(&m),
-            fullmove_number: self.fullmove_number_after(),
-            white_king: self.king_after(&m, Side::White),
-            black_king: self.king_after(&m, Side::Black),
-        }
+        let mut next = self.copy();
+        next.make(&m);
+        next.known();
+        next
     }
 }
