@@ -1,5 +1,5 @@
--- Words of all squares, of the squares of a file, and of those that two sets have.
-use Rattle.std.proofs.Common.{◌≡◌, ◌⊎◌, ◌<◌, ◌≤◌, ◌-◌, ◌*◌, ◌^◌, ◌%◌, ℕ, true, nat_eq, bit_and, inl, inr, refl, sym, ◌∙◌, arith}
+-- Words of all squares, of the squares of a file or a rank, and of those that two sets have.
+use Rattle.std.proofs.Common.{◌≡◌, ◌⊎◌, ◌<◌, ◌≤◌, ◌-◌, ◌*◌, ◌^◌, ◌/◌, ◌%◌, ℕ, true, nat_eq, bit_and, inl, inr, refl, sym, ◌∙◌, arith}
 use Rattle.std.proofs.lemmas.Bool.{agree_below, agree_below_at, and_parts, and_from}
 use Rattle.std.proofs.lemmas.Bool.Decides.{nat_tests}
 use Rattle.chess.specs.Squares.{Place, IsOnBoard, index_of}
@@ -58,6 +58,45 @@ no_file file set out found s = (
   (λ h.
       let on = h.0 in let same = h.1 in
       let low = on.file_low in let high = on.file_high in
+      absurd (elim out [ inl less ↦ omega arith | inr more ↦ let beyond = more.1 in omega arith ])),
+)
+
+-- and of a rank
+abbrev pub rank_word : ℕ → ℕ
+rank_word n = 255 * 2 ^ (8 * n) % 2 ^ 64
+
+ranks_fit : agree_below (λ r. agree_below (has_bit (rank_word r)) (λ n. nat_eq (n / 8) r) 64) (λ _. true) 8 ≡ true
+ranks_fit = refl
+
+rank_bit : (rank : ℕ) (s : Place) → 1 ≤ rank → rank ≤ 8 → IsOnBoard s → has_bit (rank_word (rank - 1)) (index_of s) ≡ nat_eq (index_of s / 8) (rank - 1)
+rank_bit rank s low high on =
+    let row = agree_below_at (λ r. agree_below (has_bit (rank_word r)) (λ n. nat_eq (n / 8) r) 64) (λ _. true) 8 (rank - 1) ranks_fit (omega arith) in
+    agree_below_at (has_bit (rank_word (rank - 1))) (λ n. nat_eq (n / 8) (rank - 1)) 64 (index_of s) row (index_of-below s on)
+
+pub rank_squares : (rank : ℕ) (set : Places) → 1 ≤ rank → rank ≤ 8 → HoldsExactly (λ s. has_bit (rank_word (rank - 1)) (index_of s) ≡ true) set
+    → HoldsExactly (λ s. s.rank ≡ rank) set
+rank_squares rank set low high found s = (
+  (λ h.
+      let parts = (found s).0 h in
+      let on = parts.0 in
+      let f1 = on.file_low in let f2 = on.file_high in let r1 = on.rank_low in let r2 = on.rank_high in
+      let same = are_same (index_of s / 8) (rank - 1) (sym (rank_bit rank s low high on) ∙ parts.1) in
+      let at : s.rank - 1 ≡ index_of s / 8 = omega arith in
+      (on, omega arith)),
+  (λ h.
+      let on = h.0 in let same = h.1 in
+      let f1 = on.file_low in let f2 = on.file_high in let r1 = on.rank_low in let r2 = on.rank_high in
+      let at : s.rank - 1 ≡ index_of s / 8 = omega arith in
+      (found s).1 (on, rank_bit rank s low high on ∙ same_is (index_of s / 8) (rank - 1) (omega arith))),
+)
+
+-- a number that is no rank has no squares
+pub no_rank : (rank : ℕ) (set : Places) → (rank < 1) ⊎ ((1 ≤ rank) × (8 < rank)) → HoldsExactly (λ s. has_bit 0 (index_of s) ≡ true) set → HoldsExactly (λ s. s.rank ≡ rank) set
+no_rank rank set out found s = (
+  (λ h. let bit = ((found s).0 h).1 in absurd (true_not_false (has_bit 0 (index_of s)) bit (no_bit (index_of s)))),
+  (λ h.
+      let on = h.0 in let same = h.1 in
+      let low = on.rank_low in let high = on.rank_high in
       absurd (elim out [ inl less ↦ omega arith | inr more ↦ let beyond = more.1 in omega arith ])),
 )
 

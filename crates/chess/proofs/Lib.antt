@@ -39,7 +39,8 @@ pub mod CastlingTextFacts
 pub mod TextParts
 pub mod SpelledParts
 pub mod NamedFacts
-pub mod CandidateFacts
+pub mod StepperFacts
+pub mod AbleFacts
 pub mod SanTextFacts
 pub mod SaidOnceFacts
 pub mod OriginFacts

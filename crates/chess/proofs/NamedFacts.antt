@@ -6,9 +6,9 @@ use Rattle.chess.specs.Positions.{State}
 use Rattle.chess.specs.Moves.{IsLegal, Goes, Castles, after}
 use Rattle.chess.specs.San.{Said, Spells, IsCastlingText, Agrees, IsNamed, IsOnlyNamed, letter_text, file_text, rank_text, IsFileOrRank}
 use Rattle.chess.specs.Letters.{kind_letter, is_sign, square_text}
-use Rattle.chess.specs.SanWords.{Fits, IsNext, HasNone, IsMoveSaid, IsCastlingOn, move_from, castling_on, man_said}
+use Rattle.chess.specs.SanWords.{IsAble, CanGoSaid, IsNext, HasNone, IsMoveSaid, IsCastlingOn, move_from, castling_on, man_said}
 use Rattle.chess.specs.SanAnswers.{IsAnswer, IsPlayed}
-use Rattle.chess.specs.Sets.{Places, is_in, IsTakenFirst, IsSquaresOf}
+use Rattle.chess.specs.Sets.{Places, is_in, IsTakenFirst, HoldsExactly}
 use Rattle.chess.specs.MoveWords.{IsLeft}
 use Rattle.chess.specs.declared.board.man.Man.{Man}
 use Rattle.chess.specs.declared.board.man.Kind.{Kind}
@@ -55,14 +55,8 @@ said_move P said m agrees = λ i. record {
   castle = sym agrees.not_castling i;
 }
 
-pub said_fits : (P : State) (said : Said) (m : Move) → IsMoveSaid P said m → Fits P said m.from
-said_fits P said m named =
-    let agrees = named.1 in record {
-      file = agrees.file;
-      rank = agrees.rank;
-      stays = λ pawn none. agrees.stays (agrees.kind ∙ pawn) none ∙ ap (λ (s : Place). s.file) agrees.target;
-      legal = subst (IsLegal P) (sym (said_move P said m agrees)) named.0;
-    }
+pub said_legal : (P : State) (said : Said) (m : Move) → IsMoveSaid P said m → CanGoSaid P said m.from
+said_legal P said m named = subst (IsLegal P) (sym (said_move P said m named.1)) named.0
 
 pub said_on : (P : State) (said : Said) (m : Move) → IsMoveSaid P said m → IsOnBoard m.from
 said_on P said m named = named.0.pseudo_legal.from
@@ -74,45 +68,59 @@ said_man P said m named =
     let side : agrees.man.side ≡ P.turn = same_side agrees.man rules.man (sym agrees.here ∙ rules.here) ∙ rules.own in
     agrees.here ∙ ap (λ (man : Man). Some man) (man_of agrees.man (man_said P said) side agrees.kind)
 
-pub fits_said : (P : State) (said : Said) (s : Place) → man_at P.men s ≡ Some (man_said P said) → Fits P said s → IsMoveSaid P said (move_from said s)
-fits_said P said s here fits = (
-  fits.legal,
+pub said_able : (P : State) (said : Said) (m : Move) → IsMoveSaid P said m → IsAble P said m.from
+said_able P said m named =
+    let agrees = named.1 in record {
+      here = said_man P said m named;
+      asked = (agrees.file, agrees.rank);
+      stays = λ pawn none. agrees.stays (agrees.kind ∙ pawn) none ∙ ap (λ (s : Place). s.file) agrees.target;
+      rules = (said_legal P said m named).pseudo_legal;
+    }
+
+pub able_said : (P : State) (said : Said) (s : Place) → IsAble P said s → CanGoSaid P said s → IsMoveSaid P said (move_from said s)
+able_said P said s able legal = (
+  legal,
   record {
     not_castling = refl;
     man = man_said P said;
-    here = here;
+    here = able.here;
     kind = refl;
     target = refl;
-    file = fits.file;
-    rank = fits.rank;
+    file = able.asked.0;
+    rank = able.asked.1;
     promote = refl;
-    stays = fits.stays;
+    stays = able.stays;
   },
 )
 
-pub said_only : (P : State) (said : Said) (squares rest : Places) (s : Place) → IsSquaresOf P.men (man_said P said) squares
-    → IsNext (Fits P said) squares rest s → HasNone (Fits P said) rest
+pub said_only : (P : State) (said : Said) (squares rest : Places) (s : Place) → HoldsExactly (IsAble P said) squares
+    → IsNext (CanGoSaid P said) squares rest s → HasNone (CanGoSaid P said) rest
     → IsMoveSaid P said (move_from said s) × ((n : Move) → IsMoveSaid P said n → n ≡ move_from said s)
 said_only P said squares rest s are next none = (
-  fits_said P said s ((are s).0 next.here).1 next.fits,
+  able_said P said s ((are s).0 next.here).1 next.fits,
   (λ n named. elim (cases_place n.from s) [
     | inl same ↦ sym (said_move P said n named.1) ∙ ap (move_from said) same
     | inr other ↦
-        let fits = said_fits P said n named in
+        let legal = said_legal P said n named in
         let on = said_on P said n named in
-        absurd (none n.from on (next.each n.from on ((are n.from).1 (on, said_man P said n named)) fits other) fits)
+        absurd (none n.from on (next.each n.from on ((are n.from).1 (on, said_able P said n named)) legal other) legal)
   ]),
 )
 
-pub said_several : (P : State) (said : Said) (squares rest more : Places) (s t : Place) → IsSquaresOf P.men (man_said P said) squares
-    → IsNext (Fits P said) squares rest s → IsNext (Fits P said) rest more t
+pub said_none : (P : State) (said : Said) (squares : Places) → HoldsExactly (IsAble P said) squares → HasNone (CanGoSaid P said) squares
+    → (n : Move) → IsMoveSaid P said n → ⊥
+said_none P said squares are none n named =
+    let on = said_on P said n named in none n.from on ((are n.from).1 (on, said_able P said n named)) (said_legal P said n named)
+
+pub said_several : (P : State) (said : Said) (squares rest more : Places) (s t : Place) → HoldsExactly (IsAble P said) squares
+    → IsNext (CanGoSaid P said) squares rest s → IsNext (CanGoSaid P said) rest more t
     → (m n : Move) × IsMoveSaid P said m × IsMoveSaid P said n × (m ≢ n)
 said_several P said squares rest more s t are next second =
     let before = next.within t second.on_board second.here in (
       move_from said s,
       move_from said t,
-      fits_said P said s ((are s).0 next.here).1 next.fits,
-      fits_said P said t ((are t).0 before.0).1 second.fits,
+      able_said P said s ((are s).0 next.here).1 next.fits,
+      able_said P said t ((are t).0 before.0).1 second.fits,
       (λ e. before.1 (sym (ap (λ (m : Move). m.from) e))),
     )
 

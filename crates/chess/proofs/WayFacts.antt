@@ -37,11 +37,11 @@ no_move P pawn knight bishop rook queen king h =
       | Pawn ↦ pawn
     ] some.1
 
-between_low : (side : Side) (a n b : ℕ) → IsForward side a n → IsForward side n b → 1 ≤ b → 1 ≤ n
+pub between_low : (side : Side) (a n b : ℕ) → IsForward side a n → IsForward side n b → 1 ≤ b → 1 ≤ n
 between_low White a n b first second low = omega arith
 between_low Black a n b first second low = omega arith
 
-between_high : (side : Side) (a n b : ℕ) → IsForward side a n → IsForward side n b → a ≤ 8 → b ≤ 8 → n ≤ 8
+pub between_high : (side : Side) (a n b : ℕ) → IsForward side a n → IsForward side n b → a ≤ 8 → b ≤ 8 → n ≤ 8
 between_high White a n b first second high top = omega arith
 between_high Black a n b first second high top = omega arith
 

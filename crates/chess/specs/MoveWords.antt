@@ -3,17 +3,29 @@ use Rattle.std.specs.Prelude.{◌≡◌, ◌⊎◌, true, ℕ, Option, Some, Non
 use Rattle.chess.specs.Squares.{Place, IsOnBoard}
 use Rattle.chess.specs.Placements.{man_at, IsEmpty}
 use Rattle.chess.specs.Attacks.{Reaches, IsForward}
-use Rattle.chess.specs.Positions.{State, home_rank, king_to}
-use Rattle.chess.specs.Moves.{IsBetween, CanGo, IsLegal, IsPromotion}
+use Rattle.chess.specs.Positions.{State, home_rank, pawn_rank, king_to}
+use Rattle.chess.specs.Moves.{IsSingleStep, IsDoubleStep, IsPawnCapture, IsBetween, CanGo, IsLegal, IsPromotion}
 use Rattle.chess.specs.Sets.{Places, is_in}
 use Rattle.chess.specs.declared.board.man.Side.{Side}
 use Rattle.chess.specs.declared.board.man.Kind.{Kind}
+use Rattle.chess.specs.declared.board.man.Kind.TheVariants.{Pawn}
 use Rattle.chess.specs.declared.board.man.Wing.{Wing}
 use Rattle.chess.specs.declared.moves.Move.{Move}
 
 -- a man of that kind, of the side to move, stands on the square
 abbrev pub IsMover : State → Kind → Place → Type 0
 IsMover P kind s = man_at P.men s ≡ Some (record { side = P.turn; kind = kind })
+
+-- a pawn of the side to move on s steps to t, one square or two; it takes on t
+abbrev pub IsStepper : State → Place → Place → Type 0
+IsStepper P t s = IsMover P Pawn s × (IsSingleStep P s t ⊎ IsDoubleStep P s t)
+
+abbrev pub IsTaker : State → Place → Place → Type 0
+IsTaker P t s = IsMover P Pawn s × IsPawnCapture P s t
+
+-- a pawn of the side to move on s may step over the next square
+abbrev pub CanStepOver : State → Place → Place → Type 0
+CanStepOver P passed s = (s.rank ≡ pawn_rank P.turn) × IsEmpty P.men passed × IsMover P Pawn s
 
 -- all squares between king and rook of the side to move are empty
 abbrev pub IsOpen : State → Wing → Type 0

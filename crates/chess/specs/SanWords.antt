@@ -3,7 +3,7 @@ use Rattle.std.specs.Prelude.{◌≡◌, ◌↔◌, ◌⊎◌, ◌≢◌, ℕ, �
 use Rattle.chess.specs.Squares.{Place, IsOnBoard}
 use Rattle.chess.specs.Placements.{man_at}
 use Rattle.chess.specs.Positions.{State, king_from, king_to}
-use Rattle.chess.specs.Moves.{IsLegal}
+use Rattle.chess.specs.Moves.{IsPseudoLegal, IsLegal}
 use Rattle.chess.specs.Letters.{is_check_mark, is_sign}
 use Rattle.chess.specs.San.{Said, Spells, Agrees, kind_said, castling_text, castling_with_zeros}
 use Rattle.chess.specs.Sets.{Places, is_in}
@@ -100,27 +100,28 @@ IsCastlingStem wing stem = (stem ≡ castling_text wing) ⊎ (stem ≡ castling_
 abbrev pub castling_on : Side → Wing → Move
 castling_on side wing = record { from = king_from side; to = king_to side wing; promote = None; castle = Some wing }
 
--- the man on s may be the one that the text speaks of
-pub record Fits (P : State) (said : Said) (s : Place) : Type 0 where
-  pub file : IfSome said.file (λ file. s.file ≡ file)
-  pub rank : IfSome said.rank (λ rank. s.rank ≡ rank)
-  pub stays : kind_said said.letter ≡ Pawn → said.file ≡ None → s.file ≡ said.target.file
-  pub legal : IsLegal P (move_from said s)
-
 -- the man that is spoken of
 abbrev pub man_said : State → Said → Man
 man_said P said = record { side = P.turn; kind = kind_said said.letter }
 
--- that man stands on each square of the set; each of his squares that fits is in it; each square that fits by its file is in it
-abbrev pub AreMenSaid : State → Said → Places → Type 0
-AreMenSaid P said set = (s : Place) → is_in set s ≡ true → man_at P.men s ≡ Some (man_said P said)
+-- the square has the file and the rank that are said
+abbrev pub IsAsked : Said → Place → Type 0
+IsAsked said s = IfSome said.file (λ file. s.file ≡ file) × IfSome said.rank (λ rank. s.rank ≡ rank)
 
-abbrev pub HasEachSaid : State → Said → Places → Type 0
-HasEachSaid P said set = (s : Place) → IsOnBoard s → man_at P.men s ≡ Some (man_said P said) → Fits P said s → is_in set s ≡ true
+-- another file is said than the target's
+abbrev pub ChangesFile : Said → Type 0
+ChangesFile said = (n : ℕ) × (said.file ≡ Some n) × (n ≢ said.target.file)
 
-abbrev pub HasFileSaid : Said → Places → Type 0
-HasFileSaid said set = (s : Place) → IsOnBoard s → IfSome said.file (λ file. s.file ≡ file)
-    → (kind_said said.letter ≡ Pawn → said.file ≡ None → s.file ≡ said.target.file) → is_in set s ≡ true
+-- the man on s is the one that is spoken of, and may go so, whether or not his king is then attacked
+pub record IsAble (P : State) (said : Said) (s : Place) : Type 0 where
+  pub here : man_at P.men s ≡ Some (man_said P said)
+  pub asked : IsAsked said s
+  pub stays : kind_said said.letter ≡ Pawn → said.file ≡ None → s.file ≡ said.target.file
+  pub rules : IsPseudoLegal P (move_from said s)
+
+-- the move from s that the text speaks of is legal
+abbrev pub CanGoSaid : State → Said → Place → Type 0
+CanGoSaid P said s = IsLegal P (move_from said s)
 
 -- a square of the set that fits was taken out, with some that do not fit; or none fits
 pub record IsNext (fact : Place → Type 0) (old new : Places) (t : Place) : Type 0 where

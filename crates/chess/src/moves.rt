@@ -5,7 +5,7 @@ pub(crate) mod castling;
 mod legal;
 mod pass;
 mod play;
-mod pseudo_legal;
+pub(crate) mod pseudo_legal;
 
 /// A move. In castling `from` and `to` are the king's squares.
 #[derive(Clone, Copy, Debug, PartialEq, Eq)]

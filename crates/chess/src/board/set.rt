@@ -9,6 +9,9 @@ use std::marker::Model;
 /// The squares of the a-file.
 const FILE_A: u64 = 0x0101_0101_0101_0101;
 
+/// The squares of the first rank.
+const RANK_1: u64 = 0xff;
+
 /// A set of squares.
 #[derive(Debug, Drop)]
 pub struct SquareSet {
@@ -68,6 +71,17 @@ impl SquareSet {
             return SquareSet::of_word(0);
         }
         SquareSet::of_word(FILE_A << (file - 1))
+    }
+
+    /// The squares of that rank.
+    #[inline(always)]
+    pub(crate) fn of_rank(rank: u8) -> Self
+        ensures { HoldsExactly (λ s. s.rank ≡ rank) result }
+    {
+        if rank < 1 || rank > 8 {
+            return SquareSet::of_word(0);
+        }
+        SquareSet::of_word(RANK_1 << (8 * (rank - 1)))
     }
 
     /// The squares that both sets have.

@@ -1,20 +1,21 @@
 //! Moves named by their texts (PGN 8.2.3).
-ghost use Rattle.std.specs.Prelude.{◌≡◌, ◌≢◌, ◌↔◌, IfOk, IfSome, IsErrOf, IsTrue, MatchOption, None};
-ghost use Rattle.chess.specs.declared.board.man.Kind.TheVariants.{Pawn};
+ghost use Rattle.std.specs.Prelude.{◌≡◌, ◌≢◌, ◌↔◌, IfOk, IsErrOf, MatchOption};
 ghost use Rattle.chess.specs.San.{IsNamed, IsOnlyNamed, kind_said};
-ghost use Rattle.chess.specs.SanWords.{castling_on, said_by, move_from, Fits, IsNext, HasNone, IsCastlingOn, IsMoveSaid};
+ghost use Rattle.chess.specs.SanWords.{castling_on, said_by, move_from, CanGoSaid, IsNext, HasNone, IsCastlingOn, IsMoveSaid};
 ghost use Rattle.chess.specs.SanAnswers.{IsAnswer};
 ghost use Rattle.chess.specs.declared.moves.Move.{Move};
 ghost use Rattle.chess.specs.declared.move_text.SanError.{SanError};
 
-use crate::board::{Board, Kind, Man, Side, Square, SquareSet, Wing};
+use crate::board::{Board, Kind, Side, Square, SquareSet, Wing};
 use crate::move_text::SanError;
 use crate::moves::Move;
 use crate::moves::castling::{king_arrives, king_leaves};
 use crate::position::Position;
 
+pub(crate) mod able;
 pub(crate) mod said;
 
+use able::able_men;
 use said::{SaidMove, castling, read_said};
 
 /// The only legal move that the text names. No memory is needed.
@@ -66,11 +67,7 @@ fn castling_move(side: Side, wing: Wing) -> Move
 pub(crate) fn moved<B: Board>(position: &Position<B>, said: &SaidMove) -> Result<Move, SanError>
     ensures { IsAnswer (IsMoveSaid position.now (said_by said.now)) result }
 {
-    let squares = position.squares_of(Man {
-        side: position.side(),
-        kind: said.kind(),
-    });
-    let Some((from, rest)) = next_origin(position, said, squares) else {
+    let Some((from, rest)) = next_origin(position, said, able_men(position, said)) else {
         return Err(SanError::None);
     };
     if next_origin(position, said, rest).is_some() {
@@ -79,48 +76,22 @@ pub(crate) fn moved<B: Board>(position: &Position<B>, said: &SaidMove) -> Result
     Ok(said.from(from))
 }
 
-/// The first square of the set whose man may make the move that is said, and the squares behind it.
+/// The first square of the set from which the move that is said is legal, and the squares behind it.
 fn next_origin<B: Board>(
     position: &Position<B>,
     said: &SaidMove,
     squares: SquareSet,
 ) -> Option<(Square, SquareSet)>
-    ensures { MatchOption result (HasNone (Fits position.now (said_by said.now)) squares)
-        (λ found. IsNext (Fits position.now (said_by said.now)) squares found.1 found.0) }
+    ensures { MatchOption result (HasNone (CanGoSaid position.now (said_by said.now)) squares)
+        (λ found. IsNext (CanGoSaid position.now (said_by said.now)) squares found.1 found.0) }
 {
     let mut left = squares;
     while let Some(from) = left.take_first() {
-        if fits(position, said, from) {
+        if position.is_legal(said.from(from)) {
             return Some((from, left));
         }
     }
     None
-}
-
-/// Whether the man on the square may make the move that is said: the file and the rank are tried before its legality.
-fn fits<B: Board>(position: &Position<B>, said: &SaidMove, from: Square) -> bool
-    ensures { IsTrue result ↔ Fits position.now (said_by said.now) from }
-{
-    if !agrees(said.file, from.file()) {
-        return false;
-    }
-    if !agrees(said.rank, from.rank()) {
-        return false;
-    }
-    if !said.keeps_file(from) {
-        return false;
-    }
-    position.is_legal(said.from(from))
-}
-
-/// Whether the number is the one given, if one is given.
-pub(crate) fn agrees(given: Option<u8>, number: u8) -> bool
-    ensures { IsTrue result ↔ IfSome given (λ n. number ≡ n) }
-{
-    match given {
-        Some(n) => number == n,
-        None => true,
-    }
 }
 
 impl SaidMove {
@@ -144,18 +115,5 @@ impl SaidMove {
             promote: self.promote,
             castle: None,
         }
-    }
-
-    /// Whether a pawn without a given file stays on its file.
-    pub(crate) fn keeps_file(&self, from: Square) -> bool
-        ensures { IsTrue result ↔ (kind_said self.now.letter ≡ Pawn → self.now.file ≡ None → from.file ≡ self.now.target.file) }
-    {
-        if self.kind() != Kind::Pawn {
-            return true;
-        }
-        if self.file.is_some() {
-            return true;
-        }
-        from.file() == self.target.file()
     }
 }

@@ -30,7 +30,7 @@ fn is_promotion(promote: Option<Kind>) -> bool
 }
 
 /// Whether the promotion, or none, is right for a pawn of the side that comes to the square.
-fn promotes(side: Side, to: Square, promote: Option<Kind>) -> bool
+pub(crate) fn promotes(side: Side, to: Square, promote: Option<Kind>) -> bool
     ensures { IsTrue result ↔ Promotes side to promote }
 {
     if to.rank() == rank_of_pieces(side.opposite()) {

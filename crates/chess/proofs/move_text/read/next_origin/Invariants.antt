@@ -1,11 +1,11 @@
 use Rattle.std.proofs.Common.{◌≡◌, true}
 use Rattle.chess.specs.Sets.{is_in, size_of}
-use Rattle.chess.specs.SanWords.{Fits, said_by}
+use Rattle.chess.specs.SanWords.{CanGoSaid, said_by}
 use Rattle.chess.specs.MoveWords.{IsLeft}
 use Rattle.chess.proofs.move_text.read.next_origin.Given as goal
 
 abbrev pub invariant-loop-from : goal.invariant-loop-from
-invariant-loop-from g l = IsLeft (λ s. is_in l.fn.squares s ≡ true) (λ s. (is_in l.fn.squares s ≡ true) × Fits l.position (said_by l.said) s) l.left
+invariant-loop-from g l = IsLeft (λ s. is_in l.fn.squares s ≡ true) (λ s. (is_in l.fn.squares s ≡ true) × CanGoSaid l.position (said_by l.said) s) l.left
 
 abbrev pub decreases-loop-from : goal.decreases-loop-from
 decreases-loop-from g l = size_of l.left

@@ -1,0 +1,163 @@
+-- The pawn that steps to a square: it comes from the next square back, or over that one from the square behind it.
+use Rattle.std.proofs.Common.{◌≡◌, ◌⊎◌, ◌≤◌, ◌||◌, ℕ, Bool, true, false, inl, inr, ap, refl, sym, subst, ◌∙◌, arith, None}
+use Rattle.chess.specs.Squares.{Place, IsOnBoard, same_square, gap}
+use Rattle.chess.specs.Placements.{man_at, opposite, IsEmpty}
+use Rattle.chess.specs.Attacks.{IsForward}
+use Rattle.chess.specs.Positions.{State}
+use Rattle.chess.specs.Moves.{IsSingleStep, IsDoubleStep, IsPawnCapture, IsPawnMove}
+use Rattle.chess.specs.MoveWords.{IsMover, IsStepper, CanStepOver, IsSquareAhead}
+use Rattle.chess.specs.declared.board.man.Side.{Side}
+use Rattle.chess.specs.declared.board.man.Side.TheVariants.{White, Black}
+use Rattle.chess.specs.declared.board.man.Kind.TheVariants.{Pawn}
+use Rattle.chess.specs.Sets.{Places, is_in, no_places, HoldsExactly}
+use Rattle.chess.proofs.PlaceFacts.{place_of, some_not_none, same_square-same, same_square-then, true_not_false}
+use Rattle.chess.proofs.LoopFacts.{not_in}
+use Rattle.chess.proofs.WayFacts.{between_low, between_high}
+
+-- one rank forward for a side is one rank back for the other
+pub back : (side : Side) (a b : ℕ) → IsForward side a b → IsForward (opposite side) b a
+back White a b e = e
+back Black a b e = e
+
+pub forth : (side : Side) (a b : ℕ) → IsForward (opposite side) b a → IsForward side a b
+forth White a b e = e
+forth Black a b e = e
+
+same_back : (side : Side) (a b n : ℕ) → IsForward side a n → IsForward side b n → a ≡ b
+same_back White a b n e f = omega arith
+same_back Black a b n e f = omega arith
+
+-- the square behind another for a side
+abbrev pub IsBehind : Side → Place → Place → Type 0
+IsBehind side t s = (s.file ≡ t.file) × IsForward side s.rank t.rank
+
+one_behind : (side : Side) (t s u : Place) → IsBehind side t s → IsBehind side t u → s ≡ u
+one_behind side t s u e f = place_of s u (e.0 ∙ sym f.0) (same_back side s.rank u.rank t.rank e.1 f.1)
+
+-- what is found straight ahead for the other side is the square behind
+abbrev pub IsBack : Side → Place → Place → Type 0
+IsBack side t s = IsOnBoard s × (s.file ≡ t.file) × IsForward (opposite side) t.rank s.rank
+
+pub behind_of : (side : Side) (t s : Place) → IsBack side t s → IsBehind side t s
+behind_of side t s found = (found.1, forth side s.rank t.rank found.2)
+
+single_behind : (P : State) (s t : Place) → IsSingleStep P s t → IsBehind P.turn t s
+single_behind P s t step = (sym step.0, step.1)
+
+first_behind : (P : State) (s t : Place) (d : IsDoubleStep P s t) → IsBehind P.turn t d.passed
+first_behind P s t d = (d.same_file ∙ sym d.file, d.second)
+
+second_behind : (P : State) (s t : Place) (d : IsDoubleStep P s t) → IsBehind P.turn d.passed s
+second_behind P s t d = (sym d.same_file, d.first)
+
+passed_on : (P : State) (s t : Place) → IsOnBoard s → IsOnBoard t → (d : IsDoubleStep P s t) → IsOnBoard d.passed
+passed_on P s t on there d = record {
+  file_low = subst (λ n. 1 ≤ n) (sym d.same_file) on.file_low;
+  file_high = subst (λ n. n ≤ 8) (sym d.same_file) on.file_high;
+  rank_low = between_low P.turn s.rank d.passed.rank t.rank d.first d.second there.rank_low;
+  rank_high = between_high P.turn s.rank d.passed.rank t.rank d.first d.second on.rank_high there.rank_high;
+}
+
+-- no pawn steps to a square where a man stands
+pub no_step_taken : (P : State) (t s : Place) → (IsEmpty P.men t → ⊥) → IsStepper P t s → ⊥
+no_step_taken P t s held (pawn, inl single) = held single.2
+no_step_taken P t s held (pawn, inr double) = held double.end_empty
+
+-- nor to one that has none behind it
+pub no_step_edge : (P : State) (side : Side) (t : Place) → side ≡ opposite P.turn → IsOnBoard t → IsSquareAhead side t None → (s : Place) → IsOnBoard s
+    → IsStepper P t s → ⊥
+no_step_edge P side t e there none s on (pawn, inl single) =
+    none s on (sym single.0) (subst (λ a. IsForward a t.rank s.rank) (sym e) (back P.turn s.rank t.rank single.1))
+no_step_edge P side t e there none s on (pawn, inr double) =
+    let behind = first_behind P s t double in
+    none double.passed (passed_on P s t on there double) behind.0
+    (subst (λ a. IsForward a t.rank double.passed.rank) (sym e) (back P.turn double.passed.rank t.rank behind.1))
+
+-- the pawn on the square behind
+pub steps_once : (P : State) (t one : Place) → IsEmpty P.men t → IsBehind P.turn t one → IsMover P Pawn one → IsStepper P t one
+steps_once P t one empty behind pawn = (pawn, inl (sym behind.0, behind.1, empty))
+
+pub only_once : (P : State) (t one s : Place) → IsBehind P.turn t one → IsMover P Pawn one → IsStepper P t s → s ≡ one
+only_once P t one s behind pawn (own, inl single) = one_behind P.turn t s one (single_behind P s t single) behind
+only_once P t one s behind pawn (own, inr double) =
+    let same = one_behind P.turn t double.passed one (first_behind P s t double) behind in
+    absurd (some_not_none (man_at P.men one) _ (subst (IsEmpty P.men) same double.empty) pawn)
+
+-- else the one behind that
+from_two : (P : State) (t one s : Place) → IsBehind P.turn t one → (IsMover P Pawn one → ⊥) → IsStepper P t s
+    → IsBehind P.turn one s × CanStepOver P one s
+from_two P t one s behind none (own, inl single) =
+    absurd (none (subst (IsMover P Pawn) (one_behind P.turn t s one (single_behind P s t single) behind) own))
+from_two P t one s behind none (own, inr double) =
+    let same = one_behind P.turn t double.passed one (first_behind P s t double) behind in (
+      subst (λ u. IsBehind P.turn u s) same (second_behind P s t double),
+      (double.from_first_rank, subst (IsEmpty P.men) same double.empty, own),
+    )
+
+pub no_second : (P : State) (side : Side) (t one s : Place) → side ≡ opposite P.turn → IsBehind P.turn t one → (IsMover P Pawn one → ⊥)
+    → IsSquareAhead side one None → IsOnBoard s → IsStepper P t s → ⊥
+no_second P side t one s e behind none edge on step =
+    let found = from_two P t one s behind none step in
+    edge s on found.0.0 (subst (λ a. IsForward a one.rank s.rank) (sym e) (back P.turn s.rank one.rank found.0.1))
+
+pub only_two : (P : State) (t one two s : Place) → IsBehind P.turn t one → IsBehind P.turn one two → (IsMover P Pawn one → ⊥) → IsStepper P t s
+    → (s ≡ two) × CanStepOver P one two
+only_two P t one two s behind second none step =
+    let found = from_two P t one s behind none step in
+    let same = one_behind P.turn one s two found.0 second in (same, subst (CanStepOver P one) same found.1)
+
+pub steps_twice : (P : State) (t one two : Place) → IsEmpty P.men t → IsBehind P.turn t one → IsBehind P.turn one two → CanStepOver P one two
+    → IsStepper P t two
+steps_twice P t one two empty behind second can = (
+  can.2,
+  inr (record {
+    file = sym behind.0 ∙ sym second.0;
+    from_first_rank = can.0;
+    passed = one;
+    same_file = sym second.0;
+    first = second.1;
+    second = behind.1;
+    empty = can.1;
+    end_empty = empty;
+  }),
+)
+
+-- a pawn that takes leaves its file, and a pawn that steps stays on it
+gap_none : (a b : ℕ) → a ≡ b → gap a b ≡ 1 → ⊥
+gap_none a b e f = omega arith
+
+pub on_file : (P : State) (s t : Place) → s.file ≡ t.file → IsPawnMove P s t → IsSingleStep P s t ⊎ IsDoubleStep P s t
+on_file P s t e (inl single) = inl single
+on_file P s t e (inr (inl double)) = inr double
+on_file P s t e (inr (inr capture)) = absurd (gap_none s.file t.file e capture.0.0)
+
+pub off_file : (P : State) (s t : Place) → (s.file ≡ t.file → ⊥) → IsPawnMove P s t → IsPawnCapture P s t
+off_file P s t e (inl single) = absurd (e (sym single.0))
+off_file P s t e (inr (inl double)) = absurd (e (sym double.file))
+off_file P s t e (inr (inr capture)) = capture
+
+pub step_file : (P : State) (s t : Place) → IsSingleStep P s t ⊎ IsDoubleStep P s t → s.file ≡ t.file
+step_file P s t (inl single) = sym single.0
+step_file P s t (inr double) = sym double.file
+
+pub take_file : (P : State) (s t : Place) → IsPawnCapture P s t → s.file ≡ t.file → ⊥
+take_file P s t capture e = gap_none s.file t.file e capture.0.0
+
+pub step_free : (P : State) (s t : Place) → IsSingleStep P s t ⊎ IsDoubleStep P s t → IsEmpty P.men t
+step_free P s t (inl single) = single.2
+step_free P s t (inr double) = double.end_empty
+
+-- a fact that one square alone has, as a set
+or_cases : (a b : Bool) → (a || b) ≡ true → (a ≡ true) ⊎ (b ≡ true)
+or_cases true b e = inl refl
+or_cases false b e = inr e
+
+pub one_holds : (fact : Place → Type 0) (old new : Places) (t : Place) → old ≡ no_places → IsOnBoard t → fact t
+    → ((s : Place) → IsOnBoard s → fact s → s ≡ t) → ((s : Place) → is_in new s ≡ (same_square t s || is_in old s)) → HoldsExactly fact new
+one_holds fact old new t none on holds only put s = (
+  (λ here. elim (or_cases (same_square t s) (is_in old s) (sym (put s) ∙ here)) [
+    | inl same ↦ let e = same_square-then t s same in (subst IsOnBoard e on, subst fact e holds)
+    | inr left ↦ absurd (true_not_false (is_in old s) left (not_in old s none))
+  ]),
+  (λ own. put s ∙ ap (λ b. b || is_in old s) (same_square-same t s (sym (only s own.0 own.1)))),
+)
