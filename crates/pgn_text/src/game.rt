@@ -161,11 +161,10 @@ fn step_behind<'a, K: Keeper<'a>>(
 ) -> Result<Reading, K::Error>
     ensures { IfOk result (λ reading. IsStep (K.kept keeper.old) (K.kept keeper.new) depth_limit (token_of token.entry) end (state_of progress.old) (state_of progress.new) reading) }
 {
-    let Some(next) = progress.step(token) else {
+    if !progress.step(token) {
         return Ok(Reading::Stuck);
-    };
+    }
     keeper.keep(token)?;
-    *progress = next;
     Ok(Reading::Part(end))
 }
 
