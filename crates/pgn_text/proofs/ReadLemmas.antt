@@ -9,9 +9,9 @@ use Rattle.pgn_text.specs.Games.{Item, is_result, begins_outside_gap, items_of, 
 use Rattle.pgn_text.specs.GameTexts.{IsPaired}
 use Rattle.pgn_text.specs.Pieces.{NoGame}
 use Rattle.pgn_text.specs.Steps.{State, start, step}
-use Rattle.pgn_text.specs.Reading.{Kept, KeptResult, kept, is_kept_result, step_kept, items_of_kept, named_kept}
+use Rattle.pgn_text.specs.Reading.{Kept, KeptGap, KeptDot, KeptResult, kept, is_kept_result, step_kept, items_of_kept, named_kept}
 use Rattle.pgn_text.specs.Readings.{GoesOn, StuckAt, EndsAt}
-use Rattle.pgn_text.specs.Walk.{PartAt, KeptAt, NothingAt, NoGapPartAt, GameRead}
+use Rattle.pgn_text.specs.Walk.{PartAt, KeptAt, Passes, NothingAt, NoGapPartAt, GameRead}
 use Rattle.pgn_text.proofs.Halfway.{Reads, Halfway, halfway_start, halfway_more, halfway_end, halfway_stuck, halfway_none, game_reads, reads_game, before_more}
 use Rattle.pgn_text.proofs.KeptLemmas.{is_result-kept, step-kept, items-push, kept_result}
 use Rattle.pgn_text.proofs.Pairing.{leads_paired}
@@ -173,6 +173,33 @@ kept_more {max_depth = max_depth} {f = f} {block = block} {begin = begin} {at = 
       up.elements (up.elements ++ items_of_kept more.token) more.token up.read more.here more.no_result more.steps (λ wanted. refl) refl;
   keeps = λ first. more.keeps up.tags up.elements (up.keeps first);
 }
+
+-- one more part, of which nothing is kept, and which leaves the state as it is
+kept_idle : {kept_first kept_now : (List ℕ → Option (List ℕ)) → List Item → Type 0} {max_depth : ℕ} {f : Bool} {block : List ℕ} {begin at end : ℕ} {state : State} (token : Kept)
+    → is_kept_result token ≡ false → ((wanted : List ℕ) → named_kept wanted token ≡ None) → items_of_kept token ≡ [] → step_kept max_depth state token ≡ Some state
+    → KeptUpTo kept_first kept_now max_depth f block begin at state → Passes f block at token end → KeptUpTo kept_first kept_now max_depth f block begin end state
+kept_idle {kept_first} {kept_now} {max_depth} {f} {block} {begin} {at} {end} {state} token no_result no_tag no_items steps up (inl same) =
+    subst (λ k. KeptUpTo kept_first kept_now max_depth f block begin k state) (sym same) up
+kept_idle {kept_first} {kept_now} {max_depth} {f} {block} {begin} {at} {end} {state} token no_result no_tag no_items steps up (inr here) = record {
+  tags = up.tags;
+  elements = up.elements;
+  read = read_more max_depth f block begin at end state state up.tags up.tags up.elements up.elements token up.read here no_result steps
+      (λ wanted. sym (ap (option_or (up.tags wanted)) (no_tag wanted) ∙ option_or-none (up.tags wanted)))
+      (sym (ap (λ xs. up.elements ++ xs) no_items ∙ append-nil up.elements));
+  keeps = up.keeps;
+}
+
+-- white space, if it stands there
+pub kept_behind_white : {kept_first kept_now : (List ℕ → Option (List ℕ)) → List Item → Type 0} {max_depth : ℕ} {f : Bool} {block : List ℕ} {begin at end : ℕ} {state : State}
+    → KeptUpTo kept_first kept_now max_depth f block begin at state → Passes f block at KeptGap end → KeptUpTo kept_first kept_now max_depth f block begin end state
+kept_behind_white up passes = kept_idle KeptGap refl (λ wanted. refl) refl refl up passes
+
+-- a period in the movetext, if it stands there
+pub kept_behind_dot : {kept_first kept_now : (List ℕ → Option (List ℕ)) → List Item → Type 0} {max_depth : ℕ} {f : Bool} {block : List ℕ} {begin at end : ℕ} {state : State} → state.in_tags ≡ false
+    → KeptUpTo kept_first kept_now max_depth f block begin at state → Passes f block at KeptDot end → KeptUpTo kept_first kept_now max_depth f block begin end state
+kept_behind_dot {state = state} movetext up passes =
+    kept_idle KeptDot refl (λ wanted. refl) refl
+    (ap (λ (b : Bool). Some (record { in_tags = b; depth = state.depth; has_move = state.has_move })) (sym movetext)) up passes
 
 -- where nothing stands that may, there is no game
 pub kept_stuck : {kept_first kept_now : (List ℕ → Option (List ℕ)) → List Item → Type 0} {max_depth : ℕ} {f : Bool} {block : List ℕ} {begin at : ℕ} {state : State}

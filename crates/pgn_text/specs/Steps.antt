@@ -44,6 +44,11 @@ step max_depth state Close =
     then Some (record { in_tags = false; depth = state.depth - 1; has_move = true })
     else None
 
+-- a step is made to the new state where there is a next one, and none where there is none
+abbrev pub Steps : Bool → State → Option State → Type 0
+Steps true new next = next ≡ Some new
+Steps false new next = next ≡ None
+
 -- the parts lead from this state to a result outside all variations, which is the last of them
 abbrev pub Leads : ℕ → State → List Part → Type 0
 Leads max_depth state [] = ⊥

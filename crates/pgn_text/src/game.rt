@@ -16,7 +16,7 @@ ghost use Rattle.pgn_text.specs.Walk.{GameTo, GameRead, NoGapPartAt};
 
 use crate::class::{Class, is_in, run_end};
 use crate::draft::Draft;
-use crate::place::{comment_at, number_at, part_at};
+use crate::place::{behind_dot, behind_white, comment_at, number_at, part_at};
 use crate::progress::Progress;
 use crate::token::Token;
 use std::alloc::{AllocError, Global};
@@ -145,6 +145,8 @@ impl<'a> Keeper<'a> for Draft<'a> {
 enum Reading {
     /// A part that may stand there, and the place behind it.
     Part(usize),
+    /// A move number, and the place behind it.
+    Number(usize),
     /// The result that ends the game, and the place behind it.
     Result(usize),
     /// Nothing that may stand there.
@@ -161,11 +163,10 @@ fn step_behind<'a, K: Keeper<'a>>(
 ) -> Result<Reading, K::Error>
     ensures { IfOk result (λ reading. IsStep (K.kept keeper.old) (K.kept keeper.new) depth_limit (token_of token.entry) end (state_of progress.old) (state_of progress.new) reading) }
 {
-    let Some(next) = progress.step(token) else {
+    if !progress.step(token) {
         return Ok(Reading::Stuck);
-    };
+    }
     keeper.keep(token)?;
-    *progress = next;
     Ok(Reading::Part(end))
 }
 
@@ -233,7 +234,9 @@ fn read_part<'a, K: Keeper<'a>>(
         return step_behind(Token::Gap, at + 1, progress, keeper);
     }
     if let Some(end) = number_at(block, at) {
-        return step_behind(Token::Number, end, progress, keeper);
+        progress.enter_movetext();
+        keeper.keep(Token::Number)?;
+        return Ok(Reading::Number(end));
     }
     match byte {
         b'.' => step_behind(Token::Dot, at + 1, progress, keeper),
@@ -260,7 +263,8 @@ fn read_parts<'a, K: Keeper<'a>>(
     let mut at = begin;
     while at < block.len() {
         match read_part(block, at, file_start, &mut progress, keeper)? {
-            Reading::Part(end) => at = end,
+            Reading::Part(end) => at = behind_white(block, end),
+            Reading::Number(end) => at = behind_white(block, behind_dot(block, end)),
             Reading::Result(end) => return Ok(Some((at, end))),
             Reading::Stuck => return Ok(None),
         }

@@ -2,9 +2,9 @@
 
 ghost use Rattle.std.specs.Prelude.{◌≡◌, ◌<◌, ◌≤◌, Bool, length, take, drop, get_or, MatchOption};
 ghost use Rattle.pgn_text.specs.Parts.{is_column_one as is_in_column_one, standing_of};
-ghost use Rattle.pgn_text.specs.Reading.{KeptComment, KeptNumber};
+ghost use Rattle.pgn_text.specs.Reading.{KeptComment, KeptDot, KeptGap, KeptNumber};
 ghost use Rattle.pgn_text.specs.Tokens.{standing_view, token_of};
-ghost use Rattle.pgn_text.specs.Walk.{KeptAt, NothingAt, GapPartAt, NoGapPartAt, LongestGapTo};
+ghost use Rattle.pgn_text.specs.Walk.{KeptAt, Passes, NothingAt, GapPartAt, NoGapPartAt, LongestGapTo};
 
 use crate::class::{Class, is_in, run_end};
 use crate::scan::{Found, Standing, gap_part, part};
@@ -50,6 +50,36 @@ pub(crate) fn number_at(block: &[u8], at: usize) -> Option<usize>
         return None;
     }
     Some(end)
+}
+
+/// The place behind the period at the place of the block, or the place itself where none stands there.
+#[inline(always)]
+pub(crate) fn behind_dot(block: &[u8], at: usize) -> usize
+    requires { at ≤ length block.now }
+    ensures passed { (file_start : Bool) → Passes file_start block.now at KeptDot result }
+    ensures forward { at ≤ result }
+    ensures within { result ≤ length block.now }
+{
+    if at < block.len() && block[at] == b'.' {
+        at + 1
+    } else {
+        at
+    }
+}
+
+/// The place behind the byte of white space at the place of the block, or the place itself where none stands there.
+#[inline(always)]
+pub(crate) fn behind_white(block: &[u8], at: usize) -> usize
+    requires { at ≤ length block.now }
+    ensures passed { (file_start : Bool) → Passes file_start block.now at KeptGap result }
+    ensures forward { at ≤ result }
+    ensures within { result ≤ length block.now }
+{
+    if at < block.len() && is_in(Class::White, block[at]) {
+        at + 1
+    } else {
+        at
+    }
 }
 
 /// The bytes of the brace comment at the place of the block, and the place behind it.

@@ -1,6 +1,6 @@
 //! What has to be remembered of the parts of a game that were read.
 
-ghost use Rattle.std.specs.Prelude.{◌≡◌, ◌↔◌, false, true, option_map, IsTrue};
+ghost use Rattle.std.specs.Prelude.{◌≡◌, ◌↔◌, false, true, IsTrue};
 ghost use Rattle.pgn_text.specs.Limits.{depth_limit};
 ghost use Rattle.pgn_text.specs.Reading.{KeptOpen, KeptClose, step_kept};
 
@@ -19,7 +19,7 @@ pub(crate) struct Progress {
 }
 
 impl Progress {
-    ghost use Rattle.pgn_text.specs.Steps.{start as start_state, in_movetext as in_movetext_state};
+    ghost use Rattle.pgn_text.specs.Steps.{start as start_state, in_movetext, Steps};
     ghost use Rattle.pgn_text.specs.Tokens.{state_of, token_of};
 
     /// Before the first part.
@@ -41,72 +41,72 @@ impl Progress {
         self.depth == 0
     }
 
+    /// Goes on behind a part of the movetext that is no move.
     #[inline(always)]
-    pub(crate) fn in_movetext(self) -> Self
-        ensures { state_of result ≡ in_movetext_state (state_of self) }
+    pub(crate) fn enter_movetext(&mut self)
+        ensures { state_of self.new ≡ in_movetext (state_of self.old) }
     {
-        Progress {
-            in_tags: false,
-            ..self
-        }
+        self.in_tags = false;
     }
 
+    /// Goes on behind a move.
     #[inline(always)]
-    pub(crate) fn behind_move(self) -> Self
-        ensures { state_of result ≡ record { in_tags = false; depth = self.depth; has_move = true } }
+    pub(crate) fn pass_move(&mut self)
+        ensures { state_of self.new ≡ record { in_tags = false; depth = self.old.depth; has_move = true } }
     {
-        Progress {
-            in_tags: false,
-            has_move: true,
-            ..self
-        }
+        self.in_tags = false;
+        self.has_move = true;
     }
 
+    /// Goes on in a variation, if one may begin here.
     #[inline(always)]
-    pub(crate) fn opened(self) -> Option<Self>
-        ensures { option_map state_of result ≡ step_kept depth_limit (state_of self) KeptOpen }
+    pub(crate) fn open(&mut self) -> bool
+        ensures { Steps result (state_of self.new) (step_kept depth_limit (state_of self.old) KeptOpen) }
     {
         if self.has_move && self.depth < MAX_DEPTH {
-            Some(Progress {
-                in_tags: false,
-                depth: self.depth + 1,
-                has_move: false,
-            })
+            self.in_tags = false;
+            self.depth += 1;
+            self.has_move = false;
+            true
         } else {
-            None
+            false
         }
     }
 
+    /// Goes on behind a variation, if one may end here.
     #[inline(always)]
-    pub(crate) fn closed(self) -> Option<Self>
-        ensures { option_map state_of result ≡ step_kept depth_limit (state_of self) KeptClose }
+    pub(crate) fn close(&mut self) -> bool
+        ensures { Steps result (state_of self.new) (step_kept depth_limit (state_of self.old) KeptClose) }
     {
         if self.depth > 0 {
-            Some(Progress {
-                in_tags: false,
-                depth: self.depth - 1,
-                has_move: true,
-            })
+            self.in_tags = false;
+            self.depth -= 1;
+            self.has_move = true;
+            true
         } else {
-            None
+            false
         }
     }
 
-    /// How far the game has been read behind one more part, if that part may stand there. A result is no such part.
+    /// Goes on behind the part, if it may stand here. A result is no such part.
     #[inline(always)]
-    pub(crate) fn step(self, token: Token<'_>) -> Option<Self>
-        ensures { option_map state_of result ≡ step_kept depth_limit (state_of self) (token_of token.entry) }
+    pub(crate) fn step(&mut self, token: Token<'_>) -> bool
+        ensures { Steps result (state_of self.new) (step_kept depth_limit (state_of self.old) (token_of token.entry)) }
     {
         match token {
-            Token::Gap | Token::Comment(_) => Some(self),
-            Token::Tag { .. } => { if self.in_tags { Some(self) } else { None } }
-            Token::Move(_) => Some(self.behind_move()),
-            Token::Number | Token::Dot | Token::Glyph(_) | Token::Marks(_) => {
-                Some(self.in_movetext())
+            Token::Gap | Token::Comment(_) => true,
+            Token::Tag { .. } => self.in_tags,
+            Token::Move(_) => {
+                self.pass_move();
+                true
             }
-            Token::Open => self.opened(),
-            Token::Close => self.closed(),
-            Token::Result | Token::Stray => None,
+            Token::Number | Token::Dot | Token::Glyph(_) | Token::Marks(_) => {
+                self.enter_movetext();
+                true
+            }
+            Token::Open => self.open(),
+            Token::Close => self.close(),
+            Token::Result | Token::Stray => false,
         }
     }
 }

@@ -1,6 +1,8 @@
-use Rattle.std.proofs.Common.{refl, sym, ◌∙◌}
+use Rattle.std.proofs.Common.{Some, refl, sym, ap, ◌∙◌}
 use Rattle.pgn_text.proofs.PartsAt.{kept_letters, kept_white, kept_dot, kept_open, kept_close}
 use Rattle.pgn_text.specs.Limits.{depth_limit}
+use Rattle.pgn_text.specs.Reading.{KeptNumber}
+use Rattle.pgn_text.specs.Steps.{State}
 use Rattle.pgn_text.specs.Tokens.{state_of}
 use Rattle.pgn_text.proofs.ReadingLemmas.{reading_of}
 use Rattle.pgn_text.proofs.game.read_part.Goals as goal
@@ -18,8 +20,16 @@ returns-then-is_in-2 g c =
     c.step_behind-then-is_in-2.result c.step_behind-then-is_in-2.ensures
 
 pub returns-in-Some : goal.returns-in-Some
-returns-in-Some g c = reading_of (g.K.Keeper.kept c.args.keeper.now) (g.K.Keeper.kept c.step_behind-in-Some.new.keeper) depth_limit (state_of c.args.progress.now) (state_of c.step_behind-in-Some.new.progress)
-    (c.in-Some.ensures c.args.file_start) refl c.step_behind-in-Some.result c.step_behind-in-Some.ensures
+returns-in-Some g c = (
+  record {
+    token = KeptNumber;
+    here = c.in-Some.ensures c.args.file_start;
+    no_result = refl;
+    steps = ap Some (sym c.enter_movetext.ensures);
+    keeps = c.in_ok-keep.ensures;
+  },
+  ap (λ (state : State). state.in_tags) c.enter_movetext.ensures,
+)
 
 pub returns-in-46 : goal.returns-in-46
 returns-in-46 g c = reading_of (g.K.Keeper.kept c.args.keeper.now) (g.K.Keeper.kept c.step_behind-in-46.new.keeper) depth_limit (state_of c.args.progress.now) (state_of c.step_behind-in-46.new.progress)
