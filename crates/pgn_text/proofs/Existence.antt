@@ -13,7 +13,7 @@ use Rattle.pgn_text.proofs.Halfway.{Reads, reads_more, reads_end, reads_first, g
 use Rattle.pgn_text.proofs.Resumption.{no_gap_part, empty_gap, gap_spent}
 
 -- behind bytes less is left
-shorter : (text x rest : List ℕ) (fuel : ℕ) → text ≡ x ++ rest → x ≢ [] → length text < suc fuel → length rest < fuel
+pub shorter : (text x rest : List ℕ) (fuel : ℕ) → text ≡ x ++ rest → x ≢ [] → length text < suc fuel → length rest < fuel
 shorter text [] rest fuel e some l = absurd (some refl)
 shorter text (b ∷ x) rest fuel e some l = omega (arith, ap length e, length-append x rest)
 

@@ -28,6 +28,16 @@ stands_join file_start before (x ∷ xs) ys after h k = (
       (rw (← (append_assoc before (spelled_part x) (spelled xs))) at k),
 )
 
+pub stands_cut : (file_start : Bool) (before : List ℕ) (xs ys : List Part) (after : List ℕ)
+    → AllStand file_start before (xs ++ ys) after
+    → AllStand file_start before xs (spelled ys ++ after) × AllStand file_start (before ++ spelled xs) ys after
+stands_cut file_start before [] ys after h = (tt, rw append-nil h)
+stands_cut file_start before (x ∷ xs) ys after h =
+    let back = stands_cut file_start (before ++ spelled_part x) xs ys after h.1 in (
+      (rw (spelled-append xs ys, append_assoc (spelled xs) (spelled ys) after) at h.0, back.0),
+      rw (append_assoc before (spelled_part x) (spelled xs)) at back.1,
+    )
+
 -- ---- readings
 
 leads_more : (max_depth : ℕ) (s t : State) (p : Part) (parts : List Part) → is_result p ≡ false

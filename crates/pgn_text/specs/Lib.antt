@@ -9,6 +9,8 @@ pub mod Blocks
 pub mod Complete
 pub mod Marks
 pub mod Laws
+pub mod Stops
+pub mod StopLaws
 pub mod Tallies
 pub mod Windows
 pub mod GameTexts
@@ -19,6 +21,7 @@ pub mod LeftMarks
 pub mod Cuts
 pub mod Drafts
 pub mod Held
+pub mod PartFronts
 pub mod Phases
 pub mod Reading
 pub mod Readings
