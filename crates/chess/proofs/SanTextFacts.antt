@@ -1,16 +1,23 @@
 -- Facts about the text that is written for a move.
-use Rattle.std.proofs.Common.{◌≡◌, ◌↔◌, ◌++◌, ◌∷◌, [], ℕ, List, true, Bool, Some, ap, sym, ◌∙◌, IsTrue, ◌&&◌, ◌||◌}
+use Rattle.std.proofs.Common.{◌≡◌, ◌↔◌, ◌++◌, ◌∷◌, [], ℕ, List, true, Bool, Some, ap, refl, sym, subst, ◌∙◌, IsTrue, ◌&&◌, ◌||◌}
 use Rattle.std.proofs.lemmas.List.{append-nil}
 use Rattle.chess.specs.Squares.{Place, IsOnBoard, same_square}
 use Rattle.chess.specs.Placements.{man_at}
-use Rattle.chess.specs.Positions.{State}
+use Rattle.chess.specs.Attacks.{Reaches}
+use Rattle.chess.specs.Positions.{State, IsSound, king_of}
+use Rattle.chess.specs.Moves.{Goes}
 use Rattle.chess.specs.Letters.{file_letter, rank_digit, square_text}
 use Rattle.chess.specs.San.{IsRival, HasRival, IsDisambiguation}
 use Rattle.chess.specs.San.IsDisambiguation.{alone, by_file, by_rank, by_both}
-use Rattle.chess.specs.Sets.{Places, is_in, no_places, HoldsExactly, IsSquaresOf, IsTakenFirst}
-use Rattle.chess.specs.SanTextWords.{Appends, HasSquare, AreRivalsSifted}
+use Rattle.chess.specs.Sets.{Places, is_in, no_places, HoldsExactly, IsSquaresOf, IsHitter, IsTakenFirst}
+use Rattle.chess.specs.MoveWords.{HasEach}
+use Rattle.chess.specs.SanTextWords.{Appends, AreOf, HasSquare, AreRivalsSifted}
 use Rattle.chess.specs.declared.board.man.Man.{Man}
+use Rattle.chess.specs.declared.board.man.Side.{Side}
+use Rattle.chess.specs.declared.board.man.Kind.{Kind}
+use Rattle.chess.specs.declared.board.man.Kind.TheVariants.{King, Queen, Rook, Bishop, Knight, Pawn}
 use Rattle.chess.specs.declared.moves.Move.{Move}
+use Rattle.chess.proofs.PlaceFacts.{man_of}
 use Rattle.chess.proofs.LoopFacts.{sifted_start, sifted_more, left_start, left_more}
 
 -- a rival stands on the board
@@ -24,13 +31,50 @@ rival_of_square P m set fact rivals found = (found.0, ((rivals found.0).0 found.
 pub square_of_rival : (P : State) (m : Move) (set : Places) (fact : Place → Type 0) → HoldsExactly (IsRival P m) set → HasRival P m fact → HasSquare set fact
 square_of_rival P m set fact rivals found = let on = rival_on P m found.0 found.1 in (found.0, on, (rivals found.0).1 (on, found.1), found.2)
 
+-- ---- the men among which the rivals are
+
+pub pawns_alike : (P : State) (m : Move) (man : Man) (set : Places) → man_at P.men m.from ≡ Some man → IsSquaresOf P.men man set
+    → HasEach (IsRival P m) set
+pawns_alike P m man set here squares s on rival = (squares s).1 (on, rival.alike ∙ here)
+
+-- a side has one king
+no_king_rival : (P : State) (m : Move) (man : Man) (s : Place) → IsSound P → man_at P.men m.from ≡ Some man → man.kind ≡ King → IsRival P m s → ⊥
+no_king_rival P m man s sound here king rival =
+    let only = (sound.king man.side).1.only in
+    let is_king : Some man ≡ Some (king_of man.side) = ap Some (man_of man (king_of man.side) refl king) in
+    rival.other (only s (rival.alike ∙ here ∙ is_king) ∙ sym (only m.from (here ∙ is_king)))
+
+piece_reaches : (P : State) (m : Move) (other : Kind) → (other ≡ Pawn → ⊥) → (other ≡ King → ⊥) → Goes P m other → Reaches P.men P.turn other m.from m.to
+piece_reaches P m King no_pawn no_king g = absurd (no_king refl)
+piece_reaches P m Queen no_pawn no_king g = g.2
+piece_reaches P m Rook no_pawn no_king g = g.2
+piece_reaches P m Bishop no_pawn no_king g = g.2
+piece_reaches P m Knight no_pawn no_king g = g.2
+piece_reaches P m Pawn no_pawn no_king g = absurd (no_pawn refl)
+
+-- a rival that is no pawn attacks the target
+rival_reaches : (P : State) (m : Move) (man : Man) (s : Place) → IsSound P → man_at P.men m.from ≡ Some man → (man.kind ≡ Pawn → ⊥) → IsRival P m s
+    → Reaches P.men man.side man.kind s m.to
+rival_reaches P m man s sound here no_pawn rival =
+    let rules = rival.goes.2.pseudo_legal in
+    let same : rules.man ≡ man = let stands = rules.here in let alike = rival.alike in cc in
+    let goes = piece_reaches P (record { from = s; to = m.to; promote = rival.goes.0; castle = rival.goes.1 }) rules.man.kind
+    (λ pawn. no_pawn (sym (ap (λ (a : Man). a.kind) same) ∙ pawn))
+    (λ king. no_king_rival P m man s sound here (sym (ap (λ (a : Man). a.kind) same) ∙ king) rival) rules.goes in
+    subst (λ (a : Man). Reaches P.men a.side a.kind s m.to) same (subst (λ (side : Side). Reaches P.men side rules.man.kind s m.to) (sym rules.own) goes)
+
+pub pieces_alike : (P : State) (m : Move) (man : Man) (all set : Places) → IsSound P → man_at P.men m.from ≡ Some man → (man.kind ≡ Pawn → ⊥)
+    → HoldsExactly (λ s. IsOnBoard s) all → HoldsExactly (IsHitter P.men man m.to all) set → HasEach (IsRival P m) set
+pieces_alike P m man all set sound here no_pawn each hitters s on rival =
+    (hitters s).1 (on, ((each s).1 (on, on), rival.alike ∙ here, rival_reaches P m man s sound here no_pawn rival))
+
 -- ---- the loop over the men that are alike
 
-pub rivals_start : (P : State) (m : Move) (man : Man) (squares found : Places) → man_at P.men m.from ≡ Some man → IsSquaresOf P.men man squares
+pub rivals_start : (P : State) (m : Move) (man : Man) (squares found : Places) → HasEach (IsRival P m) squares → AreOf P.men man squares
     → found ≡ no_places → AreRivalsSifted P m man squares found
-rivals_start P m man squares found here alike none = record {
-  sifted = sifted_start (IsRival P m) squares found (λ s on rival. (alike s).1 (on, rival.alike ∙ here)) none;
-  alike = left_start (λ s. man_at P.men s ≡ Some man) (λ s. ⊥) squares (λ s on clash. absurd clash) (λ s on in_set. ((alike s).0 in_set).1);
+rivals_start P m man squares found each alike none = record {
+  sifted = sifted_start (IsRival P m) squares found each none;
+  alike = left_start (λ s. man_at P.men s ≡ Some man) (λ s. ⊥) squares (λ s on clash. absurd clash) alike;
 }
 
 pub rivals_more : (P : State) (m : Move) (man : Man) (old new found more : Places) (t : Place) (test : Bool)

@@ -6,7 +6,7 @@ mod write;
 
 pub use play::play_word;
 pub use read::resolve;
-pub use write::san;
+pub use write::{play_san, san};
 
 /// Why a text names no move.
 #[derive(Clone, Copy, Debug, PartialEq, Eq)]

@@ -100,19 +100,19 @@ impl LinesWalk {
         !self.outer.is_empty()
     }
 
-    /// Keeps a turn, and a move of the main line also among its moves, with the position before it.
+    /// Keeps the last turn, and a move of the main line also among its moves, with the position before it.
     fn keep(&mut self, inside: bool, turn: Turn) -> Result<(), AllocError>
         requires inside { inside ≡ is_inside self.old.outer.items }
-        requires says { (word : List ℕ) × IsTurn inside self.old.line.now word turn }
+        requires says { (word : List ℕ) × IsTurn inside self.old.line.before word turn }
         ensures turns { OnOk result (self.new.turns.items ≡ self.old.turns.items ++ turn ∷ []) }
         ensures line { self.new.line ≡ self.old.line }
         ensures outer { self.new.outer.items ≡ self.old.outer.items }
-        ensures main { OnOk result (Keeps inside self.old.positions.items self.new.positions.items self.old.played.items self.new.played.items self.old.line.now turn) }
+        ensures main { OnOk result (Keeps inside self.old.positions.items self.new.positions.items self.old.played.items self.new.played.items self.old.line.before turn) }
     {
         self.turns.push(turn)?;
         if !inside {
             if let Turn::Played(m) = &turn {
-                self.positions.push(self.line.now.copy())?;
+                self.positions.push(self.line.before.copy())?;
                 self.played.push(*m)?;
             }
         }
@@ -127,10 +127,9 @@ impl LinesWalk {
     {
         let inside = self.is_inside();
         let ply = self.line.plies + 1;
-        let mut next = self.line.now.copy();
-        let turn = play_turn(&mut next, inside, word, ply)?;
+        self.line.before = self.line.now.copy();
+        let turn = play_turn(&mut self.line.now, inside, word, ply)?;
         self.keep(inside, turn)?;
-        self.line.before = mem::replace(&mut self.line.now, next);
         self.line.plies = ply;
         Ok(())
     }

@@ -67,20 +67,6 @@ fn turn_at(replayed: &Replayed, style: &Style, index: usize) -> Turn
     Turn::Played(replayed.played(index))
 }
 
-/// The position after a turn.
-fn position_after(position: &GamePosition, turn: &Turn) -> GamePosition
-    requires { IsPlayable position.now turn.now }
-    ensures { result ≡ after_turn position.now turn.now }
-{
-    if let Turn::Played(m) = turn {
-        return position.play(*m);
-    }
-    match position.pass() {
-        Some(next) => next,
-        None => unreachable!(),
-    }
-}
-
 /// A line as far as it was written: the position before its last turn and the one after it, and whether its next move stands apart from
 /// that turn. Before the first turn both are the position that the line is played from.
 #[derive(Drop)]
@@ -135,18 +121,17 @@ impl MovetextWalk {
         ensures kept { (some : List ℕ) × (out.new.items ≡ out.old.items ++ some) }
         ensures width { self.new.pen.width ≡ self.old.pen.width }
     {
-        let position = &self.line.now;
+        let line = &mut self.line;
+        line.before = line.now.copy();
         put_number(
             &mut self.pen,
             out,
-            position.side(),
-            position.number(),
-            self.line.apart,
+            line.now.side(),
+            line.now.number(),
+            line.apart,
         )?;
-        put_turn(&mut self.pen, out, position, turn)?;
-        let next = position_after(position, turn);
-        self.line.before = mem::replace(&mut self.line.now, next);
-        self.line.apart = false;
+        put_turn(&mut self.pen, out, &mut line.now, turn)?;
+        line.apart = false;
         self.taken += 1;
         Ok(())
     }

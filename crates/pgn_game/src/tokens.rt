@@ -1,15 +1,16 @@
 //! Tokens of a movetext: numbers of moves, glyphs and turns.
 ghost use Rattle.std.specs.Prelude.{◌≡◌, ◌++◌, ◌∷◌, ℕ, List, [], decimal, OnOk};
-ghost use Rattle.chess.specs.Moves.{IsLegal};
-ghost use Rattle.chess.specs.declared.moves.Move.{Move};
+ghost use Rattle.chess.specs.Passes.{passed};
+ghost use Rattle.chess.specs.Positions.{IsCheck};
+ghost use Rattle.pgn_game.specs.AllLines.{after_turn};
 ghost use Rattle.pgn_game.specs.Exports.{number_tokens, IsTurnText};
 ghost use Rattle.pgn_game.specs.Pens.{HasPut};
-ghost use Rattle.pgn_game.specs.declared.turn.Turn.TheVariants.{Played};
+ghost use Rattle.pgn_game.specs.MovetextWalks.{IsPlayable};
 
 use crate::pen::Pen;
 use crate::replayed::GamePosition;
 use crate::turn::Turn;
-use chess::{Side, san};
+use chess::{Side, play_san};
 use itoa::Buffer;
 use std::alloc::AllocError;
 
@@ -64,24 +65,37 @@ pub(crate) fn put_glyph(pen: &mut Pen, out: &mut Vec<u8>, number: u8) -> Result<
     Ok(())
 }
 
-/// Writes the standard text of a turn in the position.
+/// Gives the move up.
+fn pass(position: &mut GamePosition)
+    requires { IsCheck position.old.men position.old.turn → ⊥ }
+    ensures { position.new ≡ passed position.old }
+{
+    match position.pass() {
+        Some(next) => *position = next,
+        None => unreachable!(),
+    }
+}
+
+/// Takes a turn in the position, and writes its standard text.
 pub(crate) fn put_turn(
     pen: &mut Pen,
     out: &mut Vec<u8>,
-    position: &GamePosition,
+    position: &mut GamePosition,
     turn: &Turn,
 ) -> Result<(), AllocError>
-    requires { (m : Move) → turn.now ≡ Played m → IsLegal position.now m }
-    ensures text { OnOk result ((text : List ℕ) × IsTurnText position.now turn.now text × HasPut pen.old pen.new out.old.items out.new.items (text ∷ [])) }
+    requires { IsPlayable position.old turn.now }
+    ensures text { OnOk result ((text : List ℕ) × IsTurnText position.old turn.now text × HasPut pen.old pen.new out.old.items out.new.items (text ∷ [])) }
+    ensures taken { position.new ≡ after_turn position.old turn.now }
     ensures kept { (some : List ℕ) × (out.new.items ≡ out.old.items ++ some) }
     ensures width { pen.new.width ≡ pen.old.width }
 {
     match turn {
         Turn::Played(m) => {
-            pen.put(out, san(position, *m).as_bytes())?;
+            pen.put(out, play_san(position, *m).as_bytes())?;
             Ok(())
         }
         Turn::Passed => {
+            pass(position);
             pen.put(out, b"--")?;
             Ok(())
         }

@@ -2,10 +2,11 @@
 ghost use Rattle.std.specs.Prelude.{◌≡◌, ◌↔◌, ◌+◌, ◌≤◌, ◌<◌, ◌++◌, Some, IsTrue, true};
 ghost use Rattle.arrayvec.specs.ArrayString.{array_string_len};
 ghost use Rattle.chess.specs.Placements.{man_at};
-ghost use Rattle.chess.specs.Moves.{IsLegal};
+ghost use Rattle.chess.specs.Moves.{IsLegal, after};
 ghost use Rattle.chess.specs.San.{IsSan, IsOnlyNamed, IsRival, IsDisambiguation, IsPieceText, IsBody, IsCheckMark, castling_text, is_capture, capture_text, pawn_text, promotion_text};
 ghost use Rattle.chess.specs.Sets.{HoldsExactly};
-ghost use Rattle.chess.specs.SanTextWords.{Appends, HasSquare};
+ghost use Rattle.chess.specs.MoveWords.{HasEach};
+ghost use Rattle.chess.specs.SanTextWords.{Appends, AreOf, HasSquare};
 
 use crate::board::{Board, Kind, Man, Square, SquareSet, Wing};
 use crate::letters::{kind_letter, push_byte, push_square};
@@ -19,18 +20,32 @@ pub fn san<B: Board>(position: &Position<B>, m: Move) -> ArrayString<8>
     ensures text { IsSan position.now m result.bytes }
     ensures names { IsOnlyNamed position.now result.bytes m }
 {
-    position.known();
-    written(position, m)
+    let mut after = position.copy();
+    play_san(&mut after, m)
 }
 
-/// The text of a legal move: what `san` answers, before it is known that the text names that move alone.
-fn written<B: Board>(position: &Position<B>, m: Move) -> ArrayString<8>
-    requires { IsLegal position.now m }
-    ensures { IsSan position.now m result.bytes }
+/// Plays a legal move and answers its text in standard algebraic notation: the text that `san` answers in the position before it. No
+/// memory is needed.
+pub fn play_san<B: Board>(position: &mut Position<B>, m: Move) -> ArrayString<8>
+    requires { IsLegal position.old m }
+    ensures text { IsSan position.old m result.bytes }
+    ensures names { IsOnlyNamed position.old result.bytes m }
+    ensures played { position.new ≡ after position.old m }
+{
+    position.known();
+    play_written(position, m)
+}
+
+/// Plays a legal move and answers its text: what `play_san` does, before it is known that the text names that move alone.
+fn play_written<B: Board>(position: &mut Position<B>, m: Move) -> ArrayString<8>
+    requires { IsLegal position.old m }
+    ensures text { IsSan position.old m result.bytes }
+    ensures played { position.new ≡ after position.old m }
 {
     let mut out = ArrayString::new();
     push_body(&mut out, position, &m, mover(position, &m));
-    push_check_mark(&mut out, &position.play(m));
+    position.make(&m);
+    push_check_mark(&mut out, position);
     out
 }
 
@@ -172,12 +187,25 @@ fn rivals<B: Board>(position: &Position<B>, m: &Move, man: Man) -> SquareSet
     requires { man_at position.now.men m.now.from ≡ Some man }
     ensures { HoldsExactly (IsRival position.now m.now) result }
 {
-    let mut left = position.squares_of(man);
+    let mut left = men_alike(position, m, man);
     let mut found = SquareSet::new();
     while let Some(from) = left.take_first() {
         found.insert_if(from, is_rival(position, m, from));
     }
     found
+}
+
+/// Squares of men of the same kind and side, among which are those of all rivals: a piece goes nowhere but where it attacks.
+fn men_alike<B: Board>(position: &Position<B>, m: &Move, man: Man) -> SquareSet
+    requires { man_at position.now.men m.now.from ≡ Some man }
+    ensures each { HasEach (IsRival position.now m.now) result }
+    ensures alike { AreOf position.now.men man result }
+{
+    position.known();
+    match man.kind {
+        Kind::Pawn => position.squares_of(man),
+        _ => position.hitters(man, m.to, SquareSet::all()),
+    }
 }
 
 /// Whether a man like the one that moves is another one and has a legal move to the same square.

@@ -35,10 +35,13 @@ impl<B: Board> Position<B> {
         found
     }
 
-    /// Whether the side to move has a legal move.
+    /// Whether the side to move has a legal move. In check it is looked for first among those of its king, where it mostly is.
     pub fn has_move(&self) -> bool
         ensures { IsTrue result ↔ HasMove self.now }
     {
+        if self.in_check() && self.can_move(Kind::King) {
+            return true;
+        }
         if self.can_move(Kind::Pawn) {
             return true;
         }

@@ -1,6 +1,6 @@
 //! Texts of moves: which moves they name, and the text of each move (PGN 8.2.3).
 use super::chess_rows::{move_of, position};
-use chess::{Bits, Board, Mailbox, Move, Position, SanError, resolve, san};
+use chess::{Bits, Board, Mailbox, Move, Position, SanError, play_san, resolve, san};
 use std::test::Fail;
 
 const ROOKS: &str = "r3k2r/8/8/8/8/8/8/R3K2R w KQkq - 0 1";
@@ -145,12 +145,16 @@ fn texts_name_no_move_or_several(rt: HostRuntime) -> Result<(), Fail> {
     Ok(())
 }
 
-/// Whether the move is legal, and that is its text.
+/// Whether the move is legal, that is its text, and the move played with its text leads to the position after it.
 fn writes<B: Board>(position: &Position<B>, m: &Move, text: &str) -> bool {
     if !position.is_legal(*m) {
         return false;
     }
+    let mut after = position.copy();
+    let written = play_san(&mut after, *m);
     san(position, *m).as_str() == text
+        && written.as_str() == text
+        && after.fen() == position.play(*m).fen()
 }
 
 /// Whether the move that is written as its squares is legal, and that is its text.

@@ -7,7 +7,7 @@ pub returns-in_ok-put-in-Played-clause-text : goal.returns-in_ok-put-in-Played-c
 returns-in_ok-put-in-Played-clause-text c =
     let now = c.args.position.now in
     let text : List ℕ = c.as_bytes.result.now in
-    let spelt = subst (λ t. IsSan now c.in-Played.m t) (sym (c.as_bytes.ensures.value ∙ c.deref.ensures.0)) c.san.ensures.text in
+    let spelt = subst (λ t. IsSan now c.in-Played.m t) (sym (c.as_bytes.ensures.value ∙ c.deref.ensures.0)) c.play_san.ensures.text in
     (text, subst (λ turn. IsTurnText now turn text) (sym c.in-Played.is) spelt, c.in_ok-put-in-Played.ensures.text)
 
 pub returns-in_ok-put-in-Passed-clause-text : goal.returns-in_ok-put-in-Passed-clause-text

@@ -8,8 +8,8 @@ use Rattle.chess.proofs.move_text.write.rivals.Goals as goal
 
 pub loop-from-init : goal.loop-from-init
 loop-from-init g c =
-    rivals_start c.args.position.now c.args.m.now c.args.man c.squares_of-left.result c.new-found.result c.requires c.squares_of-left.ensures
-    c.new-found.ensures
+    rivals_start c.args.position.now c.args.m.now c.args.man c.men_alike-left.result c.new-found.result c.men_alike-left.ensures.each
+    c.men_alike-left.ensures.alike c.new-found.ensures
 
 pub loop-from-preserved : goal.loop-from-preserved
 loop-from-preserved g c =

@@ -7,7 +7,8 @@ pub returns-clause-turned : goal.returns-clause-turned
 returns-clause-turned c =
     let old = c.args.self.now in
     let new = c.keep.new.self in
-    let said = rw c.copy-next.ensures at c.in_ok-turn.ensures in
+    let said = c.in_ok-turn.ensures in
+    let kept = rw c.copy-self.ensures at c.in_ok-keep.ensures.main in
     record {
       turn = c.in_ok-turn.turn;
       is_turn = subst (λ b. IsTurn b old.line.now c.args.word.now c.in_ok-turn.turn) c.is_inside-inside.ensures said.0;
@@ -15,5 +16,5 @@ returns-clause-turned c =
       line = search rules;
       outer = search rules;
       main = subst (λ b. Keeps b old.positions.items new.positions.items old.played.items new.played.items old.line.now c.in_ok-turn.turn)
-          c.is_inside-inside.ensures c.in_ok-keep.ensures.main;
+          c.is_inside-inside.ensures kept;
     }

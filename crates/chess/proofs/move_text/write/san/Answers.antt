@@ -1,5 +1,0 @@
-use Rattle.chess.proofs.SanNamesFacts.{san_names}
-use Rattle.chess.proofs.move_text.write.san.Goals as goal
-
-pub returns-clause-names : goal.returns-clause-names
-returns-clause-names g c = san_names c.args.position.now c.args.m c.written.result.bytes c.known.ensures c.requires c.written.ensures
