@@ -1,5 +1,5 @@
 -- The squares from which a man attacks, out of those from which he sees the target.
-use Rattle.std.proofs.Common.{◌≡◌, ◌↔◌, ◌∙◌, ◌<◌, ◌^◌, ◌&&◌, ◌||◌, ℕ, Bool, true, false, inl, inr, sym, bit_and, Some, None, IsTrue}
+use Rattle.std.proofs.Common.{◌≡◌, ◌↔◌, ◌⊎◌, ◌∙◌, ◌<◌, ◌^◌, ◌&&◌, ◌||◌, ℕ, Bool, true, false, inl, inr, ap, sym, bit_and, Some, None, IsTrue}
 use Rattle.std.proofs.lemmas.Bool.{and_parts, and_from}
 use Rattle.chess.specs.Squares.{Place, IsOnBoard, index_of, same_square}
 use Rattle.chess.specs.Attacks.{Reaches}
@@ -7,16 +7,17 @@ use Rattle.chess.specs.Placements.{Placement, IsEmpty, man_at}
 use Rattle.chess.specs.Sets.{Places, is_in, has_bit, no_places, HoldsExactly, IsTakenFirst}
 use Rattle.chess.specs.SetFacts.{false_of}
 use Rattle.chess.specs.BitWords.{IsWordOf, IsMan, IsRunner, IsHitStraight, IsHitDiagonal}
-use Rattle.chess.specs.MoveWords.{IsSifted}
+use Rattle.chess.specs.MoveWords.{IsLeft, IsSifted}
 use Rattle.chess.specs.Sights.{IsInSight, StandsBetween, IsUnblocked}
 use Rattle.chess.specs.declared.board.man.Man.{Man}
 use Rattle.chess.specs.declared.board.man.Side.{Side}
+use Rattle.chess.specs.declared.board.man.Kind.{Kind}
 use Rattle.chess.specs.declared.board.man.Kind.TheVariants.{Rook, Bishop}
 use Rattle.chess.proofs.PlaceFacts.{true_not_false}
-use Rattle.chess.proofs.FillFacts.{bit_of_both}
+use Rattle.chess.proofs.FillFacts.{bit_of_both, no_bit}
 use Rattle.chess.proofs.BitFacts.{no_man_or}
 use Rattle.chess.proofs.HitFacts.{common_square, no_common_square}
-use Rattle.chess.proofs.LoopFacts.{sifted_start, sifted_more, sifted_none, was_left}
+use Rattle.chess.proofs.LoopFacts.{left_start, sifted_start, sifted_more, sifted_none, was_left}
 use Rattle.chess.proofs.OpenFacts.{reaches_is}
 
 -- no square of the word stands between the two
@@ -106,18 +107,56 @@ among_own p man t mine word among set own given found s =
 
 -- ---- whether there is one
 
-pub hit_straight : (p : Placement) (side : Side) (t : Place) (runners : ℕ) (set : Places) (r : Bool) → IsWordOf (IsRunner p side Rook) runners
-    → HoldsExactly (λ s. (has_bit runners (index_of s) ≡ true) × Reaches p side Rook s t) set
-    → IsTrue r ↔ ((s : Place) × IsOnBoard s × (is_in set s ≡ true)) → IsTrue r ↔ IsHitStraight p side t
-hit_straight p side t runners set r own hit some = (
-  (λ e. let one = some.0 e in let h = (hit one.0).0 one.2 in (one.0, one.1, (own one.0 one.1).0 h.1.0, h.1.1)),
-  (λ h. some.1 (h.0, h.1, (hit h.0).1 (h.1, ((own h.0 h.1).1 h.2, h.3)))),
+-- a man that runs along lines of this kind sees t
+abbrev pub IsSeeingRunner : Placement → Side → Kind → Place → Place → Type 0
+IsSeeingRunner p side kind t s = IsRunner p side kind s × IsInSight side kind s t
+
+pub runners_seen : (A B : Place → Type 0) (a b : ℕ) → IsWordOf A a → IsWordOf B b → IsWordOf (λ s. A s × B s) (bit_and a b)
+runners_seen A B a b in_a in_b s on =
+    let bits = bit_of_both a b (index_of s) in (
+      (λ e. let both = and_parts _ _ (sym bits ∙ e) in ((in_a s on).0 both.0, (in_b s on).0 both.1)),
+      (λ h. bits ∙ and_from _ _ ((in_a s on).1 h.0) ((in_b s on).1 h.1)),
+    )
+
+-- a free way from one of them is an attack
+abbrev pub IsHitAlongLine : Placement → Side → Place → Type 0
+IsHitAlongLine p side t = IsHitStraight p side t ⊎ IsHitDiagonal p side t
+
+pub hit_along_line : (p : Placement) (side : Side) (t : Place) (seen : ℕ) (r : Bool)
+    → IsWordOf (λ s. IsSeeingRunner p side Rook t s ⊎ IsSeeingRunner p side Bishop t s) seen
+    → IsTrue r ↔ ((s : Place) × IsOnBoard s × (has_bit seen (index_of s) ≡ true) × IsUnblocked p s t) → IsTrue r ↔ IsHitAlongLine p side t
+hit_along_line p side t seen r are some = (
+  (λ e.
+      let one = some.0 e in
+      elim ((are one.0 one.1).0 one.2) [
+        | inl rook ↦ inl (one.0, one.1, rook.0, (reaches_is p side Rook one.0 t).1 (rook.1, one.3))
+        | inr bishop ↦ inr (one.0, one.1, bishop.0, (reaches_is p side Bishop one.0 t).1 (bishop.1, one.3))
+      ]),
+  (λ h. elim h [
+    | inl straight ↦
+        let parts = (reaches_is p side Rook straight.0 t).0 straight.3 in
+        some.1 (straight.0, straight.1, (are straight.0 straight.1).1 (inl (straight.2, parts.0)), parts.1)
+    | inr diagonal ↦
+        let parts = (reaches_is p side Bishop diagonal.0 t).0 diagonal.3 in
+        some.1 (diagonal.0, diagonal.1, (are diagonal.0 diagonal.1).1 (inr (diagonal.2, parts.0)), parts.1)
+  ]),
 )
 
-pub hit_diagonal : (p : Placement) (side : Side) (t : Place) (runners : ℕ) (set : Places) (r : Bool) → IsWordOf (IsRunner p side Bishop) runners
-    → HoldsExactly (λ s. (has_bit runners (index_of s) ≡ true) × Reaches p side Bishop s t) set
-    → IsTrue r ↔ ((s : Place) × IsOnBoard s × (is_in set s ≡ true)) → IsTrue r ↔ IsHitDiagonal p side t
-hit_diagonal p side t runners set r own hit some = (
-  (λ e. let one = some.0 e in let h = (hit one.0).0 one.2 in (one.0, one.1, (own one.0 one.1).0 h.1.0, h.1.1)),
-  (λ h. some.1 (h.0, h.1, (hit h.0).1 (h.1, ((own h.0 h.1).1 h.2, h.3)))),
+pub none_seen : (p : Placement) (t : Place) (seen : ℕ) → seen ≡ 0
+    → IsTrue false ↔ ((s : Place) × IsOnBoard s × (has_bit seen (index_of s) ≡ true) × IsUnblocked p s t)
+none_seen p t seen none = (
+  (λ e. let f : false ≡ true = e in absurd (cc)),
+  (λ h. absurd (true_not_false _ h.2 (ap (λ w. has_bit w (index_of h.0)) none ∙ no_bit (index_of h.0)))),
 )
+
+-- ---- the search for one
+
+pub seek_start : (t : Place) (squares occupied : ℕ) (left : Places) → HoldsExactly (λ s. has_bit squares (index_of s) ≡ true) left
+    → IsLeft (λ s. has_bit squares (index_of s) ≡ true) (IsOpenFrom t squares occupied) left
+seek_start t squares occupied left all = left_start _ _ left (λ s on h. (all s).1 (on, h.0)) (λ s on here. ((all s).0 here).1)
+
+-- each square of the word from which the way is free is one from which nothing stands between
+pub found_open : (p : Placement) (t : Place) (squares occupied : ℕ) (s : Place) → IsWordOf (λ s. ¬ IsEmpty p s) occupied
+    → IsOpenFrom t squares occupied s ↔ ((has_bit squares (index_of s) ≡ true) × IsUnblocked p s t)
+found_open p t squares occupied s men =
+    let clear_way = open_word p occupied s t men in ((λ h. (h.0, clear_way.0 h.1)), (λ h. (h.0, clear_way.1 h.1)))

@@ -1,9 +1,10 @@
 //! The board over words of 64 bits.
-ghost use Rattle.std.specs.Prelude.{◌≡◌, ◌↔◌, ◌<◌, IsTrue, None, replicate};
+ghost use Rattle.std.specs.Prelude.{◌≡◌, ◌↔◌, ◌⊎◌, ◌<◌, IsTrue, None, replicate};
 ghost use Rattle.chess.specs.Squares.{IsOnBoard, index_of};
 ghost use Rattle.chess.specs.Placements.{with_man, man_at, IsEmpty};
 ghost use Rattle.chess.specs.Attacks.{IsAttacked};
 ghost use Rattle.chess.specs.BitWords.{AreApart, IsWordOf, IsCleared, IsBitSet, IsMan, IsRunner, IsHitBy, IsHitStraight, IsHitDiagonal, words_men, man_in, man_of_row, row_of};
+ghost use Rattle.chess.specs.Sights.{IsInSight};
 ghost use Rattle.chess.specs.CellFacts.{on_board-men_of};
 ghost use Rattle.chess.specs.declared.board.man.Kind.TheVariants.{King, Knight, Pawn};
 
@@ -11,7 +12,7 @@ ghost use Rattle.chess.specs.declared.board.man.Kind.TheVariants.{King, Knight, 
 mod tests;
 
 use crate::board::fills::{meet, reached, word_of};
-use crate::board::sights::{hitters_of, sighting};
+use crate::board::sights::{has_unblocked, hitters_of, sighting};
 use crate::board::{Board, Kind, Man, Side, Square, SquareSet};
 
 /// A board of twelve words: the squares of each of White's kinds, in the order of `Kind`, then of Black's. A square's bit is its place in the order
@@ -194,6 +195,7 @@ fn unoccupied(words: &[u64; 12]) -> u64
 }
 
 /// The squares of a man.
+#[inline(always)]
 fn squares_with(words: &[u64; 12], side: Side, kind: Kind) -> u64
     requires { AreApart words.now }
     ensures { IsWordOf (IsMan (words_men words.now) side kind) result }
@@ -202,6 +204,7 @@ fn squares_with(words: &[u64; 12], side: Side, kind: Kind) -> u64
 }
 
 /// The squares of the side's queens and of another kind of its men.
+#[inline(always)]
 fn squares_of_runners(words: &[u64; 12], side: Side, kind: Kind) -> u64
     requires { AreApart words.now }
     ensures { IsWordOf (IsRunner (words_men words.now) side kind) result }
@@ -210,6 +213,7 @@ fn squares_of_runners(words: &[u64; 12], side: Side, kind: Kind) -> u64
 }
 
 /// Whether a knight of the side attacks the square.
+#[inline(always)]
 fn is_hit_by_knight(words: &[u64; 12], square: Square, side: Side) -> bool
     requires { AreApart words.now }
     ensures { IsTrue result ↔ IsHitBy (words_men words.now) side Knight square }
@@ -225,6 +229,7 @@ fn is_hit_by_knight(words: &[u64; 12], square: Square, side: Side) -> bool
 }
 
 /// Whether a king of the side attacks the square.
+#[inline(always)]
 fn is_hit_by_king(words: &[u64; 12], square: Square, side: Side) -> bool
     requires { AreApart words.now }
     ensures { IsTrue result ↔ IsHitBy (words_men words.now) side King square }
@@ -240,6 +245,7 @@ fn is_hit_by_king(words: &[u64; 12], square: Square, side: Side) -> bool
 }
 
 /// Whether a pawn of the side attacks the square.
+#[inline(always)]
 fn is_hit_by_pawn(words: &[u64; 12], square: Square, side: Side) -> bool
     requires { AreApart words.now }
     ensures { IsTrue result ↔ IsHitBy (words_men words.now) side Pawn square }
@@ -254,32 +260,27 @@ fn is_hit_by_pawn(words: &[u64; 12], square: Square, side: Side) -> bool
     )
 }
 
-/// Whether a queen or a rook of the side attacks the square along its rank or file.
-fn is_hit_straight(words: &[u64; 12], square: Square, side: Side, occupied: u64) -> bool
-    requires apart { AreApart words.now }
-    requires occupied { IsWordOf (λ s. ¬ IsEmpty (words_men words.now) s) occupied }
-    ensures { IsTrue result ↔ IsHitStraight (words_men words.now) side square }
+/// The squares of the side's queens, and of another kind of its men, from which that kind attacks the square on the empty board.
+#[inline(always)]
+fn runners_in_sight(words: &[u64; 12], square: Square, side: Side, kind: Kind) -> u64
+    requires { AreApart words.now }
+    ensures { IsWordOf (λ s. IsRunner (words_men words.now) side kind s × IsInSight side kind s square) result }
 {
-    let runners = squares_of_runners(words, side, Kind::Rook);
-    let rook = Man {
-        side,
-        kind: Kind::Rook,
-    };
-    hitters_of(rook, square, runners, occupied).has_some()
+    squares_of_runners(words, side, kind) & sighting(Man { side, kind }, square)
 }
 
-/// Whether a queen or a bishop of the side attacks the square along a diagonal.
-fn is_hit_diagonally(words: &[u64; 12], square: Square, side: Side, occupied: u64) -> bool
-    requires apart { AreApart words.now }
-    requires occupied { IsWordOf (λ s. ¬ IsEmpty (words_men words.now) s) occupied }
-    ensures { IsTrue result ↔ IsHitDiagonal (words_men words.now) side square }
+/// Whether a queen, a rook or a bishop of the side attacks the square along a line.
+#[inline(always)]
+fn is_hit_along_line(words: &[u64; 12], square: Square, side: Side) -> bool
+    requires { AreApart words.now }
+    ensures { IsTrue result ↔ (IsHitStraight (words_men words.now) side square ⊎ IsHitDiagonal (words_men words.now) side square) }
 {
-    let runners = squares_of_runners(words, side, Kind::Bishop);
-    let bishop = Man {
-        side,
-        kind: Kind::Bishop,
-    };
-    hitters_of(bishop, square, runners, occupied).has_some()
+    let seen = runners_in_sight(words, square, side, Kind::Rook)
+        | runners_in_sight(words, square, side, Kind::Bishop);
+    if seen == 0 {
+        return false;
+    }
+    has_unblocked(seen, square, occupied(words))
 }
 
 /// Whether some man of the side attacks the square.
@@ -296,9 +297,5 @@ fn is_hit(words: &[u64; 12], square: Square, side: Side) -> bool
     if is_hit_by_pawn(words, square, side) {
         return true;
     }
-    let men = occupied(words);
-    if is_hit_straight(words, square, side, men) {
-        return true;
-    }
-    is_hit_diagonally(words, square, side, men)
+    is_hit_along_line(words, square, side)
 }

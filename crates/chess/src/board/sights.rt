@@ -5,7 +5,7 @@ ghost use Rattle.chess.specs.Placements.{Placement, IsEmpty};
 ghost use Rattle.chess.specs.Attacks.{Reaches};
 ghost use Rattle.chess.specs.Sets.{has_bit, HoldsExactly};
 ghost use Rattle.chess.specs.BitWords.{IsWordOf};
-ghost use Rattle.chess.specs.Sights.{IsInSight, StandsBetween};
+ghost use Rattle.chess.specs.Sights.{IsInSight, IsUnblocked, StandsBetween};
 
 use crate::board::bits::row;
 use crate::board::{Man, Square, SquareSet};
@@ -53,6 +53,21 @@ pub(crate) fn hitters_of(man: Man, target: Square, own: u64, occupied: u64) -> S
         set.insert_if(square, is_unblocked(square, target, occupied));
     }
     set
+}
+
+/// Whether the way from some of the squares to the target is free, where men stand on the occupied squares.
+#[inline(always)]
+pub(crate) fn has_unblocked(squares: u64, target: Square, occupied: u64) -> bool
+    ensures { (p : Placement) → IsWordOf (λ s. ¬ IsEmpty p s) occupied
+        → IsTrue result ↔ ((s : Place) × IsOnBoard s × (has_bit squares (index_of s) ≡ true) × IsUnblocked p s target) }
+{
+    let mut left = SquareSet::of_word(squares);
+    while let Some(square) = left.take_first() {
+        if is_unblocked(square, target, occupied) {
+            return true;
+        }
+    }
+    false
 }
 
 /// For each man, in the order of the words of a board, and each square: the squares from which he attacks it on the empty board.
