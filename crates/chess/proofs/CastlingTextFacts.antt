@@ -1,5 +1,5 @@
 -- The texts of castling, with and without marks.
-use Rattle.std.proofs.Common.{◌≡◌, ◌↔◌, ◌&&◌, ℕ, Bool, true, false, inl, inr, ap, refl, sym, subst, ◌∙◌, arith, Some, None, List, [], ◌∷◌, ◌++◌, reverse, length}
+use Rattle.std.proofs.Common.{◌≡◌, ◌↔◌, ◌⊎◌, ◌&&◌, ℕ, Bool, true, false, inl, inr, ap, refl, sym, subst, ◌∙◌, arith, Some, None, List, [], ◌∷◌, ◌++◌, reverse, length}
 use Rattle.std.specs.Prelude.{if◌then◌else◌}
 use Rattle.std.specs.List.{list_all}
 use Rattle.std.proofs.lemmas.List.{append_assoc, append-nil, reverse-append, reverse-reverse}
@@ -113,5 +113,29 @@ pub castling_none : (x stem : List ℕ) → IsStem x stem → (IsCastlingStem Ki
     → (w : Wing) → IsCastlingText w x ↔ (None ≡ Some w)
 castling_none x stem is king queen w = (
   (λ text. absurd (not_either stem w king queen (stem_castles w x stem is text))),
+  (λ e. absurd (cc)),
+)
+
+-- ---- how a text of castling begins
+
+abbrev pub BeginsCastling : ℕ → Type 0
+BeginsCastling b = (b ≡ 79) ⊎ (b ≡ 48)
+
+-- the first byte of a text
+abbrev pub Begins : (ℕ → Type 0) → List ℕ → Type 0
+Begins fact [] = ⊥
+Begins fact (b ∷ x) = fact b
+
+pub castling_begins : (x : List ℕ) (wing : Wing) → IsCastlingText wing x → Begins BeginsCastling x
+castling_begins x KingSide (marks, are, inl e) = subst (Begins BeginsCastling) (sym e) (inl refl)
+castling_begins x KingSide (marks, are, inr e) = subst (Begins BeginsCastling) (sym e) (inr refl)
+castling_begins x QueenSide (marks, are, inl e) = subst (Begins BeginsCastling) (sym e) (inl refl)
+castling_begins x QueenSide (marks, are, inr e) = subst (Begins BeginsCastling) (sym e) (inr refl)
+
+-- a text that begins otherwise castles on neither wing
+pub no_castling : (x : List ℕ) (b : Bool) → ((wing : Wing) → IsCastlingText wing x → b ≡ true) → b ≡ false
+    → (w : Wing) → IsCastlingText w x ↔ (None ≡ Some w)
+no_castling x b begins none w = (
+  (λ text. let clash : true ≡ false = sym (begins w text) ∙ none in absurd (cc)),
   (λ e. absurd (cc)),
 )

@@ -21,6 +21,7 @@ use Rattle.chess.specs.declared.move_text.SanError.TheVariants as errors
 use Rattle.chess.proofs.PlaceFacts.{cases_place, same_square-same, true_not_false, same_side, man_of}
 use Rattle.chess.proofs.LoopFacts.{left_more}
 use Rattle.chess.proofs.GoesFacts.{goes_castle}
+use Rattle.chess.proofs.CastlingTextFacts.{BeginsCastling, Begins, castling_begins}
 
 -- the square that was taken out is gone
 and_not_true : (a : Bool) → (a && not true) ≡ false
@@ -172,9 +173,6 @@ answer_several fact (Err errors.Several) answer = ((λ e. answer), (λ two. refl
 -- ---- texts
 
 -- no other move text begins as castling does
-abbrev pub BeginsCastling : ℕ → Type 0
-BeginsCastling b = (b ≡ 79) ⊎ (b ≡ 48)
-
 no_letter : (kind : Kind) → BeginsCastling (kind_letter kind) → ⊥
 no_letter King (inl e) = absurd (omega arith)
 no_letter King (inr e) = absurd (omega arith)
@@ -199,11 +197,6 @@ no_sign : (b : ℕ) → IsTrue (is_sign b) → BeginsCastling b → ⊥
 no_sign b sign (inl e) = let f : false ≡ true = ap is_sign (sym e) ∙ sign in cc
 no_sign b sign (inr e) = let f : false ≡ true = ap is_sign (sym e) ∙ sign in cc
 
--- the first byte of a text
-abbrev pub Begins : (ℕ → Type 0) → List ℕ → Type 0
-Begins fact [] = ⊥
-Begins fact (b ∷ x) = fact b
-
 no_target : (sign : List ℕ) (s : Place) (more : List ℕ) → (sign ≡ []) ⊎ ((b : ℕ) × IsTrue (is_sign b) × (sign ≡ b ∷ [])) → IsOnBoard s
     → Begins BeginsCastling (sign ++ (square_text s ++ more)) → ⊥
 no_target sign s more (inl none) on begins =
@@ -217,12 +210,6 @@ no_parts (Some kind) file rank rest f r none begins = no_letter kind begins
 no_parts None (Some n) rank rest f r none begins = no_number 96 n (96 + n) refl f.0 f.1 (inl refl) begins
 no_parts None None (Some n) rest f r none begins = no_number 48 n (48 + n) refl r.0 r.1 (inr refl) begins
 no_parts None None None rest f r none begins = none begins
-
-castling_begins : (x : List ℕ) (wing : Wing) → IsCastlingText wing x → Begins BeginsCastling x
-castling_begins x KingSide (marks, are, inl e) = subst (Begins BeginsCastling) (sym e) (inl refl)
-castling_begins x KingSide (marks, are, inr e) = subst (Begins BeginsCastling) (sym e) (inr refl)
-castling_begins x QueenSide (marks, are, inl e) = subst (Begins BeginsCastling) (sym e) (inl refl)
-castling_begins x QueenSide (marks, are, inr e) = subst (Begins BeginsCastling) (sym e) (inr refl)
 
 pub not_both : (x : List ℕ) (wing : Wing) (said : Said) → IsCastlingText wing x → Spells x said → ⊥
 not_both x wing said castles spells =

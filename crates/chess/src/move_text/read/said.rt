@@ -178,8 +178,31 @@ fn is_castling(wing: Wing, stem: &[u8]) -> bool
     }
 }
 
-/// The wing on which the text castles.
+/// Whether the text begins as one of castling: no other move text does.
+#[inline(always)]
+fn begins_castling(text: &[u8]) -> bool
+    ensures { (wing : Wing) → IsCastlingText wing text.now → IsTrue result }
+{
+    match text {
+        [first, ..] => *first == b'O' || *first == b'0',
+        [] => false,
+    }
+}
+
+/// The wing on which the text castles: most texts are told by their first byte.
+#[inline(always)]
 pub(crate) fn castling(text: &[u8]) -> Option<Wing>
+    ensures { (wing : Wing) → IsCastlingText wing text.now ↔ (result ≡ Some wing) }
+{
+    if !begins_castling(text) {
+        return None;
+    }
+    wing_of(text)
+}
+
+/// The wing on which the text castles.
+#[cold]
+fn wing_of(text: &[u8]) -> Option<Wing>
     ensures { (wing : Wing) → IsCastlingText wing text.now ↔ (result ≡ Some wing) }
 {
     let stem = unmarked(text);
