@@ -1,5 +1,5 @@
 -- A game that is replayed, and what the answers to a replay mean.
-use Rattle.std.specs.Prelude.{◌≡◌, ℕ, List, [], Option, Some, None}
+use Rattle.std.specs.Prelude.{◌≡◌, ℕ, List, [], length, Option, Some, None}
 use Rattle.chess.specs.Positions.{State}
 use Rattle.chess.specs.declared.moves.Move.{Move}
 use Rattle.pgn_text.specs.Games.{Item}
@@ -34,6 +34,10 @@ pub record IsReplay (lines : Lines) (fen : Option (List ℕ)) (items : List Item
 -- it is the replay of the game's main line or of all its lines: either has the positions and the moves of the main line
 abbrev pub IsSomeReplay : Option (List ℕ) → List Item → Replay → Type 0
 IsSomeReplay fen items replay = (lines : Lines) × IsReplay lines fen items replay
+
+-- the main line of the game can be replayed, and has so many plies
+abbrev pub HasPlies : Option (List ℕ) → List Item → ℕ → Type 0
+HasPlies fen items plies = (replay : Replay) × IsReplay Main fen items replay × (length replay.played ≡ plies)
 
 -- there is a replay of these lines of the game
 abbrev pub IsSoundGame : Lines → Option (List ℕ) → List Item → Type 0

@@ -1,40 +1,54 @@
 -- The main line while it is played: what is left of the elements completes the whole. Nothing but the proof of the replay cites these.
-use Rattle.std.specs.Prelude.{◌≡◌, ◌≤◌, ◌+◌, List, [], ◌∷◌, ◌++◌, length, ℕ, Some, IfSome}
-use Rattle.std.specs.List.{slice_get}
+use Rattle.std.specs.Prelude.{◌≡◌, ◌+◌, List, [], ◌∷◌, ◌++◌, length, ℕ, Option, Some, None, IfSome}
 use Rattle.chess.specs.Positions.{State}
+use Rattle.chess.specs.Moves.{after}
+use Rattle.chess.specs.San.{IsOnlyNamed}
 use Rattle.chess.specs.declared.moves.Move.{Move}
 use Rattle.pgn_text.specs.Games.{Item}
 use Rattle.pgn_game.specs.MainLines.{main_words, IsMainLine}
 use Rattle.pgn_game.specs.Faults.{Fault, IsMoveFault}
-use Rattle.pgn_game.specs.Replays.{Replay, fault_of}
+use Rattle.pgn_game.specs.Replays.{fault_of}
 use Rattle.pgn_game.specs.declared.fault.GameFault.{GameFault}
+use Rattle.pgn_game.specs.declared.main_line.LineKeeper.{LineKeeper}
 use Rattle.pgn_game.specs.declared.main_line.MainWalk.{MainWalk}
 
--- from the last of the positions, at this depth, what is left of the elements completes the replay
-abbrev pub Completes : List State → List Move → ℕ → List Item → Replay → Type 0
-Completes positions moves depth items replay =
-    (front : List State) (now : State) → positions ≡ front ++ now ∷ []
-    → (later : List State) × (more : List Move) × (replay.positions ≡ front ++ later) × (replay.played ≡ moves ++ more)
-    × IsMainLine now (main_words items depth) later more
+-- a main line of so many plies is played from the position by the words
+abbrev pub HasLinePlies : State → List (List ℕ) → ℕ → Type 0
+HasLinePlies start words plies = (positions : List State) × (played : List Move) × IsMainLine start words positions played × (length played ≡ plies)
 
--- from the last of the positions, at this depth, what is left of the elements has the fault
-abbrev pub MeetsFault : List State → ℕ → List Item → Fault → Type 0
-MeetsFault positions depth items fault =
-    (front : List State) (now : State) → positions ≡ front ++ now ∷ [] → IsMoveFault now (length front) (main_words items depth) fault
+-- the element is the next move of the main line, and is played
+pub record HasPlayed (old new : MainWalk) (item : Item) (m : Move) : Type 0 where
+  pub word : List ℕ
+  pub words : (items : List Item) → main_words (item ∷ items) old.depth ≡ word ∷ main_words items new.depth
+  pub named : IsOnlyNamed old.position word m
+  pub position : new.position ≡ after old.position m
+  pub plies : new.plies ≡ old.plies + 1
 
--- the last of the positions, to which all the moves lead
-abbrev pub IsLast : MainWalk → State → Type 0
-IsLast walk now = slice_get walk.positions.items (length walk.played.items) ≡ Some now
+-- the element is no move of the main line
+pub record HasPassed (old new : MainWalk) (item : Item) : Type 0 where
+  pub words : (items : List Item) → main_words (item ∷ items) old.depth ≡ main_words items new.depth
+  pub position : new.position ≡ old.position
+  pub plies : new.plies ≡ old.plies
 
--- the walk went on by the element
-pub record HasStepped (old new : MainWalk) (item : Item) : Type 0 where
-  pub count : length new.positions.items ≡ length new.played.items + 1
-  pub depth : new.depth ≤ old.depth + 1
-  pub completes : (items : List Item) (replay : Replay) → Completes new.positions.items new.played.items new.depth items replay
-      → Completes old.positions.items old.played.items old.depth (item ∷ items) replay
-  pub faults : (items : List Item) (fault : Fault) → MeetsFault new.positions.items new.depth items fault
-      → MeetsFault old.positions.items old.depth (item ∷ items) fault
+-- the walk went on by the element, and answers the move that it played
+abbrev pub HasStepped : MainWalk → MainWalk → Item → Option Move → Type 0
+HasStepped old new item None = HasPassed old new item
+HasStepped old new item (Some m) = HasPlayed old new item m
 
 -- the walk can't go on by the element: it has the fault, whatever follows
 abbrev pub IsStuck : MainWalk → Item → GameFault → Type 0
-IsStuck walk item fault = (items : List Item) → IfSome (fault_of fault) (MeetsFault walk.positions.items walk.depth (item ∷ items))
+IsStuck walk item fault = (items : List Item) → IfSome (fault_of fault) (IsMoveFault walk.position walk.plies (main_words (item ∷ items) walk.depth))
+
+-- played from the start, the first of the words led through these positions by these moves to the walk's position, and what is left of the
+-- elements completes the whole
+pub record HasWalked (start : State) (words : List (List ℕ)) (walk : MainWalk) (positions : List State) (played : List Move) (items : List Item) : Type 0 where
+  pub count : length played ≡ walk.plies
+  pub completes : (later : List State) (more : List Move) → IsMainLine walk.position (main_words items walk.depth) later more
+      → IsMainLine start words (positions ++ later) (played ++ more)
+  pub faults : (fault : Fault) → IsMoveFault walk.position walk.plies (main_words items walk.depth) fault → IsMoveFault start 0 words fault
+
+-- all positions and moves are kept so far
+pub record KeepsLine (start : State) (words : List (List ℕ)) (line : LineKeeper) (items : List Item) : Type 0 where
+  pub before : List State
+  pub positions : line.positions.items ≡ before ++ line.walk.position ∷ []
+  pub walked : HasWalked start words line.walk before line.played.items items

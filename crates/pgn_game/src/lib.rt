@@ -21,6 +21,6 @@ mod turn;
 pub use exporter::export;
 pub use fault::GameFault;
 pub use replayed::{GamePosition, Replayed};
-pub use replayer::{Lines, replay};
+pub use replayer::{Lines, count_plies, replay};
 pub use style::Style;
 pub use turn::Turn;

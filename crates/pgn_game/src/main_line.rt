@@ -1,11 +1,12 @@
 //! The main line, played element by element.
 ghost use Rattle.std.specs.Prelude.{◌≡◌, ◌+◌, ◌<◌, ◌≤◌, ◌++◌, ℕ, List, [], ◌∷◌, length, map, MatchResult, IfErr, IfOk, IfSome, OnOk};
+ghost use Rattle.chess.specs.Positions.{State};
 ghost use Rattle.pgn_text.specs.Elements.{item_of};
-ghost use Rattle.pgn_text.specs.Games.{MoveText};
+ghost use Rattle.pgn_text.specs.Games.{Item};
 ghost use Rattle.pgn_game.specs.MainLines.{main_words, IsMainLine};
 ghost use Rattle.pgn_game.specs.Faults.{IsMoveFault};
-ghost use Rattle.pgn_game.specs.Replays.{fault_of};
-ghost use Rattle.pgn_game.specs.Walks.{IsLast, HasStepped, IsStuck};
+ghost use Rattle.pgn_game.specs.Replays.{fault_of, HasPlies};
+ghost use Rattle.pgn_game.specs.Walks.{HasStepped, IsStuck, KeepsLine, HasLinePlies};
 
 use crate::fault::GameFault;
 use crate::naming::play_named;
@@ -14,12 +15,54 @@ use chess::Move;
 use pgn_text::Element;
 use std::alloc::{AllocError, Global};
 
-/// The main line as far as it was played, and how many variations are open.
+/// The position that the main line leads to as far as it is played, how many plies lead to it, and how many variations are open.
 #[derive(Drop)]
 struct MainWalk {
+    position: GamePosition,
+    plies: usize,
+    depth: usize,
+}
+
+impl MainWalk {
+    /// Before the first element.
+    fn new(start: GamePosition) -> Self
+        ensures { (result.position ≡ start) × (result.plies ≡ 0) × (result.depth ≡ 0) }
+    {
+        MainWalk {
+            position: start,
+            plies: 0,
+            depth: 0,
+        }
+    }
+
+    /// Plays the element, if it is a move of the main line, and answers the move.
+    fn step<'a>(&mut self, element: Element<'a>) -> Result<Option<Move>, GameFault<'a>>
+        requires room { (self.old.plies < usize.MAX) × (self.old.depth < usize.MAX) }
+        ensures within { (self.new.plies ≤ self.old.plies + 1) × (self.new.depth ≤ self.old.depth + 1) }
+        ensures stepped { MatchResult result
+            (HasStepped self.old self.new (item_of element.entry))
+            (IsStuck self.old (item_of element.entry)) }
+    {
+        match element {
+            Element::Move(word) if self.depth == 0 => {
+                self.plies += 1;
+                let m = play_named(&mut self.position, word, self.plies)?;
+                return Ok(Some(m));
+            }
+            Element::Open => self.depth += 1,
+            Element::Close => self.depth = self.depth.saturating_sub(1),
+            _ => {}
+        }
+        Ok(None)
+    }
+}
+
+/// The main line as far as it is played, with all its positions and moves.
+#[derive(Drop)]
+struct LineKeeper {
+    walk: MainWalk,
     positions: Vec<GamePosition>,
     played: Vec<Move>,
-    depth: usize,
 }
 
 /// The number of moves, those of variations too.
@@ -30,72 +73,45 @@ fn count_moves(elements: &[Element]) -> usize {
         .count()
 }
 
-impl MainWalk {
+impl LineKeeper {
     /// Before the first of the elements: there is room for all their moves.
     fn new(alloc: Global, start: GamePosition, elements: &[Element]) -> Result<Self, AllocError>
-        ensures positions { IfOk result (λ walk. walk.positions.items ≡ start ∷ []) }
-        ensures played { IfOk result (λ walk. walk.played.items ≡ []) }
-        ensures depth { IfOk result (λ walk. walk.depth ≡ 0) }
+        ensures positions { IfOk result (λ line. line.positions.items ≡ start ∷ []) }
+        ensures played { IfOk result (λ line. line.played.items ≡ []) }
+        ensures walk { IfOk result (λ line. (line.walk.position ≡ start) × (line.walk.plies ≡ 0) × (line.walk.depth ≡ 0)) }
     {
         let moves = count_moves(elements);
         let mut positions = Vec::with_capacity(alloc, moves.saturating_add(1))?;
         let played = Vec::with_capacity(alloc, moves)?;
-        positions.push(start)?;
-        Ok(MainWalk {
+        positions.push(start.copy())?;
+        Ok(LineKeeper {
+            walk: MainWalk::new(start),
             positions,
             played,
-            depth: 0,
         })
     }
 
-    /// The last position.
-    fn last(&self) -> &GamePosition
-        requires { length self.now.positions.items ≡ length self.now.played.items + 1 }
-        ensures { IsLast self.now result.now }
-    {
-        &self.positions[self.played.len()]
-    }
-
-    /// Keeps a move, and the position after it.
-    fn keep(&mut self, next: GamePosition, m: Move) -> Result<(), AllocError>
-        ensures positions { OnOk result (self.new.positions.items ≡ self.old.positions.items ++ next ∷ []) }
+    /// KeepsLine the move that was played, and the position after it.
+    fn keep(&mut self, m: Move) -> Result<(), AllocError>
+        ensures positions { OnOk result (self.new.positions.items ≡ self.old.positions.items ++ self.old.walk.position ∷ []) }
         ensures played { OnOk result (self.new.played.items ≡ self.old.played.items ++ m ∷ []) }
-        ensures depth { self.new.depth ≡ self.old.depth }
+        ensures walk { self.new.walk ≡ self.old.walk }
     {
-        self.positions.push(next)?;
+        self.positions.push(self.walk.position.copy())?;
         self.played.push(m)?;
-        Ok(())
-    }
-
-    /// Plays the only move that the word names in the last position.
-    fn play<'a>(&mut self, word: &'a [u8]) -> Result<(), GameFault<'a>>
-        requires count { length self.old.positions.items ≡ length self.old.played.items + 1 }
-        requires outside { self.old.depth ≡ 0 }
-        ensures played { OnOk result (HasStepped self.old self.new (MoveText word.now)) }
-        ensures stuck { IfErr result (λ fault. IsStuck self.old (MoveText word.now) fault) }
-    {
-        let mut next = self.last().copy();
-        let m = play_named(&mut next, word, self.positions.len())?;
-        self.keep(next, m)?;
         Ok(())
     }
 
     /// Plays the element, if it is a move of the main line.
     fn step<'a>(&mut self, element: Element<'a>) -> Result<(), GameFault<'a>>
-        requires count { length self.old.positions.items ≡ length self.old.played.items + 1 }
-        requires room { self.old.depth < usize.MAX }
-        ensures stepped { OnOk result (HasStepped self.old self.new (item_of element.entry)) }
-        ensures stuck { IfErr result (λ fault. IsStuck self.old (item_of element.entry) fault) }
+        requires room { (self.old.walk.plies < usize.MAX) × (self.old.walk.depth < usize.MAX) }
+        ensures within { (self.new.walk.plies ≤ self.old.walk.plies + 1) × (self.new.walk.depth ≤ self.old.walk.depth + 1) }
+        ensures kept { OnOk result ((start : State) (words : List (List ℕ)) (items : List Item)
+            → KeepsLine start words self.old (item_of element.entry ∷ items) → KeepsLine start words self.new items) }
+        ensures stuck { IfErr result (IsStuck self.old.walk (item_of element.entry)) }
     {
-        match element {
-            Element::Move(word) => {
-                if self.depth == 0 {
-                    return self.play(word);
-                }
-            }
-            Element::Open => self.depth += 1,
-            Element::Close => self.depth = self.depth.saturating_sub(1),
-            _ => {}
+        if let Some(m) = self.walk.step(element)? {
+            self.keep(m)?;
         }
         Ok(())
     }
@@ -111,18 +127,34 @@ pub(crate) fn play_main_line<'a>(
         (λ replayed. IsMainLine start (main_words (map item_of elements.now) 0) replayed.positions replayed.played × (replayed.turns ≡ []))
         (λ fault. IfSome (fault_of fault) (IsMoveFault start 0 (main_words (map item_of elements.now) 0))) }
 {
-    let mut walk = MainWalk::new(alloc, start, elements)?;
+    let mut line = LineKeeper::new(alloc, start, elements)?;
     for element in elements {
-        walk.step(*element)?;
+        line.step(*element)?;
     }
-    let MainWalk {
+    let LineKeeper {
         positions,
         played,
         ..
-    } = walk;
+    } = line;
     Ok(Replayed {
         positions,
         played,
         turns: Vec::new(alloc),
     })
+}
+
+/// Counts the plies of the main line of the elements, played from the position.
+pub(crate) fn count_main_line<'a>(
+    start: GamePosition,
+    elements: &[Element<'a>],
+) -> Result<usize, GameFault<'a>>
+    ensures { MatchResult result
+        (HasLinePlies start (main_words (map item_of elements.now) 0))
+        (λ fault. IfSome (fault_of fault) (IsMoveFault start 0 (main_words (map item_of elements.now) 0))) }
+{
+    let mut walk = MainWalk::new(start);
+    for element in elements {
+        walk.step(*element)?;
+    }
+    Ok(walk.plies)
 }

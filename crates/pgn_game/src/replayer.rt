@@ -3,11 +3,12 @@ ghost use Rattle.std.specs.Prelude.{MatchResult, IfSome};
 ghost use Rattle.pgn_text.specs.GameTexts.{tag_in};
 ghost use Rattle.pgn_game.specs.Starts.{fen_tag};
 ghost use Rattle.pgn_game.specs.Faults.{IsFault};
-ghost use Rattle.pgn_game.specs.Replays.{IsReplay, fault_of};
+ghost use Rattle.pgn_game.specs.Replays.{IsReplay, HasPlies, fault_of};
+ghost use Rattle.pgn_game.specs.declared.replayer.Lines.TheVariants.{Main};
 
 use crate::all_lines::play_all_lines;
 use crate::fault::GameFault;
-use crate::main_line::play_main_line;
+use crate::main_line::{count_main_line, play_main_line};
 use crate::replayed::Replayed;
 use crate::starting::starting_position;
 use pgn_text::RawGame;
@@ -35,4 +36,14 @@ pub fn replay<'a>(alloc: Global, raw: &RawGame<'a>, lines: Lines) -> Result<Repl
         Lines::Main => play_main_line(alloc, start, raw.elements()),
         Lines::All => play_all_lines(alloc, &start, raw.elements()),
     }
+}
+
+/// Counts the plies of the main line of the game, or reports its fault: just as a replay of the main line, but no position is kept.
+pub fn count_plies<'a>(alloc: Global, raw: &RawGame<'a>) -> Result<usize, GameFault<'a>>
+    ensures { MatchResult result
+        (HasPlies (tag_in fen_tag raw.now.tags) raw.now.elements)
+        (λ fault. IfSome (fault_of fault) (IsFault Main (tag_in fen_tag raw.now.tags) raw.now.elements)) }
+{
+    let start = starting_position(alloc, raw.tags())?;
+    count_main_line(start, raw.elements())
 }
