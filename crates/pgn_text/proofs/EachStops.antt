@@ -5,6 +5,7 @@ use Rattle.pgn_text.specs.Parts.{Part, standing_of, Stands, AllStand, spelled, s
 use Rattle.pgn_text.specs.Games.{is_result}
 use Rattle.pgn_text.specs.Steps.{State, start, step}
 use Rattle.pgn_text.specs.Stops.{StopsAt}
+use Rattle.pgn_text.specs.Agreement.{Walks}
 use Rattle.pgn_text.specs.PartFronts.{Follows, NoneFollows}
 use Rattle.pgn_text.proofs.Existence.{shorter}
 use Rattle.pgn_text.proofs.FoundLemmas.{part_or_none}
@@ -12,7 +13,7 @@ use Rattle.pgn_text.proofs.GameFronts.{stops_in_part, stops_at_game}
 use Rattle.pgn_text.proofs.Halfway.{reads_end, stands_join, spelled-append}
 use Rattle.pgn_text.proofs.Stuck.{in_part}
 use Rattle.pgn_text.proofs.PartLemmas.{one_part, part_has_byte}
-use Rattle.pgn_text.proofs.Stopping.{Walks, walks_more, walk_reads}
+use Rattle.pgn_text.proofs.Stopping.{walks_more, walk_reads}
 
 module _ (max_depth : ℕ) (f : Bool) where
   -- where no part follows

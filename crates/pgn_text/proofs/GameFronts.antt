@@ -8,10 +8,11 @@ use Rattle.pgn_text.specs.Parts.{Part, ByteOrderMark, White, Brace, Line, Escape
 use Rattle.pgn_text.specs.Games.{is_gap_part, begins_outside_gap}
 use Rattle.pgn_text.specs.Steps.{State, start, Leads}
 use Rattle.pgn_text.specs.Stops.{IsGameFront, StopsAt}
+use Rattle.pgn_text.specs.Agreement.{Walks}
 use Rattle.pgn_text.specs.PartFronts.{IsPartFront, NoneFollows}
 use Rattle.pgn_text.proofs.GameLeads.{game_leads, game_from}
 use Rattle.pgn_text.proofs.Halfway.{Reads, stands_join, stands_cut, spelled-append, one_reading}
-use Rattle.pgn_text.proofs.Stopping.{instead_nothing, instead_same, all_instead, Walks, Front, front_here, front_back, front_on, front_in_part, part_front_goes}
+use Rattle.pgn_text.proofs.Stopping.{instead_nothing, instead_same, all_instead, Front, front_here, front_back, front_on, front_in_part, part_front_goes}
 
 -- ---- a gap and a game, read from the start
 

@@ -1,14 +1,18 @@
 -- Tags byte by byte: where in a tag a place is, how each place goes on to the tag's end, and how far a text can be the front of a tag.
-use Rattle.std.proofs.Common.{◌≡◌, ℕ, suc, Bool, true, false, List, [], ◌∷◌, ◌++◌, Option, Some, None, IsTrue, codes, refl, sym, ap, subst, ◌∙◌, inl, inr, arith}
+use Rattle.std.proofs.Common.{◌≡◌, ℕ, suc, Bool, true, false, List, [], ◌∷◌, ◌++◌, Option, Some, None, IsTrue, codes, refl, sym, ap, subst, ◌∙◌, inl, inr, arith, get_or, drop, length, ◌<◌, ◌≤◌}
 use Rattle.std.specs.Prelude.{◌==◌, ◌&&◌, not, flat_map}
 use Rattle.std.specs.List.{list_all}
+use Rattle.std.proofs.Math.Seq.{drop-cons}
+use Rattle.std.proofs.Math.ListN.{drop_of_length-le}
 use Rattle.std.proofs.lemmas.Bool.{and_parts, and_from, cases_Bool, eqb-true, not_from_false, not-true}
 use Rattle.pgn_text.specs.Bytes.{is_white, is_name_byte, is_plain, is_empty}
 use Rattle.pgn_text.specs.Strings.{Sign, Single, Escaped, spelled_sign, is_sign, IsContents}
 use Rattle.pgn_text.specs.Parts.{Part, Tag, Standing, Stands, spelled_part}
 use Rattle.pgn_text.specs.Games.{is_tag}
 use Rattle.pgn_text.proofs.Classes.{is_name_byte-white, is_white-name}
-use Rattle.pgn_text.specs.PartFronts.{Longest, InTag, BeforeName, Name, BehindName, Contents, BehindBackslash, BehindString, Closed, next_in, Ends, IsTagFront}
+use Rattle.pgn_text.specs.PartFronts.{Longest, next_in, Ends, IsTagFront}
+use Rattle.pgn_text.specs.declared.agreement.InTag.{InTag}
+use Rattle.pgn_text.specs.declared.agreement.InTag.TheVariants.{BeforeName, Name, BehindName, Contents, BehindBackslash, BehindString, Closed}
 use Rattle.pgn_text.proofs.Furthest.{longest_behind, longest_nothing}
 
 -- each place goes on to the tag's end
@@ -42,6 +46,20 @@ tag_longest s (b ∷ rest) = go (next_in s b) refl (λ t. tag_longest t rest)
         (λ x p. (p.0, (let same : p.1.0 ≡ t = (let f = p.1.1 in cc) in subst (λ u. Ends u (x ++ p.0)) same p.1.2)))
         (again t))
 
+-- a byte that a tag may have
+pub tag_step : (s t : InTag) (text : List ℕ) (i : ℕ) → i < length text → next_in s (get_or text i 0) ≡ Some t
+    → tag_far s (drop i text) ≡ suc (tag_far t (drop (suc i) text))
+tag_step s t text i inside e = rw (drop-cons text i 0 inside, e) refl
+
+-- a byte that none may have
+pub tag_stuck : (s : InTag) (text : List ℕ) (i : ℕ) → i < length text → next_in s (get_or text i 0) ≡ None
+    → tag_far s (drop i text) ≡ 0
+tag_stuck s text i inside e = rw (drop-cons text i 0 inside, e) refl
+
+-- the text's end
+pub tag_over : (s : InTag) (text : List ℕ) (i : ℕ) → length text ≤ i → tag_far s (drop i text) ≡ 0
+tag_over s text i past = rw (drop_of_length-le text past) refl
+
 -- ---- what goes on to the end is a tag
 
 end_is : (z : List ℕ) → Ends Closed z → z ≡ []
@@ -72,6 +90,23 @@ abbrev in_contents : Bool → InTag
 in_contents true = BehindBackslash
 in_contents false = Contents
 
+-- one sign more
+escaped_in : (b : ℕ) (y : List ℕ) → is_plain b ≡ true → IsContents y → IsContents (92 ∷ b ∷ y)
+escaped_in b y plain (signs, spelt, all) =
+    (Escaped b ∷ signs, ap (λ l. 92 ∷ b ∷ l) spelt, and_from (is_plain b) (list_all is_sign signs) plain all)
+
+single_in : (b : ℕ) (y : List ℕ) → is_plain b ≡ true → (b == 34) ≡ false → (b == 92) ≡ false → IsContents y → IsContents (b ∷ y)
+single_in b y plain quote backslash (signs, spelt, all) = (
+  Single b ∷ signs,
+  ap (λ l. b ∷ l) spelt,
+  and_from (is_sign (Single b)) (list_all is_sign signs)
+      (and_from (is_plain b) (not (b == 34) && not (b == 92)) plain
+      (and_from (not (b == 34)) (not (b == 92)) (not_from_false (b == 34) quote) (not_from_false (b == 92) backslash))) all,
+)
+
+one_byte : (b : ℕ) (z y behind : List ℕ) → z ≡ y ++ 34 ∷ behind → b ∷ z ≡ (b ∷ y) ++ 34 ∷ behind
+one_byte b z y behind e = ap (λ l. b ∷ l) e
+
 contents_is : (escaped : Bool) (z : List ℕ) → Ends (in_contents escaped) z
     → (y : List ℕ) × (behind : List ℕ) × (z ≡ y ++ 34 ∷ behind) × SpelledIn escaped y × Ends BehindString behind
 contents_is true [] h = cc
@@ -82,8 +117,8 @@ contents_is true (b ∷ z) (t, e, h) = elim (cases_Bool (is_plain b)) [
       let more = contents_is false z (rw same h) in (
         b ∷ more.0,
         more.1,
-        ap (λ l. b ∷ l) more.2,
-        (Escaped b ∷ more.3.0, ap (λ l. 92 ∷ b ∷ l) more.3.1, and_from (is_plain b) (list_all is_sign more.3.0) p more.3.2),
+        one_byte b z more.0 more.1 more.2,
+        escaped_in b more.0 p more.3,
         more.4,
       )
   | inr p ↦ let f = rw p at e in cc
@@ -94,7 +129,7 @@ contents_is false (b ∷ z) (t, e, h) = elim (cases_Bool (b == 92)) [
       let more = contents_is true z (rw same h) in (
         b ∷ more.0,
         more.1,
-        ap (λ l. b ∷ l) more.2,
+        one_byte b z more.0 more.1 more.2,
         subst (λ c. IsContents (c ∷ more.0)) (sym (eqb-true b 92 k)) more.3,
         more.4,
       )
@@ -108,14 +143,8 @@ contents_is false (b ∷ z) (t, e, h) = elim (cases_Bool (b == 92)) [
           let more = contents_is false z (rw same h) in (
             b ∷ more.0,
             more.1,
-            ap (λ l. b ∷ l) more.2,
-            (
-              Single b ∷ more.3.0,
-              ap (λ l. b ∷ l) more.3.1,
-              and_from (is_sign (Single b)) (list_all is_sign more.3.0)
-                  (and_from (is_plain b) (not (b == 34) && not (b == 92)) p
-                  (and_from (not (b == 34)) (not (b == 92)) (not_from_false (b == 34) q) (not_from_false (b == 92) k))) more.3.2,
-            ),
+            one_byte b z more.0 more.1 more.2,
+            single_in b more.0 p q k more.3,
             more.4,
           )
       | inr p ↦ let f = rw (k, q, p) at e in cc

@@ -8,6 +8,7 @@ pub mod EachStops
 pub mod EndSearch
 pub mod Existence
 pub mod FoundLemmas
+pub mod FrontLengths
 pub mod FrontText
 pub mod Fronts
 pub mod Furthest
@@ -44,6 +45,7 @@ pub mod ShownGame
 pub mod ShownOnce
 pub mod SortedTags
 pub mod Spliced
+pub mod StopWalk
 pub mod Stopping
 pub mod Stuck
 pub mod Tables

@@ -6,6 +6,7 @@ use Rattle.pgn_text.specs.Parts.{Part, ByteOrderMark, White, Brace, Line, Escape
 use Rattle.pgn_text.specs.Games.{is_result}
 use Rattle.pgn_text.specs.Steps.{State, step, Leads}
 use Rattle.pgn_text.specs.Stops.{IsGameFront, StopsAt}
+use Rattle.pgn_text.specs.Agreement.{Walks}
 use Rattle.pgn_text.specs.PartFronts.{Follows, IsPartFront, NoneFollows}
 use Rattle.pgn_text.proofs.Halfway.{Reads, reads_more, reads_end, reads_first}
 use Rattle.pgn_text.proofs.Lines.{cut_append}
@@ -74,12 +75,6 @@ all_instead f before (p ∷ back) a b i h = (
 )
 
 -- ---- parts that lead on
-
--- the parts lead from one state to the other, and none of them is a result
-abbrev pub Walks : ℕ → State → List Part → State → Type 0
-Walks max_depth s [] t = s ≡ t
-Walks max_depth s (p ∷ back) t =
-    (is_result p ≡ false) × ((next : State) × (step max_depth s p ≡ Some next) × Walks max_depth next back t)
 
 pub walks_more : (max_depth : ℕ) (s t u : State) (done : List Part) (p : Part) → Walks max_depth s done t
     → is_result p ≡ false → step max_depth t p ≡ Some u → Walks max_depth s (done ++ p ∷ []) u

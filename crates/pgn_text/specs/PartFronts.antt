@@ -5,6 +5,8 @@ use Rattle.pgn_text.specs.Bytes.{is_white, is_digit, is_name_byte, is_check_mark
 use Rattle.pgn_text.specs.Parts.{Part, Standing, Stands, spelled_part, number_of}
 use Rattle.pgn_text.specs.Games.{is_result}
 use Rattle.pgn_text.specs.Steps.{State, step}
+use Rattle.pgn_text.specs.declared.agreement.InTag.{InTag}
+use Rattle.pgn_text.specs.declared.agreement.InTag.TheVariants.{BeforeName, Name, BehindName, Contents, BehindBackslash, BehindString, Closed}
 
 -- so many of the text's first bytes have the property, and no more
 pub record Longest (P : List ℕ → Type 0) (text : List ℕ) (n : ℕ) : Type 0 where
@@ -62,16 +64,6 @@ IsWordFront closed x = IsMoveFront x ⊎ ((closed ≡ true) × IsResultFront x)
 -- the bytes are the front of a glyph's digits
 abbrev pub is_glyph_front : List ℕ → Bool
 is_glyph_front x = list_all is_digit x && (nat_le (length x) 3 && nat_le (number_of x) 255)
-
--- where in a tag a place is, behind its bracket
-pub data InTag : Type 0 where
-  BeforeName : InTag
-  Name : InTag
-  BehindName : InTag
-  Contents : InTag
-  BehindBackslash : InTag
-  BehindString : InTag
-  Closed : InTag
 
 -- where in a tag the place behind one byte more is, if a tag may have it there
 abbrev pub next_in : InTag → ℕ → Option InTag

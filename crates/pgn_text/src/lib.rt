@@ -2,6 +2,7 @@
 //! tags, elements and a result. Nothing of a game is copied: tags, words, comments and results are slices of the block.
 #![tactic(auto)]
 
+mod agreement;
 mod blocks;
 mod buffer;
 mod class;
@@ -18,6 +19,7 @@ mod tally;
 mod token;
 mod unquoted;
 
+pub use agreement::stopped;
 pub use blocks::{Block, Blocks, Body, ReadError};
 pub use game::{Element, RawGame};
 pub use limits::{BLOCK_LIMIT, LARGEST_OFFSET, MAX_DEPTH};

@@ -1,0 +1,203 @@
+//! The place where the bytes of a block agree with no game any more.
+
+ghost use Rattle.std.specs.Prelude.{◌≡◌, ◌+◌, ◌≤◌, ◌↔◌, ℕ, length, take, drop, true, IsTrue};
+ghost use Rattle.pgn_text.specs.Agreement.{IsReached};
+ghost use Rattle.pgn_text.specs.Bytes.{is_check_mark};
+ghost use Rattle.pgn_text.specs.Limits.{depth_limit};
+ghost use Rattle.pgn_text.specs.PartFronts.{Longest, IsPartFront, IsTagFront, IsWordFront, NoneFollows, front_length, is_glyph_front, next_in, no_byte};
+ghost use Rattle.pgn_text.specs.Parts.{standing_of};
+ghost use Rattle.pgn_text.specs.Stops.{StopsAt};
+ghost use Rattle.pgn_text.specs.Tokens.{state_of};
+ghost use Rattle.pgn_text.specs.declared.agreement.InTag.TheVariants.{BeforeName};
+
+use crate::class::{Class, is_in, is_plain, run};
+use crate::place::part_at;
+use crate::progress::Progress;
+
+const BYTE_ORDER_MARK: [u8; 3] = [0xEF, 0xBB, 0xBF];
+
+/// How many bytes the text and the word have in common from their starts.
+fn common(text: &[u8], word: &[u8]) -> usize
+    ensures { result ≡ front_length no_byte word.now text.now }
+{
+    let mut count = 0usize;
+    while count < text.len() && count < word.len() && text[count] == word[count] {
+        count += 1;
+    }
+    count
+}
+
+/// How many of the text's first bytes are a front of the castling word and of check marks behind it.
+fn castling_stop(text: &[u8], word: &[u8]) -> usize
+    ensures { result ≡ front_length is_check_mark word.now text.now }
+{
+    let mut count = common(text, word);
+    if count < word.len() {
+        return count;
+    }
+    while count < text.len() && matches!(text[count], b'+' | b'#') {
+        count += 1;
+    }
+    count
+}
+
+/// How many of the text's first bytes a word that begins with no letter may have; `closed` says that a result may stand here.
+fn word_stop(text: &[u8], closed: bool) -> usize
+    ensures { Longest (IsWordFront closed) text.now result }
+{
+    let numbers = run(Class::Digit, text).0.len().max(common(text, b"--"));
+    let castling = castling_stop(text, b"0-0").max(castling_stop(text, b"0-0-0"));
+    let moves = numbers.max(castling);
+    if !closed {
+        return moves;
+    }
+    let wins = common(text, b"1-0").max(common(text, b"0-1"));
+    moves.max(wins.max(common(text, b"1/2-1/2")))
+}
+
+/// Where in a tag a place is, behind its bracket.
+#[derive(Clone, Copy)]
+enum InTag {
+    /// Before the name.
+    BeforeName,
+    /// In the name.
+    Name,
+    /// Behind white space that follows the name.
+    BehindName,
+    /// In the string.
+    Contents,
+    /// Behind a backslash in the string.
+    BehindBackslash,
+    /// Behind the string.
+    BehindString,
+    /// Behind the closing bracket.
+    Closed,
+}
+
+impl InTag {
+    /// Where the place behind one byte more is, if a tag may have it there.
+    fn next(self, byte: u8) -> Option<Self>
+        ensures { result ≡ next_in self byte }
+    {
+        let white = is_in(Class::White, byte);
+        let name = is_in(Class::Name, byte);
+        match self {
+            InTag::BeforeName if white => Some(InTag::BeforeName),
+            InTag::BeforeName | InTag::Name if name => Some(InTag::Name),
+            InTag::Name | InTag::BehindName if white => Some(InTag::BehindName),
+            InTag::Name | InTag::BehindName if byte == b'"' => Some(InTag::Contents),
+            InTag::Contents if byte == b'\\' => Some(InTag::BehindBackslash),
+            InTag::Contents if byte == b'"' => Some(InTag::BehindString),
+            InTag::Contents | InTag::BehindBackslash if is_plain(byte) => Some(InTag::Contents),
+            InTag::BehindString if white => Some(InTag::BehindString),
+            InTag::BehindString if byte == b']' => Some(InTag::Closed),
+            _ => None,
+        }
+    }
+}
+
+/// How many of the text's first bytes a tag may have behind its bracket.
+fn tag_stop(text: &[u8]) -> usize
+    ensures { Longest (IsTagFront BeforeName) text.now result }
+{
+    let mut place = InTag::BeforeName;
+    let mut at = 0;
+    while at < text.len() {
+        let Some(next) = place.next(text[at]) else {
+            return at;
+        };
+        place = next;
+        at += 1;
+    }
+    at
+}
+
+/// How many of the text's first bytes a glyph may have behind its dollar sign.
+fn glyph_stop(text: &[u8]) -> usize
+    ensures { Longest (λ front. is_glyph_front front ≡ true) text.now result }
+{
+    let mut number = 0u16;
+    let mut count = 0;
+    while count < 3 && count < text.len() && is_in(Class::Digit, text[count]) {
+        number = 10 * number + u16::from(text[count] - b'0');
+        if number > 255 {
+            return count;
+        }
+        count += 1;
+    }
+    count
+}
+
+/// How many bytes at the place of the block one part may have that the game may go on with, where no whole part does.
+fn part_stop(block: &[u8], at: usize, file_start: bool, progress: Progress) -> usize
+    requires place { at ≤ length block.now }
+    requires stuck { NoneFollows depth_limit (standing_of file_start (take at block.now)) (state_of progress) (drop at block.now) }
+    ensures { Longest (IsPartFront depth_limit (standing_of file_start (take at block.now)) (state_of progress)) (drop at block.now) result }
+{
+    let text = &block[at..];
+    let Some((first, rest)) = text.split_first() else {
+        return 0;
+    };
+    match *first {
+        b'{' => text.len(),
+        b'[' => {
+            if progress.in_tags {
+                1 + tag_stop(rest)
+            } else {
+                0
+            }
+        }
+        b'$' => 1 + glyph_stop(rest),
+        0xEF => {
+            if file_start && at == 0 {
+                common(text, &BYTE_ORDER_MARK)
+            } else {
+                0
+            }
+        }
+        byte if is_in(Class::Word, byte) => word_stop(text, progress.is_closed()),
+        _ => 0,
+    }
+}
+
+/// How far the parts of a game go.
+enum Reached {
+    /// To the end of the game, at the place.
+    Game(usize),
+    /// To the place, from which no whole part leads on.
+    Stuck(usize, Progress),
+}
+
+/// How far the parts of a game go from the place of the block, with the gap before it.
+fn walk(block: &[u8], begin: usize, file_start: bool) -> Reached
+    requires { begin ≤ length block.now }
+    ensures { IsReached depth_limit file_start block.now begin result }
+{
+    let mut progress = Progress::start();
+    let mut at = begin;
+    while let Some((token, end)) = part_at(block, at, file_start) {
+        if token.is_result() {
+            if progress.is_closed() {
+                return Reached::Game(end);
+            }
+            break;
+        }
+        let Some(next) = progress.step(token) else {
+            break;
+        };
+        progress = next;
+        at = end;
+    }
+    Reached::Stuck(at, progress)
+}
+
+/// The place of the block up to which its bytes from `begin` on are the front of a gap and a game; no more of them are.
+pub fn stopped(block: &[u8], begin: usize, file_start: bool) -> usize
+    requires { begin ≤ length block.now }
+    ensures { (n : ℕ) × (result ≡ begin + n) × StopsAt depth_limit file_start (take begin block.now) (drop begin block.now) n }
+{
+    match walk(block, begin, file_start) {
+        Reached::Game(end) => end,
+        Reached::Stuck(at, progress) => at + part_stop(block, at, file_start, progress),
+    }
+}
