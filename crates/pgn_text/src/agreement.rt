@@ -182,9 +182,10 @@ fn walk(block: &[u8], begin: usize, file_start: bool) -> Reached
             }
             break;
         }
-        let Some(next) = progress.step(token) else {
+        let mut next = progress;
+        if !next.step(token) {
             break;
-        };
+        }
         progress = next;
         at = end;
     }

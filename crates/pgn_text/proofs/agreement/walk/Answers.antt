@@ -14,8 +14,8 @@ returns-then-is_closed c =
 pub loop-token-preserved : goal.loop-token-preserved
 loop-token-preserved c =
     walk_more depth_limit c.args.file_start c.args.block.now c.args.begin c.loop-token.at c.in-Some.end (state_of c.loop-token.progress)
-    (state_of c.in-Some-step.next) (token_of c.in-Some.token) c.loop-token.invariant c.in-Some.ensures
-    (sym c.is_result.ensures ∙ c.if-is_result.false) (sym c.in-Some-step.ensures)
+    (state_of c.step.new.self) (token_of c.in-Some.token) c.loop-token.invariant c.in-Some.ensures
+    (sym c.is_result.ensures ∙ c.if-is_result.false) (rw c.if-not-step.false at c.step.ensures)
 
 -- a result in a variation
 pub returns-else-is_closed : goal.returns-else-is_closed
@@ -28,11 +28,11 @@ returns-else-is_closed c = (
 )
 
 -- a part that may not stand there
-pub returns-in_default-step : goal.returns-in_default-step
-returns-in_default-step c = (
+pub returns-then-not-step : goal.returns-then-not-step
+returns-then-not-step c = (
   c.loop-token.invariant,
   walk_stuck depth_limit c.args.file_start c.args.block.now c.args.begin c.loop-token.at c.in-Some.end (state_of c.loop-token.progress)
       (token_of c.in-Some.token) c.in-Some.ensures
       (λ r. absurd (false≢true (sym c.if-is_result.false ∙ c.is_result.ensures ∙ r)))
-      (λ r. sym c.in_default-step.ensures),
+      (λ r. rw c.if-not-step.true at c.step.ensures),
 )
