@@ -138,7 +138,7 @@ union_more words n all so_far i =
 not_one : (b : ℕ) → b < 2 → nat_eq (1 - b) 1 ≡ not (nat_eq b 1)
 not_one b h = grind (arith, nat_tests)
 
-is_or : (b : Bool) → (b ≡ true) ⊎ (b ≡ false)
+pub is_or : (b : Bool) → (b ≡ true) ⊎ (b ≡ false)
 is_or true = inl refl
 is_or false = inr refl
 

@@ -1,7 +1,7 @@
--- The table of the squares from which men see a square.
+-- The tables of the squares from which men see a square.
 use Rattle.std.proofs.Common.{◌≡◌, true, refl, get_or, []}
-use Rattle.chess.specs.BitWords.{row_of}
-use Rattle.chess.specs.declared.board.sights.TheConstants.{HITS}
+use Rattle.chess.specs.BitWords.{sight_row_of}
+use Rattle.chess.specs.declared.board.sights.tables.TheConstants.{HITS}
 use Rattle.chess.specs.declared.board.man.Side.{Side}
 use Rattle.chess.specs.declared.board.man.Side.TheVariants.{White, Black}
 use Rattle.chess.specs.declared.board.man.Kind.{Kind}
@@ -10,17 +10,41 @@ use Rattle.chess.proofs.LeaperFacts.{is_near, is_jump, is_pawn_hit}
 use Rattle.chess.proofs.SightFacts.{sees}
 use Rattle.chess.proofs.TableFacts.{fits_table}
 
-pub hits_fit : (side : Side) (kind : Kind) → fits_table (get_or HITS (row_of (record { side = side; kind = kind })) []) (sees side kind) ≡ true
-unfolding is_near is_jump is_pawn_hit
-hits_fit White King = refl
-hits_fit White Queen = refl
-hits_fit White Rook = refl
-hits_fit White Bishop = refl
-hits_fit White Knight = refl
-hits_fit White Pawn = refl
-hits_fit Black King = refl
-hits_fit Black Queen = refl
-hits_fit Black Rook = refl
-hits_fit Black Bishop = refl
-hits_fit Black Knight = refl
-hits_fit Black Pawn = refl
+kings_fit : fits_table (get_or HITS 0 []) (sees White King) ≡ true
+unfolding is_near
+kings_fit = refl
+
+queens_fit : fits_table (get_or HITS 1 []) (sees White Queen) ≡ true
+queens_fit = refl
+
+rooks_fit : fits_table (get_or HITS 2 []) (sees White Rook) ≡ true
+rooks_fit = refl
+
+bishops_fit : fits_table (get_or HITS 3 []) (sees White Bishop) ≡ true
+bishops_fit = refl
+
+knights_fit : fits_table (get_or HITS 4 []) (sees White Knight) ≡ true
+unfolding is_jump
+knights_fit = refl
+
+white_pawns_fit : fits_table (get_or HITS 5 []) (sees White Pawn) ≡ true
+unfolding is_pawn_hit
+white_pawns_fit = refl
+
+black_pawns_fit : fits_table (get_or HITS 6 []) (sees Black Pawn) ≡ true
+unfolding is_pawn_hit
+black_pawns_fit = refl
+
+pub hits_fit : (side : Side) (kind : Kind) → fits_table (get_or HITS (sight_row_of side kind) []) (sees side kind) ≡ true
+hits_fit White King = kings_fit
+hits_fit White Queen = queens_fit
+hits_fit White Rook = rooks_fit
+hits_fit White Bishop = bishops_fit
+hits_fit White Knight = knights_fit
+hits_fit White Pawn = white_pawns_fit
+hits_fit Black King = kings_fit
+hits_fit Black Queen = queens_fit
+hits_fit Black Rook = rooks_fit
+hits_fit Black Bishop = bishops_fit
+hits_fit Black Knight = knights_fit
+hits_fit Black Pawn = black_pawns_fit

@@ -1,6 +1,6 @@
 //! What a board is: a map from squares to men.
 ghost use Rattle.std.specs.Prelude.{◌≡◌, ◌↔◌, IsTrue, None};
-ghost use Rattle.chess.specs.Placements.{Placement, no_men, man_at, with_man, AreOnBoard, IsEmpty};
+ghost use Rattle.chess.specs.Placements.{Placement, no_men, man_at, with_man, AreOnBoard, IsEmpty, IsHeld};
 ghost use Rattle.chess.specs.Attacks.{IsAttacked};
 ghost use Rattle.chess.specs.Sets.{IsReachOf, IsSquaresOf, HoldsExactly, IsHitter};
 
@@ -44,6 +44,10 @@ pub trait Board: Copy {
     /// Whether no man stands on the square.
     fn is_empty(&self, square: Square) -> bool
         ensures { IsTrue result ↔ IsEmpty (men self.now) square };
+
+    /// Whether a man of the side stands on the square.
+    fn is_held(&self, side: Side, square: Square) -> bool
+        ensures { IsTrue result ↔ IsHeld (men self.now) side square };
 
     /// Whether some man of the side attacks the square (Laws 3.1.2).
     fn attacked(&self, square: Square, side: Side) -> bool

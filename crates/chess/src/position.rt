@@ -152,10 +152,7 @@ impl<B: Board> Position<B> {
     pub(crate) fn is_held(&self, side: Side, square: Square) -> bool
         ensures { IsTrue result ↔ IsHeld self.now.men side square }
     {
-        match self.at(square) {
-            Some(man) => man.side == side,
-            None => false,
-        }
+        self.board.is_held(side, square)
     }
 
     /// Whether the side holds the right to castle on the wing.

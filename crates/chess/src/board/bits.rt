@@ -1,9 +1,9 @@
 //! The board over words of 64 bits.
 ghost use Rattle.std.specs.Prelude.{◌≡◌, ◌↔◌, ◌⊎◌, ◌<◌, IsTrue, None, replicate};
 ghost use Rattle.chess.specs.Squares.{IsOnBoard, index_of};
-ghost use Rattle.chess.specs.Placements.{with_man, man_at, IsEmpty};
+ghost use Rattle.chess.specs.Placements.{with_man, man_at, IsHeld, IsEmpty};
 ghost use Rattle.chess.specs.Attacks.{IsAttacked};
-ghost use Rattle.chess.specs.BitWords.{AreApart, IsWordOf, IsCleared, IsBitSet, IsMan, IsRunner, IsHitBy, IsHitStraight, IsHitDiagonal, words_men, man_in, man_of_row, row_of};
+ghost use Rattle.chess.specs.BitWords.{AreApart, IsWordOf, IsCleared, IsBitSet, IsMan, IsRunner, IsHitBy, IsHitStraight, IsHitDiagonal, words_men, man_in, man_of_row, number_of_kind, row_of};
 ghost use Rattle.chess.specs.Sights.{IsInSight};
 ghost use Rattle.chess.specs.CellFacts.{on_board-men_of};
 ghost use Rattle.chess.specs.declared.board.man.Kind.TheVariants.{King, Knight, Pawn};
@@ -44,6 +44,10 @@ impl Board for Bits {
 
     fn is_empty(&self, square: Square) -> bool {
         occupied(&self.words) & word_of(square) == 0
+    }
+
+    fn is_held(&self, side: Side, square: Square) -> bool {
+        held(&self.words, side) & word_of(square) != 0
     }
 
     fn attacked(&self, square: Square, side: Side) -> bool {
@@ -87,7 +91,16 @@ pub(crate) fn row(man: Man) -> u8
         Side::White => 0u8,
         Side::Black => 6,
     };
-    side + match man.kind {
+    side + number_of(man.kind)
+}
+
+/// The number of a kind in the order of `Kind`.
+#[inline(always)]
+pub(crate) fn number_of(kind: Kind) -> u8
+    ensures number { result ≡ number_of_kind kind }
+    ensures below { result < 6 }
+{
+    match kind {
         Kind::King => 0,
         Kind::Queen => 1,
         Kind::Rook => 2,
@@ -184,6 +197,20 @@ fn occupied(words: &[u64; 12]) -> u64
         all |= words[row];
     }
     all
+}
+
+/// The squares on which men of the side stand.
+#[inline(always)]
+fn held(words: &[u64; 12], side: Side) -> u64
+    requires { AreApart words.now }
+    ensures { IsWordOf (IsHeld (words_men words.now) side) result }
+{
+    squares_with(words, side, Kind::King)
+        | squares_with(words, side, Kind::Queen)
+        | squares_with(words, side, Kind::Rook)
+        | squares_with(words, side, Kind::Bishop)
+        | squares_with(words, side, Kind::Knight)
+        | squares_with(words, side, Kind::Pawn)
 }
 
 /// The squares without men.

@@ -42,6 +42,13 @@ impl Board for Mailbox {
         self.man(square).is_none()
     }
 
+    fn is_held(&self, side: Side, square: Square) -> bool {
+        match self.man(square) {
+            Some(man) => man.side == side,
+            None => false,
+        }
+    }
+
     fn attacked(&self, square: Square, side: Side) -> bool {
         for index in 0u8..64 {
             if self.is_hit_from(Square::of_index(index), square, side) {

@@ -231,16 +231,21 @@ impl<B: Board> Position<B> {
         ensures { self.new ≡ after self.old m.now }
     {
         self.known();
-        *self = Position {
-            board,
-            turn: self.turn_after(),
-            rights: self.rights_after(m),
-            en_passant: self.en_passant_after(man, m),
-            halfmove_clock: self.halfmove_clock_after(man, m),
-            fullmove_number: self.fullmove_number_after(),
-            white_king: self.king_after(m, Side::White),
-            black_king: self.king_after(m, Side::Black),
-        };
+        let turn = self.turn_after();
+        let rights = self.rights_after(m);
+        let en_passant = self.en_passant_after(man, m);
+        let halfmove_clock = self.halfmove_clock_after(man, m);
+        let fullmove_number = self.fullmove_number_after();
+        let white_king = self.king_after(m, Side::White);
+        let black_king = self.king_after(m, Side::Black);
+        self.board = board;
+        self.turn = turn;
+        self.rights = rights;
+        self.en_passant = en_passant;
+        self.halfmove_clock = halfmove_clock;
+        self.fullmove_number = fullmove_number;
+        self.white_king = white_king;
+        self.black_king = black_king;
     }
 
     /// Makes the move in place if it leaves the own king unattacked.

@@ -1,8 +1,8 @@
 use Rattle.std.proofs.Common.{◌≡◌, ◌∙◌, ap, sym, get_or, []}
 use Rattle.chess.specs.Squares.{index_of}
 use Rattle.chess.specs.Sets.{has_bit}
-use Rattle.chess.specs.BitWords.{row_of}
-use Rattle.chess.specs.declared.board.sights.TheConstants.{HITS}
+use Rattle.chess.specs.BitWords.{sight_row_of}
+use Rattle.chess.specs.declared.board.sights.tables.TheConstants.{HITS}
 use Rattle.chess.proofs.TableFacts.{table_bit}
 use Rattle.chess.proofs.HitsTable.{hits_fit}
 use Rattle.chess.proofs.SightFacts.{sees, sees_is}
@@ -11,9 +11,10 @@ use Rattle.chess.proofs.board.sights.sighting.Goals as goal
 pub returns : goal.returns
 returns c s on_board =
     let man = c.args.man in
-    let bit : has_bit (get_or (get_or HITS c.row.result []) c.index.result 0) (index_of s) ≡ sees man.side man.kind s c.args.target =
-    ap (λ n. has_bit (get_or (get_or HITS n []) c.index.result 0) (index_of s)) c.row.ensures.row
-    ∙ ap (λ n. has_bit (get_or (get_or HITS (row_of man) []) n 0) (index_of s)) c.index.ensures.place
-    ∙ table_bit (get_or HITS (row_of man) []) (sees man.side man.kind) (hits_fit man.side man.kind) s c.args.target on_board c.index.ensures.on_board in
+    let row = sight_row_of man.side man.kind in
+    let bit : has_bit (get_or (get_or HITS c.sight_row.result []) c.index.result 0) (index_of s) ≡ sees man.side man.kind s c.args.target =
+    ap (λ n. has_bit (get_or (get_or HITS n []) c.index.result 0) (index_of s)) c.sight_row.ensures.row
+    ∙ ap (λ n. has_bit (get_or (get_or HITS row []) n 0) (index_of s)) c.index.ensures.place
+    ∙ table_bit (get_or HITS row []) (sees man.side man.kind) (hits_fit man.side man.kind) s c.args.target on_board c.index.ensures.on_board in
     let test = sees_is man.side man.kind s c.args.target in
     ((λ e. test.0 (sym bit ∙ e)), (λ f. bit ∙ test.1 f))

@@ -10,24 +10,24 @@ invariant_of-self g c =
     let m = c.args.m.now in
     let shown : record {
       men = g.B.Board.men c.args.board;
-      turn = c.turn_after.result;
-      rights = c.rights_after.result;
-      en_passant = c.en_passant_after.result;
-      halfmove_clock = c.halfmove_clock_after.result;
-      fullmove_number = c.fullmove_number_after.result;
+      turn = c.turn_after-turn.result;
+      rights = c.rights_after-rights.result;
+      en_passant = c.en_passant_after-en_passant.result;
+      halfmove_clock = c.halfmove_clock_after-halfmove_clock.result;
+      fullmove_number = c.fullmove_number_after-fullmove_number.result;
     }
     ≡ after P m =
     λ i. record {
       men = c.requires.board i;
-      turn = c.turn_after.ensures i;
-      rights = c.rights_after.ensures i;
-      en_passant = c.en_passant_after.ensures i;
-      halfmove_clock = c.halfmove_clock_after.ensures i;
-      fullmove_number = c.fullmove_number_after.ensures i;
+      turn = c.turn_after-turn.ensures i;
+      rights = c.rights_after-rights.ensures i;
+      en_passant = c.en_passant_after-en_passant.ensures i;
+      halfmove_clock = c.halfmove_clock_after-halfmove_clock.ensures i;
+      fullmove_number = c.fullmove_number_after-fullmove_number.ensures i;
     } in
-    subst (λ (Q : State). IsKept Q c.king_after.result c.king_after-2.result) (sym shown)
+    subst (λ (Q : State). IsKept Q c.king_after-white_king.result c.king_after-black_king.result) (sym shown)
     (record {
       sound = after_sound P m (record { sound = c.known.ensures; rules = c.requires.legal.pseudo_legal }) c.requires.legal.safe;
-      white = c.king_after.ensures;
-      black = c.king_after-2.ensures;
+      white = c.king_after-white_king.ensures;
+      black = c.king_after-black_king.ensures;
     })
