@@ -39,6 +39,7 @@ pub mod ReadingFacts
 pub mod CastlingTextFacts
 pub mod TextParts
 pub mod SpelledParts
+pub mod KindTable
 pub mod NamedFacts
 pub mod StepperFacts
 pub mod AbleFacts

@@ -14,7 +14,6 @@ use Rattle.chess.specs.declared.board.man.Man.{Man}
 use Rattle.chess.specs.declared.board.man.Kind.{Kind}
 use Rattle.chess.specs.declared.board.man.Kind.TheVariants.{King, Queen, Rook, Bishop, Knight, Pawn}
 use Rattle.chess.specs.declared.board.man.Wing.{Wing}
-use Rattle.chess.specs.declared.board.man.Wing.TheVariants.{KingSide, QueenSide}
 use Rattle.chess.specs.declared.moves.Move.{Move}
 use Rattle.chess.specs.declared.move_text.SanError.{SanError}
 use Rattle.chess.specs.declared.move_text.SanError.TheVariants as errors

@@ -96,7 +96,7 @@ rank_number b e = (grind (arith, nat_tests), grind (arith, nat_tests), grind (ar
 equals_byte : (b : ℕ) → is_of Equals b ≡ true → b ≡ 61
 equals_byte b e = grind (arith, nat_tests)
 
-letter_shown : (b : ℕ) → is_of KindLetter b ≡ true → letter_text (kind_of b) ≡ b ∷ []
+pub letter_shown : (b : ℕ) → is_of KindLetter b ≡ true → letter_text (kind_of b) ≡ b ∷ []
 letter_shown b is = elim (kind_byte b is) [
   | inl e ↦ subst (λ n. letter_text (kind_of n) ≡ n ∷ []) (sym e) refl
   | inr (inl e) ↦ subst (λ n. letter_text (kind_of n) ≡ n ∷ []) (sym e) refl
@@ -202,7 +202,7 @@ bytes_of said sign equals = record {
   promotion = option_map kind_letter said.promote;
 }
 
-letter_is_kind : (k : Kind) → (is_of KindLetter (kind_letter k) ≡ true) × (kind_of (kind_letter k) ≡ Some k)
+pub letter_is_kind : (k : Kind) → (is_of KindLetter (kind_letter k) ≡ true) × (kind_of (kind_letter k) ≡ Some k)
 letter_is_kind King = (refl, refl)
 letter_is_kind Queen = (refl, refl)
 letter_is_kind Rook = (refl, refl)

@@ -8,6 +8,27 @@ ghost use Rattle.chess.specs.declared.board.man.Kind.{Kind};
 use crate::board::{Kind, Man, Side, Square};
 use arrayvec::ArrayString;
 
+/// The kinds by their letters, from B to R.
+static KINDS: [Option<Kind>; 17] = [
+    Some(Kind::Bishop),
+    None,
+    None,
+    None,
+    None,
+    None,
+    None,
+    None,
+    None,
+    Some(Kind::King),
+    None,
+    None,
+    Some(Kind::Knight),
+    None,
+    Some(Kind::Pawn),
+    Some(Kind::Queen),
+    Some(Kind::Rook),
+];
+
 /// The letter of a kind, in upper case.
 pub(crate) fn kind_letter(kind: Kind) -> u8
     ensures letter { result ≡ kind_letter kind }
@@ -23,20 +44,16 @@ pub(crate) fn kind_letter(kind: Kind) -> u8
     }
 }
 
-/// The kind of that letter in upper case, if there is one.
+/// The kind of that letter in upper case, if there is one: by a table, so that no jump depends on the letter.
+#[inline(always)]
 pub(crate) fn kind_of(letter: u8) -> Option<Kind>
     ensures found { MatchOption result ((other : Kind) → kind_letter other ≡ letter → ⊥) (λ kind. kind_letter kind ≡ letter) }
     ensures answer { result ≡ kind_of letter }
 {
-    match letter {
-        b'K' => Some(Kind::King),
-        b'Q' => Some(Kind::Queen),
-        b'R' => Some(Kind::Rook),
-        b'B' => Some(Kind::Bishop),
-        b'N' => Some(Kind::Knight),
-        b'P' => Some(Kind::Pawn),
-        _ => None,
+    if letter < b'B' || letter > b'R' {
+        return None;
     }
+    KINDS[(letter - b'B') as usize]
 }
 
 /// The letter of a man: White's in upper case, Black's in lower case.
