@@ -40,5 +40,6 @@ pub mod SortedTags
 pub mod Spliced
 pub mod Tables
 pub mod TagLemmas
+pub mod TagReads
 pub mod TagStrings
 pub mod Values

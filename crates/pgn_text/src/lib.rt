@@ -14,6 +14,7 @@ mod place;
 mod progress;
 mod quoted;
 mod scan;
+mod tag;
 mod tally;
 mod token;
 mod unquoted;
