@@ -1,13 +1,18 @@
 -- Where a text is cut: the tests by place, and the blocks between two cuts.
-use Rattle.std.proofs.Common.{◌≡◌, ℕ, ◌+◌, ◌-◌, ◌<◌, ◌≤◌, Bool, true, false, List, [], ◌∷◌, ◌++◌, length, get_or, take, drop, refl, sym, ap, ◌∙◌, arith, length-append, length-drop, append_assoc, inl, inr}
-use Rattle.std.specs.Prelude.{◌≢◌, ◌&&◌, ◌==◌, nat_eq, IsTrue}
+use Rattle.std.proofs.Common.{◌≡◌, ℕ, ◌+◌, ◌-◌, ◌<◌, ◌≤◌, Bool, true, false, List, [], ◌∷◌, ◌++◌, length, get_or, take, drop, refl, sym, ap, ◌∙◌, subst, arith, length-append, length-drop, append_assoc, inl, inr}
+use Rattle.std.specs.Prelude.{◌≢◌, ◌&&◌, ◌==◌, nat_eq, IsTrue, Some, None}
 use Rattle.std.specs.List.{starts_with}
 use Rattle.std.specs.Cmp.Lexicographic.{pointwise}
-use Rattle.std.proofs.lemmas.List.{get_or_append_left, take-append-le, drop-append-le, drop_at, append-nil, get_or-append_right, get_or-drop, take_rest, drop-drop}
+use Rattle.std.proofs.lemmas.List.{drop_more, get_or_append_left, take-append-le, drop-append-le, drop_at, append-nil, get_or-append_right, get_or-drop, drop-drop}
 use Rattle.std.proofs.Math.Seq.{drop-append-add}
-use Rattle.std.proofs.lemmas.Bool.{and_left, both_ways, cases_lt, false_from_ne_true}
+use Rattle.std.proofs.lemmas.Bool.{and_parts, both_ways, cases_lt, eqb-true, false_from_ne_true}
 use Rattle.pgn_text.specs.Blocks.{event_line, is_event_line, IsFirstBlock}
+use Rattle.std.proofs.lemmas.Bool.Decides.{Decides-eqb}
+use Rattle.std.proofs.lemmas.Slice.Eq.{starts_is}
+use Rattle.memchr.specs.Find.{OccursAt, FindsNeedle}
+use Rattle.memchr.proofs.lemmas.MatchLemmas.{OccursAt-part, OccursAt-from_part}
 use Rattle.pgn_text.specs.Cuts.{is_cut, NoCutBefore}
+use Rattle.pgn_text.specs.Searches.{IsNextCut}
 
 -- the test of a cut, over the byte before and the eight bytes from there on
 abbrev cut_test : ℕ → List ℕ → Bool
@@ -39,29 +44,10 @@ seam before x y some =
     ap (λ b. cut_test b (take 8 (drop at (before ++ (x ++ y))))) last
     ∙ ap (λ t. cut_test (get_or x (length x - 1) 0) (take 8 t)) rest
 
--- a stretch without line feeds holds no cut behind its bytes
-pub no_cut_within : (text hay : List ℕ) (at gap : ℕ) → 0 < at → hay ≡ drop (at - 1) text
-    → ((k : ℕ) → k < gap → get_or hay k 0 == 10 ≡ true → ⊥) → NoCutBefore text at (at + gap)
-no_cut_within text hay at gap some is none j low high =
-    let less : j - at < gap = omega arith in
-    let place : at - 1 + (j - at) ≡ j - 1 = omega arith in
-    let same : get_or hay (j - at) 0 ≡ get_or text (j - 1) 0 =
-    ap (λ h. get_or h (j - at) 0) is ∙ get_or-drop (at - 1) text (j - at) 0 ∙ ap (λ i. get_or text i 0) place in
-    and_left (get_or text (j - 1) 0 == 10) (starts_with nat_eq (drop j text) event_line)
-    (false_from_ne_true _ (λ e. none (j - at) less (ap (λ b. b == 10) same ∙ e)))
-
 -- no cut up to a place, and none from there on
 pub no_cut_join : (text : List ℕ) (from mid end : ℕ) → NoCutBefore text from mid → NoCutBefore text mid end → NoCutBefore text from end
 no_cut_join text from mid end front back j low high =
     elim (cases_lt j mid) [ inl less ↦ front j low less | inr more ↦ back j more high ]
-
--- one place more is no cut
-pub no_cut_more : (text : List ℕ) (from at : ℕ) → NoCutBefore text from at → is_cut text at ≡ false → NoCutBefore text from (at + 1)
-no_cut_more text from at none here j low high =
-    elim (cases_lt j at) [
-      | inl less ↦ none j low less
-      | inr more ↦ let same : j ≡ at = omega arith in rw same here
-    ]
 
 -- bytes with no cut within, and a cut or the text's end behind them, are a first block
 pub first_block : (before bytes ahead : List ℕ) → NoCutBefore (before ++ (bytes ++ ahead)) (length before + 1) (length before + length bytes)
@@ -106,28 +92,6 @@ first_block_at_end before bytes none =
     (λ j low high. ap (λ t. is_cut t j) same ∙ none j low (omega (arith, length-append before bytes)))
     (λ some. absurd (some refl))
 
--- a search for the next line feed that passed over `gap` bytes
-pub no_cut_past : (text : List ℕ) (from at gap : ℕ) → 0 < at → NoCutBefore text from at
-    → ((k : ℕ) → 0 ≤ k → k < gap → get_or (take (length text - (at - 1)) (drop (at - 1) text)) k 0 == 10 ≡ true → ⊥)
-    → NoCutBefore text from (at + gap)
-no_cut_past text from at gap some front none =
-    no_cut_join text from at (at + gap) front
-    (no_cut_within text (take (length text - (at - 1)) (drop (at - 1) text)) at gap some (take_rest text (at - 1)) (λ k less. none k (omega arith) less))
-
--- the same where it came to the text's end
-pub no_cut_left : (text : List ℕ) (from at : ℕ) → 0 < at → NoCutBefore text from at
-    → ((k : ℕ) → 0 ≤ k → k < length (take (length text - (at - 1)) (drop (at - 1) text)) → get_or (take (length text - (at - 1)) (drop (at - 1) text)) k 0 == 10 ≡ true → ⊥)
-    → NoCutBefore text from (length text)
-no_cut_left text from at some front none j low high =
-    let size : length (take (length text - (at - 1)) (drop (at - 1) text)) ≡ length text - (at - 1) = ap length (take_rest text (at - 1)) ∙ length-drop (at - 1) text in
-    no_cut_past text from at (length text - (at - 1)) some front (λ k low' less. none k low' (omega arith)) j low (omega arith)
-
--- the byte behind a line feed that was found is no further than the text's end
-pub gap_fits : (text : List ℕ) (at gap : ℕ) → 0 < at → gap < length (take (length text - (at - 1)) (drop (at - 1) text)) → at + gap ≤ length text
-gap_fits text at gap some less =
-    let size : length (take (length text - (at - 1)) (drop (at - 1) text)) ≡ length text - (at - 1) = ap length (take_rest text (at - 1)) ∙ length-drop (at - 1) text in
-    omega arith
-
 -- where the first bytes of a text are given up, and those held begin at a place: a cut behind that place is one of the text
 pub cut_moved : (gone held : List ℕ) (begin j : ℕ) → begin < j → is_cut (gone ++ drop begin held) (length gone + (j - begin)) ≡ is_cut held j
 cut_moved gone held begin j low =
@@ -150,3 +114,59 @@ no_cut_moved gone held begin from end low none j front back =
     let there = begin + (j - length gone) in
     let same : length gone + (there - begin) ≡ j = omega arith in
     ap (is_cut (gone ++ drop begin held)) (sym same) ∙ cut_moved gone held begin there (omega arith) ∙ none there (omega arith) (omega arith)
+
+-- the bytes of a cut: a line feed, and the event line behind it
+abbrev cut_bytes : List ℕ
+cut_bytes = 10 ∷ event_line
+
+-- what stands behind the place before a cut
+cut_shown : (text : List ℕ) (from k : ℕ) → 0 < from → from + k ≤ length text → drop k (drop (from - 1) text) ≡ get_or text (from + k - 1) 0 ∷ drop (from + k) text
+cut_shown text from k some within =
+    drop-drop k (from - 1) text ∙ ap (λ i. drop i text) (omega arith)
+    ∙ drop_more text (from + k - 1) 0 (omega arith) ∙ ap (λ i. get_or text (from + k - 1) 0 ∷ drop i text) (omega arith)
+
+-- where the bytes of a cut stand, there is one
+occurs_cut : (text : List ℕ) (from k : ℕ) → 0 < from → from ≤ length text + 1 → OccursAt (drop (from - 1) text) cut_bytes k → (is_cut text (from + k) ≡ true) × (from + k + 8 ≤ length text)
+occurs_cut text from k some within occurs =
+    let fits : k + 9 ≤ length text - (from - 1) = omega (arith, occurs.fits, length-drop (from - 1) text) in
+    let shown : take 9 (get_or text (from + k - 1) 0 ∷ drop (from + k) text) ≡ cut_bytes =
+    ap (take 9) (sym (cut_shown text from k some (omega arith))) ∙ OccursAt-part (drop (from - 1) text) cut_bytes k occurs in
+    let first : get_or text (from + k - 1) 0 ≡ 10 = ap (λ xs. get_or xs 0 0) shown in
+    let rest : take 8 (drop (from + k) text) ≡ event_line = ap (drop 1) shown in
+    (ap (λ b. cut_test b (take 8 (drop (from + k) text))) first ∙ ap (cut_test 10) rest, omega arith)
+
+-- where there is a cut, its bytes stand
+cut_occurs : (text : List ℕ) (from j : ℕ) → 0 < from → from ≤ j → is_cut text j ≡ true → OccursAt (drop (from - 1) text) cut_bytes (j - from)
+cut_occurs text from j some low cut =
+    let parts : ((get_or text (j - 1) 0 == 10) ≡ true) × (starts_with nat_eq (drop j text) event_line ≡ true) = and_parts _ _ cut in
+    let begins : drop j text ≡ event_line ++ drop 8 (drop j text) = (starts_is Decides-eqb (drop j text) event_line true (sym parts.1)).0 refl in
+    let fits : j + 8 ≤ length text = omega (arith, length-drop j text, ap length begins ∙ length-append event_line (drop 8 (drop j text))) in
+    let there : from + (j - from) ≡ j = omega arith in
+    let shown : drop (j - from) (drop (from - 1) text) ≡ 10 ∷ drop j text =
+    cut_shown text from (j - from) some (omega arith) ∙ ap (λ i. get_or text (i - 1) 0 ∷ drop i text) there
+    ∙ ap (λ b. b ∷ drop j text) (eqb-true (get_or text (j - 1) 0) 10 parts.0) in
+    OccursAt-from_part (drop (from - 1) text) cut_bytes (j - from) (omega (arith, length-drop (from - 1) text))
+    (ap (take 9) shown ∙ ap (λ xs. 10 ∷ take 8 xs) begins)
+
+-- before a place up to which the bytes of a cut stand nowhere there is no cut
+no_cut_found : (text : List ℕ) (from k : ℕ) → 0 < from → ((i : ℕ) → i < k → OccursAt (drop (from - 1) text) cut_bytes i → ⊥) → NoCutBefore text from (from + k)
+no_cut_found text from k some none j low high =
+    false_from_ne_true _ (λ cut. none (j - from) (omega arith) (cut_occurs text from j some low cut))
+
+-- where the bytes of a cut are not found there is none
+pub no_cut : (text hay : List ℕ) (from : ℕ) → 0 < from → from ≤ length text + 1 → hay ≡ drop (from - 1) text → FindsNeedle hay cut_bytes 0 None → NoCutBefore text from (length text)
+no_cut text hay from some within is nowhere j low high =
+    no_cut_found text from (length text + 1 - from) some
+    (λ i below occurs. nowhere i (omega arith) (omega (arith, ap length is, length-drop (from - 1) text)) (subst (λ xs. OccursAt xs cut_bytes i) (sym is) occurs))
+    j low (omega arith)
+
+-- where they are found first, the first one is
+pub first_cut : (text hay : List ℕ) (from k : ℕ) → 0 < from → from ≤ length text + 1 → hay ≡ drop (from - 1) text → FindsNeedle hay cut_bytes 0 (Some k) → IsNextCut text from (from + k)
+first_cut text hay from k some within is found =
+    let here : (is_cut text (from + k) ≡ true) × (from + k + 8 ≤ length text) = occurs_cut text from k some within (subst (λ xs. OccursAt xs cut_bytes k) is found.1) in
+    record {
+      low = omega arith;
+      seen = here.1;
+      here = here.0;
+      before = no_cut_found text from k some (λ i below occurs. found.0.before i (omega arith) below (subst (λ xs. OccursAt xs cut_bytes i) (sym is) occurs));
+    }

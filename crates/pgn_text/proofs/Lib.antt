@@ -50,5 +50,6 @@ pub mod Stopping
 pub mod Stuck
 pub mod Tables
 pub mod TagLemmas
+pub mod TagReads
 pub mod TagStrings
 pub mod Values

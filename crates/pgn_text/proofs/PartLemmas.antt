@@ -20,7 +20,7 @@ pub no_gap-word : (place : Standing) (b : ℕ) (rest : List ℕ) → is_word_byt
 no_gap-word place b rest word =
     rw (is_white-word b word, brace-word b word, semicolon-word b word, percent-word b word, order_mark-word b word) refl
 
-no_gap-mark : (place : Standing) (b : ℕ) (rest : List ℕ) → is_mark b ≡ true → gap_front place (b ∷ rest) ≡ None
+pub no_gap-mark : (place : Standing) (b : ℕ) (rest : List ℕ) → is_mark b ≡ true → gap_front place (b ∷ rest) ≡ None
 no_gap-mark place b rest mark =
     rw (is_white-mark b mark, brace-mark b mark, semicolon-mark b mark, percent-mark b mark, order_mark-mark b mark) refl
 

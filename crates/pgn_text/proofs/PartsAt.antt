@@ -2,19 +2,19 @@
 use Rattle.std.proofs.Common.{◌≡◌, ℕ, suc, ◌+◌, ◌-◌, ◌<◌, ◌≤◌, Bool, true, false, List, [], ◌∷◌, ◌++◌, length, take, drop, get_or, refl, sym, ap, ◌∙◌, subst, arith, length-drop, length-append, drop-drop}
 use Rattle.std.specs.Prelude.{Option, Some, None, option_map, IsTrue}
 use Rattle.std.specs.Option.{option_or}
-use Rattle.pgn_text.proofs.Classes.{is_letter-word, is_digit-word, is_letter-digit}
+use Rattle.pgn_text.proofs.Classes.{is_letter-word, is_digit-word, is_letter-digit, is_word_byte-mark, dot-mark, dollar-mark}
 use Rattle.pgn_text.proofs.Fronts.{run_of-append, after_run-append, run-append-after, list_all-run}
 use Rattle.std.specs.List.{list_all}
 use Rattle.std.proofs.lemmas.Bool.{and_parts, and_from, not_from_false}
 use Rattle.std.proofs.lemmas.List.{drop_more, drop_all, nil_from_length, get_or-drop}
-use Rattle.pgn_text.specs.Bytes.{is_white, is_digit, is_letter, is_word_byte, begins, stops}
-use Rattle.pgn_text.specs.Parts.{Part, White, Brace, Word, Dot, Open, Close, Standing, standing_of, spelled_part}
-use Rattle.pgn_text.specs.Reading.{Kept, KeptGap, KeptComment, kept_found, brace_front, KeptMove, KeptNumber, KeptDot, KeptOpen, KeptClose, kept_word, run_of, after_run, part_front, game_front}
+use Rattle.pgn_text.specs.Bytes.{is_white, is_digit, is_letter, is_mark, is_word_byte, begins, stops}
+use Rattle.pgn_text.specs.Parts.{Part, White, Brace, Word, Dot, Marks, Open, Close, Standing, standing_of, spelled_part}
+use Rattle.pgn_text.specs.Reading.{Kept, KeptGap, KeptComment, kept_found, brace_front, KeptMove, KeptNumber, KeptDot, KeptMarks, KeptOpen, KeptClose, kept_word, run_of, after_run, part_front, game_front}
 use Rattle.pgn_text.specs.Tokens.{RunTo}
 use Rattle.pgn_text.specs.Walk.{PartAt, KeptAt, NothingAt, GapPartAt}
 use Rattle.pgn_text.proofs.FoundLemmas.{read-stands}
-use Rattle.pgn_text.proofs.PartLemmas.{no_gap-word, part_has_byte}
-use Rattle.pgn_text.proofs.Places.{part_placed, nothing_at}
+use Rattle.pgn_text.proofs.PartLemmas.{no_gap-word, no_gap-mark, part_has_byte}
+use Rattle.pgn_text.proofs.Places.{part_placed, kept_at, nothing_at}
 use Rattle.pgn_text.proofs.Braces.{brace_found, brace_none}
 use Rattle.memchr.specs.Find.{IsFirstByte, is_byte}
 
@@ -63,20 +63,23 @@ run_bytes test block at end below to =
     ∙ ap (take (suc (end - (at + 1)))) (drop_more block at 0 below)
     ∙ ap (λ xs. get_or block at 0 ∷ xs) to.run
 
+-- a part that is a run
+run_at : (f : Bool) (block : List ℕ) (at end : ℕ) (test : ℕ → Bool) (part_of : List ℕ → Part) → at < length block → RunTo test block (at + 1) end
+    → ((place : Standing) (rest : List ℕ) → part_front place (get_or block at 0 ∷ rest) ≡ Some (part_of (get_or block at 0 ∷ run_of test rest), after_run test rest))
+    → PartAt f block at (part_of (take (end - at) (drop at block))) end
+run_at f block at end test part_of below to reads =
+    placed f block at end (part_of (take (end - at) (drop at block))) (omega arith) to.within
+    (ap (part_front (standing_of f (take at block))) (drop_more block at 0 below)
+    ∙ reads (standing_of f (take at block)) (drop (at + 1) block)
+    ∙ ap (λ xs. Some (part_of xs, after_run test (drop (at + 1) block))) (sym (run_bytes test block at end below to))
+    ∙ ap (λ xs. Some (part_of (take (end - at) (drop at block)), xs)) (sym to.rest))
+
 -- a word
 word_at : (f : Bool) (block : List ℕ) (at end : ℕ) → at < length block → is_word_byte (get_or block at 0) ≡ true → RunTo is_word_byte block (at + 1) end
     → PartAt f block at (Word (take (end - at) (drop at block))) end
 word_at f block at end below word to =
-    let place : Standing = standing_of f (take at block) in
-    let b : ℕ = get_or block at 0 in
-    let rest : List ℕ = drop (at + 1) block in
-    let game : game_front (b ∷ rest) ≡ Some (Word (b ∷ run_of is_word_byte rest), after_run is_word_byte rest) = rw word refl in
-    placed f block at end (Word (take (end - at) (drop at block))) (omega arith) to.within
-    (ap (part_front place) (drop_more block at 0 below)
-    ∙ ap (λ found. option_or found (game_front (b ∷ rest))) (no_gap-word place b rest word)
-    ∙ game
-    ∙ ap (λ xs. Some (Word xs, after_run is_word_byte rest)) (sym (run_bytes is_word_byte block at end below to))
-    ∙ ap (λ xs. Some (Word (take (end - at) (drop at block)), xs)) (sym to.rest))
+    run_at f block at end is_word_byte Word below to
+    (λ place rest. ap (λ found. option_or found (game_front (get_or block at 0 ∷ rest))) (no_gap-word place (get_or block at 0) rest word) ∙ rw word refl)
 
 kept_word_at : (f : Bool) (block : List ℕ) (at end : ℕ) → at < length block → is_word_byte (get_or block at 0) ≡ true → RunTo is_word_byte block (at + 1) end
     → (token : Kept) → token ≡ kept_word (take (end - at) (drop at block)) → KeptAt f block at token end
@@ -90,6 +93,17 @@ kept_letters f block at end below letter to =
     let first : begins is_letter (take (end - at) (drop at block)) ≡ true = ap (begins is_letter) (run_bytes is_word_byte block at end below to) ∙ letter in
     let bytes : List ℕ = take (end - at) (drop at block) in
     kept_word_at f block at end below word to (KeptMove bytes) (rw first refl)
+
+-- a run of marks
+pub kept_marks : (f : Bool) (block : List ℕ) (at end : ℕ) → at < length block → is_mark (get_or block at 0) ≡ true → RunTo is_mark block (at + 1) end
+    → KeptAt f block at (KeptMarks (take (end - at) (drop at block))) end
+kept_marks f block at end below mark to = record {
+  part = Marks (take (end - at) (drop at block));
+  found = run_at f block at end is_mark Marks below to
+      (λ place rest. ap (λ found. option_or found (game_front (get_or block at 0 ∷ rest))) (no_gap-mark place (get_or block at 0) rest mark)
+      ∙ rw (is_word_byte-mark (get_or block at 0) mark, dot-mark (get_or block at 0) mark, dollar-mark (get_or block at 0) mark, mark) refl);
+  keeps = refl;
+}
 
 -- at the end of the block no part stands
 pub no_part_at_end : (f : Bool) (block : List ℕ) (at : ℕ) → length block ≤ at → NothingAt f block at
@@ -106,6 +120,24 @@ front_at : (f : Bool) (block : List ℕ) (at b : ℕ) (front : List ℕ → Opti
 front_at f block at b front below is reads =
     ap (part_front (standing_of f (take at block))) (drop_more block at 0 below ∙ ap (λ x. x ∷ drop (at + 1) block) is)
     ∙ reads (standing_of f (take at block)) (drop (at + 1) block)
+
+-- a part that is found behind its first byte, and what a game keeps of it
+pub kept_behind : (f : Bool) (block : List ℕ) (at b : ℕ) (front : List ℕ → Option (Part × List ℕ)) → at < length block → get_or block at 0 ≡ b
+    → ((place : Standing) (rest : List ℕ) → part_front place (b ∷ rest) ≡ front rest) → (token : Kept) (end : ℕ) → end ≤ length block
+    → Some (token, drop end block) ≡ option_map kept_found (front (drop (at + 1) block)) → KeptAt f block at token end
+kept_behind f block at b front below is reads token end within found =
+    let same : length block - length (drop end block) ≡ end = omega (arith, length-drop end block) in
+    subst (KeptAt f block at token) same
+    (kept_at f block at (standing_of f (take at block)) (drop at block) refl refl (omega arith) token (drop end block)
+    (found ∙ sym (ap (option_map kept_found) (front_at f block at b front below is reads))))
+
+-- where none is found, none stands there
+pub none_behind : (f : Bool) (block : List ℕ) (at b : ℕ) (front : List ℕ → Option (Part × List ℕ)) → at < length block → get_or block at 0 ≡ b
+    → ((place : Standing) (rest : List ℕ) → part_front place (b ∷ rest) ≡ front rest)
+    → None ≡ option_map kept_found (front (drop (at + 1) block)) → NothingAt f block at
+none_behind f block at b front below is reads none =
+    nothing_at f block at (standing_of f (take at block)) (drop at block) refl refl
+    (none ∙ sym (ap (option_map kept_found) (front_at f block at b front below is reads)))
 
 or_nothing : (o : Option (Part × List ℕ)) → option_or o None ≡ o
 or_nothing None = refl
@@ -138,9 +170,8 @@ kept_brace f block at n text below is text_is first =
 
 pub no_brace : (f : Bool) (block : List ℕ) (at : ℕ) (text : List ℕ) → at < length block → get_or block at 0 ≡ 123 → text ≡ drop (at + 1) block → IsFirstByte (is_byte 125) text None → NothingAt f block at
 no_brace f block at text below is text_is nowhere =
-    nothing_at f block at (standing_of f (take at block)) (drop at block) refl refl
-    (sym (ap (option_map kept_found) (front_at f block at 123 brace_front below is brace_read
-    ∙ brace_none (drop (at + 1) block) (subst (λ xs. IsFirstByte (is_byte 125) xs None) text_is nowhere))))
+    none_behind f block at 123 brace_front below is brace_read
+    (sym (ap (option_map kept_found) (brace_none (drop (at + 1) block) (subst (λ xs. IsFirstByte (is_byte 125) xs None) text_is nowhere))))
 
 -- where the block ends or a byte fails, a run stops
 stops_at : (test : ℕ → Bool) (block : List ℕ) (end : ℕ) → (end < length block → test (get_or block end 0) ≡ false) → IsTrue (stops test (drop end block))

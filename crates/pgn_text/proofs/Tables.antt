@@ -4,7 +4,7 @@ use Rattle.std.specs.Bool.{beq}
 use Rattle.std.proofs.lemmas.Bool.{cases_eq}
 use Rattle.pgn_text.specs.Tokens.{test_of, flag_of}
 use Rattle.pgn_text.specs.declared.class.Class.{Class}
-use Rattle.pgn_text.specs.declared.class.Class.TheVariants.{White, Digit, Letter, Name, Word, Mark}
+use Rattle.pgn_text.specs.declared.class.Class.TheVariants.{White, Digit, Letter, Name, Word, Mark, Single}
 use Rattle.pgn_text.specs.declared.class.TheConstants.{CLASSES}
 
 -- the two tests agree below n
@@ -38,6 +38,7 @@ agree Letter = refl
 agree Name = refl
 agree Word = refl
 agree Mark = refl
+agree Single = refl
 
 pub by_table : (class : Class) (b : ℕ) → b < 256 → has_flag CLASSES (flag_of class) b ≡ test_of class b
 by_table class b below = agree_at (has_flag CLASSES (flag_of class)) (test_of class) 256 (agree class) b below

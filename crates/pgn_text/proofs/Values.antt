@@ -1,11 +1,13 @@
 -- The contents of a string and their value.
-use Rattle.std.proofs.Common.{◌≡◌, ℕ, Bool, true, false, List, [], ◌∷◌, ◌++◌, length, refl, sym, ap, ◌∙◌, subst, append-nil}
+use Rattle.std.proofs.Common.{◌≡◌, ℕ, ◌-◌, ◌≤◌, Bool, true, false, List, [], ◌∷◌, ◌++◌, length, take, drop, refl, sym, ap, ◌∙◌, subst, append-nil, arith, length-drop}
+use Rattle.std.proofs.lemmas.Bool.Decides.{nat_tests}
 use Rattle.std.specs.Prelude.{Option, Some, None, option_map, if◌then◌else◌, IsTrue, ◌==◌, ◌&&◌, ◌||◌, not, flat_map, ◌↔◌}
 use Rattle.std.specs.List.{list_all}
 use Rattle.std.proofs.lemmas.Bool.{and_parts, not-true, or_parts, eqb-true}
 use Rattle.pgn_text.specs.Bytes.{is_plain}
 use Rattle.pgn_text.specs.Strings.{Sign, Single, Escaped, spelled_sign, is_sign, value_of_sign, IsContents, HasValue}
 use Rattle.pgn_text.specs.Reading.{with_byte, contents_front, value_of}
+use Rattle.pgn_text.specs.Tokens.{ContentsTo}
 use Rattle.pgn_text.proofs.FoundLemmas.{IsRead, contents-sound}
 use Rattle.std.proofs.lemmas.List.{nil_from_length}
 
@@ -34,6 +36,13 @@ is_contents-some text front rest r read is =
           let behind : Option (List ℕ × List ℕ) → List ℕ = λ o. elim o [ None ↦ rest | Some found ↦ found.1 ] in
           is ∙ ap (λ xs. length xs == 0) (ap behind whole)),
     )
+
+-- the same where they end at a place
+pub is_contents-end : (text : List ℕ) (end : ℕ) → ContentsTo text 0 end → IsTrue (end == length text) ↔ IsContents text
+is_contents-end text end to =
+    let within : end ≤ length text = to.within in
+    let same : (end == length text) ≡ (length (drop end text) == 0) = rw (length-drop end text) (grind (arith, nat_tests)) in
+    is_contents-some text (take (end - 0) text) (drop end text) (end == length text) (sym to.found) same
 
 pub is_contents-none : (text : List ℕ) → None ≡ contents_front false text → IsTrue false ↔ IsContents text
 is_contents-none text read = (

@@ -17,6 +17,10 @@ abbrev pub after_run : (ℕ → Bool) → List ℕ → List ℕ
 after_run test [] = []
 after_run test (b ∷ rest) = if test b then after_run test rest else b ∷ rest
 
+-- a byte that stands for itself in a string, wherever no backslash stands before it
+abbrev pub is_single : ℕ → Bool
+is_single b = is_plain b && (not (b == 34) && not (b == 92))
+
 -- what follows the wanted byte, if the text begins with it
 abbrev pub rest_behind : ℕ → List ℕ → Option (List ℕ)
 rest_behind wanted [] = None

@@ -15,14 +15,17 @@ ghost use Rattle.pgn_text.specs.contracts.blocks.Blocks.{the_row};
 use crate::buffer::Buffer;
 use crate::limits::{BLOCK_LIMIT, LARGEST_OFFSET, READ_LIMIT, WINDOW_LIMIT};
 use crate::tally::Tally;
-use memchr::memchr;
+use memchr::memmem;
 use std::alloc::Global;
 use std::io::Read;
 use std::marker::Model;
 use thiserror::Error;
 
-/// What begins a block, directly after a line feed.
-const EVENT_LINE: &[u8; 8] = b"[Event \"";
+/// A line feed, and directly behind it what begins a block.
+const CUT: &[u8; 9] = b"\n[Event \"";
+
+/// How many bytes begin a block.
+const EVENT_LINE_LEN: usize = CUT.len() - 1;
 
 /// One block of a text, with the offset of its first byte.
 #[derive(Clone, Copy, Debug)]
@@ -230,31 +233,16 @@ fn phase_behind(is_last: bool) -> Phase
     }
 }
 
-/// Whether an event line begins at the place.
-fn is_event(bytes: &[u8], at: usize) -> bool
-    requires behind_some { 0 < at }
-    requires within { at ≤ length bytes.now }
-    ensures answer { result ≡ is_cut bytes.now at }
-    ensures seen { IsTrue result → at + 8 ≤ length bytes.now }
-{
-    bytes[at - 1] == b'\n' && bytes[at..].starts_with(EVENT_LINE)
-}
-
 /// The first place from `from` on where an event line begins.
 fn find_cut(bytes: &[u8], from: usize) -> Option<usize>
     requires behind_some { 0 < from }
     requires within { from ≤ length bytes.now + 1 }
     ensures { FindsCut bytes.now from result }
 {
-    let mut at = from;
-    while let Some(gap) = memchr(b'\n', &bytes[at - 1..]) {
-        at += gap;
-        if is_event(bytes, at) {
-            return Some(at);
-        }
-        at += 1;
-    }
-    None
+    let Some(gap) = memmem::find(&bytes[from - 1..], CUT) else {
+        return None;
+    };
+    Some(from + gap)
 }
 
 /// Whether one more byte can be read.
@@ -282,10 +270,10 @@ fn given_up(held: usize, begin: usize, lost: u64) -> usize
     ensures { GivesUp held begin lost result }
 {
     let size = lost + (held - begin) as u64;
-    if size < (BLOCK_LIMIT + EVENT_LINE.len()) as u64 {
+    if size < (BLOCK_LIMIT + EVENT_LINE_LEN) as u64 {
         begin
     } else {
-        held - EVENT_LINE.len()
+        held - EVENT_LINE_LEN
     }
 }
 
@@ -322,7 +310,7 @@ fn find_end<R: Read>(
         lost += (front - begin) as u64;
         begin = 0;
         let held = buf.len();
-        from = held.saturating_sub(EVENT_LINE.len() - 1).max(1);
+        from = held.saturating_sub(EVENT_LINE_LEN - 1).max(1);
         let end = BlockEnd {
             size: lost + held as u64,
             at: held,
@@ -330,17 +318,16 @@ fn find_end<R: Read>(
         };
         let room = LARGEST_OFFSET - place - end.size;
         if room == 0 {
-            return match is_more(input) {
-                Ok(true) => Err(ReadError::InputTooLong),
-                Ok(false) => Ok(end),
-                Err(error) => Err(error),
-            };
+            let goes_on = is_more(input)?;
+            if goes_on {
+                return Err(ReadError::InputTooLong);
+            }
+            return Ok(end);
         }
         let count = READ_LIMIT.min(WINDOW_LIMIT - held).min(room as usize);
-        match buf.read_more(count, input) {
-            Ok(0) => return Ok(end),
-            Ok(_) => {}
-            Err(error) => return Err(error),
+        let more = buf.read_more(count, input)?;
+        if more == 0 {
+            return Ok(end);
         }
     }
 }

@@ -18,6 +18,8 @@ use crate::class::{Class, is_in, run_end};
 use crate::draft::Draft;
 use crate::place::{behind_dot, behind_white, comment_at, number_at, part_at};
 use crate::progress::Progress;
+use crate::scan::glyph_at;
+use crate::tag::tag_at;
 use crate::token::Token;
 use std::alloc::{AllocError, Global};
 use std::collections::BTreeMap;
@@ -188,6 +190,47 @@ fn read_comment<'a, K: Keeper<'a>>(
     }
 }
 
+/// Reads the tag at the place of the block.
+#[inline(always)]
+fn read_tag<'a, K: Keeper<'a>>(
+    block: &'a [u8],
+    at: usize,
+    progress: &mut Progress,
+    keeper: &mut K,
+) -> Result<Reading, K::Error>
+    requires place { at < length block.now }
+    requires bracket { get_or block.now at 0 ≡ 91 }
+    ensures { IfOk result (λ reading. (file_start : Bool) → IsReading (K.kept keeper.old) (K.kept keeper.new) depth_limit file_start block.now at (state_of progress.old) (state_of progress.new) reading) }
+{
+    match tag_at(block, at + 1) {
+        Some((name, contents, end)) => step_behind(
+            Token::Tag { name, contents },
+            end,
+            progress,
+            keeper,
+        ),
+        None => Ok(Reading::Stuck),
+    }
+}
+
+/// Reads the glyph at the place of the block.
+#[inline(always)]
+fn read_glyph<'a, K: Keeper<'a>>(
+    block: &'a [u8],
+    at: usize,
+    progress: &mut Progress,
+    keeper: &mut K,
+) -> Result<Reading, K::Error>
+    requires place { at < length block.now }
+    requires dollar { get_or block.now at 0 ≡ 36 }
+    ensures { IfOk result (λ reading. (file_start : Bool) → IsReading (K.kept keeper.old) (K.kept keeper.new) depth_limit file_start block.now at (state_of progress.old) (state_of progress.new) reading) }
+{
+    match glyph_at(block, at + 1) {
+        Some((number, end)) => step_behind(Token::Glyph(number), end, progress, keeper),
+        None => Ok(Reading::Stuck),
+    }
+}
+
 /// Reads the part at the place of the block, of whatever kind.
 #[inline(always)]
 fn read_other<'a, K: Keeper<'a>>(
@@ -238,11 +281,17 @@ fn read_part<'a, K: Keeper<'a>>(
         keeper.keep(Token::Number)?;
         return Ok(Reading::Number(end));
     }
+    if is_in(Class::Mark, byte) {
+        let end = run_end(Class::Mark, block, at + 1);
+        return step_behind(Token::Marks(&block[at..end]), end, progress, keeper);
+    }
     match byte {
         b'.' => step_behind(Token::Dot, at + 1, progress, keeper),
         b'(' => step_behind(Token::Open, at + 1, progress, keeper),
         b')' => step_behind(Token::Close, at + 1, progress, keeper),
         b'{' => read_comment(block, at, progress, keeper),
+        b'[' => read_tag(block, at, progress, keeper),
+        b'$' => read_glyph(block, at, progress, keeper),
         _ => read_other(block, at, file_start, progress, keeper),
     }
 }

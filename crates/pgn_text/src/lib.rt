@@ -15,6 +15,7 @@ mod place;
 mod progress;
 mod quoted;
 mod scan;
+mod tag;
 mod tally;
 mod token;
 mod unquoted;

@@ -1,32 +1,27 @@
 //! The contents of strings.
 
-ghost use Rattle.std.specs.Prelude.{◌≡◌, ◌↔◌, List, false, option_map, IsTrue};
-ghost use Rattle.pgn_text.specs.Reading.{contents_front};
-ghost use Rattle.pgn_text.specs.Tokens.{both_now};
+ghost use Rattle.std.specs.Prelude.{◌↔◌, ◌≤◌, List, length, IsTrue};
+ghost use Rattle.pgn_text.specs.Tokens.{EndsContents};
 ghost use Rattle.pgn_text.specs.Strings.{Sign, IsContents, HasValue};
 
-use crate::class::is_plain;
+use crate::class::{Class, is_plain, run_end};
 use crate::unquoted::Value;
 
-/// The longest front of the text that is the contents of a string, and what follows it. There is none where the text ends, or a byte
-/// comes that no string has, directly behind a backslash that stands by itself.
-pub(crate) fn contents(text: &[u8]) -> Option<(&[u8], &[u8])>
-    ensures { option_map both_now result ≡ contents_front false text.now }
+/// The place behind the longest contents of a string at the place of the block. There is none where the block ends, or a byte comes that
+/// no string has, directly behind a backslash that stands by itself.
+#[inline(always)]
+pub(crate) fn contents_end(block: &[u8], begin: usize) -> Option<usize>
+    requires { begin ≤ length block.now }
+    ensures { EndsContents block.now begin result }
 {
-    let mut escaped = false;
-    for (index, byte) in text.iter().enumerate() {
-        if escaped {
-            if !is_plain(*byte) {
-                return None;
-            }
-            escaped = false;
-        } else if *byte == b'\\' {
-            escaped = true;
-        } else if *byte == b'"' || !is_plain(*byte) {
-            return Some((&text[..index], &text[index..]));
+    let mut at = run_end(Class::Single, block, begin);
+    while at < block.len() && block[at] == b'\\' {
+        if at + 1 == block.len() || !is_plain(block[at + 1]) {
+            return None;
         }
+        at = run_end(Class::Single, block, at + 2);
     }
-    if escaped { None } else { Some((text, &[])) }
+    Some(at)
 }
 
 /// Whether the bytes are the contents of a string: plain bytes other than the quote and the backslash, and pairs of a backslash and a
@@ -34,8 +29,8 @@ pub(crate) fn contents(text: &[u8]) -> Option<(&[u8], &[u8])>
 pub fn is_contents(bytes: &[u8]) -> bool
     ensures { IsTrue result ↔ IsContents bytes.now }
 {
-    match contents(bytes) {
-        Some((_, rest)) => rest.is_empty(),
+    match contents_end(bytes, 0) {
+        Some(end) => end == bytes.len(),
         None => false,
     }
 }

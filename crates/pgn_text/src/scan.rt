@@ -1,13 +1,13 @@
 //! The part at the front of a text, one function for each kind.
 
-ghost use Rattle.std.specs.Prelude.{◌≡◌, ◌≤◌, length, if◌then◌else◌, option_map, Some, None};
+ghost use Rattle.std.specs.Prelude.{◌≡◌, ◌≤◌, length, drop, if◌then◌else◌, option_map, IfSome, Some, None};
 ghost use Rattle.pgn_text.specs.Bytes.{is_not_line_feed};
 ghost use Rattle.pgn_text.specs.Parts.{EscapeLine, Line, number_of};
 ghost use Rattle.pgn_text.specs.Reading.{run_of, after_run, rest_behind, brace_front, mark_front, gap_front, tag_front, is_glyph, glyph_front, game_front, part_front, kept_found};
-ghost use Rattle.pgn_text.specs.Tokens.{found_of, now_of, standing_view};
+ghost use Rattle.pgn_text.specs.Tokens.{found_of, glyph_of, now_of, standing_view};
 
-use crate::class::{Class, is_in, run};
-use crate::quoted::contents;
+use crate::class::{Class, is_in, run, run_end};
+use crate::tag::tag_at;
 use crate::token::{Token, word_token};
 use memchr::memchr;
 
@@ -119,30 +119,13 @@ pub(crate) fn gap_part(text: &[u8], place: Standing) -> Option<Found<'_>>
 }
 
 /// The tag whose opening bracket stands before the text.
-#[tactic(auto, using(crate::proofs::Runs::is_empty_length))]
 fn tag(text: &[u8]) -> Option<Found<'_>>
     ensures { option_map found_of result ≡ option_map kept_found (tag_front text.now) }
 {
-    let (_, text) = run(Class::White, text);
-    let (name, text) = run(Class::Name, text);
-    if name.is_empty() {
-        return None;
-    }
-    let (_, text) = run(Class::White, text);
-    let Some(text) = behind(b'"', text) else {
+    let Some((name, contents, end)) = tag_at(text, 0) else {
         return None;
     };
-    let Some((contents, text)) = contents(text) else {
-        return None;
-    };
-    let Some(text) = behind(b'"', text) else {
-        return None;
-    };
-    let (_, text) = run(Class::White, text);
-    let Some(rest) = behind(b']', text) else {
-        return None;
-    };
-    Some((Token::Tag { name, contents }, rest))
+    Some((Token::Tag { name, contents }, &text[end..]))
 }
 
 /// The number that one to three digits write, if it is at most 255.
@@ -160,16 +143,29 @@ fn glyph_number(digits: &[u8]) -> Option<u8>
     u8::try_from(number).ok()
 }
 
+/// The glyph whose dollar sign stands before the place of the block: its number, and the place behind it.
+#[inline(always)]
+pub(crate) fn glyph_at(block: &[u8], begin: usize) -> Option<(u8, usize)>
+    requires { begin ≤ length block.now }
+    ensures found { option_map (glyph_of block.now) result ≡ option_map kept_found (glyph_front (drop begin block.now)) }
+    ensures within { IfSome result (λ found. found.1 ≤ length block.now) }
+{
+    let end = run_end(Class::Digit, block, begin);
+    let Some(number) = glyph_number(&block[begin..end]) else {
+        return None;
+    };
+    Some((number, end))
+}
+
 /// The glyph whose dollar sign stands before the text.
 #[inline(always)]
 fn glyph(text: &[u8]) -> Option<Found<'_>>
     ensures { option_map found_of result ≡ option_map kept_found (glyph_front text.now) }
 {
-    let (digits, rest) = run(Class::Digit, text);
-    let Some(number) = glyph_number(digits) else {
+    let Some((number, end)) = glyph_at(text, 0) else {
         return None;
     };
-    Some((Token::Glyph(number), rest))
+    Some((Token::Glyph(number), &text[end..]))
 }
 
 /// The part at the front of the text that only a game can have.

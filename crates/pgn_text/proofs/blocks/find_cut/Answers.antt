@@ -1,27 +1,10 @@
-use Rattle.std.proofs.Common.{◌+◌, ◌<◌, ◌≤◌, length, arith, sym, ◌∙◌}
-use Rattle.pgn_text.proofs.BlockCuts.{no_cut_past, no_cut_left, no_cut_more, gap_fits}
+use Rattle.std.proofs.Common.{◌-◌}
+use Rattle.std.proofs.lemmas.List.{take_rest}
+use Rattle.pgn_text.proofs.BlockCuts.{no_cut, first_cut}
 use Rattle.pgn_text.proofs.blocks.find_cut.Goals as goal
 
-pub returns-then-is_event : goal.returns-then-is_event
-returns-then-is_event c =
-    let some : 0 < c.loop-gap.at = omega arith in
-    record {
-      low = omega arith;
-      seen = c.is_event.ensures.seen c.if-is_event.true;
-      here = sym c.is_event.ensures.answer ∙ c.if-is_event.true;
-      before = no_cut_past _ _ _ _ some c.loop-gap.invariant.2 c.in-Some.ensures.0.before;
-    }
-
-pub loop-gap-preserved : goal.loop-gap-preserved
-loop-gap-preserved c =
-    let some : 0 < c.loop-gap.at = omega arith in
-    let fits : c.loop-gap.at + c.in-Some.gap ≤ length c.args.bytes.now = gap_fits _ _ _ some c.in-Some.ensures.0.high in (
-      omega arith,
-      omega arith,
-      no_cut_more _ _ _ (no_cut_past _ _ _ _ some c.loop-gap.invariant.2 c.in-Some.ensures.0.before) (sym c.is_event.ensures.answer ∙ c.if-is_event.false),
-    )
+pub returns-in_default : goal.returns-in_default
+returns-in_default c = no_cut c.args.bytes.now _ c.args.from c.requires.behind_some c.requires.within (take_rest c.args.bytes.now (c.args.from - 1)) c.in_default.ensures
 
 pub returns : goal.returns
-returns c =
-    let some : 0 < c.loop-gap.at = omega arith in
-    no_cut_left _ _ _ some c.loop-gap.invariant.2 c.in_default.ensures
+returns c = first_cut c.args.bytes.now _ c.args.from c.in-Some.gap c.requires.behind_some c.requires.within (take_rest c.args.bytes.now (c.args.from - 1)) c.in-Some.ensures

@@ -1,5 +1,5 @@
 use Rattle.std.proofs.Common.{Some, refl, sym, ap, ◌∙◌}
-use Rattle.pgn_text.proofs.PartsAt.{kept_letters, kept_white, kept_dot, kept_open, kept_close}
+use Rattle.pgn_text.proofs.PartsAt.{kept_letters, kept_marks, kept_white, kept_dot, kept_open, kept_close}
 use Rattle.pgn_text.specs.Limits.{depth_limit}
 use Rattle.pgn_text.specs.Reading.{KeptNumber}
 use Rattle.pgn_text.specs.Steps.{State}
@@ -30,6 +30,12 @@ returns-in-Some g c = (
   },
   ap (λ (state : State). state.in_tags) c.enter_movetext.ensures,
 )
+
+pub returns-then-is_in-3 : goal.returns-then-is_in-3
+returns-then-is_in-3 g c =
+    reading_of (g.K.Keeper.kept c.args.keeper.now) (g.K.Keeper.kept c.step_behind-then-is_in-3.new.keeper) depth_limit (state_of c.args.progress.now) (state_of c.step_behind-then-is_in-3.new.progress)
+    (kept_marks c.args.file_start c.args.block.now c.args.at c.run_end-end-then-is_in-3.result c.requires (sym c.is_in-3.ensures ∙ c.if-is_in-3.true) c.run_end-end-then-is_in-3.ensures) refl
+    c.step_behind-then-is_in-3.result c.step_behind-then-is_in-3.ensures
 
 pub returns-in-46 : goal.returns-in-46
 returns-in-46 g c = reading_of (g.K.Keeper.kept c.args.keeper.now) (g.K.Keeper.kept c.step_behind-in-46.new.keeper) depth_limit (state_of c.args.progress.now) (state_of c.step_behind-in-46.new.progress)
