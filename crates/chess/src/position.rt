@@ -104,6 +104,7 @@ impl<B: Board> Position<B> {
     }
 
     /// The square of the side's king.
+    #[inline(always)]
     pub(crate) fn king(&self, side: Side) -> Square
         ensures { IsOnlyKing self.now.men side result }
     {
@@ -135,6 +136,7 @@ impl<B: Board> Position<B> {
     }
 
     /// Those of the squares on which that man stands and attacks the target.
+    #[inline(always)]
     pub(crate) fn hitters(&self, man: Man, target: Square, among: SquareSet) -> SquareSet
         ensures { HoldsExactly (IsHitter self.now.men man target among) result }
     {
@@ -142,6 +144,7 @@ impl<B: Board> Position<B> {
     }
 
     /// Whether no man stands on the square.
+    #[inline(always)]
     pub(crate) fn is_empty(&self, square: Square) -> bool
         ensures { IsTrue result ↔ IsEmpty self.now.men square }
     {
@@ -149,6 +152,7 @@ impl<B: Board> Position<B> {
     }
 
     /// Whether a man of the side stands on the square.
+    #[inline(always)]
     pub(crate) fn is_held(&self, side: Side, square: Square) -> bool
         ensures { IsTrue result ↔ IsHeld self.now.men side square }
     {

@@ -38,14 +38,17 @@ impl Board for Bits {
         place(&mut self.words, square, man);
     }
 
+    #[inline(always)]
     fn carry(&mut self, man: Option<Man>, from: Square, taken: Square, to: Square) {
         carried(&mut self.words, man, from, taken, to);
     }
 
+    #[inline(always)]
     fn is_empty(&self, square: Square) -> bool {
         occupied(&self.words) & word_of(square) == 0
     }
 
+    #[inline(always)]
     fn is_held(&self, side: Side, square: Square) -> bool {
         held(&self.words, side) & word_of(square) != 0
     }
@@ -65,6 +68,7 @@ impl Board for Bits {
         SquareSet::of_word(squares_with(&self.words, man.side, man.kind))
     }
 
+    #[inline(always)]
     fn hitters(&self, man: Man, target: Square, among: SquareSet) -> SquareSet {
         let own = squares_with(&self.words, man.side, man.kind) & among.word();
         hitters_of(man, target, own, occupied(&self.words))

@@ -209,17 +209,9 @@ impl<B: Board> Position<B> {
         requires { IsLegal self.old m.now }
         ensures { self.new ≡ after self.old m.now }
     {
-        let board = self.board_after(m);
-        self.settle(m, board);
-    }
-
-    /// Makes a legal move in place, where the board after it is given.
-    fn settle(&mut self, m: &Move, board: B)
-        requires legal { IsLegal self.old m.now }
-        requires board { B.men board ≡ men_after self.old m.now }
-        ensures { self.new ≡ after self.old m.now }
-    {
-        self.settle_of(self.at(m.from), m, board);
+        let man = self.at(m.from);
+        let board = self.board_after_of(man, m);
+        self.settle_of(man, m, board);
     }
 
     /// Makes a legal move of that man in place, where the board after it is given.
