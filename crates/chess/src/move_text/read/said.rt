@@ -1,9 +1,9 @@
 //! What a move text says, read from its end (PGN 8.2.3).
 ghost use Rattle.std.specs.Prelude.{◌≡◌, ◌↔◌, reverse, Some, IsTrue};
 ghost use Rattle.chess.specs.San.{IsCastlingText};
-ghost use Rattle.chess.specs.SanWords.{IsReadSaid, IsCastlingStem, kind_given, number_given, kind_of, is_of, last_of, before_last, unmarked, before_equals, stem, behind_target_rank, behind_sign, behind_rank, behind_file, behind_letter};
+ghost use Rattle.chess.specs.SanWords.{IsReadSaid, IsWholeLetter, IsCastlingStem, kind_given, number_given, kind_of, is_of, last_of, before_last, unmarked, before_equals, stem, behind_target_rank, behind_sign, behind_rank, behind_file};
 ghost use Rattle.chess.specs.declared.board.man.Wing.{Wing};
-ghost use Rattle.chess.specs.declared.move_text.read.said.ByteClass.TheVariants.{Digit, FileLetter, KindLetter, PromotionLetter};
+ghost use Rattle.chess.specs.declared.move_text.read.said.ByteClass.TheVariants.{Digit, FileLetter, PromotionLetter};
 
 use crate::board::{Kind, Square, Wing};
 use crate::letters::kind_of;
@@ -37,7 +37,6 @@ struct Parts<'a> {
     target_file: Option<u8>,
     rank: Option<u8>,
     file: Option<u8>,
-    letter: Option<u8>,
     rest: &'a [u8],
 }
 
@@ -99,8 +98,7 @@ fn split_parts(text: &[u8]) -> Parts<'_>
     ensures target_file { result.target_file ≡ last_of FileLetter (behind_target_rank (reverse text.now)) }
     ensures rank { result.rank ≡ last_of Digit (behind_sign (reverse text.now)) }
     ensures file { result.file ≡ last_of FileLetter (behind_rank (reverse text.now)) }
-    ensures letter { result.letter ≡ last_of KindLetter (behind_file (reverse text.now)) }
-    ensures rest { reverse result.rest.now ≡ behind_letter (reverse text.now) }
+    ensures rest { reverse result.rest.now ≡ behind_file (reverse text.now) }
 {
     let (promotion, rest) = take_last(ByteClass::PromotionLetter, unmarked(text));
     let (target_rank, rest) = take_last(ByteClass::Digit, before_equals(promotion, rest));
@@ -108,15 +106,24 @@ fn split_parts(text: &[u8]) -> Parts<'_>
     let (_, rest) = take_last(ByteClass::Sign, rest);
     let (rank, rest) = take_last(ByteClass::Digit, rest);
     let (file, rest) = take_last(ByteClass::FileLetter, rest);
-    let (letter, rest) = take_last(ByteClass::KindLetter, rest);
     Parts {
         promotion,
         target_rank,
         target_file,
         rank,
         file,
-        letter,
         rest,
+    }
+}
+
+/// The kind of the letter that is the whole text, or none where the text is empty; `None` where it is neither.
+fn whole_letter(text: &[u8]) -> Option<Option<Kind>>
+    ensures { IsWholeLetter (reverse text.now) result }
+{
+    match text {
+        [] => Some(None),
+        [letter] if is_of(ByteClass::KindLetter, *letter) => Some(kind_of(*letter)),
+        _ => None,
     }
 }
 
@@ -145,15 +152,15 @@ pub(crate) fn read_said(text: &[u8]) -> Option<SaidMove>
     ensures { IsReadSaid text.now result }
 {
     let parts = split_parts(text);
-    if !parts.rest.is_empty() {
+    let Some(letter) = whole_letter(parts.rest) else {
         return None;
-    }
+    };
     let (Some(file), Some(rank)) = (parts.target_file, parts.target_rank) else {
         return None;
     };
     let target = Square::new(file.saturating_sub(b'`'), rank.saturating_sub(b'0'))?;
     Some(SaidMove {
-        letter: kind_given(parts.letter),
+        letter,
         file: number_given(parts.file, b'`'),
         rank: number_given(parts.rank, b'0'),
         target,
