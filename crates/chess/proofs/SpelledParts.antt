@@ -87,10 +87,10 @@ kind_byte b e = grind (arith, nat_tests)
 pub promotion_byte : (b : ℕ) → is_of PromotionLetter b ≡ true → (b ≡ 81) ⊎ ((b ≡ 82) ⊎ ((b ≡ 66) ⊎ (b ≡ 78)))
 promotion_byte b e = grind (arith, nat_tests)
 
-file_number : (b : ℕ) → is_of FileLetter b ≡ true → (1 ≤ b - 96) × (b - 96 ≤ 8) × (96 + (b - 96) ≡ b)
+pub file_number : (b : ℕ) → is_of FileLetter b ≡ true → (1 ≤ b - 96) × (b - 96 ≤ 8) × (96 + (b - 96) ≡ b)
 file_number b e = (grind (arith, nat_tests), grind (arith, nat_tests), grind (arith, nat_tests))
 
-rank_number : (b : ℕ) → is_of Digit b ≡ true → (1 ≤ b - 48) × (b - 48 ≤ 8) × (48 + (b - 48) ≡ b)
+pub rank_number : (b : ℕ) → is_of Digit b ≡ true → (1 ≤ b - 48) × (b - 48 ≤ 8) × (48 + (b - 48) ≡ b)
 rank_number b e = (grind (arith, nat_tests), grind (arith, nat_tests), grind (arith, nat_tests))
 
 equals_byte : (b : ℕ) → is_of Equals b ≡ true → b ≡ 61

@@ -1,5 +1,5 @@
 -- What the reader of move texts knows on its way: the bytes of a text by their classes, from its end.
-use Rattle.std.specs.Prelude.{◌≡◌, ◌↔◌, ◌⊎◌, ◌≢◌, ℕ, ◌-◌, Bool, true, ◌||◌, ◌&&◌, ◌==◌, ltb, if◌then◌else◌, List, [], ◌∷◌, Option, Some, None, IfSome, is_some, option_map}
+use Rattle.std.specs.Prelude.{◌≡◌, ◌↔◌, ◌⊎◌, ◌≢◌, ℕ, ◌-◌, Bool, true, ◌||◌, ◌&&◌, ◌==◌, ltb, if◌then◌else◌, List, [], ◌∷◌, Option, Some, None, IfSome, MatchOption, is_some, option_map}
 use Rattle.chess.specs.Squares.{Place, IsOnBoard}
 use Rattle.chess.specs.Placements.{man_at}
 use Rattle.chess.specs.Positions.{State, king_from, king_to}
@@ -79,6 +79,11 @@ kind_given (Some b) = kind_of b
 abbrev pub number_given : Option ℕ → ℕ → Option ℕ
 number_given None start = None
 number_given (Some b) start = Some (b - start)
+
+-- from its end, nothing is left but a letter or nothing: its kind; or something else is left
+abbrev pub IsWholeLetter : List ℕ → Option (Option Kind) → Type 0
+IsWholeLetter y result = MatchOption result (before_last KindLetter y ≢ [])
+    (λ letter. (before_last KindLetter y ≡ []) × (letter ≡ kind_given (last_of KindLetter y)))
 
 -- what the reader found, as what a text says
 abbrev pub said_by : SaidMove → Said

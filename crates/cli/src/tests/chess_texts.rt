@@ -1,6 +1,6 @@
 //! Texts of moves: which moves they name, and the text of each move (PGN 8.2.3).
 use super::chess_rows::{move_of, position};
-use chess::{Bits, Board, Mailbox, Move, Position, SanError, play_san, resolve, san};
+use chess::{Bits, Board, Mailbox, Move, Position, SanError, play_san, play_word, resolve, san};
 use std::test::Fail;
 
 const ROOKS: &str = "r3k2r/8/8/8/8/8/8/R3K2R w KQkq - 0 1";
@@ -139,6 +139,112 @@ fn texts_name_no_move_or_several(rt: HostRuntime) -> Result<(), Fail> {
     for (fen, text, error) in rows {
         assert!(rt;
             is_refused::<Mailbox>(fen, text, error)? && is_refused::<Bits>(fen, text, error)?,
+            "{text} in {fen}"
+        );
+    }
+    Ok(())
+}
+
+/// Whether playing the text reports that, the move by its squares, and leads to the position of the other text.
+fn plays<B: Board>(
+    fen: &str,
+    text: &str,
+    reported: Result<&str, SanError>,
+    after: &str,
+) -> Result<bool, Fail> {
+    let mut position = position::<B>(fen.as_bytes())?;
+    let expected = match reported {
+        Ok(named) => Ok(move_of(&position, named.as_bytes())?),
+        Err(error) => Err(error),
+    };
+    let found = play_word(&mut position, text.as_bytes());
+    Ok(found == expected && position.fen().as_str() == after)
+}
+
+#[test]
+fn texts_are_played_or_change_nothing(rt: HostRuntime) -> Result<(), Fail> {
+    let doubled = "4k3/3p4/3p4/8/8/4P3/4P3/4K3 w - - 0 1";
+    let blocked = "4k3/8/8/8/8/4n3/4P3/4K3 w - - 0 1";
+    let knights = "4k3/8/8/8/8/5N2/8/1N2K3 w - - 0 1";
+    let queens = "1k6/8/8/8/4Q2Q/8/8/K6Q w - - 0 1";
+    let pinned = "8/8/8/K2pP2r/8/8/8/4k3 w - d6 0 1";
+    let rows = [
+        // of doubled pawns the one in front steps, and none over the other; nor does one step over or onto another man
+        (
+            doubled,
+            "e4",
+            Ok("e3e4"),
+            "4k3/3p4/3p4/8/4P3/8/4P3/4K3 b - - 0 1",
+        ),
+        (
+            "4k3/3p4/3p4/8/8/8/8/4K3 b - - 0 1",
+            "d5",
+            Ok("d6d5"),
+            "4k3/3p4/8/3p4/8/8/8/4K3 w - - 0 2",
+        ),
+        (doubled, "e3", Err(SanError::None), doubled),
+        (blocked, "e4", Err(SanError::None), blocked),
+        (blocked, "e3", Err(SanError::None), blocked),
+        (
+            START,
+            "e4",
+            Ok("e2e4"),
+            "rnbqkbnr/pppppppp/8/8/4P3/8/PPPP1PPP/RNBQKBNR b KQkq e3 0 1",
+        ),
+        // a capture, one en passant, one that would leave the king attacked, a promotion, castling
+        (
+            TAKES,
+            "cxd5",
+            Ok("c4d5"),
+            "4k3/8/8/3Pp3/4P3/8/8/4K3 b - - 0 1",
+        ),
+        (
+            EN_PASSANT,
+            "exd6",
+            Ok("e5d6"),
+            "4k3/8/3P4/8/8/8/8/4K3 b - - 0 1",
+        ),
+        (pinned, "exd6", Err(SanError::None), pinned),
+        (PAWN, "a8=Q", Ok("a7a8q"), "Q3k3/8/8/8/8/8/8/4K3 b - - 0 1"),
+        (
+            ROOKS,
+            "O-O",
+            Ok("e1g1"),
+            "r3k2r/8/8/8/8/8/8/R4RK1 b kq - 1 1",
+        ),
+        // of several men the only one that may go, the one that is said, or none
+        (
+            "4k3/8/8/8/1b6/2N5/8/4K1N1 w - - 0 1",
+            "Ne2",
+            Ok("g1e2"),
+            "4k3/8/8/8/1b6/2N5/4N3/4K3 b - - 1 1",
+        ),
+        (
+            knights,
+            "Nbd2",
+            Ok("b1d2"),
+            "4k3/8/8/8/8/5N2/3N4/4K3 b - - 1 1",
+        ),
+        (
+            knights,
+            "N1d2",
+            Ok("b1d2"),
+            "4k3/8/8/8/8/5N2/3N4/4K3 b - - 1 1",
+        ),
+        (knights, "Nd2", Err(SanError::Several), knights),
+        (
+            queens,
+            "Qh4e1",
+            Ok("h4e1"),
+            "1k6/8/8/8/4Q3/8/8/K3Q2Q b - - 1 1",
+        ),
+        (queens, "Qhe1", Err(SanError::Several), queens),
+        (queens, "Qd2", Err(SanError::None), queens),
+    ];
+    for (fen, text, reported, after) in rows {
+        assert!(rt;
+            plays::<Mailbox>(fen, text, reported, after)?
+                && plays::<Bits>(fen, text, reported, after)?,
             "{text} in {fen}"
         );
     }

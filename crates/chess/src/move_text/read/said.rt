@@ -1,9 +1,9 @@
 //! What a move text says, read from its end (PGN 8.2.3).
-ghost use Rattle.std.specs.Prelude.{◌≡◌, ◌↔◌, reverse, Some, IsTrue};
+ghost use Rattle.std.specs.Prelude.{◌≡◌, ◌↔◌, ◌⊎◌, reverse, Some, None, IfSome, MatchOption, IsTrue};
 ghost use Rattle.chess.specs.San.{IsCastlingText};
-ghost use Rattle.chess.specs.SanWords.{IsReadSaid, IsCastlingStem, kind_given, number_given, kind_of, is_of, last_of, before_last, unmarked, before_equals, stem, behind_target_rank, behind_sign, behind_rank, behind_file, behind_letter};
+ghost use Rattle.chess.specs.SanWords.{IsReadSaid, IsWholeLetter, IsCastlingStem, kind_given, number_given, kind_of, is_of, last_of, before_last, unmarked, before_equals, stem, behind_target_rank, behind_sign, behind_rank, behind_file};
 ghost use Rattle.chess.specs.declared.board.man.Wing.{Wing};
-ghost use Rattle.chess.specs.declared.move_text.read.said.ByteClass.TheVariants.{Digit, FileLetter, KindLetter, PromotionLetter};
+ghost use Rattle.chess.specs.declared.move_text.read.said.ByteClass.TheVariants.{Digit, FileLetter, PromotionLetter};
 
 use crate::board::{Kind, Square, Wing};
 use crate::letters::kind_of;
@@ -33,11 +33,10 @@ enum ByteClass {
 #[derive(Drop)]
 struct Parts<'a> {
     promotion: Option<u8>,
-    target_rank: Option<u8>,
-    target_file: Option<u8>,
+    target_rank: u8,
+    target_file: u8,
     rank: Option<u8>,
     file: Option<u8>,
-    letter: Option<u8>,
     rest: &'a [u8],
 }
 
@@ -92,31 +91,44 @@ fn before_equals(promotion: Option<u8>, text: &[u8]) -> &[u8]
     }
 }
 
-/// The bytes of a text by their places, from its end.
-fn split_parts(text: &[u8]) -> Parts<'_>
-    ensures promotion { result.promotion ≡ last_of PromotionLetter (unmarked (reverse text.now)) }
-    ensures target_rank { result.target_rank ≡ last_of Digit (stem (reverse text.now)) }
-    ensures target_file { result.target_file ≡ last_of FileLetter (behind_target_rank (reverse text.now)) }
-    ensures rank { result.rank ≡ last_of Digit (behind_sign (reverse text.now)) }
-    ensures file { result.file ≡ last_of FileLetter (behind_rank (reverse text.now)) }
-    ensures letter { result.letter ≡ last_of KindLetter (behind_file (reverse text.now)) }
-    ensures rest { reverse result.rest.now ≡ behind_letter (reverse text.now) }
+/// The bytes of a text by their places, from its end; `None` where no target stands there.
+fn split_parts(text: &[u8]) -> Option<Parts<'_>>
+    ensures target { MatchOption result
+        ((last_of Digit (stem (reverse text.now)) ≡ None) ⊎ (last_of FileLetter (behind_target_rank (reverse text.now)) ≡ None))
+        (λ parts. (last_of Digit (stem (reverse text.now)) ≡ Some parts.target_rank)
+        × (last_of FileLetter (behind_target_rank (reverse text.now)) ≡ Some parts.target_file)) }
+    ensures promotion { IfSome result (λ parts. parts.promotion ≡ last_of PromotionLetter (unmarked (reverse text.now))) }
+    ensures rank { IfSome result (λ parts. parts.rank ≡ last_of Digit (behind_sign (reverse text.now))) }
+    ensures file { IfSome result (λ parts. parts.file ≡ last_of FileLetter (behind_rank (reverse text.now))) }
+    ensures rest { IfSome result (λ parts. reverse parts.rest.now ≡ behind_file (reverse text.now)) }
 {
     let (promotion, rest) = take_last(ByteClass::PromotionLetter, unmarked(text));
     let (target_rank, rest) = take_last(ByteClass::Digit, before_equals(promotion, rest));
     let (target_file, rest) = take_last(ByteClass::FileLetter, rest);
+    let (Some(target_file), Some(target_rank)) = (target_file, target_rank) else {
+        return None;
+    };
     let (_, rest) = take_last(ByteClass::Sign, rest);
     let (rank, rest) = take_last(ByteClass::Digit, rest);
     let (file, rest) = take_last(ByteClass::FileLetter, rest);
-    let (letter, rest) = take_last(ByteClass::KindLetter, rest);
-    Parts {
+    Some(Parts {
         promotion,
         target_rank,
         target_file,
         rank,
         file,
-        letter,
         rest,
+    })
+}
+
+/// The kind of the letter that is the whole text, or none where the text is empty; `None` where it is neither.
+fn whole_letter(text: &[u8]) -> Option<Option<Kind>>
+    ensures { IsWholeLetter (reverse text.now) result }
+{
+    match text {
+        [] => Some(None),
+        [letter] if is_of(ByteClass::KindLetter, *letter) => Some(kind_of(*letter)),
+        _ => None,
     }
 }
 
@@ -144,16 +156,18 @@ fn number_given(byte: Option<u8>, zero: u8) -> Option<u8>
 pub(crate) fn read_said(text: &[u8]) -> Option<SaidMove>
     ensures { IsReadSaid text.now result }
 {
-    let parts = split_parts(text);
-    if !parts.rest.is_empty() {
-        return None;
-    }
-    let (Some(file), Some(rank)) = (parts.target_file, parts.target_rank) else {
+    let Some(parts) = split_parts(text) else {
         return None;
     };
-    let target = Square::new(file.saturating_sub(b'`'), rank.saturating_sub(b'0'))?;
+    let Some(letter) = whole_letter(parts.rest) else {
+        return None;
+    };
+    let target = Square::new(
+        parts.target_file.saturating_sub(b'`'),
+        parts.target_rank.saturating_sub(b'0'),
+    )?;
     Some(SaidMove {
-        letter: kind_given(parts.letter),
+        letter,
         file: number_given(parts.file, b'`'),
         rank: number_given(parts.rank, b'0'),
         target,
