@@ -24,3 +24,5 @@ pub mod SomeReport
 pub mod VerdictFacts
 pub mod WholeRun
 pub mod Writing
+pub mod NextLine
+pub mod EachPly

@@ -17,7 +17,7 @@ abbrev pub entry_at : ℕ → ℕ → ℕ → Entry
 entry_at number offset ply = record { number = number; offset = offset; ply = ply }
 
 -- of positions in a row the first are left
-leaves : (P : Entry → Type 0) (number offset ply count : ℕ) (positions : List State) (chosen : List Entry)
+pub leaves : (P : Entry → Type 0) (number offset ply count : ℕ) (positions : List State) (chosen : List Entry)
     → ((n : ℕ) → ply ≤ n → n < ply + count → P (entry_at number offset n) → ⊥)
     → AreChosen P (entries_from number offset (ply + count) (drop count positions)) chosen → AreChosen P (entries_from number offset ply positions) chosen
 leaves P number offset ply zero positions chosen fail later =
@@ -31,7 +31,7 @@ leaves P number offset ply (suc count) (position ∷ more) chosen fail later =
     (subst (λ n. AreChosen P (entries_from number offset n (drop count more)) chosen) next later))
 
 -- and all are
-leaves_all : (P : Entry → Type 0) (number offset ply : ℕ) (positions : List State)
+pub leaves_all : (P : Entry → Type 0) (number offset ply : ℕ) (positions : List State)
     → ((n : ℕ) → ply ≤ n → n < ply + length positions → P (entry_at number offset n) → ⊥) → AreChosen P (entries_from number offset ply positions) []
 leaves_all P number offset ply [] fail = none
 leaves_all P number offset ply (position ∷ more) fail =
@@ -47,7 +47,7 @@ uncons (suc count) (position ∷ more) less =
     let of = uncons count more (omega arith) in
     (of.0, of.1, of.2, (let size = of.3 in omega arith))
 
-dropped : (count : ℕ) (positions : List State) → (length positions ≤ count + length (drop count positions))
+pub dropped : (count : ℕ) (positions : List State) → (length positions ≤ count + length (drop count positions))
     × (0 < length (drop count positions) → count + length (drop count positions) ≤ length positions)
 dropped zero positions = (omega arith, λ some. omega arith)
 dropped (suc count) [] = (omega arith, λ some. absurd (omega arith))

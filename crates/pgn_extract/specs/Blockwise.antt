@@ -1,6 +1,6 @@
 -- What the parts of a run do with the bytes dropped, with one block and with the blocks in a row: the words between the code and
 -- those of `Outcomes`.
-use Rattle.std.specs.Prelude.{◌≡◌, ◌⊎◌, ℕ, ◌+◌, ◌<◌, ◌≤◌, List, [], ◌∷◌, ◌++◌, length, count_by, Option, IfSome, codes, if◌then◌else◌}
+use Rattle.std.specs.Prelude.{◌≡◌, ◌⊎◌, ℕ, ◌+◌, ◌<◌, ◌≤◌, true, List, [], ◌∷◌, ◌++◌, length, count_by, Option, IfSome, codes, if◌then◌else◌}
 use Rattle.pgn_text.specs.GameTexts.{GameText, ShowsGame, tag_in}
 use Rattle.pgn_game.specs.Exports.{IsExport}
 use Rattle.pgn_game.specs.Replays.{Replay}
@@ -25,7 +25,9 @@ use Rattle.pgn_extract.specs.declared.report.Report.{Report}
 use Rattle.pgn_extract.specs.declared.outcome.RunError.{RunError}
 use Rattle.pgn_extract.specs.declared.outcome.RunError.TheVariants.{Read, Write, OutOfMemory, InputTooLong}
 use Rattle.pgn_extract.specs.declared.outcome.Summary.{Summary}
+use Rattle.pgn_criteria.specs.Meeting.{Tags}
 use Rattle.pgn_extract.specs.Aims.{Aim}
+use Rattle.pgn_extract.specs.Listing.{Entry, AreListed, listing}
 
 -- a body that is shown has no more bytes than the limit
 abbrev pub IsShown : ℕ → Body → Type 0
@@ -53,6 +55,16 @@ pub record AddsVerdict (old new : Report) (verdict : Verdict) (count : ℕ) : Ty
 abbrev pub AddsListed : Aim → Report → Report → ℕ → ℕ → GameText → Type 0
 AddsListed aim old new number offset game =
     (at : ℕ) (parts : List Part) → ShowsGame game at parts → (verdict : Verdict) × IsListed aim verdict number offset parts × AddsVerdict old new verdict 0
+
+-- where there are no criteria, the ply is listed of a main line with so many plies
+abbrev pub IsPlainEntry : Aim → ℕ → ℕ → Type 0
+IsPlainEntry aim plies ply = (ply ≤ plies) × (aim.min_ply ≤ ply) × (ply ≤ aim.max_ply) × (aim.first ≡ true → ply ≡ aim.min_ply)
+
+-- the lines of the entries of any main line with so many plies are added
+abbrev pub AddsPlies : Aim → ℕ → ℕ → ℕ → List ℕ → List ℕ → Type 0
+AddsPlies aim number offset plies old new =
+    (tags : Tags) (replay : Replay) → length replay.positions ≡ plies + 1
+    → (entries : List Entry) × AreListed aim number offset tags replay entries × (new ≡ old ++ listing entries)
 
 -- what is written of the game that is given: its export where it has an entry, and else nothing
 abbrev pub IsGameWritten : Aim → GameText → Replay → List ℕ → Type 0

@@ -1,14 +1,15 @@
 //! Which entries of a game are listed.
-ghost use Rattle.std.specs.Prelude.{◌≡◌, ◌<◌, ◌++◌, List, length, OnOk};
+ghost use Rattle.std.specs.Prelude.{◌≡◌, ◌↔◌, ℕ, ◌<◌, ◌≤◌, ◌++◌, List, length, None, OnOk};
 ghost use Rattle.pgn_text.specs.GameTexts.{tag_in};
 ghost use Rattle.pgn_game.specs.Replays.{IsSomeReplay};
 ghost use Rattle.pgn_game.specs.Starts.{fen_tag};
 ghost use Rattle.pgn_criteria.specs.Meeting.{IsFirst};
 ghost use Rattle.pgn_extract.specs.Aims.{IsMet, aim_of};
+ghost use Rattle.pgn_extract.specs.Blockwise.{IsPlainEntry, AddsPlies};
 ghost use Rattle.pgn_extract.specs.Listing.{Entry, AreListed, listing};
 
 use crate::settings::Settings;
-use crate::texts::{push_entry, push_mark};
+use crate::texts::{count_up, push_entry, push_mark};
 use pgn_game::Replayed;
 use pgn_text::RawGame;
 use std::alloc::{AllocError, Global};
@@ -36,6 +37,9 @@ pub fn next_ply<'a>(
 /// The most bytes that a mark has: two numbers of at most 20 digits, and `@`.
 const MARK_ROOM: usize = 41;
 
+/// The most bytes that the line of an entry has: a mark, a space, 20 digits and the end of the line.
+const LINE_ROOM: usize = MARK_ROOM + 22;
+
 /// Appends the lines of the entries of a game.
 pub fn push_entries<'a>(
     alloc: Global,
@@ -60,6 +64,42 @@ pub fn push_entries<'a>(
             return Ok(());
         }
         from = ply as u32 + 1;
+    }
+    Ok(())
+}
+
+/// The ply behind the last one that is listed of a main line with so many plies, where there are no criteria.
+fn end_ply(settings: &Settings, plies: usize) -> usize
+    ensures { (ply : ℕ) → IsPlainEntry (aim_of settings.now) plies ply ↔ (settings.now.min_ply ≤ ply) × (ply < result) }
+{
+    let most = if settings.first {
+        settings.min_ply.min(settings.max_ply)
+    } else {
+        settings.max_ply
+    };
+    plies.min(most as usize) + 1
+}
+
+/// Appends the lines of the entries of a game whose main line has so many plies, where there are no criteria.
+pub fn push_plies(
+    alloc: Global,
+    text: &mut Vec<u8>,
+    settings: &Settings,
+    number: u64,
+    offset: u64,
+    plies: usize,
+) -> Result<(), AllocError>
+    requires criteria { settings.now.criteria ≡ None }
+    ensures { OnOk result (AddsPlies (aim_of settings.now) number offset plies text.old.items text.new.items) }
+{
+    let mut mark = Vec::with_capacity(alloc, MARK_ROOM)?;
+    push_mark(&mut mark, number, offset)?;
+    let least = settings.min_ply as usize;
+    let mut line = Vec::with_capacity(alloc, LINE_ROOM)?;
+    push_entry(&mut line, &mark, least)?;
+    for ply in least..end_ply(settings, plies) {
+        text.extend_from_slice(&line)?;
+        count_up(&mut line, &mark, ply)?;
     }
     Ok(())
 }

@@ -1,5 +1,5 @@
 //! What is reported of the pieces of one block.
-ghost use Rattle.std.specs.Prelude.{◌≡◌, ℕ, List, Some, ◌+◌, ◌^◌, ◌<◌, ◌≤◌, [], ◌∷◌, length, OnOk};
+ghost use Rattle.std.specs.Prelude.{◌≡◌, ℕ, List, None, Some, ◌+◌, ◌^◌, ◌<◌, ◌≤◌, [], ◌∷◌, length, OnOk};
 ghost use Rattle.pgn_text.specs.Left.{piece_place};
 ghost use Rattle.pgn_text.specs.LeftMarks.{mark_place};
 ghost use Rattle.pgn_text.specs.Limits.{block_limit, depth_limit, largest_offset};
@@ -14,10 +14,10 @@ ghost use Rattle.pgn_game.specs.Faults.{Fault};
 ghost use Rattle.pgn_game.specs.Replays.{fault_of};
 
 use crate::exporting::{push_export, written_lines};
-use crate::listing::push_entries;
+use crate::listing::{push_entries, push_plies};
 use crate::settings::{Mode, Settings};
 use crate::texts::{push_fault_line, push_game_fault, push_mark_line};
-use pgn_game::{GameFault, Lines, replay};
+use pgn_game::{GameFault, Lines, count_plies, replay};
 use pgn_text::{Block, Body, Mark, Piece, RawGame, games, marks};
 use std::alloc::{AllocError, Global};
 
@@ -78,8 +78,8 @@ fn add_fault(
     Ok(())
 }
 
-/// Adds what the listing reports of a game: the lines of its entries, or of its fault.
-fn add_listed<'a>(
+/// Adds what the listing reports of a game where criteria are given: the lines of its entries, or of its fault.
+fn add_entries<'a>(
     alloc: Global,
     report: &mut Report,
     settings: &'a Settings,
@@ -101,6 +101,43 @@ fn add_listed<'a>(
             &replayed,
         ),
         Err(fault) => add_fault(report, number, offset, fault),
+    }
+}
+
+/// Adds what the listing reports of a game where no criteria are given: the lines of its plies within the bounds, or of its fault.
+fn add_plies<'a>(
+    alloc: Global,
+    report: &mut Report,
+    settings: &'a Settings,
+    number: u64,
+    offset: u64,
+    game: &RawGame<'a>,
+) -> Result<(), AllocError>
+    requires faulty { report.old.faulty + 1 < 2 ^ 64 }
+    requires criteria { settings.now.criteria ≡ None }
+    ensures { OnOk result (AddsListed (aim_of settings.now) report.old report.new number offset game.now) }
+{
+    match count_plies(alloc, game) {
+        Ok(plies) => push_plies(alloc, &mut report.output, settings, number, offset, plies),
+        Err(fault) => add_fault(report, number, offset, fault),
+    }
+}
+
+/// Adds what the listing reports of a game: the lines of its entries, or of its fault.
+fn add_listed<'a>(
+    alloc: Global,
+    report: &mut Report,
+    settings: &'a Settings,
+    number: u64,
+    offset: u64,
+    game: &RawGame<'a>,
+) -> Result<(), AllocError>
+    requires faulty { report.old.faulty + 1 < 2 ^ 64 }
+    ensures { OnOk result (AddsListed (aim_of settings.now) report.old report.new number offset game.now) }
+{
+    match &settings.criteria {
+        Some(_) => add_entries(alloc, report, settings, number, offset, game),
+        None => add_plies(alloc, report, settings, number, offset, game),
     }
 }
 

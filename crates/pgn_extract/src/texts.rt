@@ -1,5 +1,5 @@
 //! What a run writes, byte by byte: marks, the lines of entries, and the lines of faulty games.
-ghost use Rattle.std.specs.Prelude.{◌≡◌, Some, [], ◌∷◌, ◌++◌, codes, decimal, OnOk};
+ghost use Rattle.std.specs.Prelude.{◌≡◌, ◌+◌, ◌<◌, Some, [], ◌∷◌, ◌++◌, codes, decimal, OnOk};
 ghost use Rattle.pgn_game.specs.Faults.{Fault};
 ghost use Rattle.pgn_game.specs.Replays.{fault_of};
 ghost use Rattle.pgn_extract.specs.Index.{mark, mark_line, fault_text};
@@ -38,6 +38,21 @@ pub fn push_entry(text: &mut Vec<u8>, mark: &[u8], ply: usize) -> Result<(), All
     text.push(b' ')?;
     text.extend_from_slice(buffer.format(ply).as_bytes())?;
     text.push(b'\n')?;
+    Ok(())
+}
+
+/// Makes the line of an entry that of the entry at the next ply.
+pub fn count_up(line: &mut Vec<u8>, mark: &[u8], ply: usize) -> Result<(), AllocError>
+    requires line { line.old.items ≡ mark.now ++ 32 ∷ decimal ply ++ 10 ∷ [] }
+    requires room { ply < usize.MAX }
+    ensures { OnOk result (line.new.items ≡ mark.now ++ 32 ∷ decimal (ply + 1) ++ 10 ∷ []) }
+{
+    if ply % 10 == 9 {
+        line.clear();
+        return push_entry(line, mark, ply + 1);
+    }
+    let last_digit = line.len() - 2;
+    line[last_digit] += 1;
     Ok(())
 }
 

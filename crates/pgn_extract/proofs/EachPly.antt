@@ -1,0 +1,115 @@
+-- The entries of a game where there are no criteria: plies in a row.
+use Rattle.std.proofs.Common.{◌≡◌, ◌↔◌, ℕ, zero, suc, ◌+◌, ◌-◌, ◌<◌, ◌≤◌, List, [], ◌∷◌, ◌++◌, length, drop, Option, None, sym, ap, ◌∙◌, subst, arith, append_assoc, append-nil, inl, inr}
+use Rattle.std.proofs.lemmas.Bool.{cases_lt}
+use Rattle.chess.specs.Positions.{State}
+use Rattle.pgn_game.specs.Replays.{Replay}
+use Rattle.pgn_criteria.specs.Meeting.{Tags}
+use Rattle.pgn_criteria.specs.declared.condition.Condition.{Condition}
+use Rattle.pgn_extract.specs.Aims.{Aim, IsMet, IsEntry}
+use Rattle.pgn_extract.specs.Blockwise.{IsPlainEntry}
+use Rattle.pgn_extract.specs.Listing.{Entry, entry_line, listing, entries_from, AreListed, AreChosen}
+use Rattle.pgn_extract.specs.Listing.AreChosen.{keep}
+use Rattle.pgn_extract.proofs.ModeOutputs.{listing-append}
+use Rattle.pgn_extract.proofs.Picks.{entry_at, leaves, leaves_all, dropped}
+
+-- the entries of a game at so many plies in a row
+pub plies_from : ℕ → ℕ → ℕ → ℕ → List Entry
+plies_from number offset ply zero = []
+plies_from number offset ply (suc count) = entry_at number offset ply ∷ plies_from number offset (ply + 1) count
+
+-- one ply more
+plies_more : (number offset ply count : ℕ) → plies_from number offset ply (suc count) ≡ plies_from number offset ply count ++ entry_at number offset (ply + count) ∷ []
+unfolding plies_from
+plies_more number offset ply zero = ap (λ n. entry_at number offset n ∷ []) (omega arith)
+plies_more number offset ply (suc count) =
+    let next : ply + 1 + count ≡ ply + suc count = omega arith in
+    ap (λ (es : List Entry). entry_at number offset ply ∷ es) (plies_more number offset (ply + 1) count
+    ∙ ap (λ n. plies_from number offset (ply + 1) count ++ entry_at number offset n ∷ []) next)
+
+-- of positions in a row the first so many are chosen
+keeps : (P : Entry → Type 0) (number offset ply count : ℕ) (positions : List State) → count ≤ length positions
+    → ((n : ℕ) → ply ≤ n → n < ply + count → P (entry_at number offset n))
+    → ((n : ℕ) → ply + count ≤ n → n < ply + length positions → P (entry_at number offset n) → ⊥)
+    → AreChosen P (entries_from number offset ply positions) (plies_from number offset ply count)
+unfolding plies_from
+keeps P number offset ply zero positions fits holds fails = leaves_all P number offset ply positions (λ n low high. fails n (omega arith) high)
+keeps P number offset ply (suc count) [] fits holds fails = absurd (omega arith)
+keeps P number offset ply (suc count) (position ∷ more) fits holds fails =
+    keep (entry_at number offset ply) (entries_from number offset (ply + 1) more) (plies_from number offset (ply + 1) count) (holds ply (omega arith) (omega arith))
+    (keeps P number offset (ply + 1) count more (omega arith) (λ n low high. holds n (omega arith) (omega arith)) (λ n low high. fails n (omega arith) (omega arith)))
+
+-- the positions from a ply to another are chosen
+between : (P : Entry → Type 0) (number offset from end : ℕ) (positions : List State)
+    → ((n : ℕ) → P (entry_at number offset n) → from ≤ n) → ((n : ℕ) → n < length positions → P (entry_at number offset n) ↔ (from ≤ n) × (n < end))
+    → (from < end → end ≤ length positions)
+    → AreChosen P (entries_from number offset 0 positions) (plies_from number offset from (end - from))
+between P number offset from end positions least exactly fits =
+    let sizes = dropped from positions in
+    let same : from ≡ 0 + from = omega arith in
+    leaves P number offset 0 from positions (plies_from number offset from (end - from))
+    (λ n low high holds. let above = least n holds in omega arith)
+    (subst (λ n. AreChosen P (entries_from number offset n (drop from positions)) (plies_from number offset from (end - from))) same
+    (keeps P number offset from (end - from) (drop from positions) few
+    (λ n low high. let most = fits (omega arith) in (exactly n (omega arith)).1 (omega arith, omega arith))
+    (λ n low high holds. let most = sizes.1 (omega arith) in let bounds = (exactly n (omega arith)).0 holds in omega arith)))
+  where
+    few : end - from ≤ length (drop from positions)
+    few = let size = (dropped from positions).0 in elim (cases_lt from end) [
+      | inl less ↦ let most = fits less in omega arith
+      | inr over ↦ omega arith
+    ]
+
+-- without criteria a ply of the main line is an entry by the bounds alone
+plain_entry : (aim : Aim) → aim.criteria ≡ None → (tags : Tags) (replay : Replay) (plies n : ℕ) → n ≤ plies → IsEntry aim tags replay n ↔ IsPlainEntry aim plies n
+plain_entry aim no_criteria tags replay plies n within = (to, from)
+  where
+    met : (ply : ℕ) → IsMet aim.criteria tags replay ply
+    met ply = subst (λ (c : Option (List (List (Condition (List ℕ))))). IsMet c tags replay ply) (sym no_criteria) tt
+
+    to : IsEntry aim tags replay n → IsPlainEntry aim plies n
+    to entry =
+        let low : aim.min_ply ≤ n = entry.0.0 in
+        let high : n ≤ aim.max_ply = entry.0.1 in (
+          within,
+          low,
+          high,
+          λ first. elim (cases_lt aim.min_ply n) [
+            | inl less ↦ absurd (entry.1 first aim.min_ply less (omega arith, omega arith, met aim.min_ply))
+            | inr least ↦ omega arith
+          ],
+        )
+
+    from : IsPlainEntry aim plies n → IsEntry aim tags replay n
+    from (_, low, high, only) = ((low, high, met n), λ first before less wanted. let is = only first in let least = wanted.0 in omega arith)
+
+-- so the entries are the plies from the least one on
+pub listed_plies : (aim : Aim) (number offset plies end : ℕ) → aim.criteria ≡ None
+    → ((ply : ℕ) → IsPlainEntry aim plies ply ↔ (aim.min_ply ≤ ply) × (ply < end)) → (tags : Tags) (replay : Replay) → length replay.positions ≡ plies + 1
+    → AreListed aim number offset tags replay (plies_from number offset aim.min_ply (end - aim.min_ply))
+listed_plies aim number offset plies end no_criteria range tags replay size =
+    between (λ entry. IsEntry aim tags replay entry.ply) number offset aim.min_ply end replay.positions
+    (λ n entry. entry.0.0)
+    (λ n less. let plain = plain_entry aim no_criteria tags replay plies n (omega arith) in
+    (λ entry. (range n).0 (plain.0 entry), λ bounds. plain.1 ((range n).1 bounds)))
+    (λ some. let last = (range (end - 1)).1 (omega arith, omega arith) in let within = last.0 in omega arith)
+
+-- one line more
+pub adds_line : (number offset from ply : ℕ) (before now next line : List ℕ) → from ≤ ply → now ≡ before ++ listing (plies_from number offset from (ply - from))
+    → line ≡ entry_line (entry_at number offset ply) → next ≡ now ++ line → next ≡ before ++ listing (plies_from number offset from (ply + 1 - from))
+adds_line number offset from ply before now next line above written is added =
+    let count = ply - from in
+    let more : ply + 1 - from ≡ suc count = omega arith in
+    let here : from + count ≡ ply = omega arith in
+    let picked = plies_from number offset from count in
+    let entry = entry_at number offset ply in
+    let all : plies_from number offset from (ply + 1 - from) ≡ picked ++ entry ∷ [] =
+    ap (plies_from number offset from) more ∙ plies_more number offset from count ∙ ap (λ n. picked ++ entry_at number offset n ∷ []) here in
+    added ∙ ap (λ t. t ++ line) written ∙ ap (λ t. (before ++ listing picked) ++ t) is ∙ append_assoc before (listing picked) (entry_line entry)
+    ∙ ap (λ t. before ++ t) (ap (λ t. listing picked ++ t) (sym (append-nil (entry_line entry))) ∙ sym (listing-append picked (entry ∷ [])) ∙ ap listing (sym all))
+
+-- at first none is
+pub no_line : (number offset from : ℕ) (text : List ℕ) → text ≡ text ++ listing (plies_from number offset from (from - from))
+unfolding plies_from
+no_line number offset from text =
+    let none : from - from ≡ 0 = omega arith in
+    sym (ap (λ n. text ++ listing (plies_from number offset from n)) none ∙ append-nil text)
