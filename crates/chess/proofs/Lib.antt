@@ -13,6 +13,7 @@ pub mod KingFacts
 pub mod SoundFacts
 pub mod WayFacts
 pub mod SetBits
+pub mod SizeFacts
 pub mod BoardFacts
 pub mod LoopFacts
 pub mod SightFacts

@@ -9,7 +9,7 @@ use Rattle.chess.specs.Moves.{Goes}
 use Rattle.chess.specs.Letters.{file_letter, rank_digit, square_text}
 use Rattle.chess.specs.San.{IsRival, HasRival, IsDisambiguation}
 use Rattle.chess.specs.San.IsDisambiguation.{alone, by_file, by_rank, by_both}
-use Rattle.chess.specs.Sets.{Places, is_in, no_places, HoldsExactly, IsSquaresOf, IsHitter, IsTakenFirst}
+use Rattle.chess.specs.Sets.{Places, is_in, no_places, HoldsExactly, IsHitter, IsTakenFirst}
 use Rattle.chess.specs.MoveWords.{HasEach}
 use Rattle.chess.specs.SanTextWords.{Appends, AreOf, HasSquare, AreRivalsSifted}
 use Rattle.chess.specs.declared.board.man.Man.{Man}
@@ -32,10 +32,6 @@ pub square_of_rival : (P : State) (m : Move) (set : Places) (fact : Place → Ty
 square_of_rival P m set fact rivals found = let on = rival_on P m found.0 found.1 in (found.0, on, (rivals found.0).1 (on, found.1), found.2)
 
 -- ---- the men among which the rivals are
-
-pub pawns_alike : (P : State) (m : Move) (man : Man) (set : Places) → man_at P.men m.from ≡ Some man → IsSquaresOf P.men man set
-    → HasEach (IsRival P m) set
-pawns_alike P m man set here squares s on rival = (squares s).1 (on, rival.alike ∙ here)
 
 -- a side has one king
 no_king_rival : (P : State) (m : Move) (man : Man) (s : Place) → IsSound P → man_at P.men m.from ≡ Some man → man.kind ≡ King → IsRival P m s → ⊥

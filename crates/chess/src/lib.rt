@@ -2,6 +2,7 @@
 #![tactic(auto)]
 
 mod board;
+mod counts;
 mod fen;
 pub mod laws;
 mod letters;

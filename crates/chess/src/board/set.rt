@@ -133,11 +133,7 @@ impl SquareSet {
     pub fn count(&self) -> u32
         ensures { result ≡ size_of self.now }
     {
-        let mut count = 0;
-        for index in 0u8..64 {
-            count += ((self.word >> index) & 1) as u32;
-        }
-        count
+        self.word.count_ones()
     }
 
     /// Takes out the first square in the order a1, b1 to h1, a2 and so on: `None` where there is none.

@@ -1,0 +1,15 @@
+use Rattle.std.proofs.Common.{◌↔◌, IsTrue, ◌∙◌, subst}
+use Rattle.chess.specs.declared.board.man.Man.{Man}
+use Rattle.pgn_criteria.specs.Counting.{FitsKind}
+use Rattle.pgn_criteria.specs.Materials.{Allows, count_of}
+use Rattle.pgn_criteria.proofs.CountFacts.{counted}
+use Rattle.pgn_criteria.proofs.material.fits_kind.Goals as goal
+
+pub returns : goal.returns
+unfolding FitsKind
+returns c =
+    let men = c.args.position.now.men in
+    let man : Man = record { side = c.args.side; kind = c.args.kind } in
+    let count = c.count.ensures.2 ∙ counted men man c.count.ensures.0 c.count.ensures.1 in
+    subst (λ limit. IsTrue c.allows.result ↔ Allows limit (count_of men man)) c.of.ensures
+    (subst (λ n. IsTrue c.allows.result ↔ Allows c.of.result n) count c.allows.ensures)
