@@ -16,6 +16,7 @@ mod listing;
 mod passes;
 mod pieces;
 mod replays;
+mod stops;
 mod support;
 mod tallies;
 mod words;

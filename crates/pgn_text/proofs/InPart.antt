@@ -37,7 +37,7 @@ module _ (max_depth : ℕ) where
     follows = record { ends = λ r. cc; goes_on = λ r. (s, refl) };
   }
 
-  all_take : (test : ℕ → Bool) (xs : List ℕ) (k : ℕ) → IsTrue (list_all test xs) → IsTrue (list_all test (take k xs))
+  pub all_take : (test : ℕ → Bool) (xs : List ℕ) (k : ℕ) → IsTrue (list_all test xs) → IsTrue (list_all test (take k xs))
   all_take test xs zero all = refl
   all_take test [] (suc k) all = refl
   all_take test (b ∷ xs) (suc k) all =

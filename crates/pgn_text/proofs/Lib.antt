@@ -45,6 +45,7 @@ pub mod ShownGame
 pub mod ShownOnce
 pub mod SortedTags
 pub mod Spliced
+pub mod StopContexts
 pub mod StopWalk
 pub mod Stopping
 pub mod Stuck

@@ -28,10 +28,10 @@ module _ (max_depth : ℕ) (f : Bool) (block : List ℕ) (begin : ℕ) where
     within = within;
   }
 
-  kind : (at end : ℕ) (token : Kept) (here : KeptAt f block at token end) → is_result here.part ≡ is_kept_result token
+  pub kind : (at end : ℕ) (token : Kept) (here : KeptAt f block at token end) → is_result here.part ≡ is_kept_result token
   kind at end token here = is_result-kept here.part ∙ ap is_kept_result here.keeps
 
-  stands_there : (at end : ℕ) (state : State) (w : WalkedTo max_depth f block begin at state) (token : Kept) (here : KeptAt f block at token end)
+  pub stands_there : (at end : ℕ) (state : State) (w : WalkedTo max_depth f block begin at state) (token : Kept) (here : KeptAt f block at token end)
       → Stands (standing_of f (take begin block ++ spelled w.done)) here.part (drop end block)
   stands_there at end state w token here = subst (λ xs. Stands (standing_of f xs) here.part (drop end block)) w.passed here.found.stands
 
@@ -55,7 +55,7 @@ module _ (max_depth : ℕ) (f : Bool) (block : List ℕ) (begin : ℕ) where
       }
 
   -- how many bytes were read
-  size : (at : ℕ) (state : State) (w : WalkedTo max_depth f block begin at state) → at ≡ begin + length (spelled w.done)
+  pub size : (at : ℕ) (state : State) (w : WalkedTo max_depth f block begin at state) → at ≡ begin + length (spelled w.done)
   size at state w =
       let a : length (take at block) ≡ at = length-take-le at block w.within in
       let b : length (take begin block) ≡ begin = length-take-le begin block (let l = w.forward in let m = w.within in omega arith) in

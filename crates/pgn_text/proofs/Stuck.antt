@@ -81,7 +81,7 @@ module _ (max_depth : ℕ) where
   all_push xs b all e = list_all-append is_not_brace xs (b ∷ []) ∙ and_from _ _ all (and_from (is_not_brace b) true e refl)
 
   -- a brace comment that ends may follow
-  brace_missing : (place : Standing) (s : State) (rest : List ℕ) → NoneFollows max_depth place s (123 ∷ rest)
+  pub brace_missing : (place : Standing) (s : State) (rest : List ℕ) → NoneFollows max_depth place s (123 ∷ rest)
       → IsTrue (list_all is_not_brace rest)
   brace_missing place s rest nothing = go rest [] refl nothing
     where

@@ -1,11 +1,12 @@
 //! The place where the bytes of a block agree with no game any more.
 
 ghost use Rattle.std.specs.Prelude.{◌≡◌, ◌+◌, ◌≤◌, ◌↔◌, ℕ, length, take, drop, true, IsTrue};
-ghost use Rattle.pgn_text.specs.Agreement.{IsReached};
+ghost use Rattle.pgn_text.specs.Agreement.{FrontWithin, IsReached};
 ghost use Rattle.pgn_text.specs.Bytes.{is_check_mark};
 ghost use Rattle.pgn_text.specs.Limits.{depth_limit};
 ghost use Rattle.pgn_text.specs.PartFronts.{Longest, IsPartFront, IsTagFront, IsWordFront, NoneFollows, front_length, is_glyph_front, next_in, no_byte};
 ghost use Rattle.pgn_text.specs.Parts.{standing_of};
+ghost use Rattle.pgn_text.specs.StopPlaces.{StandsWithin};
 ghost use Rattle.pgn_text.specs.Stops.{StopsAt};
 ghost use Rattle.pgn_text.specs.Tokens.{state_of};
 ghost use Rattle.pgn_text.specs.declared.agreement.InTag.TheVariants.{BeforeName};
@@ -163,7 +164,7 @@ fn part_stop(block: &[u8], at: usize, file_start: bool, progress: Progress) -> u
 /// How far the parts of a game go.
 enum Reached {
     /// To the end of the game, at the place.
-    Game(usize),
+    GameTo(usize),
     /// To the place, from which no whole part leads on.
     Stuck(usize, Progress),
 }
@@ -178,7 +179,7 @@ fn walk(block: &[u8], begin: usize, file_start: bool) -> Reached
     while let Some((token, end)) = part_at(block, at, file_start) {
         if token.is_result() {
             if progress.is_closed() {
-                return Reached::Game(end);
+                return Reached::GameTo(end);
             }
             break;
         }
@@ -192,13 +193,79 @@ fn walk(block: &[u8], begin: usize, file_start: bool) -> Reached
     Reached::Stuck(at, progress)
 }
 
+/// What the place where a text stops agreeing with games stands in.
+#[derive(Clone, Copy, Debug, PartialEq, Eq)]
+pub enum Within {
+    /// A comment in braces, which begins at the place of the block and does not end.
+    Comment(usize),
+    /// A tag, which begins at the place of the block, before its string.
+    TagName(usize),
+    /// A tag, which begins at the place of the block, in its string or behind it.
+    TagValue(usize),
+    /// The tags of a game, or what stands before them.
+    Tags,
+    /// A variation.
+    Variation,
+    /// The movetext outside all variations.
+    MainLine,
+    /// Nothing: a game ends there.
+    Game,
+}
+
+/// What the bytes behind the last whole part, which ends at the place `at`, stand in.
+fn front_within(front: &[u8], at: usize, progress: Progress) -> Within
+    ensures { FrontWithin (state_of progress) front.now at result }
+{
+    match front.first() {
+        Some(b'{') => return Within::Comment(at),
+        Some(b'[') if front.contains(&b'"') => return Within::TagValue(at),
+        Some(b'[') => return Within::TagName(at),
+        _ => {}
+    }
+    if !progress.is_closed() {
+        Within::Variation
+    } else if progress.in_tags {
+        Within::Tags
+    } else {
+        Within::MainLine
+    }
+}
+
+/// A place where a text stops agreeing with games.
+#[derive(Clone, Copy, Debug, PartialEq, Eq)]
+pub struct Stop {
+    /// The place in the block.
+    pub place: usize,
+    /// What it stands in.
+    pub within: Within,
+}
+
+/// The place of the block up to which its bytes from `begin` on are the front of a gap and a game, no more of them are, and what
+/// it stands in.
+pub fn stopped_within(block: &[u8], begin: usize, file_start: bool) -> Stop
+    requires { begin ≤ length block.now }
+    ensures place { (n : ℕ) × (result.place ≡ begin + n) × StopsAt depth_limit file_start (take begin block.now) (drop begin block.now) n }
+    ensures within { StandsWithin file_start block.now begin result.place result.within }
+{
+    match walk(block, begin, file_start) {
+        Reached::GameTo(place) => Stop {
+            place,
+            within: Within::Game,
+        },
+        Reached::Stuck(at, progress) => {
+            let place = at + part_stop(block, at, file_start, progress);
+            Stop {
+                place,
+                within: front_within(&block[at..place], at, progress),
+            }
+        }
+    }
+}
+
 /// The place of the block up to which its bytes from `begin` on are the front of a gap and a game; no more of them are.
 pub fn stopped(block: &[u8], begin: usize, file_start: bool) -> usize
     requires { begin ≤ length block.now }
     ensures { (n : ℕ) × (result ≡ begin + n) × StopsAt depth_limit file_start (take begin block.now) (drop begin block.now) n }
 {
-    match walk(block, begin, file_start) {
-        Reached::Game(end) => end,
-        Reached::Stuck(at, progress) => at + part_stop(block, at, file_start, progress),
-    }
+    stopped_within(block, begin, file_start).place
 }

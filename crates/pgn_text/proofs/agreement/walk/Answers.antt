@@ -2,14 +2,18 @@ use Rattle.std.proofs.Common.{sym, ◌∙◌}
 use Rattle.std.proofs.lemmas.Bool.{false≢true}
 use Rattle.pgn_text.specs.Limits.{depth_limit}
 use Rattle.pgn_text.specs.Tokens.{state_of, token_of}
+use Rattle.pgn_text.proofs.StopContexts.{behind_game}
 use Rattle.pgn_text.proofs.StopWalk.{walk_game, walk_more, walk_stuck}
 use Rattle.pgn_text.proofs.agreement.walk.Goals as goal
 
 pub returns-then-is_closed : goal.returns-then-is_closed
-returns-then-is_closed c =
-    walk_game depth_limit c.args.file_start c.args.block.now c.args.begin c.loop-token.at c.in-Some.end (state_of c.loop-token.progress)
-    (token_of c.in-Some.token) c.loop-token.invariant c.in-Some.ensures (sym c.is_result.ensures ∙ c.if-is_result.true)
-    (c.is_closed.ensures.0 c.if-is_closed.true)
+returns-then-is_closed c = (
+  walk_game depth_limit c.args.file_start c.args.block.now c.args.begin c.loop-token.at c.in-Some.end (state_of c.loop-token.progress)
+      (token_of c.in-Some.token) c.loop-token.invariant c.in-Some.ensures (sym c.is_result.ensures ∙ c.if-is_result.true)
+      (c.is_closed.ensures.0 c.if-is_closed.true),
+  behind_game depth_limit c.args.file_start c.args.block.now c.args.begin c.loop-token.at c.in-Some.end (state_of c.loop-token.progress)
+      (token_of c.in-Some.token) c.loop-token.invariant c.in-Some.ensures (sym c.is_result.ensures ∙ c.if-is_result.true),
+)
 
 pub loop-token-preserved : goal.loop-token-preserved
 loop-token-preserved c =

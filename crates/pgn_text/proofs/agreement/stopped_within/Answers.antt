@@ -1,0 +1,18 @@
+use Rattle.std.proofs.Common.{◌+◌, ◌≤◌, length, length-drop, arith}
+use Rattle.pgn_text.specs.Limits.{depth_limit}
+use Rattle.pgn_text.specs.Tokens.{state_of}
+use Rattle.pgn_text.proofs.StopContexts.{stands_within}
+use Rattle.pgn_text.proofs.StopWalk.{walk_stops}
+use Rattle.pgn_text.proofs.agreement.stopped_within.Goals as goal
+
+pub returns-in-Stuck-clause-place : goal.returns-in-Stuck-clause-place
+returns-in-Stuck-clause-place c =
+    walk_stops depth_limit c.args.file_start c.args.block.now c.args.begin c.in-Stuck.at c.part_stop.result (state_of c.in-Stuck.progress)
+    c.in-Stuck.ensures.0 c.in-Stuck.ensures.1 c.part_stop.ensures
+
+pub returns-in-Stuck-clause-within : goal.returns-in-Stuck-clause-within
+returns-in-Stuck-clause-within c =
+    let low : c.in-Stuck.at + c.part_stop.result ≤ length c.args.block.now =
+    omega (arith, c.part_stop.ensures.within, c.in-Stuck.ensures.0.within, length-drop c.in-Stuck.at c.args.block.now) in
+    stands_within depth_limit c.args.file_start c.args.block.now c.args.begin c.in-Stuck.at (c.in-Stuck.at + c.part_stop.result)
+    (state_of c.in-Stuck.progress) c.front_within.result c.in-Stuck.ensures.0 c.in-Stuck.ensures.1 (omega arith) low c.front_within.ensures
