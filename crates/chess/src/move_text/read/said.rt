@@ -41,6 +41,7 @@ struct Parts<'a> {
 }
 
 /// Whether the byte is of the class.
+#[inline(always)]
 fn is_of(class: ByteClass, byte: u8) -> bool
     ensures { result ≡ is_of class byte }
 {
@@ -56,6 +57,7 @@ fn is_of(class: ByteClass, byte: u8) -> bool
 }
 
 /// The last byte of a text if it is of the class, and the text before it.
+#[inline(always)]
 fn take_last(class: ByteClass, text: &[u8]) -> (Option<u8>, &[u8])
     ensures byte { result.0 ≡ last_of class (reverse text.now) }
     ensures rest { reverse result.1.now ≡ before_last class (reverse text.now) }
@@ -69,6 +71,7 @@ fn take_last(class: ByteClass, text: &[u8]) -> (Option<u8>, &[u8])
 }
 
 /// The text without the marks of check and mate at its end.
+#[inline(always)]
 fn unmarked(text: &[u8]) -> &[u8]
     ensures { reverse result.now ≡ unmarked (reverse text.now) }
 {
@@ -82,6 +85,7 @@ fn unmarked(text: &[u8]) -> &[u8]
 }
 
 /// The text before a promotion and its `=`.
+#[inline(always)]
 fn before_equals(promotion: Option<u8>, text: &[u8]) -> &[u8]
     ensures { reverse result.now ≡ before_equals promotion (reverse text.now) }
 {
@@ -92,6 +96,7 @@ fn before_equals(promotion: Option<u8>, text: &[u8]) -> &[u8]
 }
 
 /// The bytes of a text by their places, from its end; `None` where no target stands there.
+#[inline(always)]
 fn split_parts(text: &[u8]) -> Option<Parts<'_>>
     ensures target { MatchOption result
         ((last_of Digit (stem (reverse text.now)) ≡ None) ⊎ (last_of FileLetter (behind_target_rank (reverse text.now)) ≡ None))
@@ -122,6 +127,7 @@ fn split_parts(text: &[u8]) -> Option<Parts<'_>>
 }
 
 /// The kind of the letter that is the whole text, or none where the text is empty; `None` where it is neither.
+#[inline(always)]
 fn whole_letter(text: &[u8]) -> Option<Option<Kind>>
     ensures { IsWholeLetter (reverse text.now) result }
 {
@@ -133,6 +139,7 @@ fn whole_letter(text: &[u8]) -> Option<Option<Kind>>
 }
 
 /// The kind of the letter, if one is given.
+#[inline(always)]
 fn kind_given(letter: Option<u8>) -> Option<Kind>
     ensures { result ≡ kind_given letter }
 {
@@ -143,6 +150,7 @@ fn kind_given(letter: Option<u8>) -> Option<Kind>
 }
 
 /// The number that a byte writes from that one on, if it is given.
+#[inline(always)]
 fn number_given(byte: Option<u8>, zero: u8) -> Option<u8>
     ensures { result ≡ number_given byte zero }
 {
@@ -153,6 +161,7 @@ fn number_given(byte: Option<u8>, zero: u8) -> Option<u8>
 }
 
 /// What the text says, if it is a move text that is not castling.
+#[inline(always)]
 pub(crate) fn read_said(text: &[u8]) -> Option<SaidMove>
     ensures { IsReadSaid text.now result }
 {
