@@ -7,7 +7,7 @@ ghost use Rattle.chess.specs.SanWords.{said_by, IsMoveSaid};
 ghost use Rattle.chess.specs.declared.moves.Move.{Move};
 ghost use Rattle.chess.specs.declared.move_text.SanError.{SanError};
 
-use crate::board::Board;
+use crate::board::{Board, Man};
 use crate::move_text::SanError;
 use crate::move_text::read::able::able_men;
 use crate::move_text::read::said::{SaidMove, castling, read_said};
@@ -54,8 +54,12 @@ fn play_said<B: Board>(position: &mut Position<B>, said: &SaidMove) -> Result<Mo
     if able.has_some() {
         return play_one_of_several(position, said);
     }
+    let man = Man {
+        side: position.side(),
+        kind: said.kind(),
+    };
     let m = said.from(from);
-    if !position.try_move(&m) {
+    if !position.try_move_of(Some(man), &m) {
         return Err(SanError::None);
     }
     Ok(m)
