@@ -83,6 +83,19 @@ fn push_unbraced(out: &mut Vec<u8>, word: &[u8]) -> Result<(), AllocError>
     Ok(())
 }
 
+/// Writes what a word begins with: for most words it is nothing.
+#[inline]
+fn push_front(out: &mut Vec<u8>, front: &[u8]) -> Result<(), AllocError>
+    ensures text { OnOk result (out.new.items ≡ out.old.items ++ front.now) }
+    ensures kept { (some : List ℕ) × (out.new.items ≡ out.old.items ++ some) }
+{
+    if front.is_empty() {
+        return Ok(());
+    }
+    out.extend_from_slice(front)?;
+    Ok(())
+}
+
 /// Writes a word as a token behind what it begins with; the last one has the closing brace.
 fn put_word(
     pen: &mut Pen,
@@ -96,7 +109,7 @@ fn put_word(
     ensures width { pen.new.width ≡ pen.old.width }
 {
     pen.start(out, front.len() + word.len() + usize::from(is_last))?;
-    out.extend_from_slice(front)?;
+    push_front(out, front)?;
     push_unbraced(out, word)?;
     if is_last {
         out.push(b'}')?;
