@@ -33,10 +33,8 @@ fn put_report<O: Write, E: Write>(
         ↔ ((out.new.faulted ≡ true) ⊎ (err.new.faulted ≡ true)) }
     ensures alone { (out.new.faulted ≡ true) × (err.new.faulted ≡ true) → ⊥ }
 {
-    match put(out, &report.output) {
-        Ok(()) => put(err, &report.faults),
-        Err(error) => Err(error),
-    }
+    put(out, &report.output)?;
+    put(err, &report.faults)
 }
 
 /// Writes what is reported of the pieces of one block, which is gathered in the report.
@@ -70,13 +68,11 @@ fn put_block<'a, O: Write, E: Write>(
         Ok(()) => {}
         Err(_) => return Err(RunError::OutOfMemory),
     }
-    match put_report(out, err, report) {
-        Ok(()) => Ok(Summary {
-            games: report.games,
-            faulty: report.faulty,
-        }),
-        Err(error) => Err(error),
-    }
+    put_report(out, err, report)?;
+    Ok(Summary {
+        games: report.games,
+        faulty: report.faulty,
+    })
 }
 
 /// Flushes both writers.
@@ -90,10 +86,8 @@ fn finish_both<O: Write, E: Write>(out: &mut Tally<O>, err: &mut Tally<E>) -> Re
         ↔ ((out.new.faulted ≡ true) ⊎ (err.new.faulted ≡ true)) }
     ensures alone { (out.new.faulted ≡ true) × (err.new.faulted ≡ true) → ⊥ }
 {
-    match finish(out) {
-        Ok(()) => finish(err),
-        Err(error) => Err(error),
-    }
+    finish(out)?;
+    finish(err)
 }
 
 /// Writes what is reported of the pieces of the blocks that are left, and flushes the writers.
