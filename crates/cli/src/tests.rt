@@ -18,4 +18,5 @@ mod pieces;
 mod replays;
 mod support;
 mod tallies;
+mod trials;
 mod words;
