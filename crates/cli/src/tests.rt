@@ -19,4 +19,5 @@ mod replays;
 mod stops;
 mod support;
 mod tallies;
+mod trials;
 mod words;

@@ -1,9 +1,9 @@
 //! Reads and writes that fail, and readers that give few bytes at a time.
-ghost use Rattle.std.specs.Prelude.{◌≤◌, ◌^◌};
+ghost use Rattle.std.specs.Prelude.{◌≤◌, ◌^◌, IfOk};
 
-use super::support::{
-    FAULT_BETWEEN, Fails, LOST_BRACE, Page, Pieces, Shelf, TWO_GAMES, Trial, run_words,
-};
+use super::support::{FAULT_BETWEEN, Fails, LOST_BRACE, Page, Pieces, Shelf, TWO_GAMES, run_words};
+use super::trials::Trial;
+use pgn_criteria::Criteria;
 use pgn_extract::{Mode, Settings};
 use pgn_game::Style;
 use std::alloc::Global;
@@ -74,29 +74,37 @@ const MODES: [(Mode, &str, &[u8], &[u8]); 3] = [
     ),
 ];
 
-/// Whether a run over the first bytes of the two games, with a read fault behind them, leaves what complete blocks give: the first game
+/// Whether a run over the two games, with a read fault behind their first bytes, once or from then on, leaves what complete blocks give: the first game
 /// from the 30th byte on, for there the second event line is whole.
-fn leaves_complete_blocks(alloc: Global, mode: Mode, first: &[u8], len: usize) -> bool {
+fn leaves_complete_blocks(alloc: Global, settings: &Settings, first: &[u8], len: usize) -> bool
+    requires number { (1 ≤ settings.now.number) × (settings.now.number ≤ 2 ^ 62) }
+    requires offset { settings.now.offset ≤ 2 ^ 62 }
+{
     let wanted = if len < 30 { b"".as_slice() } else { first };
     for piece in [1, 7, 8192usize] {
-        let reader = Pieces::failing(front_of_two_games(len), piece);
-        let trial = Trial::new(alloc, &all(mode), reader, Page::new(), Page::new());
-        if !trial.is_read_fault(wanted, b"") {
-            return false;
+        let readers = [
+            Pieces::failing(front_of_two_games(len), piece),
+            Pieces::failing_once(TWO_GAMES, piece, len),
+        ];
+        for reader in readers {
+            let trial = Trial::new(alloc, settings, reader, Page::new(), Page::new());
+            let [_, writes, reports] = trial.calls;
+            let is_quiet = writes == u32::from(!wanted.is_empty()) && reports == 0;
+            if !is_quiet || !trial.is_read_fault(wanted, b"") {
+                return false;
+            }
         }
     }
-    let reader = Pieces::failing(front_of_two_games(len), 8192);
-    Trial::new(alloc, &rest(mode), reader, Page::new(), Page::new()).is_read_fault(b"", b"")
+    true
 }
 
 #[test]
 fn a_read_fault_leaves_the_complete_blocks(rt: HostRuntime) -> Result<(), Fail> {
     for (mode, _, first, _) in MODES {
         for len in 0..=43usize {
-            assert!(rt;
-                leaves_complete_blocks(rt.alloc(), mode, first, len),
-                "{mode:?} at {len}"
-            );
+            let holds = leaves_complete_blocks(rt.alloc(), &all(mode), first, len)
+                && leaves_complete_blocks(rt.alloc(), &rest(mode), b"", len);
+            assert!(rt; holds, "{mode:?} at {len}");
         }
     }
     Ok(())
@@ -118,14 +126,36 @@ fn the_program_reports_a_read_fault(rt: HostRuntime) -> Result<(), Fail> {
     Ok(())
 }
 
-/// Whether an output that takes `room` bytes in small pieces holds just the first of the whole text's bytes.
-fn leaves_a_front(alloc: Global, mode: Mode, whole: &[u8], room: usize) -> bool {
-    for piece in 1..=3usize {
-        let page = Page::failing(room, piece);
-        let reader = Pieces::new(TWO_GAMES, 8192);
-        let trial = Trial::new(alloc, &all(mode), reader, page, Page::new());
-        if !trial.is_output_fault(whole.get(..room).unwrap_or(b""), b"") {
-            return false;
+/// How a writer fails: so often, and by taking nothing in place of an error.
+const WRITE_FAULTS: [(Fails, bool); 4] = [
+    (Fails::Always, false),
+    (Fails::Once, false),
+    (Fails::Always, true),
+    (Fails::Once, true),
+];
+
+/// Whether an output that takes `room` bytes in small pieces, and then fails, holds just the first of the whole text's bytes, and nothing is read behind the
+/// fault: the first read gives the two games, and a second one, behind what the first game gives, the end.
+fn leaves_a_front(
+    alloc: Global,
+    settings: &Settings,
+    first: &[u8],
+    whole: &[u8],
+    room: usize,
+) -> bool
+    requires number { (1 ≤ settings.now.number) × (settings.now.number ≤ 2 ^ 62) }
+    requires offset { settings.now.offset ≤ 2 ^ 62 }
+{
+    for (fails, takes_nothing) in WRITE_FAULTS {
+        for piece in 1..=3usize {
+            let page = Page::faulty(room, piece, fails, takes_nothing);
+            let reader = Pieces::new(TWO_GAMES, 8192);
+            let trial = Trial::new(alloc, settings, reader, page, Page::new());
+            let [reads, _, reports] = trial.calls;
+            let is_quiet = reads == (if room < first.len() { 1 } else { 2 }) && reports == 0;
+            if !is_quiet || !trial.is_output_fault(whole.get(..room).unwrap_or(b""), b"") {
+                return false;
+            }
         }
     }
     true
@@ -133,48 +163,92 @@ fn leaves_a_front(alloc: Global, mode: Mode, whole: &[u8], room: usize) -> bool 
 
 #[test]
 fn an_output_fault_leaves_a_front(rt: HostRuntime) -> Result<(), Fail> {
-    for (mode, _, _, whole) in MODES {
+    for (mode, _, first, whole) in MODES {
         for room in 0..whole.len() {
-            assert!(rt;
-                leaves_a_front(rt.alloc(), mode, whole, room),
-                "{mode:?} at {room}"
-            );
+            let holds = leaves_a_front(rt.alloc(), &all(mode), first, whole, room);
+            assert!(rt; holds, "{mode:?} at {room}");
         }
     }
     Ok(())
 }
 
-/// Whether standard error that takes `room` bytes holds just the first bytes of the fault line, beside this output.
+/// A whole run in the mode, of the plies at which Black is to move.
+fn of_black(alloc: Global, mode: Mode) -> Result<Settings, Fail>
+    ensures number { IfOk result (λ settings. (1 ≤ settings.number) × (settings.number ≤ 2 ^ 62)) }
+    ensures offset { IfOk result (λ settings. settings.offset ≤ 2 ^ 62) }
+{
+    let mut settings = all(mode);
+    settings.criteria = Some(Criteria::parse(alloc, b"turn black")?);
+    Ok(settings)
+}
+
+#[test]
+fn a_fault_among_criteria_leaves_as_much(rt: HostRuntime) -> Result<(), Fail> {
+    let (_, _, first, whole) = MODES[2];
+    let rows: [(Mode, &[u8], &[u8]); 2] = [
+        (Mode::List, b"1@0 1\n", b"1@0 1\n2@22 1\n"),
+        (Mode::Export, first, whole),
+    ];
+    for (mode, first, whole) in rows {
+        let settings = of_black(rt.alloc(), mode)?;
+        for len in 0..=43usize {
+            let holds = leaves_complete_blocks(rt.alloc(), &settings, first, len);
+            assert!(rt; holds, "{mode:?}, input at {len}");
+        }
+        for room in 0..whole.len() {
+            let holds = leaves_a_front(rt.alloc(), &settings, first, whole, room);
+            assert!(rt; holds, "{mode:?}, output at {room}");
+        }
+    }
+    Ok(())
+}
+
+/// Whether standard error that takes `room` bytes in small pieces, and then fails, holds just the first bytes of the fault line, beside this output, and behind the
+/// fault nothing is read, written or flushed: there are so many reads.
 fn leaves_a_front_of_a_fault(
     alloc: Global,
     mode: Mode,
     text: &[u8],
-    line: &[u8],
+    gives: (u32, &[u8], &[u8]),
     room: usize,
 ) -> bool {
-    let reader = Pieces::new(text, 8192);
-    let page = Page::failing(room, 3);
-    let trial = Trial::new(alloc, &all(mode), reader, Page::new(), page);
-    trial.is_error_output_fault(trial.out.text(), line.get(..room).unwrap_or(b""))
+    let (reads, out, line) = gives;
+    for (fails, takes_nothing) in WRITE_FAULTS {
+        for piece in 1..=3usize {
+            let reader = Pieces::new(text, 8192);
+            let page = Page::faulty(room, piece, fails, takes_nothing);
+            let trial = Trial::new(alloc, &all(mode), reader, Page::new(), page);
+            let writes = u32::from(!out.is_empty());
+            let is_quiet = trial.calls[0] == reads && trial.calls[1] == writes;
+            if !is_quiet || !trial.is_error_output_fault(out, line.get(..room).unwrap_or(b"")) {
+                return false;
+            }
+        }
+    }
+    true
 }
 
 #[test]
 fn a_fault_of_standard_error_leaves_a_front(rt: HostRuntime) -> Result<(), Fail> {
-    let rows: [(Mode, &[u8], &[u8]); 2] = [
+    let rows: [(Mode, &[u8], (u32, &[u8], &[u8])); 2] = [
         (
             Mode::Index,
             LOST_BRACE,
-            b"pgn-extract: game 1@0: unreadable\n",
+            (1, b"", b"pgn-extract: game 1@0: unreadable\n"),
         ),
         (
             Mode::List,
             FAULT_BETWEEN,
-            b"pgn-extract: game 2@8: illegal move Qxh8 at ply 1\n",
+            (
+                2,
+                b"1@0 0\n1@0 1\n3@18 0\n3@18 1\n",
+                b"pgn-extract: game 2@8: illegal move Qxh8 at ply 1\n",
+            ),
         ),
     ];
-    for (mode, text, line) in rows {
-        for room in 0..line.len() {
-            let holds = leaves_a_front_of_a_fault(rt.alloc(), mode, text, line, room);
+    for (mode, text, gives) in rows {
+        for room in 0..gives.2.len() {
+            let holds = leaves_a_front_of_a_fault(rt.alloc(), mode, text, gives, room);
             assert!(rt; holds, "{mode:?} at {room}");
         }
     }
@@ -184,10 +258,18 @@ fn a_fault_of_standard_error_leaves_a_front(rt: HostRuntime) -> Result<(), Fail>
 #[test]
 fn a_fault_of_the_last_flush_is_a_write_fault(rt: HostRuntime) -> Result<(), Fail> {
     for (mode, _, _, whole) in MODES {
-        let page = Page::failing_flush(Fails::Always);
-        let reader = Pieces::new(TWO_GAMES, 8192);
-        let trial = Trial::new(rt.alloc(), &all(mode), reader, page, Page::new());
-        assert!(rt; trial.is_output_fault(whole, b""), "{mode:?}");
+        for fails in [Fails::Always, Fails::Once] {
+            let page = Page::failing_flush(fails);
+            let reader = Pieces::new(TWO_GAMES, 8192);
+            let trial = Trial::new(rt.alloc(), &all(mode), reader, page, Page::new());
+            let holds = trial.calls == [2, 3, 0] && trial.is_output_fault(whole, b"");
+            assert!(rt; holds, "{mode:?}");
+            let page = Page::failing_flush(fails);
+            let reader = Pieces::new(TWO_GAMES, 8192);
+            let trial = Trial::new(rt.alloc(), &all(mode), reader, Page::new(), page);
+            let holds = trial.calls == [2, 3, 1] && trial.is_error_output_fault(whole, b"");
+            assert!(rt; holds, "{mode:?}");
+        }
     }
     Ok(())
 }

@@ -1,7 +1,7 @@
-//! Readers, writers and files in memory, runs over them, and the texts that several tests read.
-ghost use Rattle.std.specs.Prelude.{◌≤◌, ◌^◌};
+//! Readers, writers and files in memory, the program over them, and the texts that several tests read.
+ghost use Rattle.std.specs.Prelude.{◌≤◌};
 
-use pgn_extract::{Files, RunError, Settings, Summary, program, run};
+use pgn_extract::{Files, program};
 use pgn_text::{Piece, RawGame, Tally, games};
 use std::alloc::{AllocError, Global};
 use std::io;
@@ -35,6 +35,29 @@ impl Fails {
     }
 }
 
+/// How often a reader or writer was called, and whether it was called again behind its fault.
+#[derive(Clone, Copy)]
+pub struct Calls {
+    pub all: u32,
+    pub again: bool,
+    failed: bool,
+}
+
+impl Calls {
+    const NONE: Calls = Calls {
+        all: 0,
+        again: false,
+        failed: false,
+    };
+
+    /// Counts a call, and whether it fails.
+    fn count(&mut self, fails: bool) {
+        self.all = self.all.saturating_add(1);
+        self.again = self.again || self.failed;
+        self.failed = self.failed || fails;
+    }
+}
+
 /// A reader over a text that gives at most `piece` bytes a call, and fails once it has given `sound` bytes.
 #[derive(Drop)]
 pub struct Pieces<'a> {
@@ -42,6 +65,7 @@ pub struct Pieces<'a> {
     piece: usize,
     sound: usize,
     fails: Fails,
+    pub calls: Calls,
 }
 
 impl<'a> Pieces<'a> {
@@ -52,6 +76,7 @@ impl<'a> Pieces<'a> {
             piece,
             sound: usize::MAX,
             fails: Fails::Never,
+            calls: Calls::NONE,
         }
     }
 
@@ -62,6 +87,7 @@ impl<'a> Pieces<'a> {
             piece,
             sound: text.len(),
             fails: Fails::Always,
+            calls: Calls::NONE,
         }
     }
 
@@ -72,13 +98,16 @@ impl<'a> Pieces<'a> {
             piece,
             sound,
             fails: Fails::Once,
+            calls: Calls::NONE,
         }
     }
 }
 
 impl Read for Pieces<'_> {
     fn read(&mut self, buf: &mut [u8]) -> io::Result<usize> {
-        if self.sound == 0 && self.fails.is_now() {
+        let fails = self.sound == 0 && self.fails.is_now();
+        self.calls.count(fails);
+        if fails {
             return Err(io::Error::from(ErrorKind::Other));
         }
         let sound = if self.fails == Fails::Never {
@@ -97,7 +126,7 @@ impl Read for Pieces<'_> {
 /// How many bytes a `Page` can hold.
 pub const PAGE: usize = 4096;
 
-/// A writer over a fixed array that takes at most `piece` bytes a call, and fails once it holds `room` bytes, or at a flush.
+/// A writer over a fixed array that takes at most `piece` bytes a call, and fails once it holds `room` bytes, by an error or by taking nothing, or at a flush.
 #[derive(Drop)]
 pub struct Page {
     bytes: [u8; 4096],
@@ -105,8 +134,10 @@ pub struct Page {
     room: usize,
     piece: usize,
     fails: Fails,
+    takes_nothing: bool,
     flush_fails: Fails,
     flushed: usize,
+    pub calls: Calls,
     ghost within: { len ≤ 4096 },
 }
 
@@ -119,8 +150,10 @@ impl Page {
             room: PAGE,
             piece: PAGE,
             fails: Fails::Always,
+            takes_nothing: false,
             flush_fails: Fails::Never,
             flushed: 0,
+            calls: Calls::NONE,
         }
     }
 
@@ -129,6 +162,14 @@ impl Page {
         let mut page = Page::new();
         page.room = room;
         page.piece = piece;
+        page
+    }
+
+    /// Such a page that fails so often, by an error or by taking nothing.
+    pub fn faulty(room: usize, piece: usize, fails: Fails, takes_nothing: bool) -> Self {
+        let mut page = Page::failing(room, piece);
+        page.fails = fails;
+        page.takes_nothing = takes_nothing;
         page
     }
 
@@ -167,8 +208,14 @@ impl Write for Page {
         };
         let free = room.saturating_sub(self.len);
         let count = buf.len().min(free).min(self.piece);
-        if count == 0 && !buf.is_empty() && self.fails.is_now() {
-            return Err(io::Error::from(ErrorKind::StorageFull));
+        let fails = count == 0 && !buf.is_empty() && self.fails.is_now();
+        self.calls.count(fails);
+        if fails {
+            return if self.takes_nothing {
+                Ok(0)
+            } else {
+                Err(io::Error::from(ErrorKind::StorageFull))
+            };
         }
         let begin = self.len;
         self.bytes[begin..begin + count].copy_from_slice(&buf[..count]);
@@ -177,7 +224,9 @@ impl Write for Page {
     }
 
     fn flush(&mut self) -> io::Result<()> {
-        if self.flush_fails.is_now() {
+        let fails = self.flush_fails.is_now();
+        self.calls.count(fails);
+        if fails {
             return Err(io::Error::from(ErrorKind::Other));
         }
         self.flushed = self.len;
@@ -332,69 +381,4 @@ pub type Row = (
 pub fn holds(alloc: Global, row: &Row) -> Result<bool, AllocError> {
     let (words, text, out, err, status) = row;
     Ok(run_over(alloc, words, text)?.is(out, err, *status))
-}
-
-/// What a run over memory came to: its answer, which of input, output and standard error have failed, and what the writers hold.
-#[derive(Drop)]
-pub struct Trial {
-    pub answer: Result<Summary, RunError>,
-    pub faulted: [bool; 3],
-    pub flushed: bool,
-    pub moved: u64,
-    pub out: Page,
-    pub err: Page,
-}
-
-impl Trial {
-    /// A run with these settings.
-    pub fn new(alloc: Global, settings: &Settings, reader: Pieces<'_>, out: Page, err: Page) -> Self
-        requires number { (1 ≤ settings.now.number) × (settings.now.number ≤ 2 ^ 62) }
-        requires offset { settings.now.offset ≤ 2 ^ 62 }
-    {
-        let mut input = Tally::new(reader);
-        let mut out = Tally::new(out);
-        let mut err = Tally::new(err);
-        let answer = run(alloc, &mut input, &mut out, &mut err, settings);
-        Trial {
-            answer,
-            faulted: [input.faulted(), out.faulted(), err.faulted()],
-            flushed: out.flushed() && err.flushed(),
-            moved: input.moved(),
-            out: out.into_inner(),
-            err: err.into_inner(),
-        }
-    }
-
-    /// Whether the run ended with a fault of the input, and the writers hold these bytes.
-    pub fn is_read_fault(&self, out: &[u8], err: &[u8]) -> bool {
-        self.answer == Err(RunError::Read)
-            && self.faulted == [true, false, false]
-            && self.holds(out, err)
-    }
-
-    /// Whether the run ended with a fault of the output, and the writers hold these bytes.
-    pub fn is_output_fault(&self, out: &[u8], err: &[u8]) -> bool {
-        self.answer == Err(RunError::Write)
-            && self.faulted == [false, true, false]
-            && self.holds(out, err)
-    }
-
-    /// Whether the run ended with a fault of standard error, and the writers hold these bytes.
-    pub fn is_error_output_fault(&self, out: &[u8], err: &[u8]) -> bool {
-        self.answer == Err(RunError::Write)
-            && self.faulted == [false, false, true]
-            && self.holds(out, err)
-    }
-
-    /// Whether the run ended well, with these counts and everything flushed, and the writers hold these bytes.
-    pub fn is_whole(&self, games: u64, faulty: u64, out: &[u8], err: &[u8]) -> bool {
-        self.answer == Ok(Summary { games, faulty })
-            && self.faulted == [false, false, false]
-            && self.flushed
-            && self.holds(out, err)
-    }
-
-    fn holds(&self, out: &[u8], err: &[u8]) -> bool {
-        self.out.text() == out && self.err.text() == err
-    }
 }
