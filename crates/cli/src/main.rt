@@ -11,7 +11,7 @@ use pgn_text::Tally;
 use std::alloc::Global;
 use std::io::{BufWriter, ErrorKind};
 use std::process::ExitCode;
-use std::{env, io, rt};
+use std::{env, io, mem, rt};
 
 /// How many bytes of output are gathered before they are written.
 const OUTPUT_BUFFER: usize = 65_536;
@@ -42,7 +42,12 @@ fn main(rt: HostRuntime) -> ExitCode {
     let mut out = Tally::new(buffered);
     let mut err = Tally::new(rt.stderr());
     let mut files = RealFiles::new(rt);
-    ExitCode::from(program(alloc, words, &mut files, &mut out, &mut err))
+    let status = program(alloc, words, &mut files, &mut out, &mut err);
+    if out.faulted() {
+        // What is gathered behind a write that failed stays unwritten.
+        mem::forget(out);
+    }
+    ExitCode::from(status)
 }
 
 #[cfg(test)]

@@ -207,12 +207,20 @@ where
             Ok(summary) if summary.faulty == 0 => SOUND,
             Ok(_) => FAULTY,
             Err(error) => {
-                let _ = out.flush();
+                flush_rest(out);
                 report_line(err, line_of(error));
                 FAILED
             }
         },
     )
+}
+
+/// Writes what was gathered before a run failed. Behind a write that failed nothing is written.
+fn flush_rest<O: Write>(out: &mut Tally<O>) {
+    if out.faulted() {
+        return;
+    }
+    let _ = out.flush();
 }
 
 /// The line that reports a failed run.
