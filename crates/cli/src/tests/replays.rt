@@ -1,7 +1,7 @@
 //! Games with the main line, or the turns of all lines, that they must be replayed to, or the fault that they must be refused for.
 use super::support::first_game;
 use chess::{Move, Side, Square};
-use pgn_game::{GameFault, Lines, Replayed, Turn, replay};
+use pgn_game::{GameFault, Lines, Replayed, Turn, count_plies, replay};
 use std::alloc::{AllocError, Global};
 use std::test::Fail;
 
@@ -13,12 +13,14 @@ fn goes(m: &Move, from: (u8, u8), to: (u8, u8)) -> bool {
         && Square::new(to.0, to.1) == Some(m.to)
 }
 
-/// Whether the main line of the block's first game has so many plies; no turns of other lines are kept beside it.
+/// Whether the main line of the block's first game has so many plies, replayed and counted; no turns of other lines are kept beside it.
 fn has_plies(alloc: Global, block: &[u8], plies: usize) -> Result<bool, AllocError> {
     match first_game(alloc, block)? {
-        Some(game) => match replay(alloc, &game, Lines::Main) {
-            Ok(replayed) => Ok(replayed.plies() == plies && replayed.turns() == 0),
-            Err(_) => Ok(false),
+        Some(game) => match (replay(alloc, &game, Lines::Main), count_plies(alloc, &game)) {
+            (Ok(replayed), Ok(counted)) => {
+                Ok(replayed.plies() == plies && counted == plies && replayed.turns() == 0)
+            }
+            _ => Ok(false),
         },
         None => Ok(false),
     }
@@ -47,6 +49,17 @@ fn sound_games_have_their_plies(rt: HostRuntime) -> Result<(), Fail> {
         assert!(rt; has_plies(rt.alloc(), block, plies)?, "{block:?}");
     }
     Ok(())
+}
+
+/// Whether the block begins with a game that is refused for this fault where its plies are counted.
+fn count_has_fault(alloc: Global, block: &[u8], fault: &GameFault<'_>) -> Result<bool, AllocError> {
+    match first_game(alloc, block)? {
+        Some(game) => match count_plies(alloc, &game) {
+            Ok(_) => Ok(false),
+            Err(found) => Ok(found == *fault),
+        },
+        None => Ok(false),
+    }
 }
 
 /// Whether the block begins with a game that has this fault in these lines.
@@ -120,7 +133,8 @@ fn faulty_games_have_their_faults(rt: HostRuntime) -> Result<(), Fail> {
     ];
     for (block, fault) in &rows {
         assert!(rt;
-            has_fault(rt.alloc(), block, Lines::Main, fault)?,
+            has_fault(rt.alloc(), block, Lines::Main, fault)?
+                && count_has_fault(rt.alloc(), block, fault)?,
             "{block:?}"
         );
     }
