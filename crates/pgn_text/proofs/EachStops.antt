@@ -17,7 +17,7 @@ use Rattle.pgn_text.proofs.Stopping.{walks_more, walk_reads}
 
 module _ (max_depth : ℕ) (f : Bool) where
   -- where no part follows
-  pub stuck_stops : (before : List ℕ) (s : State) (done : List Part) (text : List ℕ) → Walks max_depth start done s
+  stuck_stops : (before : List ℕ) (s : State) (done : List Part) (text : List ℕ) → Walks max_depth start done s
       → AllStand f before done text → NoneFollows max_depth (standing_of f (before ++ spelled done)) s text
       → (n : ℕ) × StopsAt max_depth f before (spelled done ++ text) n
   stuck_stops before s done text w h nothing =

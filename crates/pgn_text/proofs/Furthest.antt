@@ -35,7 +35,7 @@ longest_nothing P c rest empty none = record { within = omega arith; here = empt
     most (suc k) low p = absurd (none (take k rest) p)
 
 -- one property or the other
-pub longest_either : (P Q : List ℕ → Type 0) (text : List ℕ) (a b n : ℕ) → a ≤ n → b ≤ n → ((n ≡ a) ⊎ (n ≡ b))
+longest_either : (P Q : List ℕ → Type 0) (text : List ℕ) (a b n : ℕ) → a ≤ n → b ≤ n → ((n ≡ a) ⊎ (n ≡ b))
     → Longest P text a → Longest Q text b → Longest (λ x. P x ⊎ Q x) text n
 longest_either P Q text a b n over under one l m = elim one [
   | inl e ↦ record {

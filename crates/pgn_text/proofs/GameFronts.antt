@@ -67,7 +67,7 @@ gap_first max_depth s (p ∷ back) l = elim (cases_Bool (is_gap_part p)) [
 ]
 
 module _ (max_depth : ℕ) (f : Bool) where
-  pub front_from : (before x : List ℕ) → IsGameFront max_depth f before x → Front max_depth f before start x
+  front_from : (before x : List ℕ) → IsGameFront max_depth f before x → Front max_depth f before start x
   front_from before x g = record {
     more = g.more;
     parts = g.gap ++ g.parts;
@@ -80,7 +80,7 @@ module _ (max_depth : ℕ) (f : Bool) where
     };
   }
 
-  pub front_to : (before x : List ℕ) → Front max_depth f before start x → IsGameFront max_depth f before x
+  front_to : (before x : List ℕ) → Front max_depth f before start x → IsGameFront max_depth f before x
   front_to before x k =
       let r = k.reads in
       let first = gap_first max_depth start k.parts r.leads in

@@ -16,7 +16,7 @@ use Rattle.pgn_text.specs.declared.agreement.InTag.TheVariants.{BeforeName, Name
 use Rattle.pgn_text.proofs.Furthest.{longest_behind, longest_nothing}
 
 -- each place goes on to the tag's end
-pub each_ends : (s : InTag) → IsTagFront s []
+each_ends : (s : InTag) → IsTagFront s []
 each_ends BeforeName = (codes "A\"\"]", (Name, refl, (Contents, refl, (BehindString, refl, (Closed, refl, refl)))))
 each_ends Name = (codes "\"\"]", (Contents, refl, (BehindString, refl, (Closed, refl, refl))))
 each_ends BehindName = (codes "\"\"]", (Contents, refl, (BehindString, refl, (Closed, refl, refl))))
@@ -45,11 +45,6 @@ tag_longest s (b ∷ rest) = go (next_in s b) refl (λ t. tag_longest t rest)
         (λ x q. (q.0, (t, e, q.1)))
         (λ x p. (p.0, (let same : p.1.0 ≡ t = (let f = p.1.1 in cc) in subst (λ u. Ends u (x ++ p.0)) same p.1.2)))
         (again t))
-
--- a byte that a tag may have
-pub tag_step : (s t : InTag) (text : List ℕ) (i : ℕ) → i < length text → next_in s (get_or text i 0) ≡ Some t
-    → tag_far s (drop i text) ≡ suc (tag_far t (drop (suc i) text))
-tag_step s t text i inside e = rw (drop-cons text i 0 inside, e) refl
 
 -- a byte that none may have
 pub tag_stuck : (s : InTag) (text : List ℕ) (i : ℕ) → i < length text → next_in s (get_or text i 0) ≡ None

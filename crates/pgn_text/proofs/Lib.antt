@@ -46,6 +46,7 @@ pub mod ShownOnce
 pub mod SortedTags
 pub mod Spliced
 pub mod StopContexts
+pub mod StopRows
 pub mod StopWalk
 pub mod Stopping
 pub mod Stuck

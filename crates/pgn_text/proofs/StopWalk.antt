@@ -1,5 +1,5 @@
 -- Where a block stops, told at places of the block: what the loop of `stopped` keeps.
-use Rattle.std.proofs.Common.{◌≡◌, ◌≢◌, ℕ, ◌+◌, ◌<◌, ◌≤◌, Bool, true, false, List, [], ◌∷◌, ◌++◌, Some, None, take, drop, length, refl, sym, ap, subst, ◌∙◌, inl, inr, arith, append_assoc, append-nil, length-append}
+use Rattle.std.proofs.Common.{◌≡◌, ◌≢◌, ℕ, ◌+◌, ◌<◌, ◌≤◌, Bool, true, false, List, [], ◌∷◌, ◌++◌, Some, None, take, drop, length, sym, ap, subst, ◌∙◌, inl, inr, arith, append_assoc, append-nil, length-append}
 use Rattle.std.proofs.lemmas.Bool.{cases_Bool}
 use Rattle.std.proofs.lemmas.List.{length-take-le}
 use Rattle.pgn_text.specs.Parts.{Stands, AllStand, standing_of, spelled_part, spelled}
@@ -7,7 +7,7 @@ use Rattle.pgn_text.specs.Games.{is_result}
 use Rattle.pgn_text.specs.Steps.{State, start}
 use Rattle.pgn_text.specs.Reading.{Kept, is_kept_result, step_kept}
 use Rattle.pgn_text.specs.Stops.{StopsAt}
-use Rattle.pgn_text.specs.Walk.{PartAt, KeptAt, NothingAt}
+use Rattle.pgn_text.specs.Walk.{PartAt, KeptAt}
 use Rattle.pgn_text.proofs.EachStops.{wrong_part}
 use Rattle.pgn_text.specs.Agreement.{WalkedTo, StopsBlockAt}
 use Rattle.pgn_text.specs.PartFronts.{Longest, Follows, IsPartFront, NoneFollows}
@@ -17,17 +17,6 @@ use Rattle.pgn_text.proofs.KeptLemmas.{is_result-kept, step-kept}
 use Rattle.pgn_text.proofs.Stopping.{walks_more, walk_reads}
 
 module _ (max_depth : ℕ) (f : Bool) (block : List ℕ) (begin : ℕ) where
-  pub walk_start : (state : State) → begin ≤ length block → state ≡ start → WalkedTo max_depth f block begin begin state
-  walk_start state within is = record {
-    done = [];
-    walks = sym is;
-    stand = tt;
-    parted = refl;
-    passed = sym (append-nil (take begin block));
-    forward = omega arith;
-    within = within;
-  }
-
   pub kind : (at end : ℕ) (token : Kept) (here : KeptAt f block at token end) → is_result here.part ≡ is_kept_result token
   kind at end token here = is_result-kept here.part ∙ ap is_kept_result here.keeps
 
@@ -62,10 +51,6 @@ module _ (max_depth : ℕ) (f : Bool) (block : List ℕ) (begin : ℕ) where
       let c : length (take at block) ≡ length (take begin block) + length (spelled w.done) =
       ap length w.passed ∙ length-append (take begin block) (spelled w.done) in
       omega arith
-
-  pub walk_nothing : (at : ℕ) (state : State) → WalkedTo max_depth f block begin at state → NothingAt f block at
-      → NoneFollows max_depth (standing_of f (take at block)) state (drop at block)
-  walk_nothing at state w nothing p rest e h _ = nothing p rest e h
 
   pub walk_stuck : (at end : ℕ) (state : State) (token : Kept) → KeptAt f block at token end
       → (is_kept_result token ≡ true → state.depth ≢ 0) → (is_kept_result token ≡ false → step_kept max_depth state token ≡ None)

@@ -40,7 +40,7 @@ Instead a b = (test : ℕ → Bool) → test 10 ≡ false → IsTrue (stops test
 pub instead_nothing : (a : List ℕ) → Instead a []
 instead_nothing a test white ends = refl
 
-pub instead_line_feed : (a b : List ℕ) → Instead a (10 ∷ b)
+instead_line_feed : (a b : List ℕ) → Instead a (10 ∷ b)
 instead_line_feed a b test white ends = not_from_false (test 10) white
 
 pub instead_same : (c : ℕ) (a b : List ℕ) → Instead (c ∷ a) (c ∷ b)
@@ -50,7 +50,7 @@ instead_front : (x a b : List ℕ) → Instead a b → Instead (x ++ a) (x ++ b)
 instead_front [] a b i = i
 instead_front (c ∷ x) a b i = instead_same c (x ++ a) (x ++ b)
 
-pub stands_instead : (place : Standing) (p : Part) (a b : List ℕ) → Instead a b → Stands place p a → Stands place p b
+stands_instead : (place : Standing) (p : Part) (a b : List ℕ) → Instead a b → Stands place p a → Stands place p b
 stands_instead place ByteOrderMark a b i h = h
 stands_instead place (White c) a b i h = h
 stands_instead place (Brace text) a b i h = h
@@ -184,7 +184,7 @@ module _ (max_depth : ℕ) (f : Bool) where
 
   -- ---- within a part
 
-  pub follows_first : (s : State) (p : Part) (back : List Part) → Leads max_depth s (p ∷ back) → Follows max_depth s p
+  follows_first : (s : State) (p : Part) (back : List Part) → Leads max_depth s (p ∷ back) → Follows max_depth s p
   follows_first s p back l = record {
     ends = λ r. (MatchBool-at_true _ _ r l).0;
     goes_on = λ r. let n = MatchBool-at_false _ _ r l in (n.0, n.1);

@@ -22,7 +22,7 @@ abbrev pub move_most : List ℕ → ℕ
 move_most text = max (max (front_length is_digit [] text) (front_length no_byte (codes "--") text))
     (max (front_length is_check_mark (codes "0-0") text) (front_length is_check_mark (codes "0-0-0") text))
 
-abbrev pub result_most : List ℕ → ℕ
+abbrev result_most : List ℕ → ℕ
 result_most text = max (max (front_length no_byte (codes "1-0") text) (front_length no_byte (codes "0-1") text)) (front_length no_byte (codes "1/2-1/2") text)
 
 move_longest : (text : List ℕ) → Longest IsMoveFront text (move_most text)
