@@ -59,7 +59,7 @@ fn play_said<B: Board>(position: &mut Position<B>, said: &SaidMove) -> Result<Mo
         kind: said.kind(),
     };
     let m = said.from(from);
-    if !position.try_move_of(Some(man), &m) {
+    if !position.try_move(Some(man), &m) {
         return Err(SanError::None);
     }
     Ok(m)

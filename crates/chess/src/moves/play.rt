@@ -211,12 +211,12 @@ impl<B: Board> Position<B> {
     {
         let man = self.at(m.from);
         let board = self.board_after_of(man, m);
-        self.settle_of(man, m, board);
+        self.settle(man, m, board);
     }
 
     /// Makes a legal move of that man in place, where the board after it is given.
     #[inline(always)]
-    fn settle_of(&mut self, man: Option<Man>, m: &Move, board: B)
+    fn settle(&mut self, man: Option<Man>, m: &Move, board: B)
         requires man { man ≡ man_at self.old.men m.now.from }
         requires legal { IsLegal self.old m.now }
         requires board { B.men board ≡ men_after self.old m.now }
@@ -240,19 +240,9 @@ impl<B: Board> Position<B> {
         self.black_king = black_king;
     }
 
-    /// Makes the move in place if it leaves the own king unattacked.
-    pub(crate) fn try_move(&mut self, m: &Move) -> bool
-        requires pseudo_legal { IsPseudoLegal self.old m.now }
-        requires plain { m.now.castle ≡ None }
-        ensures legal { IsTrue result ↔ IsLegal self.old m.now }
-        ensures moved { self.new ≡ (if result then after self.old m.now else self.old) }
-    {
-        self.try_move_of(self.at(m.from), m)
-    }
-
     /// Makes the move of that man in place if it leaves the own king unattacked.
     #[inline(always)]
-    pub(crate) fn try_move_of(&mut self, man: Option<Man>, m: &Move) -> bool
+    pub(crate) fn try_move(&mut self, man: Option<Man>, m: &Move) -> bool
         requires man { man ≡ man_at self.old.men m.now.from }
         requires pseudo_legal { IsPseudoLegal self.old m.now }
         requires plain { m.now.castle ≡ None }
@@ -264,20 +254,8 @@ impl<B: Board> Position<B> {
         if board.attacked(self.king_after(m, side), side.opposite()) {
             return false;
         }
-        self.settle_of(man, m, board);
+        self.settle(man, m, board);
         true
-    }
-
-    /// Makes the move in place if it is legal.
-    pub(crate) fn make_if_legal(&mut self, m: &Move) -> bool
-        requires { m.now.castle ≡ None }
-        ensures legal { IsTrue result ↔ IsLegal self.old m.now }
-        ensures moved { self.new ≡ (if result then after self.old m.now else self.old) }
-    {
-        if !self.is_pseudo_legal(m) {
-            return false;
-        }
-        self.try_move(m)
     }
 
     /// The position after a legal move.

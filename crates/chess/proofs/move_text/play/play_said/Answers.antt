@@ -14,22 +14,22 @@ returns-in_default-clause-answer g c =
     none_said c.args.position.now (said_by c.args.said.now) c.able_men-able.result c.able_men-able.ensures
     (taken_none c.able_men-able.result c.take_first.new.self c.take_first.result c.take_first.ensures c.in_default.is)
 
-pub try_move_of-requires-clause-pseudo_legal : goal.try_move_of-requires-clause-pseudo_legal
-try_move_of-requires-clause-pseudo_legal g c =
+pub try_move-requires-clause-pseudo_legal : goal.try_move-requires-clause-pseudo_legal
+try_move-requires-clause-pseudo_legal g c =
     let taken = subst (λ (o : Option Place). IsTakenFirst c.able_men-able.result c.take_first.new.self o) c.in-Some.is c.take_first.ensures in
     subst (IsPseudoLegal c.args.position.now) (sym c.from-m.ensures) ((c.able_men-able.ensures c.in-Some.from).0 taken.1).1.rules
 
-pub try_move_of-requires-clause-man : goal.try_move_of-requires-clause-man
-try_move_of-requires-clause-man g c =
+pub try_move-requires-clause-man : goal.try_move-requires-clause-man
+try_move-requires-clause-man g c =
     let taken = subst (λ (o : Option Place). IsTakenFirst c.able_men-able.result c.take_first.new.self o) c.in-Some.is c.take_first.ensures in
     sym (rw (c.from-m.ensures, c.side.ensures, c.kind.ensures) ((c.able_men-able.ensures c.in-Some.from).0 taken.1).1.here)
 
-pub returns-then-not-try_move_of-clause-answer : goal.returns-then-not-try_move_of-clause-answer
-returns-then-not-try_move_of-clause-answer g c =
+pub returns-then-not-try_move-clause-answer : goal.returns-then-not-try_move-clause-answer
+returns-then-not-try_move-clause-answer g c =
     not_said c.args.position.now (said_by c.args.said.now) c.able_men-able.result c.take_first.new.self c.in-Some.from c.able_men-able.ensures
     (subst (λ (o : Option Place). IsTakenFirst c.able_men-able.result c.take_first.new.self o) c.in-Some.is c.take_first.ensures)
     (λ some. true_not_false c.has_some.result (c.has_some.ensures.1 some) c.if-has_some.false)
-    (λ legal. true_not_false c.try_move_of.result (c.try_move_of.ensures.legal.1 (subst (IsLegal c.args.position.now) (sym c.from-m.ensures) legal)) c.if-not-try_move_of.true)
+    (λ legal. true_not_false c.try_move.result (c.try_move.ensures.legal.1 (subst (IsLegal c.args.position.now) (sym c.from-m.ensures) legal)) c.if-not-try_move.true)
 
 pub returns-clause-answer : goal.returns-clause-answer
 returns-clause-answer g c =
@@ -39,4 +39,4 @@ returns-clause-answer g c =
     (the_said P said c.able_men-able.result c.take_first.new.self c.in-Some.from c.able_men-able.ensures
     (subst (λ (o : Option Place). IsTakenFirst c.able_men-able.result c.take_first.new.self o) c.in-Some.is c.take_first.ensures)
     (λ some. true_not_false c.has_some.result (c.has_some.ensures.1 some) c.if-has_some.false)
-    (subst (IsLegal P) c.from-m.ensures (c.try_move_of.ensures.legal.0 c.if-not-try_move_of.false)))
+    (subst (IsLegal P) c.from-m.ensures (c.try_move.ensures.legal.0 c.if-not-try_move.false)))

@@ -2,7 +2,7 @@ use Rattle.std.proofs.Common.{◌≡◌, sym, subst}
 use Rattle.chess.specs.Positions.{State, IsKept}
 use Rattle.chess.specs.Moves.{after}
 use Rattle.chess.proofs.SoundFacts.{after_sound}
-use Rattle.chess.proofs.position.Position.settle_of.Goals as goal
+use Rattle.chess.proofs.position.Position.settle.Goals as goal
 
 pub invariant_of-self : goal.invariant_of-self
 invariant_of-self g c =
