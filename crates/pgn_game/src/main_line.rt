@@ -91,7 +91,7 @@ impl LineKeeper {
         })
     }
 
-    /// KeepsLine the move that was played, and the position after it.
+    /// Keeps the move that was played, and the position after it.
     fn keep(&mut self, m: Move) -> Result<(), AllocError>
         ensures positions { OnOk result (self.new.positions.items ≡ self.old.positions.items ++ self.old.walk.position ∷ []) }
         ensures played { OnOk result (self.new.played.items ≡ self.old.played.items ++ m ∷ []) }
