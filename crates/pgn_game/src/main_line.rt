@@ -36,6 +36,7 @@ impl MainWalk {
     }
 
     /// Plays the element, if it is a move of the main line, and answers the move.
+    #[inline(always)]
     fn step<'a>(&mut self, element: Element<'a>) -> Result<Option<Move>, GameFault<'a>>
         requires room { (self.old.plies < usize.MAX) × (self.old.depth < usize.MAX) }
         ensures within { (self.new.plies ≤ self.old.plies + 1) × (self.new.depth ≤ self.old.depth + 1) }

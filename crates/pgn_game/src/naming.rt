@@ -10,6 +10,7 @@ use crate::replayed::GamePosition;
 use chess::{Move, SanError, play_word};
 
 /// Plays the only legal move that the word names, and answers it; or answers the fault of this ply.
+#[inline(always)]
 pub(crate) fn play_named<'a>(
     position: &mut GamePosition,
     word: &'a [u8],

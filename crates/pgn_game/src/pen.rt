@@ -28,6 +28,7 @@ impl Pen {
     }
 
     /// Begins a token of so many bytes behind the others: they are to follow.
+    #[inline(always)]
     pub(crate) fn start(&mut self, out: &mut Vec<u8>, size: usize) -> Result<(), AllocError>
         ensures text { OnOk result ((token : List ℕ) → length token ≡ size → HasPut self.old self.new out.old.items (out.new.items ++ token) (token ∷ [])) }
         ensures kept { (some : List ℕ) × (out.new.items ≡ out.old.items ++ some) }
@@ -49,6 +50,7 @@ impl Pen {
     }
 
     /// Writes a token behind the others.
+    #[inline(always)]
     pub(crate) fn put(&mut self, out: &mut Vec<u8>, token: &[u8]) -> Result<(), AllocError>
         ensures text { OnOk result (HasPut self.old self.new out.old.items out.new.items (token.now ∷ [])) }
         ensures kept { (some : List ℕ) × (out.new.items ≡ out.old.items ++ some) }

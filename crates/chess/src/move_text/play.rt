@@ -16,6 +16,7 @@ use crate::moves::Move;
 use crate::position::Position;
 
 /// Plays the only legal move that the text names, and reports it; where it names none or several, the position is as it was. No memory is needed.
+#[inline(always)]
 pub fn play_word<B: Board>(position: &mut Position<B>, text: &[u8]) -> Result<Move, SanError>
     ensures ok { IfOk result (λ m. IsOnlyNamed position.old text.now m) }
     ensures none { IsErrOf result SanError.None ↔ ((m : Move) → IsNamed position.old text.now m → ⊥) }
@@ -27,6 +28,7 @@ pub fn play_word<B: Board>(position: &mut Position<B>, text: &[u8]) -> Result<Mo
 }
 
 /// Plays the only legal move that the text names.
+#[inline(always)]
 fn only_played<B: Board>(position: &mut Position<B>, text: &[u8]) -> Result<Move, SanError>
     ensures answer { IsAnswer (IsNamed position.old text.now) result }
     ensures played { IsPlayed position.old position.new result }
@@ -43,6 +45,7 @@ fn only_played<B: Board>(position: &mut Position<B>, text: &[u8]) -> Result<Move
 }
 
 /// Plays the only legal move that agrees with what is said: where only one man comes into question, its board is made once.
+#[inline(always)]
 fn play_said<B: Board>(position: &mut Position<B>, said: &SaidMove) -> Result<Move, SanError>
     ensures answer { IsAnswer (IsMoveSaid position.old (said_by said.now)) result }
     ensures played { IsPlayed position.old position.new result }

@@ -103,6 +103,7 @@ fn push_castling(out: &mut ArrayString<8>, wing: Wing)
 }
 
 /// Whether the move takes a man, also en passant.
+#[inline(always)]
 fn is_capture<B: Board>(position: &Position<B>, m: &Move) -> bool
     ensures { result ≡ is_capture position.now m.now }
 {
