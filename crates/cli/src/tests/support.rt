@@ -317,6 +317,14 @@ impl Ending {
             && self.out.is_flushed()
             && self.err.is_flushed()
     }
+
+    /// Whether these texts and the status stand, and the output was not flushed, as nothing is written behind a write that failed.
+    pub fn is_unflushed(&self, out: &[u8], err: &[u8], status: u8) -> bool {
+        self.out.text() == out
+            && self.err.text() == err
+            && self.status == status
+            && !self.out.is_flushed()
+    }
 }
 
 /// The first piece of a block at the beginning of a file, if it is a game.
