@@ -1,51 +1,96 @@
 -- The legal moves that a word names, square by square.
-use Rattle.std.proofs.Common.{◌≡◌, ◌↔◌, ◌⊎◌, ℕ, ◌+◌, ◌<◌, List, [], ◌∷◌, ◌++◌, sym, ap, subst, ◌∙◌, inl, inr, arith}
-use Rattle.std.specs.List.{Contains}
+use Rattle.std.proofs.Common.{◌≡◌, ◌↔◌, ◌⊎◌, ℕ, ◌+◌, ◌<◌, List, [], ◌∷◌, ◌++◌, length, length-append, map, get_or, sym, ap, subst, ◌∙◌, inl, inr, arith}
+use Rattle.std.specs.List.{Contains, slice_index}
+use Rattle.std.specs.List.Sorted.{IsStrictlyIncreasing}
+use Rattle.std.proofs.Math.ListN.{get_or-append}
+use Rattle.std.proofs.Math.Seq.{get_or-append_seam}
 use Rattle.std.proofs.lemmas.Bool.{cases_eq}
-use Rattle.std.proofs.lemmas.List.Elements.{Contains-push, Contains-push_cases, Contains-append_left}
+use Rattle.std.proofs.lemmas.List.{map-append, length-map, get_or-map}
+use Rattle.std.proofs.lemmas.List.Elements.{Contains-get_or, Contains-push, Contains-push_cases, Contains-append_left}
 use Rattle.chess.specs.Positions.{State}
 use Rattle.chess.specs.San.{IsNamed}
 use Rattle.chess.specs.SetFacts.{square_at-index_of, index_of-below}
 use Rattle.chess.specs.SquareFacts.{index_of-square_at}
 use Rattle.chess.specs.Squares.{Place, square_at, index_of}
 use Rattle.chess.specs.declared.moves.Move.{Move}
+use Rattle.pgn_game.specs.Refusals.{AreNamed}
 use Rattle.pgn_game.specs.RefusalWalks.{AddsFrom}
 
-pub adds_none : (now : State) (word : List ℕ) (s : Place) (moves : List Move) → ((m : Move) → m.from ≡ s → IsNamed now word m → ⊥) → AddsFrom now word s moves moves
-adds_none now word s moves none m = ((λ here. inl here), (λ either. elim either [ inl here ↦ here | inr named ↦ absurd (none m named.0 named.1) ]))
+-- a number above the last of numbers that ascend
+increasing_push : (xs : List ℕ) (y : ℕ) → IsStrictlyIncreasing xs → ((k : ℕ) → k < length xs → slice_index xs k < y) → IsStrictlyIncreasing (xs ++ y ∷ [])
+increasing_push xs y rises below k low =
+    let size : length (xs ++ y ∷ []) ≡ length xs + 1 = length-append xs (y ∷ []) in
+    let here : slice_index (xs ++ y ∷ []) k ≡ slice_index xs k = get_or-append xs (y ∷ []) 0 k (omega arith) in
+    elim (cases_eq (k + 1) (length xs)) [
+      | inl last ↦
+          let next : slice_index (xs ++ y ∷ []) (k + 1) ≡ y = ap (slice_index (xs ++ y ∷ [])) last ∙ get_or-append_seam xs y [] 0 in
+          let there = below k (omega arith) in omega arith
+      | inr more ↦
+          let next : slice_index (xs ++ y ∷ []) (k + 1) ≡ slice_index xs (k + 1) = get_or-append xs (y ∷ []) 0 (k + 1) (omega arith) in
+          let there = rises k (omega arith) in omega arith
+    ]
 
-pub adds_one : (now : State) (word : List ℕ) (s : Place) (old new : List Move) (own : Move) → own.from ≡ s → IsNamed now word own
-    → ((n : Move) → n.from ≡ s → IsNamed now word n → n ≡ own) → new ≡ old ++ own ∷ [] → AddsFrom now word s old new
-adds_one now word s old new own from named only is m = (
-  (λ here. elim (Contains-push_cases old own m (subst (λ xs. Contains xs m) is here)) [
-    | inl before ↦ inl before
-    | inr same ↦ inr (ap (λ (n : Move). n.from) (sym same) ∙ from, subst (IsNamed now word) same named)
-  ]),
-  (λ either. subst (λ xs. Contains xs m) (sym is) (elim either [
-    | inl before ↦ Contains-append_left old (own ∷ []) m before
-    | inr here ↦ subst (Contains (old ++ own ∷ [])) (sym (only m here.0 here.1)) (Contains-push old own)
-  ])),
-)
+-- a named move whose square has that place goes from the square
+at_square : {now : State} {word : List ℕ} (n : ℕ) (s : Place) (m : Move) → IsNamed now word m → index_of m.from ≡ n → s ≡ square_at n → m.from ≡ s
+at_square n s m named here at = sym (square_at-index_of m.from named.legal.pseudo_legal.from) ∙ ap square_at here ∙ sym at
 
--- the moves from the first squares, so many, are there
-abbrev pub HasNamed : State → List ℕ → ℕ → List Move → Type 0
-HasNamed now word n moves = (m : Move) → (IsNamed now word m × (index_of m.from < n)) ↔ Contains moves m
+-- ---- the moves from the first squares, so many
+
+pub record HasNamed (now : State) (word : List ℕ) (n : ℕ) (moves : List Move) : Type 0 where
+  pub each : (m : Move) → (IsNamed now word m × (index_of m.from < n)) ↔ Contains moves m
+  pub ascending : IsStrictlyIncreasing (map (λ m. index_of m.from) moves)
+
+pub named_start : (now : State) (word : List ℕ) (moves : List Move) → moves ≡ [] → HasNamed now word 0 moves
+named_start now word moves none = record {
+  each = λ m. ((λ named. absurd (let low = named.1 in omega arith)), (λ here. absurd (let at : here.0 < length moves = here.1 in omega (arith, ap length none))));
+  ascending = λ k low. absurd (omega (arith, ap (λ (ms : List Move). length (map (λ m. index_of m.from) ms)) none));
+}
+
+-- each of their squares stands before the next
+below_next : (now : State) (word : List ℕ) (n : ℕ) (moves : List Move) → HasNamed now word n moves
+    → (k : ℕ) → k < length (map (λ m. index_of m.from) moves) → slice_index (map (λ m. index_of m.from) moves) k < n
+below_next now word n [] has k low = absurd (omega arith)
+below_next now word n (first ∷ rest) has k low =
+    let moves = first ∷ rest in
+    let small : k < length moves = simp length-map at low in
+    let is : slice_index (map (λ m. index_of m.from) moves) k ≡ index_of (get_or moves k first).from = get_or-map (λ (m : Move). index_of m.from) moves k first 0 small in
+    let below = ((has.each (get_or moves k first)).1 (Contains-get_or moves k first small)).1 in omega arith
 
 pub named_more : (now : State) (word : List ℕ) (n : ℕ) (s : Place) (old new : List Move) → n < 64 → s ≡ square_at n → HasNamed now word n old
     → AddsFrom now word s old new → HasNamed now word (n + 1) new
-named_more now word n s old new low at has adds m = (
-  (λ named. (adds m).1 (elim (cases_eq (index_of m.from) n) [
-    | inl same ↦ inr (sym (square_at-index_of m.from named.0.legal.pseudo_legal.from) ∙ ap square_at same ∙ sym at, named.0)
-    | inr other ↦ inl ((has m).0 (named.0, (let below = named.1 in omega arith)))
-  ])),
-  (λ here. elim ((adds m).0 here) [
-    | inl before ↦ let named = (has m).1 before in (named.0, (let below = named.1 in omega arith))
-    | inr own ↦ (own.1, (let place : index_of m.from ≡ n = ap index_of (own.0 ∙ at) ∙ index_of-square_at n low in omega arith))
-  ]),
-)
+named_more now word n s old new low at has (inl (same, none)) = record {
+  each = λ m. subst (λ ms. (IsNamed now word m × (index_of m.from < n + 1)) ↔ Contains ms m) (sym same) (
+    (λ named. elim (cases_eq (index_of m.from) n) [
+      | inl here ↦ absurd (none m (at_square n s m named.0 here at) named.0)
+      | inr other ↦ (has.each m).0 (named.0, (let below = named.1 in omega arith))
+    ]),
+    (λ here. let named = (has.each m).1 here in (named.0, (let below = named.1 in omega arith))),
+  );
+  ascending = subst (λ (ms : List Move). IsStrictlyIncreasing (map (λ m. index_of m.from) ms)) (sym same) has.ascending;
+}
+named_more now word n s old new low at has (inr (own, is, from, named, only)) =
+    let place : index_of own.from ≡ n = ap index_of (from ∙ at) ∙ index_of-square_at n low in record {
+      each = λ m. subst (λ ms. (IsNamed now word m × (index_of m.from < n + 1)) ↔ Contains ms m) (sym is) (
+        (λ asked. elim (cases_eq (index_of m.from) n) [
+          | inl here ↦ subst (Contains (old ++ own ∷ [])) (sym (only m (at_square n s m asked.0 here at) asked.0)) (Contains-push old own)
+          | inr other ↦ Contains-append_left old (own ∷ []) m ((has.each m).0 (asked.0, (let below = asked.1 in omega arith)))
+        ]),
+        (λ here. elim (Contains-push_cases old own m here) [
+          | inl before ↦ let was = (has.each m).1 before in (was.0, (let below = was.1 in omega arith))
+          | inr same ↦ (subst (IsNamed now word) same named, (let there = ap (λ (x : Move). index_of x.from) same in omega arith))
+        ]),
+      );
+      ascending = subst (λ (ms : List Move). IsStrictlyIncreasing (map (λ m. index_of m.from) ms)) (sym is)
+          (subst IsStrictlyIncreasing (sym (map-append (λ (m : Move). index_of m.from) old (own ∷ [])))
+          (increasing_push (map (λ m. index_of m.from) old) (index_of own.from) has.ascending
+          (λ k under. let below = below_next now word n old has k under in omega arith)));
+    }
 
-pub named_all : (now : State) (word : List ℕ) (moves : List Move) → HasNamed now word 64 moves → (m : Move) → IsNamed now word m ↔ Contains moves m
-named_all now word moves has m = (
-  (λ named. (has m).0 (named, index_of-below m.from named.legal.pseudo_legal.from)),
-  (λ here. ((has m).1 here).0),
-)
+pub named_all : (now : State) (word : List ℕ) (moves : List Move) → HasNamed now word 64 moves → AreNamed now word moves
+named_all now word moves has = record {
+  each = λ m. (
+    (λ named. (has.each m).0 (named, index_of-below m.from named.legal.pseudo_legal.from)),
+    (λ here. ((has.each m).1 here).0),
+  );
+  ascending = has.ascending;
+}

@@ -1,6 +1,5 @@
 -- All lines, or the main line alone, while the first word is sought that is refused. Nothing but the proof of `refused_word` cites these.
-use Rattle.std.specs.Prelude.{◌≡◌, ◌⊎◌, ◌↔◌, ℕ, ◌+◌, ◌≤◌, Bool, true, false, List, [], ◌∷◌, ◌++◌, map, take}
-use Rattle.std.specs.List.{Contains}
+use Rattle.std.specs.Prelude.{◌≡◌, ◌⊎◌, ℕ, ◌+◌, ◌≤◌, Bool, true, false, List, [], ◌∷◌, ◌++◌, map, take}
 use Rattle.chess.specs.Positions.{State}
 use Rattle.chess.specs.San.{IsNamed}
 use Rattle.chess.specs.Squares.{Place}
@@ -50,6 +49,8 @@ pub record IsSearched (lines : Lines) (start : State) (items : List Item) (index
   pub within : AreWithin index walk
   pub depth_within : depth ≤ index
 
--- the legal move that the word names from the square was put among the others, if there is one
+-- the legal move that the word names from the square was put behind the others, if there is one
 abbrev pub AddsFrom : State → List ℕ → Place → List Move → List Move → Type 0
-AddsFrom now word s old new = (m : Move) → Contains new m ↔ (Contains old m ⊎ ((m.from ≡ s) × IsNamed now word m))
+AddsFrom now word s old new =
+    ((new ≡ old) × ((m : Move) → m.from ≡ s → IsNamed now word m → ⊥))
+    ⊎ ((m : Move) × (new ≡ old ++ m ∷ []) × (m.from ≡ s) × IsNamed now word m × ((n : Move) → n.from ≡ s → IsNamed now word n → n ≡ m))

@@ -1,7 +1,11 @@
 -- At which word of a game its replay ends, and why.
-use Rattle.std.specs.Prelude.{◌≡◌, ℕ, Bool, ◌&&◌, IsTrue, List, ◌∷◌, ◌++◌, take, Option, Some}
-use Rattle.std.specs.List.{slice_get}
+use Rattle.std.specs.Prelude.{◌≡◌, ◌↔◌, ℕ, Bool, ◌&&◌, IsTrue, List, ◌∷◌, ◌++◌, map, take, Option, Some}
+use Rattle.std.specs.List.{slice_get, Contains}
+use Rattle.std.specs.List.Sorted.{IsStrictlyIncreasing}
+use Rattle.chess.specs.Squares.{index_of}
 use Rattle.chess.specs.Positions.{State, IsCheck}
+use Rattle.chess.specs.San.{IsNamed}
+use Rattle.chess.specs.declared.moves.Move.{Move}
 use Rattle.chess.specs.Refusals.{IsRefusal}
 use Rattle.pgn_text.specs.Games.{Item, MoveText}
 use Rattle.pgn_text.specs.GameTexts.{IsPaired}
@@ -36,3 +40,8 @@ pub record IsRefusedFrom (lines : Lines) (start : State) (items : List Item) (re
 -- these lines of the game with these contents of its FEN tag and these elements have this first word that is refused
 abbrev pub IsRefusedAt : Lines → Option (List ℕ) → List Item → Refused → Type 0
 IsRefusedAt lines fen items refused = (start : State) × IsStart fen start × IsRefusedFrom lines start items refused
+
+-- the moves are just those that the word names in the position, in the order of the squares from which they go: a1, b1 to h1, a2 and so on
+pub record AreNamed (now : State) (word : List ℕ) (moves : List Move) : Type 0 where
+  pub each : (m : Move) → IsNamed now word m ↔ Contains moves m
+  pub ascending : IsStrictlyIncreasing (map (λ m. index_of m.from) moves)

@@ -1,13 +1,10 @@
 //! At which word of a game its replay ends, and why.
 ghost use Rattle.std.specs.Prelude.{◌≡◌, ◌+◌, ◌<◌, ◌≤◌, ◌↔◌, ℕ, map, None, MatchOption, MatchResult, IfOk, IfSome, IsTrue, OnOk};
-ghost use Rattle.std.specs.List.{Contains};
-ghost use Rattle.chess.specs.San.{IsNamed};
-ghost use Rattle.chess.specs.declared.moves.Move.{Move};
 ghost use Rattle.pgn_text.specs.Elements.{item_of};
 ghost use Rattle.pgn_text.specs.GameTexts.{IsPaired, tag_in};
 ghost use Rattle.pgn_game.specs.Starts.{fen_tag, IsBadStart};
 ghost use Rattle.pgn_game.specs.Faults.{Fault, BadStart, NamesSeveral, IsFault, HasLineFault, IsRefusedTurn};
-ghost use Rattle.pgn_game.specs.Refusals.{IsWhy, IsRefusedAt, IsRefusedFrom};
+ghost use Rattle.pgn_game.specs.Refusals.{AreNamed, IsWhy, IsRefusedAt, IsRefusedFrom};
 ghost use Rattle.pgn_game.specs.RefusalWalks.{AddsFrom, IsCounted, GoesOn, IsRefusedHere};
 ghost use Rattle.pgn_game.specs.Replays.{fault_of};
 
@@ -185,7 +182,7 @@ pub fn named_moves(
     position: &GamePosition,
     word: &[u8],
 ) -> Result<Vec<Move>, AllocError>
-    ensures { IfOk result (λ moves. (m : Move) → IsNamed position.now word.now m ↔ Contains moves.items m) }
+    ensures { IfOk result (λ moves. AreNamed position.now word.now moves.items) }
 {
     let mut moves = Vec::new(alloc);
     for index in 0u8..64 {

@@ -1,6 +1,9 @@
 use Rattle.std.proofs.Common.{◌≡◌, subst, arith}
-use Rattle.pgn_game.proofs.NamedMoves.{HasNamed, named_more, named_all}
+use Rattle.pgn_game.proofs.NamedMoves.{HasNamed, named_start, named_more, named_all}
 use Rattle.pgn_game.proofs.explain.named_moves.Goals as goal
+
+pub loop-index-init : goal.loop-index-init
+loop-index-init c = named_start c.args.position.now c.args.word.now c.new-moves.result.items c.new-moves.ensures.items
 
 pub loop-index-preserved : goal.loop-index-preserved
 loop-index-preserved c =
