@@ -1,4 +1,3 @@
-use Rattle.std.proofs.Common.{◌≡◌, Some}
 use Rattle.pgn_criteria.proofs.needed.Needed.is_met.Goals as goal
 
 pub returns : goal.returns

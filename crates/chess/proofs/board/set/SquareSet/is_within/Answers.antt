@@ -1,9 +1,9 @@
-use Rattle.std.proofs.Common.{◌≡◌, ◌<◌, ◌^◌, bit_and, ℕ, true, nat_eq, min, arith, sym, ap, ◌∙◌, inl, inr}
+use Rattle.std.proofs.Common.{◌≡◌, ◌<◌, ◌^◌, bit_and, ℕ, true, min, arith, sym, ap, ◌∙◌, inl, inr}
 use Rattle.std.specs.Int.{bit_at}
 use Rattle.std.proofs.lemmas.Bool.{cases_eq, eqb-true, eq-eqb}
 use Rattle.std.proofs.lemmas.Nat.{and_le_l}
 use Rattle.std.proofs.lemmas.Nat.Bits.{bit_at_and, bit_at-lt, same_from_bits_below}
-use Rattle.chess.specs.Squares.{Place, IsOnBoard, index_of, square_at}
+use Rattle.chess.specs.Squares.{Place, index_of, square_at}
 use Rattle.chess.specs.SquareFacts.{index_of-square_at}
 use Rattle.chess.specs.Sets.{is_in, has_bit, places_of}
 use Rattle.chess.specs.SetFacts.{is_in-places_of, on_board-places_of, on_board-square_at}
