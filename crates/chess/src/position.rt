@@ -129,7 +129,8 @@ impl<B: Board> Position<B> {
     }
 
     /// The squares on which that man stands.
-    pub(crate) fn squares_of(&self, man: Man) -> SquareSet
+    #[inline(always)]
+    pub fn squares_of(&self, man: Man) -> SquareSet
         ensures { IsSquaresOf self.now.men man result }
     {
         self.board.squares_of(man)

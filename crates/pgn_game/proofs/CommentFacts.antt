@@ -1,9 +1,14 @@
 -- Where a comment is cut at white space.
-use Rattle.std.proofs.Common.{◌≡◌, ℕ, ◌+◌, ◌<◌, ◌≤◌, true, false, List, [], ◌∷◌, ◌++◌, length, refl, sym, ap, ◌∙◌, arith, length-append}
-use Rattle.std.specs.Prelude.{if◌then◌else◌, not, filter}
+use Rattle.std.proofs.Common.{◌≡◌, ℕ, ◌+◌, ◌-◌, ◌<◌, ◌≤◌, true, false, List, [], ◌∷◌, ◌++◌, length, map, take, drop, get_or, refl, sym, ap, subst, ◌∙◌, arith, append_assoc, length-append}
+use Rattle.std.specs.Prelude.{if◌then◌else◌, ◌==◌, not, filter}
+use Rattle.std.proofs.Math.Seq.{take-append_seam}
+use Rattle.std.proofs.lemmas.Bool.{ne_eqb}
+use Rattle.std.proofs.lemmas.Bool.Decides.{nat_tests}
 use Rattle.pgn_text.specs.Bytes.{is_white, is_empty}
-use Rattle.pgn_game.specs.Comments.{in_first, cut_at_white, words_in}
-use Rattle.pgn_game.specs.CommentWords.{word_front, behind_front, behind_white}
+use Rattle.pgn_game.specs.Comments.{in_first, cut_at_white, words_in, unbraced, later_word, closed, braced}
+use Rattle.pgn_game.specs.TextLines.{joined}
+use Rattle.chess.specs.SetFacts.{false_of}
+use Rattle.pgn_game.specs.CommentWords.{word_front, behind_front, behind_white, IsBare, IsBehindBare, IsBehindKept, IsSpaced, IsSpacedBehind}
 
 -- a text is its first run and what follows it
 pub front_whole : (text : List ℕ) → word_front text ++ behind_front text ≡ text
@@ -99,3 +104,73 @@ some_word text (b ∷ rest) e full =
     let size : length (b ∷ rest) ≡ length (behind_white text) = ap length e in
     let less = no_longer text in
     (sym (words_behind_white text ∙ ap words_in (sym e) ∙ words_of_front b rest other), omega arith)
+
+-- texts without closing braces, one behind another
+pub bare_both : (x y : List ℕ) → IsBare x → IsBare y → IsBare (x ++ y)
+bare_both [] y first second = second
+bare_both (b ∷ x) y first second =
+    let here : (if b == 125 then 41 else b) ≡ b = ap (λ text. get_or text 0 0) first in
+    ap (λ a. a ∷ unbraced (x ++ y)) here ∙ ap (λ rest. b ∷ rest) (bare_both x y (ap (drop 1) first) second)
+
+bare_byte : (b : ℕ) → (b ≡ 125 → ⊥) → IsBare (b ∷ [])
+bare_byte b other = ap (λ t. (if t then 41 else b) ∷ []) (ne_eqb b 125 other)
+
+no_white : (b : ℕ) → 32 < b → is_white b ≡ false
+no_white b high = grind (arith, nat_tests)
+
+pub bare_first : (text : List ℕ) → IsBehindBare text text
+bare_first text = record { front = []; whole = refl; bare = refl; same = refl }
+
+pub bare_next : (text rest : List ℕ) (b : ℕ) (behind : List ℕ) → rest ≡ b ∷ behind → 32 < b → (b ≡ 125 → ⊥) → IsBehindBare text rest → IsBehindBare text behind
+bare_next text rest b behind cut high other kept = record {
+  front = kept.front ++ b ∷ [];
+  whole = kept.whole ∙ ap (λ x. kept.front ++ x) cut ∙ sym (append_assoc kept.front (b ∷ []) behind);
+  bare = bare_both kept.front (b ∷ []) kept.bare (bare_byte b other);
+  same = sym (ap (λ t. if t then b ∷ behind else behind_front behind) (no_white b high)) ∙ sym (ap behind_front cut) ∙ kept.same;
+}
+
+-- what stands before it
+pub bare_word : (text left : List ℕ) (size : ℕ) → IsBehindBare text left → size ≡ length left → IsBare (take (length text - size) text)
+bare_word text left size kept same =
+    let whole : length text ≡ length (kept.front ++ left) = ap length kept.whole in
+    let at : length text - size ≡ length kept.front = omega (arith, whole, length-append kept.front left, same) in
+    let word : take (length text - size) text ≡ kept.front = ap (λ n. take n text) at ∙ ap (take (length kept.front)) kept.whole ∙ take-append_seam kept.front left in
+    subst IsBare (sym word) kept.bare
+
+-- a text that begins with a word which is written as it is
+words_at : (text : List ℕ) → (word_front text ≡ [] → ⊥) → words_in text ≡ word_front text ∷ words_in (behind_front text)
+words_at [] full = absurd (full refl)
+words_at (b ∷ text) full = words_of_front b text (false_of (is_white b) (λ white. full (ap (λ t. if t then [] else b ∷ word_front text) white)))
+
+pub kept_word : (text word rest : List ℕ) → word ≡ word_front text → rest ≡ behind_front text → (word ≡ [] → ⊥) → IsBare word → later_word word ≡ unbraced word
+    → IsBehindKept text rest
+kept_word text word rest front behind full bare later = record {
+  word = word;
+  whole = sym (front_whole text) ∙ ap (λ w. w ++ behind_front text) (sym front) ∙ ap (λ r. word ++ r) (sym behind);
+  words = words_at text (λ none. full (front ∙ none)) ∙ ap (λ w. w ∷ words_in (behind_front text)) (sym front) ∙ ap (λ r. word ∷ words_in r) (sym behind);
+  bare = bare;
+  later = later ∙ bare;
+}
+
+joined_more : (word next : List ℕ) (more : List (List ℕ)) → joined (closed (word ∷ next ∷ more)) ≡ word ++ (32 ∷ joined (closed (next ∷ more)))
+joined_more word next [] = refl
+joined_more word next (other ∷ more) = refl
+
+-- words with one space between each two: none are left, or one space, a word, and the rest
+pub spaced_end : (rest : List ℕ) → rest ≡ [] → IsSpacedBehind rest
+spaced_end rest none = subst IsSpacedBehind (sym none) (λ word. refl)
+
+pub spaced_step : (more behind : List ℕ) → IsBehindKept more behind → IsSpacedBehind behind → IsSpacedBehind (32 ∷ more)
+spaced_step more behind kept spaced word =
+    ap (λ words. joined (closed (word ∷ map later_word words))) kept.words
+    ∙ ap (λ next. joined (closed (word ∷ next ∷ map later_word (words_in behind)))) kept.later
+    ∙ joined_more word kept.word (map later_word (words_in behind))
+    ∙ ap (λ rest. word ++ (32 ∷ rest)) (spaced kept.word)
+    ∙ ap (λ rest. word ++ (32 ∷ rest)) (sym (append_assoc kept.word behind (125 ∷ [])) ∙ ap (λ text. text ++ 125 ∷ []) (sym kept.whole))
+
+pub spaced_whole : (text rest : List ℕ) → IsBehindKept text rest → IsSpacedBehind rest → IsSpaced text
+spaced_whole text rest kept spaced =
+    ap (λ words. joined (braced words)) kept.words
+    ∙ ap (λ word. joined (closed ((123 ∷ word) ∷ map later_word (words_in rest)))) kept.bare
+    ∙ spaced (123 ∷ kept.word)
+    ∙ ap (λ behind. 123 ∷ behind) (sym (append_assoc kept.word rest (125 ∷ [])) ∙ ap (λ whole. whole ++ 125 ∷ []) (sym kept.whole))

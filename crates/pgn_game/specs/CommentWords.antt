@@ -1,7 +1,8 @@
 -- How the words of a comment are found and written. Nothing but the proof of their writer cites these.
-use Rattle.std.specs.Prelude.{◌≡◌, ℕ, ◌+◌, Bool, true, false, if◌then◌else◌, Option, Some, None, codes, List, [], ◌∷◌, ◌++◌, length}
+use Rattle.std.specs.Prelude.{◌≡◌, ℕ, ◌+◌, Bool, true, false, if◌then◌else◌, Option, Some, None, codes, List, [], ◌∷◌, ◌++◌, length, map}
 use Rattle.pgn_text.specs.Bytes.{is_white}
-use Rattle.pgn_game.specs.Comments.{words_in}
+use Rattle.pgn_game.specs.Comments.{words_in, unbraced, later_word, closed, comment_tokens}
+use Rattle.pgn_game.specs.TextLines.{joined}
 use Rattle.pgn_game.specs.Pens.{behind_tokens}
 use Rattle.pgn_game.specs.declared.comment.Found.{Found}
 use Rattle.pgn_game.specs.declared.pen.Pen.{Pen}
@@ -28,6 +29,38 @@ found_words (Some found) = found.word.now ∷ words_in found.rest.now
 abbrev pub closing : Bool → List ℕ
 closing true = codes "}"
 closing false = []
+
+-- no closing brace stands in the text, so it is written as it is
+abbrev pub IsBare : List ℕ → Type 0
+IsBare text = unbraced text ≡ text
+
+-- a text behind its first bytes, which have no closing brace and stand in one word
+pub record IsBehindBare (text rest : List ℕ) : Type 0 where
+  pub front : List ℕ
+  pub whole : text ≡ front ++ rest
+  pub bare : IsBare front
+  pub same : behind_front rest ≡ behind_front text
+
+-- a text is a word, which is written as it is wherever it stands, and this rest
+pub record IsBehindKept (text rest : List ℕ) : Type 0 where
+  pub word : List ℕ
+  pub whole : text ≡ word ++ rest
+  pub words : words_in text ≡ word ∷ words_in rest
+  pub bare : IsBare word
+  pub later : later_word word ≡ word
+
+-- a comment with this text is written as the text in braces, where it stands in one line
+abbrev pub IsSpaced : List ℕ → Type 0
+IsSpaced text = joined (comment_tokens text) ≡ 123 ∷ (text ++ 125 ∷ [])
+
+-- the rest of a text behind some word, with which it is written as it stands
+abbrev pub IsSpacedBehind : List ℕ → Type 0
+IsSpacedBehind rest = (word : List ℕ) → joined (closed (word ∷ map later_word (words_in rest))) ≡ word ++ (rest ++ 125 ∷ [])
+
+-- the word that was found is written as it is, where that is known
+abbrev pub IsFoundBare : Option Found → Type 0
+IsFoundBare None = Unit {0}
+IsFoundBare (Some found) = found.bare ≡ true → IsBare found.word.now
 
 -- the bytes behind the first word, which was found, and one more for it
 abbrev pub found_size : Option Found → ℕ

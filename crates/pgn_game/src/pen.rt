@@ -1,5 +1,5 @@
 //! Tokens in lines.
-ghost use Rattle.std.specs.Prelude.{◌≡◌, ◌++◌, ◌∷◌, ℕ, List, [], length, false, OnOk};
+ghost use Rattle.std.specs.Prelude.{◌≡◌, ◌+◌, ◌≤◌, ◌++◌, ◌∷◌, ℕ, List, [], length, false, true, OnOk, IsTrue};
 ghost use Rattle.pgn_game.specs.Pens.{HasPut, behind_tokens};
 
 use std::alloc::AllocError;
@@ -25,6 +25,14 @@ impl Pen {
             begun: false,
             column: 0,
         }
+    }
+
+    /// Whether a line is begun that takes a token of so many bytes within the width.
+    #[inline(always)]
+    pub(crate) fn takes(&self, size: usize) -> bool
+        ensures { IsTrue result → (self.now.begun ≡ true) × (self.now.column + 1 + size ≤ self.now.width) }
+    {
+        self.begun && self.column < self.width && size < self.width - self.column
     }
 
     /// Begins a token of so many bytes behind the others: they are to follow.

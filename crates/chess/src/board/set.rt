@@ -33,7 +33,7 @@ impl Model for SquareSet {
 
 impl SquareSet {
     /// The set without squares.
-    pub(crate) fn new() -> Self
+    pub fn new() -> Self
         ensures { result ≡ no_places }
     {
         SquareSet { word: 0 }
@@ -93,7 +93,7 @@ impl SquareSet {
     }
 
     /// Puts a square into the set.
-    pub(crate) fn insert(&mut self, square: Square)
+    pub fn insert(&mut self, square: Square)
         ensures { (s : Place) → is_in self.new s ≡ (same_square square s || is_in self.old s) }
     {
         self.word |= 1u64 << square.index();
@@ -127,6 +127,14 @@ impl SquareSet {
         ensures { IsTrue result ↔ ((s : Place) × IsOnBoard s × (is_in self.now s ≡ true)) }
     {
         self.word != 0
+    }
+
+    /// Whether each of its squares is in the other set too.
+    #[inline(always)]
+    pub fn is_within(&self, other: &SquareSet) -> bool
+        ensures { IsTrue result ↔ ((s : Place) → is_in self.now s ≡ true → is_in other.now s ≡ true) }
+    {
+        self.word & other.word == self.word
     }
 
     /// How many squares are in the set.

@@ -12,12 +12,12 @@ returns-then-not-are_of_game c n low high met =
     let tags : Tags = λ name. tag_in name c.args.game.now.tags in
     absurd (cc (c.are_of_game.ensures.1 (game_of tags c.args.replayed.now n (map (seen (λ text. text.items)) c.args.conditions.now) met), c.if-not-are_of_game.true))
 
-pub returns-then-are_of_position : goal.returns-then-are_of_position
-returns-then-are_of_position c = (
+pub returns-then-are_met : goal.returns-then-are_met
+returns-then-are_met c = (
   c.loop-plies.invariant.from,
   c.loop-plies-test.true,
   one_meets (λ name. tag_in name c.args.game.now.tags) c.args.replayed.now c.loop-plies.plies (map (seen (λ text. text.items)) c.args.conditions.now) c.position.result.now
-      c.position.ensures (c.are_of_game.ensures.0 c.if-not-are_of_game.false) (c.are_of_position.ensures.0 c.if-are_of_position.true),
+      c.position.ensures (c.are_of_game.ensures.0 c.if-not-are_of_game.false) (c.are_met.ensures.0 c.if-are_met.true),
   c.loop-plies.invariant.none,
 )
 
@@ -33,7 +33,7 @@ loop-plies-preserved c = record {
         let of_position =
         position_of tags c.args.replayed.now c.loop-plies.plies conditions c.position.result.now c.position.ensures
         (subst (λ m. Meets tags c.args.replayed.now m (conditions ∷ [])) same met) in
-        absurd (cc (c.are_of_position.ensures.1 of_position, c.if-are_of_position.false))
+        absurd (cc (c.are_met.ensures.1 of_position, c.if-are_met.false))
   ];
 }
 
