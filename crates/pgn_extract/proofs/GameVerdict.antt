@@ -1,5 +1,5 @@
 -- One piece reported: a game by the index, by the listing of its replay or by its fault, or bytes that are no game.
-use Rattle.std.proofs.Common.{◌≡◌, ℕ, ◌+◌, List, ◌++◌, Vec, Global, refl, sym, ap, ◌∙◌, subst, arith, codes, inl, inr}
+use Rattle.std.proofs.Common.{◌≡◌, ℕ, ◌+◌, Bool, List, ◌++◌, Vec, Global, refl, sym, ap, ◌∙◌, subst, arith, codes, inl, inr}
 use Rattle.std.proofs.lemmas.List.{append-nil}
 use Rattle.std.specs.Prelude.{Option, if◌then◌else◌}
 use Rattle.pgn_text.specs.GameTexts.{GameText, IsGameText, ShowsGame, tag_in}
@@ -8,6 +8,8 @@ use Rattle.pgn_text.specs.Left.{IsPiece}
 use Rattle.pgn_text.specs.Marks.{marked}
 use Rattle.pgn_text.specs.Parts.{Part}
 use Rattle.pgn_text.specs.Pieces as spec
+use Rattle.pgn_text.specs.declared.pieces.Mark.{Mark}
+use Rattle.pgn_text.specs.declared.pieces.Mark.TheVariants as marks
 use Rattle.pgn_text.specs.declared.pieces.Piece.{Piece}
 use Rattle.pgn_text.specs.declared.pieces.Piece.TheVariants as given
 use Rattle.pgn_game.specs.Faults.{Fault, IsFault}
@@ -15,11 +17,12 @@ use Rattle.pgn_game.specs.Replays.{Replay, IsReplay}
 use Rattle.pgn_game.specs.declared.replayer.Lines.{Lines}
 use Rattle.pgn_game.specs.declared.replayer.Lines.TheVariants.{Main}
 use Rattle.pgn_game.specs.Starts.{fen_tag}
-use Rattle.pgn_extract.specs.Blockwise.{AddsVerdict, AddsListed, AddsExported, AddsGame, IsGameWritten, AddsMark, AddsPiece}
+use Rattle.pgn_extract.specs.Blockwise.{AddsVerdict, AddsListed, AddsExported, AddsGame, IsGameWritten, AddsMark, AddsPiece, IsMarkVerdict}
 use Rattle.pgn_extract.specs.Index.{fault_text, mark_line}
 use Rattle.pgn_extract.specs.Listing.{Entry, listing, entries_from, AreListed, tags_in, cause_text, IsReplayOf, IsFaultOf}
 use Rattle.pgn_extract.specs.Exports.{written_lines, IsWritten, with_entry, without_entry}
-use Rattle.pgn_extract.specs.Verdicts.{SoundGame, FaultyGame, output_of, fault_line_of, is_faulty, IsVerdictIn, IsGameVerdict}
+use Rattle.pgn_extract.specs.Notes.{IsNote}
+use Rattle.pgn_extract.specs.Verdicts.{Verdict, SoundGame, FaultyGame, output_of, fault_line_of, is_faulty, IsVerdictIn, IsGameVerdict}
 use Rattle.pgn_extract.specs.declared.report.Report.{Report}
 use Rattle.pgn_criteria.specs.Meeting.{Tags}
 use Rattle.pgn_extract.specs.Aims.{Aim, IsEntry}
@@ -34,13 +37,6 @@ pub record AddsOutput (old new : Report) (text : List ℕ) : Type 0 where
   pub games : new.games ≡ old.games
   pub faulty : new.faulty ≡ old.faulty
 
--- a line goes to standard error, and one more piece is counted as faulty
-pub record AddsFault (old new : Report) (line : List ℕ) (count : ℕ) : Type 0 where
-  pub output : new.output.items ≡ old.output.items
-  pub faults : new.faults.items ≡ old.faults.items ++ line
-  pub games : new.games ≡ old.games + count
-  pub faulty : new.faulty ≡ old.faulty + 1
-
 -- a sound game is reported
 verdict_sound : (old new : Report) (text : List ℕ) → AddsOutput old new text → AddsVerdict old new (SoundGame text) 0
 verdict_sound old new text adds = record {
@@ -48,15 +44,6 @@ verdict_sound old new text adds = record {
   faults = adds.faults ∙ sym (append-nil old.faults.items);
   games = adds.games ∙ omega arith;
   faulty = adds.faulty ∙ omega arith;
-}
-
--- a faulty one is reported
-verdict_faulty : (old new : Report) (line : List ℕ) (count : ℕ) → AddsFault old new line count → AddsVerdict old new (FaultyGame line) count
-verdict_faulty old new line count adds = record {
-  output = adds.output ∙ sym (append-nil old.output.items);
-  faults = adds.faults;
-  games = adds.games;
-  faulty = adds.faulty;
 }
 
 -- what a reader of the game sees of its lines is so of the parts
@@ -85,10 +72,11 @@ listed_replay aim {old} {new} {number} {offset} {game} replay entries is these a
     (SoundGame (listing entries), (replay, entries, shown_replay Main shows replay is, listed, refl), verdict_sound old new (listing entries) adds)
 
 -- or its fault
-pub listed_fault : (aim : Aim) {old new : Report} {number offset : ℕ} {game : GameText} (fault : Fault) → IsFault Main (tag_in fen_tag game.tags) game.elements fault
-    → AddsVerdict old new (FaultyGame (fault_text number offset (cause_text fault))) 0 → AddsListed aim old new number offset game
-listed_fault aim {old} {new} {number} {offset} {game} fault is adds at parts shows =
-    (FaultyGame (fault_text number offset (cause_text fault)), (fault, shown_fault Main shows fault is, refl), adds)
+pub listed_fault : (aim : Aim) {old new : Report} {number offset : ℕ} {game : GameText} (fault : Fault) (note : List ℕ)
+    → IsFault Main (tag_in fen_tag game.tags) game.elements fault → IsNote aim.explain note
+    → AddsVerdict old new (FaultyGame (fault_text number offset (cause_text fault)) note) 0 → AddsListed aim old new number offset game
+listed_fault aim {old} {new} {number} {offset} {game} fault note is noted adds at parts shows =
+    (FaultyGame (fault_text number offset (cause_text fault)) note, (fault, shown_fault Main shows fault is, refl, noted), adds)
 
 -- by the export, what is written of it
 pub exported_replay : (aim : Aim) {old new : Report} {number offset : ℕ} {game : GameText} → IsGameText game → (replay : Replay) (text : List ℕ)
@@ -108,11 +96,11 @@ exported_replay aim {old} {new} {number} {offset} {game} is_game replay text is 
         without_entry (λ has. none (has.0, has.1, entry_same (tags_in parts) own (λ name. sym (shows.tags name)) replay aim has.0 has.2)) empty
 
 -- or its fault
-pub exported_fault : (aim : Aim) {old new : Report} {number offset : ℕ} {game : GameText} (fault : Fault)
-    → IsFault (written_lines aim) (tag_in fen_tag game.tags) game.elements fault
-    → AddsVerdict old new (FaultyGame (fault_text number offset (cause_text fault))) 0 → AddsExported aim old new number offset game
-exported_fault aim {old} {new} {number} {offset} {game} fault is adds at parts shows =
-    (FaultyGame (fault_text number offset (cause_text fault)), (fault, shown_fault (written_lines aim) shows fault is, refl), adds)
+pub exported_fault : (aim : Aim) {old new : Report} {number offset : ℕ} {game : GameText} (fault : Fault) (note : List ℕ)
+    → IsFault (written_lines aim) (tag_in fen_tag game.tags) game.elements fault → IsNote aim.explain note
+    → AddsVerdict old new (FaultyGame (fault_text number offset (cause_text fault)) note) 0 → AddsExported aim old new number offset game
+exported_fault aim {old} {new} {number} {offset} {game} fault note is noted adds at parts shows =
+    (FaultyGame (fault_text number offset (cause_text fault)) note, (fault, shown_fault (written_lines aim) shows fault is, refl, noted), adds)
 
 -- by the index, its mark
 pub game_indexed : {old new : Report} (aim : Aim) (number offset : ℕ) (game : GameText) → aim.mode ≡ modes.Index → AddsOutput old new (mark_line number offset)
@@ -137,6 +125,16 @@ game_exported aim number offset game is adds at parts shows =
     let verdict = adds at parts shows in
     (verdict.0, subst (λ m. IsVerdictIn m aim number offset parts verdict.0) (sym is) verdict.1, verdict.2)
 
+-- behind a piece that is counted a verdict is reported
+counted_first : {old mid new : Report} (verdict : Verdict) → AddsVerdict mid new verdict 0
+    → mid.output ≡ old.output → mid.faults ≡ old.faults → mid.games ≡ old.games + 1 → mid.faulty ≡ old.faulty → AddsVerdict old new verdict 1
+counted_first verdict adds output faults games faulty = record {
+  output = adds.output ∙ ap (λ (v : Vec ℕ Global). v.items ++ output_of verdict) output;
+  faults = adds.faults ∙ ap (λ (v : Vec ℕ Global). v.items ++ fault_line_of verdict) faults;
+  games = adds.games ∙ omega (arith, games);
+  faulty = adds.faulty ∙ ap (λ n. n + (if is_faulty verdict then 1 else 0)) faulty;
+}
+
 -- a piece that is a game is counted, and reported
 pub piece_game : (aim : Aim) {old mid new : Report} (number offset here : ℕ) (piece : Piece) (game : GameText) → piece ≡ given.Game game → here ≡ offset + game.at
     → AddsGame aim mid new number here game → mid.output ≡ old.output → mid.faults ≡ old.faults → mid.games ≡ old.games + 1 → mid.faulty ≡ old.faulty
@@ -147,25 +145,49 @@ piece_game aim {old} {mid} {new} number offset here piece game is_game place add
     shows : (shown : spec.Piece) → IsPiece (given.Game game) shown → AddsMark aim old new number (marked offset shown)
     shows (spec.Unreadable at) is = absurd is
     shows (spec.Game at parts) is =
-        let verdict = adds at parts is in
-        let t = verdict.2 in (
+        let verdict = adds at parts is in (
           verdict.0,
           subst (λ n. IsGameVerdict aim number n parts verdict.0) (place ∙ ap (λ n. offset + n) is.place) verdict.1,
-          record {
-            output = t.output ∙ ap (λ (v : Vec ℕ Global). v.items ++ output_of verdict.0) output;
-            faults = t.faults ∙ ap (λ (v : Vec ℕ Global). v.items ++ fault_line_of verdict.0) faults;
-            games = t.games ∙ omega (arith, games);
-            faulty = t.faulty ∙ ap (λ n. n + (if is_faulty verdict.0 then 1 else 0)) faulty;
-          },
+          counted_first verdict.0 verdict.2 output faults games faulty,
         )
 
--- a piece that is no game is reported, and counted
-pub piece_unreadable : (aim : Aim) {old new : Report} (number offset : ℕ) (piece : Piece) (place : ℕ) → piece ≡ given.Unreadable place
-    → AddsFault old new (fault_text number (offset + place) (codes "unreadable")) 1 → AddsPiece aim old new number offset piece
-piece_unreadable aim {old} {new} number offset piece place is_none adds shown is = shows shown (subst (λ p. IsPiece p shown) is_none is)
+-- a piece that is no game is counted, and reported
+pub piece_unreadable : (aim : Aim) {old mid new : Report} (number offset : ℕ) (piece : Piece) (place : ℕ) (note : List ℕ) → piece ≡ given.Unreadable place
+    → IsNote aim.explain note → AddsVerdict mid new (FaultyGame (fault_text number (offset + place) (codes "unreadable")) note) 0
+    → mid.output ≡ old.output → mid.faults ≡ old.faults → mid.games ≡ old.games + 1 → mid.faulty ≡ old.faulty
+    → AddsPiece aim old new number offset piece
+piece_unreadable aim {old} {mid} {new} number offset piece place note is_none noted adds output faults games faulty shown is =
+    shows shown (subst (λ p. IsPiece p shown) is_none is)
   where
     shows : (shown : spec.Piece) → IsPiece (given.Unreadable place) shown → AddsMark aim old new number (marked offset shown)
     shows (spec.Game at parts) is = absurd is
     shows (spec.Unreadable at) is =
-        let line = fault_text number (offset + place) (codes "unreadable") in
-        (FaultyGame line, ap (λ n. FaultyGame (fault_text number (offset + n) (codes "unreadable"))) is, verdict_faulty old new line 1 adds)
+        let verdict = FaultyGame (fault_text number (offset + place) (codes "unreadable")) note in (
+          verdict,
+          (note, noted, ap (λ n. FaultyGame (fault_text number (offset + n) (codes "unreadable")) note) is),
+          counted_first verdict adds output faults games faulty,
+        )
+
+-- the mark of a piece that is a game is counted, and reported
+pub mark_game : (explain : Bool) {old new : Report} (number offset place : ℕ) (mark : Mark) → mark ≡ marks.Game place
+    → new.output.items ≡ old.output.items ++ mark_line number (offset + place)
+    → new.faults.items ≡ old.faults.items → new.games ≡ old.games + 1 → new.faulty ≡ old.faulty
+    → (verdict : Verdict) × IsMarkVerdict explain number offset mark verdict × AddsVerdict old new verdict 1
+mark_game explain {old} {new} number offset place mark is output faults games faulty =
+    let verdict = SoundGame (mark_line number (offset + place)) in (
+      verdict,
+      subst (λ m. IsMarkVerdict explain number offset m verdict) (sym is) refl,
+      record { output = output; faults = faults ∙ sym (append-nil old.faults.items); games = games; faulty = faulty ∙ omega arith },
+    )
+
+-- and that of one that is none
+pub mark_unreadable : (explain : Bool) {old mid new : Report} (number offset place : ℕ) (mark : Mark) (note : List ℕ) → mark ≡ marks.Unreadable place
+    → IsNote explain note → AddsVerdict mid new (FaultyGame (fault_text number (offset + place) (codes "unreadable")) note) 0
+    → mid.output ≡ old.output → mid.faults ≡ old.faults → mid.games ≡ old.games + 1 → mid.faulty ≡ old.faulty
+    → (verdict : Verdict) × IsMarkVerdict explain number offset mark verdict × AddsVerdict old new verdict 1
+mark_unreadable explain number offset place mark note is noted adds output faults games faulty =
+    let verdict = FaultyGame (fault_text number (offset + place) (codes "unreadable")) note in (
+      verdict,
+      subst (λ m. IsMarkVerdict explain number offset m verdict) (sym is) (note, noted, refl),
+      counted_first verdict adds output faults games faulty,
+    )

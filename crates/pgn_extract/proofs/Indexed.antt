@@ -10,23 +10,22 @@ use Rattle.pgn_text.specs.Pieces as spec
 use Rattle.pgn_text.specs.declared.pieces.Mark.{Mark}
 use Rattle.pgn_text.specs.declared.pieces.Mark.TheVariants.{Game, Unreadable}
 use Rattle.pgn_extract.specs.Aims.{Aim}
-use Rattle.pgn_extract.specs.Blockwise.{Reports, ReportsBlock, AddsVerdict, mark_verdict}
+use Rattle.pgn_extract.specs.Blockwise.{Reports, ReportsBlock, AddsVerdict, IsMarkVerdict}
 use Rattle.pgn_extract.specs.Index.{fault_text, mark_line}
-use Rattle.pgn_extract.specs.Verdicts.{SoundGame, FaultyGame, is_faulty, IsVerdict, IsVerdictIn}
+use Rattle.pgn_extract.specs.Verdicts.{Verdict, SoundGame, FaultyGame, is_faulty, IsVerdict, IsVerdictIn}
 use Rattle.pgn_extract.specs.declared.report.Report.{Report}
 use Rattle.pgn_extract.specs.declared.settings.Mode.TheVariants as modes
 use Rattle.pgn_extract.proofs.VerdictFacts.{reports_more}
 
 -- what is reported of a mark is the index's verdict on the piece
-mark_is_verdict : (aim : Aim) (number offset : ℕ) (mark : Mark) (shown : spec.Piece) → aim.mode ≡ modes.Index → IsMark mark shown
-    → IsVerdict aim number (marked offset shown) (mark_verdict number offset mark)
-mark_is_verdict aim number offset (Game place) (spec.Game at parts) index is =
-    subst (λ m. IsVerdictIn m aim number (offset + at) parts (SoundGame (mark_line number (offset + place)))) (sym index)
-    (ap (λ n. SoundGame (mark_line number (offset + n))) is)
-mark_is_verdict aim number offset (Game place) (spec.Unreadable at) index is = absurd is
-mark_is_verdict aim number offset (Unreadable place) (spec.Game at parts) index is = absurd is
-mark_is_verdict aim number offset (Unreadable place) (spec.Unreadable at) index is =
-    ap (λ n. FaultyGame (fault_text number (offset + n) (codes "unreadable"))) is
+mark_is_verdict : (aim : Aim) (number offset : ℕ) (mark : Mark) (shown : spec.Piece) (verdict : Verdict) → aim.mode ≡ modes.Index → IsMark mark shown
+    → IsMarkVerdict aim.explain number offset mark verdict → IsVerdict aim number (marked offset shown) verdict
+mark_is_verdict aim number offset (Game place) (spec.Game at parts) verdict index is by =
+    subst (λ m. IsVerdictIn m aim number (offset + at) parts verdict) (sym index) (by ∙ ap (λ n. SoundGame (mark_line number (offset + n))) is)
+mark_is_verdict aim number offset (Game place) (spec.Unreadable at) verdict index is by = absurd is
+mark_is_verdict aim number offset (Unreadable place) (spec.Game at parts) verdict index is by = absurd is
+mark_is_verdict aim number offset (Unreadable place) (spec.Unreadable at) verdict index is (note, noted, by) =
+    (note, noted, by ∙ ap (λ n. FaultyGame (fault_text number (offset + n) (codes "unreadable")) note) is)
 
 -- a verdict counts as one faulty piece at most
 faulty_once : (faulty : Bool) → (if faulty then 1 else 0) ≤ 1
@@ -34,32 +33,31 @@ faulty_once true = omega arith
 faulty_once false = omega arith
 
 -- the marks of some pieces are given, and the pieces reported by the index
-pub record Indexed (start now : Left) (report : Report) (number offset : ℕ) : Type 0 where
+pub record Indexed (aim : Aim) (start now : Left) (report : Report) (number offset : ℕ) : Type 0 where
   pub done : List spec.Piece
   pub completes : (more : List spec.Piece) → ArePiecesLeft depth_limit now more → ArePiecesLeft depth_limit start (done ++ more)
-  pub written : (aim : Aim) → aim.mode ≡ modes.Index → Reports aim report number (map (marked offset) done)
+  pub written : Reports aim report number (map (marked offset) done)
   pub games : report.games ≡ length done
   pub faulty : report.faulty ≤ length done
   pub few : length done ≤ now.at
   pub within : now.at ≤ length now.block
   pub same : now.block ≡ start.block
 
-module _ {start now : Left} {report : Report} {number offset : ℕ} (l : Indexed start now report number offset) where
+module _ {aim : Aim} {start now : Left} {report : Report} {number offset : ℕ} (l : Indexed aim start now report number offset) where
   -- one more mark
-  pub indexed_more : {next : Left} {report' : Report} {here : ℕ} (mark : Mark) → TakesMark depth_limit now next mark → here ≡ number + report.games
-      → AddsVerdict report report' (mark_verdict here offset mark) 1 → Indexed start next report' number offset
-  indexed_more {next} {report'} {here} mark takes is adds = record {
+  pub indexed_more : {next : Left} {report' : Report} {here : ℕ} (mark : Mark) → aim.mode ≡ modes.Index → TakesMark depth_limit now next mark → here ≡ number + report.games
+      → (verdict : Verdict) × IsMarkVerdict aim.explain here offset mark verdict × AddsVerdict report report' verdict 1 → Indexed aim start next report' number offset
+  indexed_more {next} {report'} {here} mark index takes is (verdict, by, adds) = record {
     done = l.done ++ takes.shown ∷ [];
     completes = λ more left.
         subst (ArePiecesLeft depth_limit start) (sym (append_assoc l.done (takes.shown ∷ []) more)) (l.completes (takes.shown ∷ more) (takes.completes more left));
-    written = λ aim index.
-        let reported : Reports aim report number (map (marked offset) l.done) = l.written aim index in
-        let more = reports_more aim report report' number here (map (marked offset) l.done) (marked offset takes.shown) reported (is ∙ ap (λ n. number + n) reported.games)
-        (mark_verdict here offset mark, mark_is_verdict aim here offset mark takes.shown index takes.is, adds) in
+    written =
+        let more = reports_more aim report report' number here (map (marked offset) l.done) (marked offset takes.shown) l.written (is ∙ ap (λ n. number + n) l.written.games)
+        (verdict, mark_is_verdict aim here offset mark takes.shown verdict index takes.is by, adds) in
         subst (Reports aim report' number) (sym (map_push (marked offset) l.done takes.shown)) more;
     games = let old = l.games in let new = adds.games in omega (arith, length-append l.done (takes.shown ∷ []));
     faulty =
-        let old = l.faulty in let new = adds.faulty in let once = faulty_once (is_faulty (mark_verdict here offset mark)) in
+        let old = l.faulty in let new = adds.faulty in let once = faulty_once (is_faulty verdict) in
         omega (arith, length-append l.done (takes.shown ∷ []));
     few = let f = l.few in let g = takes.grows in omega (arith, length-append l.done (takes.shown ∷ []));
     within = takes.within;
@@ -68,11 +66,11 @@ module _ {start now : Left} {report : Report} {number offset : ℕ} (l : Indexed
 
   -- all of them, where none is left
   pub indexed_all : (block : List ℕ) → start ≡ record { block = block; file_start = offset == 0; at = 0; failed = false } → length block ≤ block_limit
-      → ArePiecesLeft depth_limit now [] → (aim : Aim) → aim.mode ≡ modes.Index → ReportsBlock aim report block_limit depth_limit number offset block
-  indexed_all block is fits end aim index = record {
+      → ArePiecesLeft depth_limit now [] → ReportsBlock aim report block_limit depth_limit number offset block
+  indexed_all block is fits end = record {
     own = map (marked offset) l.done;
     each = in_limit fits l.done (subst (λ (s : Left). ArePiecesLeft depth_limit s l.done) is
         (subst (ArePiecesLeft depth_limit start) (append-nil l.done) (l.completes [] end))) refl;
-    written = l.written aim index;
+    written = l.written;
     few = let f = l.few in let w = l.within in omega (arith, length-map l.done (marked offset), ap length l.same, ap (λ (s : Left). length s.block) is);
   }

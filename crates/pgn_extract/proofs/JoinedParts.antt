@@ -1,13 +1,12 @@
 -- What is reported of a text is what is reported of its parts, where it is cut at a piece.
 use Rattle.std.proofs.Common.{◌≡◌, ◌+◌, ◌-◌, ◌∷◌, ◌++◌, length, take, drop, ap, ◌∙◌, subst}
-use Rattle.std.specs.Prelude.{count_by}
 use Rattle.pgn_text.proofs.FrontText.{front_of_text}
 use Rattle.pgn_text.proofs.MarkedPieces.{one_marked_pieces}
 use Rattle.pgn_text.proofs.ResumedText.{resumes}
 use Rattle.pgn_extract.specs.Laws.{PartsJoin}
-use Rattle.pgn_extract.specs.Verdicts.{AreVerdicts, output_text, fault_lines, is_faulty}
+use Rattle.pgn_extract.specs.Verdicts.{AreVerdicts, fault_lines}
 use Rattle.pgn_extract.proofs.OneReport.{same_report}
-use Rattle.pgn_extract.proofs.VerdictFacts.{output_text-append, fault_lines-append, verdicts-append, count_by-join}
+use Rattle.pgn_extract.proofs.VerdictFacts.{output_text-append, fault_lines-append, verdicts-append, count_by-join, same_output, same_faulty}
 
 pub parts_join : PartsJoin
 parts_join aim limit max_depth number offset text before piece behind all whole first second front rest one two =
@@ -22,12 +21,11 @@ parts_join aim limit max_depth number offset text before piece behind all whole 
     let both =
     verdicts-append aim number before (piece ∷ behind) front rest (subst (λ p. AreVerdicts aim number p front) same_before one.written)
     (subst (λ p. AreVerdicts aim (number + length p) (piece ∷ behind) rest) same_before verdicts_behind) in
-    let joined : all ≡ front ++ rest =
-    same_report aim number (before ++ piece ∷ behind) all (front ++ rest) whole.written both in record {
+    let joined = same_report aim number (before ++ piece ∷ behind) all (front ++ rest) whole.written both in record {
       same_before = same_before;
       same_behind = same_behind;
       reported = joined;
-      output = ap output_text joined ∙ output_text-append front rest;
-      faults = ap fault_lines joined ∙ fault_lines-append front rest;
-      faulty = ap (count_by is_faulty) joined ∙ count_by-join front rest;
+      output = same_output all (front ++ rest) joined.but_notes ∙ output_text-append front rest;
+      faults = λ plain. ap fault_lines (joined.without_notes plain) ∙ fault_lines-append front rest;
+      faulty = same_faulty all (front ++ rest) joined.but_notes ∙ count_by-join front rest;
     }

@@ -21,8 +21,10 @@ pub mod RunProgress
 pub mod SameTags
 pub mod Decided
 pub mod SomeReport
+pub mod StopNotes
 pub mod VerdictFacts
 pub mod WholeRun
 pub mod Writing
 pub mod NextLine
+pub mod NoteLines
 pub mod EachPly

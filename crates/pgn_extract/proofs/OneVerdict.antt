@@ -1,5 +1,5 @@
--- A piece is reported in one way in a mode: its game has one replay or one fault, and one export.
-use Rattle.std.proofs.Common.{◌≡◌, ℕ, ◌+◌, List, [], ◌∷◌, sym, ap, ◌∙◌, subst}
+-- A piece is reported in one way in a mode, but for its note: its game has one replay or one fault, and one export.
+use Rattle.std.proofs.Common.{◌≡◌, ℕ, ◌+◌, Bool, false, List, [], ◌∷◌, map, sym, ap, ◌∙◌, subst, refl, codes}
 use Rattle.pgn_text.specs.Games.{items_of, first_tag}
 use Rattle.pgn_text.specs.Marks.{PieceKind, ReadableGame, UnreadableRest, TooLongBlock, MarkedPiece}
 use Rattle.pgn_text.specs.Parts.{Part}
@@ -11,7 +11,8 @@ use Rattle.pgn_game.specs.Starts.{fen_tag}
 use Rattle.pgn_extract.specs.Exports.{written_lines, IsWritten, with_entry, without_entry}
 use Rattle.pgn_extract.specs.Index.{fault_text}
 use Rattle.pgn_extract.specs.Listing.{listing, entries_from, AreListed, tags_in, cause_text}
-use Rattle.pgn_extract.specs.Verdicts.{Verdict, SoundGame, FaultyGame, IsListed, IsExported, IsVerdictIn, IsPieceVerdict, AreVerdicts}
+use Rattle.pgn_extract.specs.Notes.{IsNote}
+use Rattle.pgn_extract.specs.Verdicts.{Verdict, SoundGame, FaultyGame, IsListed, IsExported, IsVerdictIn, IsReportedBy, IsPieceVerdict, AreVerdicts, without_note}
 use Rattle.pgn_extract.specs.Aims.{Aim, IsEntry}
 use Rattle.pgn_extract.proofs.Chosen.{one_chosen}
 use Rattle.pgn_extract.proofs.GameExport.{PartsHaveOneExport}
@@ -26,48 +27,85 @@ one_written one_export aim parts replay x y (with_entry has first) (without_entr
 one_written one_export aim parts replay x y (without_entry none first) (with_entry has second) = absurd (none has)
 one_written one_export aim parts replay x y (without_entry none first) (without_entry also second) = first ∙ sym second
 
+-- a piece that one line reports
+one_line : (aim : Aim) (line : List ℕ) (a b : Verdict) → IsReportedBy aim line a → IsReportedBy aim line b → without_note a ≡ without_note b
+one_line aim line a b (first, is, x) (second, also, y) = ap without_note x ∙ sym (ap without_note y)
+
 module _ (one_replay : GameHasOneReplay) (one_fault : GameHasOneFault) (no_fault : SoundGameHasNoFault) (one_export : PartsHaveOneExport) where
   -- a game in the listing
-  one_listed : (aim : Aim) (a b : Verdict) (number offset : ℕ) (parts : List Part) → IsListed aim a number offset parts → IsListed aim b number offset parts → a ≡ b
+  one_listed : (aim : Aim) (a b : Verdict) (number offset : ℕ) (parts : List Part) → IsListed aim a number offset parts → IsListed aim b number offset parts → without_note a ≡ without_note b
   one_listed aim (SoundGame x) (SoundGame y) number offset parts (first, xs, is, these, text) (second, ys, also, those, other) =
       let of : second ≡ first = one_replay Main (first_tag fen_tag parts) (items_of parts) second first also is in
       let same : xs ≡ ys =
       one_chosen (λ entry. IsEntry aim (tags_in parts) first entry.ply) (entries_from number offset 0 first.positions) xs ys these
       (subst (λ (r : Replay). AreListed aim number offset (tags_in parts) r ys) of those) in
       ap SoundGame (text ∙ ap listing same ∙ sym other)
-  one_listed aim (SoundGame x) (FaultyGame y) number offset parts (first, xs, is, these, text) (second, also, other) = absurd (no_fault Main (first_tag fen_tag parts) (items_of parts) second (first, is) also)
-  one_listed aim (FaultyGame x) (SoundGame y) number offset parts (first, is, text) (second, ys, also, those, other) = absurd (no_fault Main (first_tag fen_tag parts) (items_of parts) first (second, also) is)
-  one_listed aim (FaultyGame x) (FaultyGame y) number offset parts (first, is, text) (second, also, other) =
-      ap FaultyGame (text ∙ ap (λ (f : Fault). fault_text number offset (cause_text f)) (one_fault Main (first_tag fen_tag parts) (items_of parts) first second is also) ∙ sym other)
+  one_listed aim (SoundGame x) (FaultyGame y v) number offset parts (first, xs, is, these, text) (second, also, other, note) = absurd (no_fault Main (first_tag fen_tag parts) (items_of parts) second (first, is) also)
+  one_listed aim (FaultyGame x u) (SoundGame y) number offset parts (first, is, text, note) (second, ys, also, those, other) = absurd (no_fault Main (first_tag fen_tag parts) (items_of parts) first (second, also) is)
+  one_listed aim (FaultyGame x u) (FaultyGame y v) number offset parts (first, is, text, note) (second, also, other, noted) =
+      ap (λ (l : List ℕ). FaultyGame l []) (text ∙ ap (λ (f : Fault). fault_text number offset (cause_text f)) (one_fault Main (first_tag fen_tag parts) (items_of parts) first second is also) ∙ sym other)
 
   -- a game in the export
-  one_exported : (aim : Aim) (a b : Verdict) (number offset : ℕ) (parts : List Part) → IsExported aim a number offset parts → IsExported aim b number offset parts → a ≡ b
+  one_exported : (aim : Aim) (a b : Verdict) (number offset : ℕ) (parts : List Part) → IsExported aim a number offset parts → IsExported aim b number offset parts → without_note a ≡ without_note b
   one_exported aim (SoundGame x) (SoundGame y) number offset parts (first, is, text) (second, also, other) =
       let of : second ≡ first = one_replay (written_lines aim) (first_tag fen_tag parts) (items_of parts) second first also is in
       ap SoundGame (one_written one_export aim parts first x y text (subst (λ (r : Replay). IsWritten aim parts r y) of other))
-  one_exported aim (SoundGame x) (FaultyGame y) number offset parts (first, is, text) (second, also, other) =
+  one_exported aim (SoundGame x) (FaultyGame y v) number offset parts (first, is, text) (second, also, other, note) =
       absurd (no_fault (written_lines aim) (first_tag fen_tag parts) (items_of parts) second (first, is) also)
-  one_exported aim (FaultyGame x) (SoundGame y) number offset parts (first, is, text) (second, also, other) =
+  one_exported aim (FaultyGame x u) (SoundGame y) number offset parts (first, is, text, note) (second, also, other) =
       absurd (no_fault (written_lines aim) (first_tag fen_tag parts) (items_of parts) first (second, also) is)
-  one_exported aim (FaultyGame x) (FaultyGame y) number offset parts (first, is, text) (second, also, other) =
-      ap FaultyGame
+  one_exported aim (FaultyGame x u) (FaultyGame y v) number offset parts (first, is, text, note) (second, also, other, noted) =
+      ap (λ (l : List ℕ). FaultyGame l [])
       (text ∙ ap (λ (f : Fault). fault_text number offset (cause_text f)) (one_fault (written_lines aim) (first_tag fen_tag parts) (items_of parts) first second is also) ∙ sym other)
 
   -- a game in a mode
-  one_in : (mode : Mode) (aim : Aim) (number offset : ℕ) (parts : List Part) (a b : Verdict) → IsVerdictIn mode aim number offset parts a → IsVerdictIn mode aim number offset parts b → a ≡ b
-  one_in modes.Index aim number offset parts a b x y = x ∙ sym y
+  one_in : (mode : Mode) (aim : Aim) (number offset : ℕ) (parts : List Part) (a b : Verdict) → IsVerdictIn mode aim number offset parts a → IsVerdictIn mode aim number offset parts b → without_note a ≡ without_note b
+  one_in modes.Index aim number offset parts a b x y = ap without_note (x ∙ sym y)
   one_in modes.List aim number offset parts a b x y = one_listed aim a b number offset parts x y
   one_in modes.Export aim number offset parts a b x y = one_exported aim a b number offset parts x y
 
   -- a piece
-  one_verdict : (kind : PieceKind) (aim : Aim) (number offset : ℕ) (a b : Verdict) → IsPieceVerdict kind aim number offset a → IsPieceVerdict kind aim number offset b → a ≡ b
+  one_verdict : (kind : PieceKind) (aim : Aim) (number offset : ℕ) (a b : Verdict) → IsPieceVerdict kind aim number offset a → IsPieceVerdict kind aim number offset b → without_note a ≡ without_note b
   one_verdict (ReadableGame parts) aim number offset a b x y = one_in aim.mode aim number offset parts a b x y
-  one_verdict UnreadableRest aim number offset a b x y = x ∙ sym y
-  one_verdict TooLongBlock aim number offset a b x y = x ∙ sym y
+  one_verdict UnreadableRest aim number offset a b x y = one_line aim (fault_text number offset (codes "unreadable")) a b x y
+  one_verdict TooLongBlock aim number offset a b x y = one_line aim (fault_text number offset (codes "too long")) a b x y
 
   -- pieces in a row
-  pub all_one_verdict : (aim : Aim) (number : ℕ) (pieces : List MarkedPiece) (xs ys : List Verdict) → AreVerdicts aim number pieces xs → AreVerdicts aim number pieces ys → xs ≡ ys
-  all_one_verdict aim number [] xs ys x y = x ∙ sym y
+  pub all_one_verdict : (aim : Aim) (number : ℕ) (pieces : List MarkedPiece) (xs ys : List Verdict) → AreVerdicts aim number pieces xs → AreVerdicts aim number pieces ys
+      → map without_note xs ≡ map without_note ys
+  all_one_verdict aim number [] xs ys x y = ap (map without_note) (x ∙ sym y)
   all_one_verdict aim number (piece ∷ more) xs ys (a, rest, parted, is, others) (b, last, split, also, later) =
-      parted ∙ ap (λ t. t ∷ rest) (one_verdict piece.kind aim number piece.offset a b is also)
-      ∙ ap (λ t. b ∷ t) (all_one_verdict aim (number + 1) more rest last others later) ∙ sym split
+      ap (map without_note) parted ∙ ap (λ t. t ∷ map without_note rest) (one_verdict piece.kind aim number piece.offset a b is also)
+      ∙ ap (λ t. without_note b ∷ t) (all_one_verdict aim (number + 1) more rest last others later) ∙ ap (map without_note) (sym split)
+
+-- where no explanations are asked for, no verdict has a note
+module _ (aim : Aim) (plain : aim.explain ≡ false) where
+  no_note : (note : List ℕ) → IsNote aim.explain note → note ≡ []
+  no_note note is = subst (λ e. IsNote e note) plain is
+
+  bare_listed : (v : Verdict) (number offset : ℕ) (parts : List Part) → IsListed aim v number offset parts → without_note v ≡ v
+  bare_listed (SoundGame text) number offset parts is = refl
+  bare_listed (FaultyGame line note) number offset parts (fault, is, text, noted) = ap (FaultyGame line) (sym (no_note note noted))
+
+  bare_exported : (v : Verdict) (number offset : ℕ) (parts : List Part) → IsExported aim v number offset parts → without_note v ≡ v
+  bare_exported (SoundGame text) number offset parts is = refl
+  bare_exported (FaultyGame line note) number offset parts (fault, is, text, noted) = ap (FaultyGame line) (sym (no_note note noted))
+
+  bare_line : (v : Verdict) (line : List ℕ) → IsReportedBy aim line v → without_note v ≡ v
+  bare_line v line (note, noted, is) = ap without_note is ∙ ap (FaultyGame line) (sym (no_note note noted)) ∙ sym is
+
+  bare_in : (mode : Mode) (number offset : ℕ) (parts : List Part) (v : Verdict) → IsVerdictIn mode aim number offset parts v → without_note v ≡ v
+  bare_in modes.Index number offset parts v is = ap without_note is ∙ sym is
+  bare_in modes.List number offset parts v is = bare_listed v number offset parts is
+  bare_in modes.Export number offset parts v is = bare_exported v number offset parts is
+
+  bare_piece : (kind : PieceKind) (number offset : ℕ) (v : Verdict) → IsPieceVerdict kind aim number offset v → without_note v ≡ v
+  bare_piece (ReadableGame parts) number offset v is = bare_in aim.mode number offset parts v is
+  bare_piece UnreadableRest number offset v is = bare_line v (fault_text number offset (codes "unreadable")) is
+  bare_piece TooLongBlock number offset v is = bare_line v (fault_text number offset (codes "too long")) is
+
+  pub bare_verdicts : (number : ℕ) (pieces : List MarkedPiece) (verdicts : List Verdict) → AreVerdicts aim number pieces verdicts → map without_note verdicts ≡ verdicts
+  bare_verdicts number [] verdicts none = ap (map without_note) none ∙ sym none
+  bare_verdicts number (piece ∷ more) verdicts (own, rest, parted, is, others) =
+      ap (map without_note) parted ∙ ap (λ t. t ∷ map without_note rest) (bare_piece piece.kind number piece.offset own is)
+      ∙ ap (λ t. own ∷ t) (bare_verdicts (number + 1) more rest others) ∙ sym parted

@@ -6,7 +6,7 @@ use Rattle.pgn_text.specs.Marks.{MarkedPiece, AreMarkedPieces}
 use Rattle.pgn_text.proofs.ResumedText.{resumed_pieces}
 use Rattle.pgn_extract.specs.Outcomes.{Ends}
 use Rattle.pgn_extract.specs.Resuming.{verdicts_at_least, Resumes}
-use Rattle.pgn_extract.specs.Verdicts.{Verdict, AreVerdicts}
+use Rattle.pgn_extract.specs.Verdicts.{Verdict, AreVerdicts, IsSameReport}
 use Rattle.pgn_extract.specs.declared.outcome.Summary.{Summary}
 use Rattle.pgn_extract.specs.Aims.{Aim}
 use Rattle.pgn_extract.proofs.OneReport.{same_report}
@@ -50,9 +50,8 @@ resumes_of aim limit max_depth number offset whole out out' err err' summary end
       written = record { each = own; output = ends.written.output; faults = ends.written.faults };
       same = λ verdicts verdict.
           let from = at_least_from aim 1 mark.before rest verdicts (subst (λ p. AreVerdicts aim 1 p verdicts) mark.parted verdict) in
-          same_report aim (length mark.before + 1) rest ends.verdicts from.0
-          (subst (λ n. AreVerdicts aim n rest ends.verdicts) mark.numbered own) from.1
-          ∙ sym from.2 ∙ ap (λ n. verdicts_at_least n 1 verdicts) (sym mark.numbered);
+          subst (IsSameReport aim ends.verdicts) (sym from.2 ∙ ap (λ n. verdicts_at_least n 1 verdicts) (sym mark.numbered))
+          (same_report aim (length mark.before + 1) rest ends.verdicts from.0 (subst (λ n. AreVerdicts aim n rest ends.verdicts) mark.numbered own) from.1);
     }
 
 -- a fact of an answer and of known bytes gives one of the bytes alone

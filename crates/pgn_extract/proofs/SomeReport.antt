@@ -3,7 +3,7 @@
 use Rattle.std.proofs.Common.{◌≡◌, ◌⊎◌, ℕ, zero, suc, arith, ◌+◌, ◌<◌, ◌≤◌, ◌==◌, Bool, List, [], ◌∷◌, ◌++◌, map, length, Option, Some, None, IfSome, refl, sym, ◌∙◌, subst, inl, inr, codes}
 use Rattle.std.proofs.lemmas.Bool.{cases_lt, cases_Bool, both_ways}
 use Rattle.pgn_text.specs.Games.{items_of, first_tag}
-use Rattle.pgn_text.specs.Marks.{PieceKind, ReadableGame, UnreadableRest, TooLongBlock, MarkedPiece, marked, AreOfBlock, over, within, AreOfBlocks}
+use Rattle.pgn_text.specs.Marks.{PieceKind, ReadableGame, UnreadableRest, TooLongBlock, MarkedPiece, marked, AreOfBlock, over, within, AreOfBlocks, AreMarkedPieces}
 use Rattle.pgn_text.specs.GameTexts.{GameText, IsGameText, IsPaired, ShowsGame}
 use Rattle.pgn_text.specs.Parts.{Part, spelled}
 use Rattle.pgn_text.specs.Pieces.{Piece, Game, Unreadable, ArePieces}
@@ -17,7 +17,7 @@ use Rattle.pgn_game.specs.Starts.{fen_tag}
 use Rattle.pgn_extract.specs.Index.{fault_text, mark_line}
 use Rattle.pgn_extract.specs.Listing.{listing, entries_from, tags_in, cause_text, IsReplayOf, IsFaultOf}
 use Rattle.pgn_extract.specs.Exports.{written_lines, HasEntry, IsWritten, with_entry, without_entry}
-use Rattle.pgn_extract.specs.Verdicts.{Verdict, SoundGame, FaultyGame, IsVerdictIn, IsPieceVerdict, AreVerdicts}
+use Rattle.pgn_extract.specs.Verdicts.{Verdict, SoundGame, FaultyGame, IsVerdictIn, IsReportedBy, IsPieceVerdict, AreVerdicts}
 use Rattle.pgn_game.specs.Replays.{Replay}
 use Rattle.pgn_criteria.specs.Meeting.{Tags}
 use Rattle.pgn_extract.specs.Aims.{Aim, IsMet, IsWanted, IsEntry}
@@ -26,6 +26,7 @@ use Rattle.pgn_extract.proofs.Chosen.{some_chosen}
 use Rattle.pgn_extract.proofs.Decided.{IsDecided, all_decided}
 use Rattle.pgn_extract.proofs.ExactEntries.{of_positions}
 use Rattle.pgn_extract.proofs.GameExport.{some_export_of_parts}
+use Rattle.pgn_extract.proofs.NoteLines.{empty_note}
 use Rattle.pgn_extract.specs.declared.settings.Mode.{Mode}
 use Rattle.pgn_extract.specs.declared.settings.Mode.TheVariants as modes
 
@@ -170,18 +171,21 @@ module _ (aim : Aim) (decided : IsDecided aim) (number offset : ℕ) (parts : Li
         let high = (of_positions number offset 0 sound.0.positions entry has).high in
         listed_or_not Main sound.0 sound.1 entry.ply (omega arith)) in
         (SoundGame (listing some.0), (sound.0, some.0, sound.1, some.1, refl))
-    | inr faulty ↦ (FaultyGame (fault_text number offset (cause_text faulty.0)), (faulty.0, faulty.1, refl))
+    | inr faulty ↦ (FaultyGame (fault_text number offset (cause_text faulty.0)) [], (faulty.0, faulty.1, refl, empty_note aim.explain))
   ]
   game_reported modes.Export = elim (answers parts made (written_lines aim)) [
     | inl sound ↦ let text = written sound.0 sound.1 in (SoundGame text.0, (sound.0, sound.1, text.1))
-    | inr faulty ↦ (FaultyGame (fault_text number offset (cause_text faulty.0)), (faulty.0, faulty.1, refl))
+    | inr faulty ↦ (FaultyGame (fault_text number offset (cause_text faulty.0)) [], (faulty.0, faulty.1, refl, empty_note aim.explain))
   ]
+
+by_line : (aim : Aim) (line : List ℕ) → (verdict : Verdict) × IsReportedBy aim line verdict
+by_line aim line = (FaultyGame line [], ([], empty_note aim.explain, refl))
 
 piece_reported : (kind : PieceKind) (aim : Aim) → IsDecided aim → (number offset : ℕ) → IsMade kind
     → (verdict : Verdict) × IsPieceVerdict kind aim number offset verdict
 piece_reported (ReadableGame parts) aim decided number offset made = game_reported aim decided number offset parts made aim.mode
-piece_reported UnreadableRest aim decided number offset made = (FaultyGame (fault_text number offset (codes "unreadable")), refl)
-piece_reported TooLongBlock aim decided number offset made = (FaultyGame (fault_text number offset (codes "too long")), refl)
+piece_reported UnreadableRest aim decided number offset made = by_line aim (fault_text number offset (codes "unreadable"))
+piece_reported TooLongBlock aim decided number offset made = by_line aim (fault_text number offset (codes "too long"))
 
 all_reported : (aim : Aim) → IsDecided aim → (number : ℕ) (pieces : List MarkedPiece) → AreMade pieces
     → (reported : List Verdict) × AreVerdicts aim number pieces reported
@@ -194,3 +198,13 @@ all_reported aim decided number (piece ∷ more) made =
 pub some_report : TextHasAReport
 some_report aim limit max_depth number offset text pieces h =
     all_reported aim (all_decided aim) number pieces (blocks_made limit max_depth offset h.blocks pieces h.each)
+
+made_behind : (xs ys : List MarkedPiece) → AreMade (xs ++ ys) → AreMade ys
+made_behind [] ys made = made
+made_behind (x ∷ xs) ys made = made_behind xs ys made.1
+
+-- the last of the pieces of a text are reported in some way too
+pub rest_reported : (aim : Aim) (limit max_depth number offset : ℕ) (text : List ℕ) (before behind : List MarkedPiece)
+    → AreMarkedPieces limit max_depth offset text (before ++ behind) → (reported : List Verdict) × AreVerdicts aim number behind reported
+rest_reported aim limit max_depth number offset text before behind h =
+    all_reported aim (all_decided aim) number behind (made_behind before behind (blocks_made limit max_depth offset h.blocks (before ++ behind) h.each))

@@ -1,11 +1,13 @@
 -- What is reported of pieces in a row, piece by piece.
-use Rattle.std.proofs.Common.{◌≡◌, ℕ, ◌+◌, List, [], ◌∷◌, ◌++◌, length, refl, sym, ap, ◌∙◌, subst, arith, append_assoc, length-append}
+use Rattle.std.proofs.Common.{◌≡◌, ℕ, ◌+◌, List, [], ◌∷◌, ◌++◌, map, length, refl, sym, ap, ◌∙◌, subst, arith, append_assoc, length-append, codes}
 use Rattle.std.specs.Prelude.{count_by, fold, if◌then◌else◌}
 use Rattle.std.proofs.lemmas.List.Sums.{fold_push, fold-append}
 use Rattle.std.proofs.lemmas.List.{append-nil}
 use Rattle.pgn_text.specs.Marks.{MarkedPiece}
-use Rattle.pgn_extract.specs.Blockwise.{Reports, AddsMark}
-use Rattle.pgn_extract.specs.Verdicts.{Verdict, AreVerdicts, output_of, fault_line_of, output_text, fault_lines, is_faulty}
+use Rattle.pgn_extract.specs.Blockwise.{Reports, AddsMark, too_long_piece}
+use Rattle.pgn_extract.specs.Index.{fault_text}
+use Rattle.pgn_extract.specs.Notes.{IsNote}
+use Rattle.pgn_extract.specs.Verdicts.{Verdict, SoundGame, FaultyGame, without_note, AreVerdicts, output_of, fault_line_of, output_text, fault_lines, is_faulty}
 use Rattle.pgn_extract.specs.declared.report.Report.{Report}
 use Rattle.pgn_extract.specs.Aims.{Aim}
 
@@ -47,6 +49,30 @@ count_from a (x ∷ xs) =
 pub count_by-join : (xs ys : List Verdict) → count_by is_faulty (xs ++ ys) ≡ count_by is_faulty xs + count_by is_faulty ys
 count_by-join xs ys = fold-append (λ (n : ℕ) (x : Verdict). n + (if is_faulty x then 1 else 0)) 0 xs ys ∙ count_from (count_by is_faulty xs) ys
 
+-- notes are no part of the output
+bare_output : (xs : List Verdict) → output_text (map without_note xs) ≡ output_text xs
+bare_output [] = refl
+bare_output (SoundGame text ∷ xs) = ap (λ t. text ++ t) (bare_output xs)
+bare_output (FaultyGame line note ∷ xs) = bare_output xs
+
+pub same_output : (xs ys : List Verdict) → map without_note xs ≡ map without_note ys → output_text xs ≡ output_text ys
+same_output xs ys same = sym (bare_output xs) ∙ ap output_text same ∙ bare_output ys
+
+-- and they do not count
+bare_faulty : (x : Verdict) → is_faulty (without_note x) ≡ is_faulty x
+bare_faulty (SoundGame text) = refl
+bare_faulty (FaultyGame line note) = refl
+
+bare_count : (a : ℕ) (xs : List Verdict)
+    → fold (λ (n : ℕ) (x : Verdict). n + (if is_faulty x then 1 else 0)) a (map without_note xs) ≡ fold (λ (n : ℕ) (x : Verdict). n + (if is_faulty x then 1 else 0)) a xs
+bare_count a [] = refl
+bare_count a (x ∷ xs) =
+    ap (λ f. fold (λ (n : ℕ) (x : Verdict). n + (if is_faulty x then 1 else 0)) (a + (if f then 1 else 0)) (map without_note xs)) (bare_faulty x)
+    ∙ bare_count (a + (if is_faulty x then 1 else 0)) xs
+
+pub same_faulty : (xs ys : List Verdict) → map without_note xs ≡ map without_note ys → count_by is_faulty xs ≡ count_by is_faulty ys
+same_faulty xs ys same = sym (bare_count 0 xs) ∙ ap (count_by is_faulty) same ∙ bare_count 0 ys
+
 -- the last one joins nothing
 joined : (front one whole : List ℕ) → whole ≡ front ++ (one ++ []) → front ++ one ≡ whole
 joined front one whole e = ap (λ t. front ++ t) (sym (append-nil one)) ∙ sym e
@@ -64,3 +90,19 @@ reports_more aim old new number here pieces piece reports is (verdict, how, adds
   games = adds.games ∙ ap (λ n. n + 1) reports.games ∙ omega (arith, length-append pieces (piece ∷ []));
   faulty = adds.faulty ∙ ap (λ n. n + (if is_faulty verdict then 1 else 0)) reports.faulty ∙ sym (fold_push (λ (n : ℕ) (x : Verdict). n + (if is_faulty x then 1 else 0)) 0 reports.verdicts verdict);
 }
+
+-- the one piece of a block over the limit
+pub reports_too_long : (aim : Aim) (report : Report) (number offset : ℕ) (note : List ℕ) → IsNote aim.explain note → report.output.items ≡ []
+    → report.faults.items ≡ fault_text number offset (codes "too long") ++ note → report.games ≡ 1 → report.faulty ≡ 1
+    → Reports aim report number (too_long_piece offset ∷ [])
+reports_too_long aim report number offset note noted output faults games faulty =
+    let line = fault_text number offset (codes "too long") in
+    record {
+      verdicts = FaultyGame line note ∷ [];
+      each = (FaultyGame line note, [], refl, (note, noted, refl), refl);
+      output = output;
+      faults = faults ∙ sym (append-nil (line ++ note));
+      same = refl;
+      games = games;
+      faulty = faulty;
+    }

@@ -15,6 +15,7 @@ pub record Aim : Type 0 where
   pub max_ply : ℕ
   pub first : Bool
   pub style : Style
+  pub explain : Bool
 
 -- the aim of settings
 abbrev pub aim_of : Settings → Aim
@@ -25,6 +26,7 @@ aim_of settings = record {
   max_ply = settings.max_ply;
   first = settings.first;
   style = settings.style;
+  explain = settings.explain;
 }
 
 -- the position behind so many plies of a main line meets the criteria; without criteria every one does

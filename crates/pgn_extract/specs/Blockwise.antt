@@ -1,6 +1,6 @@
 -- What the parts of a run do with the bytes dropped, with one block and with the blocks in a row: the words between the code and
 -- those of `Outcomes`.
-use Rattle.std.specs.Prelude.{◌≡◌, ◌⊎◌, ℕ, ◌+◌, ◌<◌, ◌≤◌, true, List, [], ◌∷◌, ◌++◌, length, count_by, Option, IfSome, codes, if◌then◌else◌}
+use Rattle.std.specs.Prelude.{◌≡◌, ◌⊎◌, ℕ, ◌+◌, ◌<◌, ◌≤◌, Bool, true, List, [], ◌∷◌, ◌++◌, length, count_by, Option, IfSome, codes, if◌then◌else◌}
 use Rattle.pgn_text.specs.GameTexts.{GameText, ShowsGame, tag_in}
 use Rattle.pgn_game.specs.Exports.{IsExport}
 use Rattle.pgn_game.specs.Replays.{Replay}
@@ -20,6 +20,7 @@ use Rattle.pgn_text.specs.declared.blocks.ReadError.{ReadError}
 use Rattle.pgn_text.specs.declared.blocks.ReadError.TheVariants as cause
 use Rattle.pgn_extract.specs.Outcomes.{AppendsFront, Writes, WritesComplete}
 use Rattle.pgn_extract.specs.Index.{fault_text, mark_line}
+use Rattle.pgn_extract.specs.Notes.{IsNote}
 use Rattle.pgn_extract.specs.Verdicts.{Verdict, SoundGame, FaultyGame, IsListed, IsExported, IsGameVerdict, IsVerdict, AreVerdicts, output_of, fault_line_of, output_text, fault_lines, is_faulty}
 use Rattle.pgn_extract.specs.declared.report.Report.{Report}
 use Rattle.pgn_extract.specs.declared.outcome.RunError.{RunError}
@@ -32,7 +33,7 @@ use Rattle.pgn_extract.specs.Listing.{Entry, AreListed, listing}
 -- a body that is shown has no more bytes than the limit
 abbrev pub IsShown : ℕ → Body → Type 0
 IsShown limit (Bytes shown) = length shown.now ≤ limit
-IsShown limit TooLong = Unit {0}
+IsShown limit (TooLong size) = Unit {0}
 
 -- the report is of these pieces, which are numbered from a number on, and counts them
 pub record Reports (aim : Aim) (report : Report) (number : ℕ) (pieces : List MarkedPiece) : Type 0 where
@@ -91,10 +92,11 @@ abbrev pub AddsPiece : Aim → Report → Report → ℕ → ℕ → Piece → T
 AddsPiece aim old new number offset piece =
     (shown : spec.Piece) → IsPiece piece shown → AddsMark aim old new number (marked offset shown)
 
--- what the index reports of the piece whose mark is given, in the block that begins at the offset
-abbrev pub mark_verdict : ℕ → ℕ → Mark → Verdict
-mark_verdict number offset (mark.Game place) = SoundGame (mark_line number (offset + place))
-mark_verdict number offset (mark.Unreadable place) = FaultyGame (fault_text number (offset + place) (codes "unreadable"))
+-- so the index reports the piece whose mark is given, in the block that begins at the offset
+abbrev pub IsMarkVerdict : Bool → ℕ → ℕ → Mark → Verdict → Type 0
+IsMarkVerdict explain number offset (mark.Game place) verdict = verdict ≡ SoundGame (mark_line number (offset + place))
+IsMarkVerdict explain number offset (mark.Unreadable place) verdict =
+    (note : List ℕ) × IsNote explain note × (verdict ≡ FaultyGame (fault_text number (offset + place) (codes "unreadable")) note)
 
 -- the report is of the pieces of the block
 pub record ReportsBlock (aim : Aim) (report : Report) (limit max_depth number offset : ℕ) (block : List ℕ) : Type 0 where

@@ -1,5 +1,5 @@
 -- What holds of the entries of every text, of its marks, and of what is reported of it.
-use Rattle.std.specs.Prelude.{◌≡◌, ◌↔◌, ◌⊎◌, ℕ, ◌+◌, ◌-◌, ◌<◌, List, [], ◌∷◌, ◌++◌, length, take, drop, count_by, Some}
+use Rattle.std.specs.Prelude.{◌≡◌, false, ◌↔◌, ◌⊎◌, ℕ, ◌+◌, ◌-◌, ◌<◌, List, [], ◌∷◌, ◌++◌, length, take, drop, count_by, Some}
 use Rattle.std.specs.List.{Contains, slice_get}
 use Rattle.pgn_text.specs.Marks.{ReadableGame, MarkedPiece, AreMarkedPieces}
 use Rattle.pgn_text.specs.Parts.{Part}
@@ -8,7 +8,7 @@ use Rattle.pgn_game.specs.declared.replayer.Lines.TheVariants.{Main}
 use Rattle.pgn_extract.specs.Listing.{Entry, IsReplayOf, tags_in, AreEntries}
 use Rattle.pgn_extract.specs.Exports.{AreExports}
 use Rattle.pgn_extract.specs.Resuming.{IsMarkAmong}
-use Rattle.pgn_extract.specs.Verdicts.{Verdict, AreVerdicts, output_text, fault_lines, is_faulty}
+use Rattle.pgn_extract.specs.Verdicts.{Verdict, AreVerdicts, IsSameReport, output_text, fault_lines, is_faulty}
 use Rattle.pgn_extract.specs.Aims.{Aim, IsEntry}
 use Rattle.pgn_extract.specs.declared.settings.Mode.TheVariants as modes
 
@@ -55,11 +55,11 @@ TextHasAReport =
     (aim : Aim) (limit max_depth number offset : ℕ) (text : List ℕ) (pieces : List MarkedPiece)
     → AreMarkedPieces limit max_depth offset text pieces → (reported : List Verdict) × AreVerdicts aim number pieces reported
 
--- and in only one way
+-- and in only one way, but for the notes
 abbrev pub TextHasOneReport : Type 0
 TextHasOneReport =
     (aim : Aim) (number : ℕ) (pieces : List MarkedPiece) (reported others : List Verdict)
-    → AreVerdicts aim number pieces reported → AreVerdicts aim number pieces others → others ≡ reported
+    → AreVerdicts aim number pieces reported → AreVerdicts aim number pieces others → IsSameReport aim others reported
 
 -- the text that begins at the offset has these pieces, which are numbered from a number on and reported so
 pub record IsTextReported (aim : Aim) (limit max_depth number offset : ℕ) (text : List ℕ) (pieces : List MarkedPiece)
@@ -79,13 +79,13 @@ TextHasOneExport =
     (aim : Aim) (pieces : List MarkedPiece) (text other : List ℕ) → AreExports aim pieces text → AreExports aim pieces other → text ≡ other
 
 -- two parts of a text have its pieces, one part those before the cut and the other those behind, and what is reported of them, one behind
--- the other, is what is reported of the whole: on the output and on standard error, and counted
-pub record AreJoined (before behind first second : List MarkedPiece) (all front rest : List Verdict) : Type 0 where
+-- the other, is what is reported of the whole: on the output, counted, and on standard error but for the notes
+pub record AreJoined (aim : Aim) (before behind first second : List MarkedPiece) (all front rest : List Verdict) : Type 0 where
   pub same_before : first ≡ before
   pub same_behind : second ≡ behind
-  pub reported : all ≡ front ++ rest
+  pub reported : IsSameReport aim all (front ++ rest)
   pub output : output_text all ≡ output_text front ++ output_text rest
-  pub faults : fault_lines all ≡ fault_lines front ++ fault_lines rest
+  pub faults : aim.explain ≡ false → fault_lines all ≡ fault_lines front ++ fault_lines rest
   pub faulty : count_by is_faulty all ≡ count_by is_faulty front + count_by is_faulty rest
 
 -- a text may be cut at any of its pieces, and each part reported alone: the second with the offset of that piece, and its pieces numbered on
@@ -98,4 +98,4 @@ PartsJoin =
     → (first second : List MarkedPiece) (front rest : List Verdict)
     → IsTextReported aim limit max_depth number offset (take (piece.offset - offset) text) first front
     → IsTextReported aim limit max_depth (number + length first) piece.offset (drop (piece.offset - offset) text) second rest
-    → AreJoined before (piece ∷ behind) first second all front rest
+    → AreJoined aim before (piece ∷ behind) first second all front rest

@@ -3,6 +3,7 @@ pub mod Aims
 pub mod Index
 pub mod Listing
 pub mod Exports
+pub mod Notes
 pub mod Verdicts
 pub mod Outcomes
 pub mod Resuming

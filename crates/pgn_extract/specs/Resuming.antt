@@ -2,7 +2,7 @@
 use Rattle.std.specs.Prelude.{◌≡◌, ℕ, ◌+◌, nat_le, if◌then◌else◌, List, [], ◌∷◌, ◌++◌, length, Option}
 use Rattle.pgn_text.specs.Marks.{MarkedPiece, AreMarkedPieces}
 use Rattle.pgn_extract.specs.Outcomes.{Writes}
-use Rattle.pgn_extract.specs.Verdicts.{Verdict, AreVerdicts}
+use Rattle.pgn_extract.specs.Verdicts.{Verdict, AreVerdicts, IsSameReport}
 use Rattle.pgn_extract.specs.Aims.{Aim}
 
 -- what is reported of those pieces whose number is at least `least`, where the pieces are numbered from a number on
@@ -24,7 +24,7 @@ pub record IsMarkAmong (number offset : ℕ) (pieces : List MarkedPiece) : Type 
 pub record WritesRest (aim : Aim) (number : ℕ) (pieces rest : List MarkedPiece) (out out' err err' : Option (List ℕ)) : Type 0 where
   pub verdicts : List Verdict
   pub written : Writes aim out out' err err' number rest verdicts
-  pub same : (all : List Verdict) → AreVerdicts aim 1 pieces all → verdicts ≡ verdicts_at_least number 1 all
+  pub same : (all : List Verdict) → AreVerdicts aim 1 pieces all → IsSameReport aim verdicts (verdicts_at_least number 1 all)
 
 -- where the run began at a mark of the whole input, it wrote exactly what is reported of those pieces of the whole input whose number is
 -- at least that of the mark

@@ -1,5 +1,5 @@
 -- What a run reports of the pieces of a text, in each of its modes.
-use Rattle.std.specs.Prelude.{◌≡◌, ℕ, ◌+◌, Bool, true, false, List, [], ◌∷◌, ◌++◌, codes}
+use Rattle.std.specs.Prelude.{◌≡◌, ℕ, ◌+◌, Bool, true, false, List, [], ◌∷◌, ◌++◌, map, codes}
 use Rattle.pgn_text.specs.Marks.{PieceKind, ReadableGame, UnreadableRest, TooLongBlock, MarkedPiece}
 use Rattle.pgn_text.specs.Parts.{Part}
 use Rattle.pgn_game.specs.Faults.{Fault}
@@ -9,6 +9,7 @@ use Rattle.pgn_extract.specs.Index.{fault_text, mark_line}
 use Rattle.pgn_extract.specs.Listing.{Entry, listing, AreListed, tags_in, IsReplayOf, IsFaultOf, cause_text}
 use Rattle.pgn_extract.specs.Aims.{Aim}
 use Rattle.pgn_extract.specs.Exports.{written_lines, IsWritten}
+use Rattle.pgn_extract.specs.Notes.{IsNote}
 use Rattle.pgn_extract.specs.declared.settings.Mode.{Mode}
 use Rattle.pgn_extract.specs.declared.settings.Mode.TheVariants as modes
 
@@ -16,23 +17,28 @@ use Rattle.pgn_extract.specs.declared.settings.Mode.TheVariants as modes
 pub data Verdict : Type 0 where
   -- it is sound in the mode: these bytes go to the output
   SoundGame : List ℕ → Verdict
-  -- it is faulty in the mode: this line goes to standard error
-  FaultyGame : List ℕ → Verdict
+  -- it is faulty in the mode: this line goes to standard error, and this note behind it
+  FaultyGame : List ℕ → List ℕ → Verdict
 
 -- what goes to the output
 abbrev pub output_of : Verdict → List ℕ
 output_of (SoundGame text) = text
-output_of (FaultyGame line) = []
+output_of (FaultyGame line note) = []
 
 -- what goes to standard error
 abbrev pub fault_line_of : Verdict → List ℕ
 fault_line_of (SoundGame text) = []
-fault_line_of (FaultyGame line) = line
+fault_line_of (FaultyGame line note) = line ++ note
 
 -- the piece is faulty
 abbrev pub is_faulty : Verdict → Bool
 is_faulty (SoundGame text) = false
-is_faulty (FaultyGame line) = true
+is_faulty (FaultyGame line note) = true
+
+-- the verdict but for its note
+abbrev pub without_note : Verdict → Verdict
+without_note (SoundGame text) = SoundGame text
+without_note (FaultyGame line note) = FaultyGame line []
 
 -- what goes to the output of pieces in a row
 abbrev pub output_text : List Verdict → List ℕ
@@ -48,15 +54,15 @@ fault_lines (verdict ∷ more) = fault_line_of verdict ++ fault_lines more
 abbrev pub IsListed : Aim → Verdict → ℕ → ℕ → List Part → Type 0
 IsListed aim (SoundGame text) number offset parts =
     (replay : Replay) × (entries : List Entry) × IsReplayOf Main parts replay × AreListed aim number offset (tags_in parts) replay entries × (text ≡ listing entries)
-IsListed aim (FaultyGame line) number offset parts =
-    (fault : Fault) × IsFaultOf Main parts fault × (line ≡ fault_text number offset (cause_text fault))
+IsListed aim (FaultyGame line note) number offset parts =
+    (fault : Fault) × IsFaultOf Main parts fault × (line ≡ fault_text number offset (cause_text fault)) × IsNote aim.explain note
 
 -- the game is reported in the export: where it is sound in the lines that are written, by what is written of it, else by the line of its fault
 abbrev pub IsExported : Aim → Verdict → ℕ → ℕ → List Part → Type 0
 IsExported aim (SoundGame text) number offset parts =
     (replay : Replay) × IsReplayOf (written_lines aim) parts replay × IsWritten aim parts replay text
-IsExported aim (FaultyGame line) number offset parts =
-    (fault : Fault) × IsFaultOf (written_lines aim) parts fault × (line ≡ fault_text number offset (cause_text fault))
+IsExported aim (FaultyGame line note) number offset parts =
+    (fault : Fault) × IsFaultOf (written_lines aim) parts fault × (line ≡ fault_text number offset (cause_text fault)) × IsNote aim.explain note
 
 -- a game that can be read is reported so in a mode: in the index by its mark, in the listing and in the export as above
 abbrev pub IsVerdictIn : Mode → Aim → ℕ → ℕ → List Part → Verdict → Type 0
@@ -68,11 +74,15 @@ IsVerdictIn modes.Export aim number offset parts verdict = IsExported aim verdic
 abbrev pub IsGameVerdict : Aim → ℕ → ℕ → List Part → Verdict → Type 0
 IsGameVerdict aim number offset parts verdict = IsVerdictIn aim.mode aim number offset parts verdict
 
+-- the piece is faulty: this line goes to standard error, and a note behind it where explanations are asked for
+abbrev pub IsReportedBy : Aim → List ℕ → Verdict → Type 0
+IsReportedBy aim line verdict = (note : List ℕ) × IsNote aim.explain note × (verdict ≡ FaultyGame line note)
+
 -- a piece is reported so, by what it is: what can't be read is reported in the same way in each mode
 abbrev pub IsPieceVerdict : PieceKind → Aim → ℕ → ℕ → Verdict → Type 0
 IsPieceVerdict (ReadableGame parts) aim number offset verdict = IsGameVerdict aim number offset parts verdict
-IsPieceVerdict UnreadableRest aim number offset verdict = verdict ≡ FaultyGame (fault_text number offset (codes "unreadable"))
-IsPieceVerdict TooLongBlock aim number offset verdict = verdict ≡ FaultyGame (fault_text number offset (codes "too long"))
+IsPieceVerdict UnreadableRest aim number offset verdict = IsReportedBy aim (fault_text number offset (codes "unreadable")) verdict
+IsPieceVerdict TooLongBlock aim number offset verdict = IsReportedBy aim (fault_text number offset (codes "too long")) verdict
 
 -- the piece with this number is reported so in the mode
 abbrev pub IsVerdict : Aim → ℕ → MarkedPiece → Verdict → Type 0
@@ -83,3 +93,8 @@ abbrev pub AreVerdicts : Aim → ℕ → List MarkedPiece → List Verdict → T
 AreVerdicts aim number [] verdicts = verdicts ≡ []
 AreVerdicts aim number (piece ∷ more) verdicts =
     (own : Verdict) × (rest : List Verdict) × (verdicts ≡ own ∷ rest) × IsVerdict aim number piece own × AreVerdicts aim (number + 1) more rest
+
+-- the same is reported but for the notes, and all the same where no explanations are asked for
+pub record IsSameReport (aim : Aim) (reported others : List Verdict) : Type 0 where
+  pub but_notes : map without_note reported ≡ map without_note others
+  pub without_notes : aim.explain ≡ false → reported ≡ others

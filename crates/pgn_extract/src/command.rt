@@ -27,6 +27,8 @@ pub struct Request<'a> {
     pub max_ply: u32,
     /// `--first` was given.
     pub first: bool,
+    /// `--explain` was given.
+    pub explain: bool,
     /// The text after `--from`.
     pub from: Option<&'a str>,
     /// The path of the input; without it standard input is read.
@@ -137,6 +139,15 @@ fn style_options<'a>(alloc: Global, command: Command<'a>) -> Result<Command<'a>,
         )
 }
 
+/// The option for what is said of faulty games.
+fn fault_options<'a>(alloc: Global, command: Command<'a>) -> Result<Command<'a>, AllocError> {
+    command.next_help_heading("Faulty games").arg(flag(
+        alloc,
+        "explain",
+        "Say behind the line of each where it stops being a game, and why",
+    ))
+}
+
 /// The option for where the input begins.
 fn input_options<'a>(alloc: Global, command: Command<'a>) -> Result<Command<'a>, AllocError> {
     command.next_help_heading("Input").arg(text_option(
@@ -175,6 +186,7 @@ fn make_command<'a>(alloc: Global) -> Result<Command<'a>, AllocError> {
     let command = mode_options(alloc, command)?;
     let command = search_options(alloc, command)?;
     let command = style_options(alloc, command)?;
+    let command = fault_options(alloc, command)?;
     help_options(alloc, input_options(alloc, command)?)
 }
 
@@ -193,6 +205,7 @@ pub fn read_words<'a>(alloc: Global, words: &'a [String]) -> Result<Request<'a>,
         min_ply: matches.get_one("min-ply").unwrap_or(0),
         max_ply: matches.get_one("max-ply").unwrap_or(u32::MAX),
         first: matches.get_flag("first"),
+        explain: matches.get_flag("explain"),
         from: matches.get_str("from"),
         file: matches.get_str("FILE"),
     })

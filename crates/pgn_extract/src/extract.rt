@@ -8,6 +8,7 @@ ghost use Rattle.pgn_extract.specs.Blockwise.{IsShown, WritesBlock, BeginsBlock,
 ghost use Rattle.pgn_extract.specs.Outcomes.{AppendsFront, Ends, Indexes, Lists, Exports, Stands};
 ghost use Rattle.pgn_extract.specs.Resuming.{Resumes};
 
+use crate::notes::{first_line, line_behind};
 use crate::outcome::{RunError, Summary, of_read};
 use crate::put::{finish, put};
 use crate::report::{Report, report_block};
@@ -69,6 +70,7 @@ fn put_block<'a, O: Write, E: Write>(
         Err(_) => return Err(RunError::OutOfMemory),
     }
     put_report(out, err, report)?;
+    report.line = line_behind(report.line, block);
     Ok(Summary {
         games: report.games,
         faulty: report.faulty,
@@ -117,7 +119,7 @@ fn run_blocks<R: Read, O: Write, E: Write>(
     ensures alone { (out.new.faulted ≡ true) × (err.new.faulted ≡ true) → ⊥ }
 {
     let mut blocks = Blocks::new(alloc, settings.offset);
-    let mut report = Report::new(alloc);
+    let mut report = Report::new(alloc, first_line(settings));
     let mut games = 0;
     let mut faulty = 0;
     loop {

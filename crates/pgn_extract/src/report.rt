@@ -1,20 +1,22 @@
 //! What is reported of the pieces of one block.
-ghost use Rattle.std.specs.Prelude.{◌≡◌, ℕ, List, None, Some, ◌+◌, ◌^◌, ◌<◌, ◌≤◌, [], ◌∷◌, length, OnOk};
+ghost use Rattle.std.specs.Prelude.{◌≡◌, ℕ, List, None, Some, ◌+◌, ◌^◌, ◌<◌, ◌≤◌, [], ◌∷◌, length, codes, OnOk};
 ghost use Rattle.pgn_text.specs.Left.{piece_place};
 ghost use Rattle.pgn_text.specs.LeftMarks.{mark_place};
 ghost use Rattle.pgn_text.specs.Limits.{block_limit, depth_limit, largest_offset};
 ghost use Rattle.pgn_text.specs.Windows.{Shows};
-ghost use Rattle.pgn_extract.specs.Aims.{Aim, aim_of};
-ghost use Rattle.pgn_extract.specs.Blockwise.{IsShown, Reports, ReportsBlock, AddsVerdict, AddsGame, AddsListed, AddsExported, AddsPiece, mark_verdict, too_long_piece};
+ghost use Rattle.pgn_extract.specs.Aims.{aim_of};
+ghost use Rattle.pgn_extract.specs.Blockwise.{IsShown, Reports, ReportsBlock, AddsVerdict, AddsGame, AddsListed, AddsExported, AddsPiece, IsMarkVerdict, too_long_piece};
 ghost use Rattle.pgn_extract.specs.Index.{fault_text};
 ghost use Rattle.pgn_extract.specs.Listing.{cause_text};
-ghost use Rattle.pgn_extract.specs.Verdicts.{FaultyGame};
+ghost use Rattle.pgn_extract.specs.Notes.{IsNote};
+ghost use Rattle.pgn_extract.specs.Verdicts.{Verdict, FaultyGame};
 ghost use Rattle.pgn_extract.specs.declared.settings.Mode.TheVariants.{Index};
 ghost use Rattle.pgn_game.specs.Faults.{Fault};
 ghost use Rattle.pgn_game.specs.Replays.{fault_of};
 
 use crate::exporting::{push_export, written_lines};
 use crate::listing::{push_entries, push_plies};
+use crate::notes::{Origin, push_stop_note, push_too_long_note};
 use crate::settings::{Mode, Settings};
 use crate::texts::{push_fault_line, push_game_fault, push_mark_line};
 use pgn_game::{GameFault, Lines, count_plies, replay};
@@ -32,11 +34,13 @@ pub struct Report {
     pub games: u64,
     /// How many of them are faulty.
     pub faulty: u64,
+    /// The line on which the pieces begin, counted from 1, where it is known.
+    pub line: Option<u32>,
 }
 
 impl Report {
-    /// The report on no pieces.
-    pub fn new(alloc: Global) -> Self
+    /// The report on no pieces, which begin on this line.
+    pub fn new(alloc: Global, line: Option<u32>) -> Self
         ensures output { result.output.items ≡ [] }
         ensures faults { result.faults.items ≡ [] }
         ensures counts { (result.games ≡ 0) × (result.faulty ≡ 0) }
@@ -46,6 +50,7 @@ impl Report {
             faults: Vec::new(alloc),
             games: 0,
             faulty: 0,
+            line,
         }
     }
 
@@ -65,13 +70,14 @@ impl Report {
 /// Adds the line of a game that can't be replayed.
 fn add_fault(
     report: &mut Report,
+    settings: &Settings,
     number: u64,
     offset: u64,
     fault: GameFault<'_>,
 ) -> Result<(), AllocError>
     requires faulty { report.old.faulty + 1 < 2 ^ 64 }
-    ensures { OnOk result ((own : Fault) × (fault_of fault.entry ≡ Some own)
-        × AddsVerdict report.old report.new (FaultyGame (fault_text number offset (cause_text own))) 0) }
+    ensures { OnOk result ((own : Fault) × (note : List ℕ) × (fault_of fault.entry ≡ Some own) × IsNote settings.now.explain note
+        × AddsVerdict report.old report.new (FaultyGame (fault_text number offset (cause_text own)) note) 0) }
 {
     push_game_fault(&mut report.faults, number, offset, fault)?;
     report.faulty += 1;
@@ -100,7 +106,7 @@ fn add_entries<'a>(
             game,
             &replayed,
         ),
-        Err(fault) => add_fault(report, number, offset, fault),
+        Err(fault) => add_fault(report, settings, number, offset, fault),
     }
 }
 
@@ -119,7 +125,7 @@ fn add_plies<'a>(
 {
     match count_plies(alloc, game) {
         Ok(plies) => push_plies(alloc, &mut report.output, settings, number, offset, plies),
-        Err(fault) => add_fault(report, number, offset, fault),
+        Err(fault) => add_fault(report, settings, number, offset, fault),
     }
 }
 
@@ -156,7 +162,7 @@ fn add_exported<'a>(
     game.known();
     match replay(alloc, game, written_lines(&settings.style)) {
         Ok(replayed) => push_export(alloc, &mut report.output, settings, game, &replayed),
-        Err(fault) => add_fault(report, number, offset, fault),
+        Err(fault) => add_fault(report, settings, number, offset, fault),
     }
 }
 
@@ -179,15 +185,56 @@ fn add_game<'a>(
     }
 }
 
-/// Reports on a block over the limit, which is the same whatever is to be reported.
-fn report_too_long(report: &mut Report, number: u64, offset: u64) -> Result<(), AllocError>
-    ensures { OnOk result ((aim : Aim) → Reports aim report.new number (too_long_piece offset ∷ [])) }
+/// Adds the line of bytes at the place of the block that are no game.
+fn add_unreadable(
+    report: &mut Report,
+    settings: &Settings,
+    number: u64,
+    offset: u64,
+    block: &[u8],
+    at: usize,
+) -> Result<(), AllocError>
+    requires place { at ≤ length block.now }
+    requires room { offset + length block.now < 2 ^ 64 }
+    requires faulty { report.old.faulty + 1 < 2 ^ 64 }
+    ensures { OnOk result ((note : List ℕ) × IsNote settings.now.explain note
+        × AddsVerdict report.old report.new (FaultyGame (fault_text number (offset + at) (codes "unreadable")) note) 0) }
+{
+    push_fault_line(
+        &mut report.faults,
+        number,
+        offset + at as u64,
+        b"unreadable",
+    )?;
+    report.faulty += 1;
+    if !settings.explain {
+        return Ok(());
+    }
+    let origin = Origin {
+        offset,
+        line: report.line,
+    };
+    push_stop_note(&mut report.faults, origin, block, at)
+}
+
+/// Reports on a block of this size, over the limit.
+fn report_too_long(
+    report: &mut Report,
+    settings: &Settings,
+    number: u64,
+    offset: u64,
+    size: u64,
+) -> Result<(), AllocError>
+    ensures { OnOk result (Reports (aim_of settings.now) report.new number (too_long_piece offset ∷ [])) }
 {
     report.clear();
     push_fault_line(&mut report.faults, number, offset, b"too long")?;
     report.games = 1;
     report.faulty = 1;
-    Ok(())
+    if !settings.explain {
+        return Ok(());
+    }
+    push_too_long_note(&mut report.faults, size)
 }
 
 /// Adds what is reported of one piece of the block that begins at the offset.
@@ -197,9 +244,11 @@ fn add_piece<'a>(
     settings: &'a Settings,
     number: u64,
     offset: u64,
+    block: &'a [u8],
     piece: &Piece<'a>,
 ) -> Result<(), AllocError>
-    requires place { offset + piece_place piece.now < 2 ^ 64 }
+    requires place { piece_place piece.now ≤ length block.now }
+    requires room { offset + length block.now < 2 ^ 64 }
     requires counts { (report.old.games + 1 < 2 ^ 64) × (report.old.faulty + 1 < 2 ^ 64) }
     ensures { OnOk result (AddsPiece (aim_of settings.now) report.old report.new number offset piece.now) }
 {
@@ -209,48 +258,50 @@ fn add_piece<'a>(
             let here = offset + game.at() as u64;
             add_game(alloc, report, settings, number, here, game)
         }
-        Piece::Unreadable { at } => {
-            let here = offset + *at as u64;
-            push_fault_line(&mut report.faults, number, here, b"unreadable")?;
-            report.faulty += 1;
-            Ok(())
-        }
+        Piece::Unreadable { at } => add_unreadable(report, settings, number, offset, block, *at),
     }
 }
 
 /// Adds what the index has of one piece of the block that begins at the offset.
-fn add_mark(index: &mut Report, number: u64, offset: u64, mark: Mark) -> Result<(), AllocError>
-    requires place { offset + mark_place mark < 2 ^ 64 }
+fn add_mark(
+    index: &mut Report,
+    settings: &Settings,
+    number: u64,
+    offset: u64,
+    block: &[u8],
+    mark: Mark,
+) -> Result<(), AllocError>
+    requires place { mark_place mark ≤ length block.now }
+    requires room { offset + length block.now < 2 ^ 64 }
     requires counts { (index.old.games + 1 < 2 ^ 64) × (index.old.faulty + 1 < 2 ^ 64) }
-    ensures { OnOk result (AddsVerdict index.old index.new (mark_verdict number offset mark) 1) }
+    ensures { OnOk result ((verdict : Verdict) × IsMarkVerdict settings.now.explain number offset mark verdict
+        × AddsVerdict index.old index.new verdict 1) }
 {
     index.games += 1;
     match mark {
         Mark::Game(at) => push_mark_line(&mut index.output, number, offset + at as u64),
-        Mark::Unreadable(at) => {
-            push_fault_line(&mut index.faults, number, offset + at as u64, b"unreadable")?;
-            index.faulty += 1;
-            Ok(())
-        }
+        Mark::Unreadable(at) => add_unreadable(index, settings, number, offset, block, at),
     }
 }
 
 /// Reports the index of a block, whose pieces are numbered from `number` on.
 fn report_marks(
     index: &mut Report,
+    settings: &Settings,
     number: u64,
     offset: u64,
     block: &[u8],
 ) -> Result<(), AllocError>
+    requires mode { settings.now.mode ≡ Index }
     requires size { length block.now ≤ block_limit }
     requires number { number ≤ 2 ^ 63 }
     requires offset { offset ≤ largest_offset }
-    ensures { OnOk result ((aim : Aim) → aim.mode ≡ Index → ReportsBlock aim index.new block_limit depth_limit number offset block.now) }
+    ensures { OnOk result (ReportsBlock (aim_of settings.now) index.new block_limit depth_limit number offset block.now) }
 {
     index.clear();
     for mark in marks(block, offset == 0) {
         let here = number + index.games;
-        add_mark(index, here, offset, mark)?;
+        add_mark(index, settings, here, offset, block, mark)?;
     }
     Ok(())
 }
@@ -273,7 +324,7 @@ fn report_games<'a>(
     for piece in games(alloc, block, offset == 0) {
         let piece = piece?;
         let here = number + report.games;
-        add_piece(alloc, report, settings, here, offset, &piece)?;
+        add_piece(alloc, report, settings, here, offset, block, &piece)?;
     }
     Ok(())
 }
@@ -293,7 +344,7 @@ fn report_pieces<'a>(
     ensures { OnOk result (ReportsBlock (aim_of settings.now) report.new block_limit depth_limit number offset block.now) }
 {
     match settings.mode {
-        Mode::Index => report_marks(report, number, offset, block),
+        Mode::Index => report_marks(report, settings, number, offset, block),
         Mode::List | Mode::Export => report_games(alloc, report, settings, number, offset, block),
     }
 }
@@ -314,6 +365,6 @@ pub fn report_block<'a>(
 {
     match block.body {
         Body::Bytes(bytes) => report_pieces(alloc, report, settings, number, block.offset, bytes),
-        Body::TooLong => report_too_long(report, number, block.offset),
+        Body::TooLong(size) => report_too_long(report, settings, number, block.offset, size),
     }
 }

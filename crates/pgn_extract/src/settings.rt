@@ -13,7 +13,7 @@ pub enum Mode {
     Export,
 }
 
-/// What a run writes, and where in the file it begins. With [`Mode::Index`] only `number` and `offset` have an effect.
+/// What a run writes, and where in the file it begins. With [`Mode::Index`] only `explain`, `number` and `offset` have an effect.
 #[derive(Drop)]
 pub struct Settings {
     /// What is written.
@@ -28,6 +28,8 @@ pub struct Settings {
     pub first: bool,
     /// How games are written. Where variations are, each line of a game must be sound, else its main line alone.
     pub style: Style,
+    /// Whether notes stand behind the lines of faulty games: where a game is faulty, and why.
+    pub explain: bool,
     /// The number of the first piece that the run meets.
     pub number: u64,
     /// How many bytes of the input are dropped first, and the offset of the first byte after them.

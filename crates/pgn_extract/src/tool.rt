@@ -199,6 +199,7 @@ where
         max_ply: request.max_ply,
         first: request.first,
         style: style_of(&request),
+        explain: request.explain,
         number: mark.number,
         offset: mark.offset,
     };

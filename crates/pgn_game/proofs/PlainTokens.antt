@@ -105,7 +105,7 @@ onto_digits (suc k) n behind a = by (n / 10 == 0) (digit n, a) (onto_digits k (n
     by true a b = a
     by false a b = b
 
-decimal_digits : (n : ℕ) → AreDigits (decimal n)
+pub decimal_digits : (n : ℕ) → AreDigits (decimal n)
 unfolding digits
 decimal_digits n = onto_digits 64 n [] (record {})
 

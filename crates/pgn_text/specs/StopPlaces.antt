@@ -1,8 +1,9 @@
 -- What the place where a text stops agreeing with games stands in.
 use Rattle.std.specs.Prelude.{◌≡◌, ℕ, Bool, true, false, not, ◌||◌, ◌==◌, ◌+◌, ◌<◌, List, [], ◌∷◌, ◌++◌, length, take, drop, IsTrue}
 use Rattle.std.specs.List.{list_all, list_any}
-use Rattle.pgn_text.specs.Bytes.{is_not_brace, begins}
+use Rattle.pgn_text.specs.Bytes.{is_white, is_name_byte, is_not_brace, begins}
 use Rattle.pgn_text.specs.Parts.{Part, AllStand, spelled}
+use Rattle.pgn_text.specs.Reading.{run_of, after_run}
 use Rattle.pgn_text.specs.Games.{is_gap_part, is_tag, is_result, depth_after}
 use Rattle.pgn_text.specs.declared.agreement.Within.{Within}
 use Rattle.pgn_text.specs.declared.agreement.Within.TheVariants.{Comment, TagName, TagValue, Tags, Variation, MainLine, Game}
@@ -32,6 +33,10 @@ pub record PartsThenOther (file_start : Bool) (block : List ℕ) (begin place : 
   pub front : List ℕ
   pub parts_then : PartsThen file_start block begin at place parts front
   pub other : IsTrue (not (begins (λ b. is_open_brace b || is_open_bracket b) front))
+
+-- the name of the tag whose bracket stands before these bytes: the bytes of a name that follow its first white space
+abbrev pub tag_name_of : List ℕ → List ℕ
+tag_name_of bytes = run_of is_name_byte (after_run is_white bytes)
 
 -- a tag, or a part of a gap
 abbrev pub is_before_movetext : Part → Bool

@@ -55,10 +55,10 @@ FailsAfter place ahead read OutOfMemory = place + length (ahead ++ read) ≤ lar
 FailsAfter place ahead read InputTooLong = IsPastEnd place ahead read
 FailsAfter place ahead read Failed = read ≡ []
 
--- the body shows the bytes of the block, or that they are more than the limit
+-- the body shows the bytes of the block, or how many they are where they are more than the limit
 abbrev pub Shows : ℕ → Body → List ℕ → Type 0
 Shows limit (Bytes shown) bytes = (shown.now ≡ bytes) × (length bytes ≤ limit)
-Shows limit TooLong bytes = limit < length bytes
+Shows limit (TooLong size) bytes = (limit < length bytes) × (size ≡ length bytes)
 
 -- the bytes are the last of these, so many
 abbrev pub EndsIn : List ℕ → ℕ → List ℕ → Type 0

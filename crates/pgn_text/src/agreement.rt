@@ -1,12 +1,12 @@
 //! The place where the bytes of a block agree with no game any more.
 
-ghost use Rattle.std.specs.Prelude.{◌≡◌, ◌+◌, ◌≤◌, ◌↔◌, ℕ, length, take, drop, true, IsTrue};
+ghost use Rattle.std.specs.Prelude.{◌≡◌, ◌+◌, ◌<◌, ◌≤◌, ◌↔◌, ℕ, length, take, drop, true, IsTrue};
 ghost use Rattle.pgn_text.specs.Agreement.{FrontWithin, IsReached};
 ghost use Rattle.pgn_text.specs.Bytes.{is_check_mark};
 ghost use Rattle.pgn_text.specs.Limits.{depth_limit};
 ghost use Rattle.pgn_text.specs.PartFronts.{Longest, IsPartFront, IsTagFront, IsWordFront, NoneFollows, front_length, is_glyph_front, next_in, no_byte};
 ghost use Rattle.pgn_text.specs.Parts.{standing_of};
-ghost use Rattle.pgn_text.specs.StopPlaces.{StandsWithin};
+ghost use Rattle.pgn_text.specs.StopPlaces.{StandsWithin, tag_name_of};
 ghost use Rattle.pgn_text.specs.Stops.{StopsAt};
 ghost use Rattle.pgn_text.specs.Tokens.{state_of};
 ghost use Rattle.pgn_text.specs.declared.agreement.InTag.TheVariants.{BeforeName};
@@ -229,6 +229,15 @@ fn front_within(front: &[u8], at: usize, progress: Progress) -> Within
     } else {
         Within::MainLine
     }
+}
+
+/// The name of the tag whose bracket stands at the place of the block, as far as it goes.
+pub fn tag_name_at(block: &[u8], at: usize) -> &[u8]
+    requires { at < length block.now }
+    ensures { result.now ≡ tag_name_of (drop (at + 1) block.now) }
+{
+    let (_, behind) = run(Class::White, &block[at + 1..]);
+    run(Class::Name, behind).0
 }
 
 /// A place where a text stops agreeing with games.

@@ -41,8 +41,8 @@ pub struct Block<'a> {
 pub enum Body<'a> {
     /// All of its bytes.
     Bytes(&'a [u8]),
-    /// More bytes than the limit.
-    TooLong,
+    /// More bytes than the limit, and how many.
+    TooLong(u64),
 }
 
 /// Why no further block is given.
@@ -211,7 +211,7 @@ impl Blocks {
             → IsBlock block_limit self.now bytes result }
     {
         let body = if size > BLOCK_LIMIT as u64 {
-            Body::TooLong
+            Body::TooLong(size)
         } else {
             Body::Bytes(&self.buf.bytes()[self.at - size as usize..self.at])
         };

@@ -21,7 +21,7 @@ mod tally;
 mod token;
 mod unquoted;
 
-pub use agreement::{Stop, Within, stopped, stopped_within};
+pub use agreement::{Stop, Within, stopped, stopped_within, tag_name_at};
 pub use blocks::{Block, Blocks, Body, ReadError};
 pub use game::{Element, RawGame};
 pub use limits::{BLOCK_LIMIT, LARGEST_OFFSET, MAX_DEPTH};

@@ -42,10 +42,10 @@ fn is_answered<R: Read + Drop>(
                 Some(
                     Block {
                         offset,
-                        body: Body::TooLong,
+                        body: Body::TooLong(size),
                     },
                 ),
-            ) => write!(answers, "{offset}+long ")?,
+            ) => write!(answers, "{offset}+long {size} ")?,
             Ok(None) => {
                 answers.push_str("end ")?;
                 is_over = true;
@@ -129,7 +129,7 @@ fn a_fault_comes_behind_the_complete_blocks(rt: HostRuntime) -> Result<(), Fail>
 #[test]
 fn blocks_at_the_limit(rt: HostRuntime) -> Result<(), Fail> {
     let rows: [(usize, &[u8], usize, &str); 3] = [
-        (16_777_217, b"", 8192, "3+long end end "),
+        (16_777_217, b"", 8192, "3+long 16777217 end end "),
         (
             16_777_215,
             b"\n[Event \"A\"",
@@ -140,7 +140,7 @@ fn blocks_at_the_limit(rt: HostRuntime) -> Result<(), Fail> {
             16_800_000,
             b"\n[Event \"A\"\n[Event \"B\"",
             1021,
-            "3+long 16800004+11 16800015+10 end end ",
+            "3+long 16800001 16800004+11 16800015+10 end end ",
         ),
     ];
     for (spaces, rest, size, wanted) in rows {

@@ -30,6 +30,7 @@ fn all(mode: Mode) -> Settings
         max_ply: u32::MAX,
         first: false,
         style: PLAIN,
+        explain: false,
         number: 1,
         offset: 0,
     }
@@ -47,6 +48,7 @@ fn rest(mode: Mode) -> Settings
         max_ply: u32::MAX,
         first: false,
         style: PLAIN,
+        explain: false,
         number: 2,
         offset: 22,
     }

@@ -20,6 +20,6 @@ pub returns-in-Err : goal.returns-in-Err
 returns-in-Err c =
     let is = rw c.written_lines.ensures at c.in-Err.ensures in
     on_ok_weaker c.add_fault.result
-    (λ of. exported_fault (aim_of c.args.settings.now) of.0
-    (subst (λ o. IfSome o (IsFault (written_lines (aim_of c.args.settings.now)) (tag_in fen_tag c.args.game.now.tags) c.args.game.now.elements)) of.1 is) of.2)
+    (λ of. exported_fault (aim_of c.args.settings.now) of.0 of.1
+    (subst (λ o. IfSome o (IsFault (written_lines (aim_of c.args.settings.now)) (tag_in fen_tag c.args.game.now.tags) c.args.game.now.elements)) of.2 is) of.3 of.4)
     c.add_fault.ensures

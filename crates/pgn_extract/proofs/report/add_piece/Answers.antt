@@ -11,7 +11,9 @@ returns-in-Game c =
     (ap (λ n. c.args.offset + n) c.at.ensures) adds refl refl refl refl)
     c.add_game.ensures
 
-pub returns-in_ok-push_fault_line-in-Unreadable : goal.returns-in_ok-push_fault_line-in-Unreadable
-returns-in_ok-push_fault_line-in-Unreadable c =
-    piece_unreadable (aim_of c.args.settings.now) c.args.number c.args.offset c.args.piece.now c.in-Unreadable.at c.in-Unreadable.is
-    (record { output = refl; faults = c.in_ok-push_fault_line-in-Unreadable.ensures; games = refl; faulty = refl })
+pub returns-in-Unreadable : goal.returns-in-Unreadable
+returns-in-Unreadable c =
+    on_ok_weaker c.add_unreadable.result
+    (λ adds. piece_unreadable (aim_of c.args.settings.now) c.args.number c.args.offset c.args.piece.now c.in-Unreadable.at adds.0 c.in-Unreadable.is adds.1 adds.2
+    refl refl refl refl)
+    c.add_unreadable.ensures

@@ -25,6 +25,6 @@ returns-in-Ok c =
 pub returns-in-Err : goal.returns-in-Err
 returns-in-Err c =
     on_ok_weaker c.add_fault.result
-    (λ of. listed_fault (aim_of c.args.settings.now) of.0
-    (subst (λ o. IfSome o (IsFault Main (tag_in fen_tag c.args.game.now.tags) c.args.game.now.elements)) of.1 c.in-Err.ensures) of.2)
+    (λ of. listed_fault (aim_of c.args.settings.now) of.0 of.1
+    (subst (λ o. IfSome o (IsFault Main (tag_in fen_tag c.args.game.now.tags) c.args.game.now.elements)) of.2 c.in-Err.ensures) of.3 of.4)
     c.add_fault.ensures

@@ -1,18 +1,26 @@
-use Rattle.std.proofs.Common.{[], ◌∷◌, refl, sym, ap, ◌∙◌, ◌++◌, codes}
+use Rattle.std.proofs.Common.{[], ◌∷◌, ◌++◌, refl, sym, ap, ◌∙◌, codes}
 use Rattle.std.proofs.lemmas.List.{append-nil}
+use Rattle.std.proofs.lemmas.Result.{on_ok_weaker}
+use Rattle.pgn_text.specs.Limits.{block_limit}
+use Rattle.pgn_extract.specs.Aims.{aim_of}
 use Rattle.pgn_extract.specs.Index.{fault_text}
-use Rattle.pgn_extract.specs.Verdicts.{FaultyGame}
+use Rattle.pgn_extract.specs.Notes.{indented, too_long_text}
+use Rattle.pgn_extract.proofs.NoteLines.{empty_note, too_long_note}
+use Rattle.pgn_extract.proofs.VerdictFacts.{reports_too_long}
 use Rattle.pgn_extract.proofs.report.report_too_long.Goals as goal
 
-pub returns : goal.returns
-returns c = λ aim.
+pub returns-then-not-settings : goal.returns-then-not-settings
+returns-then-not-settings c =
     let line = fault_text c.args.number c.args.offset (codes "too long") in
-    record {
-      verdicts = FaultyGame line ∷ [];
-      each = (FaultyGame line, [], refl, refl, refl);
-      output = c.clear.ensures.output;
-      faults = c.in_ok-push_fault_line.ensures ∙ ap (λ t. t ++ line) c.clear.ensures.faults ∙ sym (append-nil line);
-      same = refl;
-      games = refl;
-      faulty = refl;
-    }
+    reports_too_long (aim_of c.args.settings.now) _ c.args.number c.args.offset [] (empty_note c.args.settings.now.explain) c.clear.ensures.output
+    (c.in_ok-push_fault_line.ensures ∙ ap (λ t. t ++ line) c.clear.ensures.faults ∙ sym (append-nil line)) refl refl
+
+pub returns : goal.returns
+returns c =
+    let line = fault_text c.args.number c.args.offset (codes "too long") in
+    let note = indented (too_long_text c.args.size block_limit ∷ []) in
+    on_ok_weaker c.push_too_long_note.result
+    (λ is. reports_too_long (aim_of c.args.settings.now) _ c.args.number c.args.offset note
+    (too_long_note c.args.settings.now.explain c.if-not-settings.false c.args.size block_limit) c.clear.ensures.output
+    (is ∙ ap (λ t. t ++ note) (c.in_ok-push_fault_line.ensures ∙ ap (λ t. t ++ line) c.clear.ensures.faults)) refl refl)
+    c.push_too_long_note.ensures

@@ -1,0 +1,159 @@
+-- Notes are lines: no text of theirs holds a line feed.
+use Rattle.std.proofs.Common.{◌≡◌, ℕ, zero, suc, ◌+◌, ◌/◌, ◌%◌, ◌<◌, ◌≤◌, Bool, true, false, ◌&&◌, List, [], ◌∷◌, ◌++◌, take, drop, length, refl, sym, ap, ◌∙◌, subst, arith, inl, inr, codes, decimal, Option, Some, None}
+use Rattle.std.specs.Prelude.{IsTrue, ◌==◌, nat_le, nat_lt, bytes_eq, slice_index, if◌then◌else◌}
+use Rattle.std.specs.List.{list_all}
+use Rattle.std.proofs.lemmas.Bool.{and_from, and_parts, cases_eq}
+use Rattle.std.proofs.lemmas.Bool.Decides.{nat_tests}
+use Rattle.std.proofs.lemmas.List.Folds.{list_all-append}
+use Rattle.pgn_text.specs.Bytes.{is_white, is_name_byte, is_not_line_feed}
+use Rattle.pgn_text.specs.Reading.{run_of, after_run}
+use Rattle.pgn_text.specs.StopPlaces.{tag_name_of}
+use Rattle.pgn_text.specs.declared.agreement.Within.{Within}
+use Rattle.pgn_text.specs.declared.agreement.Within.TheVariants.{Comment, TagName, TagValue, Tags, Variation, MainLine, Game}
+use Rattle.pgn_text.proofs.Fronts.{list_all-run}
+use Rattle.pgn_game.proofs.PlainTokens.{AreDigits, decimal_digits}
+use Rattle.pgn_extract.specs.Notes.{IsNote, AreLines, indented, line_feeds, column_behind, position_text, place_in, place_text, begin_in, begin_text, hex_digit, byte_text, stopper_text, context_text, stop_line, hints, IsStopNote, too_long_text}
+use Rattle.pgn_extract.specs.declared.notes.Origin.{Origin}
+
+-- a note may say nothing
+pub empty_note : (explain : Bool) → IsNote explain []
+empty_note true = ([], tt, refl)
+empty_note false = refl
+
+-- the bytes hold no line feed
+abbrev IsLine : List ℕ → Type 0
+IsLine bytes = IsTrue (list_all is_not_line_feed bytes)
+
+line_join : (xs ys : List ℕ) → IsLine xs → IsLine ys → IsLine (xs ++ ys)
+line_join xs ys a b = list_all-append is_not_line_feed xs ys ∙ and_from (list_all is_not_line_feed xs) (list_all is_not_line_feed ys) a b
+
+line_join_two : (xs ys zs : List ℕ) → IsLine xs → IsLine ys → IsLine zs → IsLine (xs ++ ys ++ zs)
+line_join_two xs ys zs a b c = line_join (xs ++ ys) zs (line_join xs ys a b) c
+
+above_feed : (b : ℕ) → 10 < b → is_not_line_feed b ≡ true
+above_feed b high = grind (arith, nat_tests)
+
+digits_line : (ds : List ℕ) → AreDigits ds → IsLine ds
+digits_line [] a = refl
+digits_line (d ∷ ds) a =
+    let low = a.0.0 in
+    and_from (is_not_line_feed d) (list_all is_not_line_feed ds) (above_feed d (omega arith)) (digits_line ds a.1)
+
+decimal_line : (n : ℕ) → IsLine (decimal n)
+decimal_line n = digits_line (decimal n) (decimal_digits n)
+
+position_line : (first : ℕ) (front : List ℕ) → IsLine (position_text first front)
+position_line first front =
+    let column = decimal (column_behind front) in
+    let line = decimal (first + line_feeds front) in
+    line_join (codes "line " ++ line ++ codes ", column ") column
+    (line_join_two (codes "line ") line (codes ", column ") refl (decimal_line (first + line_feeds front)) refl) (decimal_line (column_behind front))
+
+place_line : (line : Option ℕ) (byte : ℕ) (front : List ℕ) → IsLine (place_in line byte front)
+place_line None byte front = line_join (codes "byte ") (decimal byte) refl (decimal_line byte)
+place_line (Some first) byte front =
+    line_join_two (position_text first front) (codes ", byte ") (decimal byte) (position_line first front) refl (decimal_line byte)
+
+begin_line : (line : Option ℕ) (byte : ℕ) (front : List ℕ) → IsLine (begin_in line byte front)
+begin_line None byte front = line_join (codes "byte ") (decimal byte) refl (decimal_line byte)
+begin_line (Some first) byte front = position_line first front
+
+hex_line : (n : ℕ) → is_not_line_feed (hex_digit n) ≡ true
+hex_line n = by (nat_lt n 10)
+  where
+    by : (low : Bool) → is_not_line_feed (if low then 48 + n else 55 + n) ≡ true
+    by true = above_feed (48 + n) (omega arith)
+    by false = above_feed (55 + n) (omega arith)
+
+byte_line : (b : ℕ) → IsLine (byte_text b)
+byte_line b = by (nat_le 32 b) (nat_le b 126) refl
+  where
+    hex : IsLine (codes "0x" ++ hex_digit (b / 16) ∷ hex_digit (b % 16) ∷ [])
+    hex =
+        line_join (codes "0x") (hex_digit (b / 16) ∷ hex_digit (b % 16) ∷ []) refl
+        (and_from (is_not_line_feed (hex_digit (b / 16))) _ (hex_line (b / 16)) (and_from (is_not_line_feed (hex_digit (b % 16))) _ (hex_line (b % 16)) refl))
+
+    by : (low high : Bool) → nat_le 32 b ≡ low → IsLine (if low && high then 39 ∷ b ∷ 39 ∷ [] else codes "0x" ++ hex_digit (b / 16) ∷ hex_digit (b % 16) ∷ [])
+    by true true low =
+        let above : 32 ≤ b = grind (arith, nat_tests) in
+        and_from (is_not_line_feed 39) _ refl (and_from (is_not_line_feed b) _ (above_feed b (omega arith)) refl)
+    by true false low = hex
+    by false high low = hex
+
+stopper_line : (block : List ℕ) (place : ℕ) → IsLine (stopper_text block place)
+stopper_line block place = by (place == length block)
+  where
+    by : (ends : Bool) → IsLine (if ends then codes ": the text ends here" else codes ": no game goes on with " ++ byte_text (slice_index block place))
+    by true = refl
+    by false = line_join (codes ": no game goes on with ") (byte_text (slice_index block place)) refl (byte_line (slice_index block place))
+
+name_byte : (b : ℕ) → is_name_byte b ≡ true → is_not_line_feed b ≡ true
+name_byte b is = elim (cases_eq b 10) [
+  | inl feed ↦ let none : is_name_byte b ≡ false = ap is_name_byte feed in absurd (cc)
+  | inr other ↦ grind (arith, nat_tests)
+]
+
+names_line : (bytes : List ℕ) → IsTrue (list_all is_name_byte bytes) → IsLine bytes
+names_line [] all = refl
+names_line (b ∷ bytes) all =
+    let both = and_parts (is_name_byte b) (list_all is_name_byte bytes) all in
+    and_from (is_not_line_feed b) (list_all is_not_line_feed bytes) (name_byte b both.0) (names_line bytes both.1)
+
+name_line : (bytes : List ℕ) → IsLine (tag_name_of bytes)
+name_line bytes = names_line (tag_name_of bytes) (list_all-run is_name_byte (after_run is_white bytes))
+
+closed_line : (label text : List ℕ) → IsLine label → IsLine text → IsLine (label ++ text ++ codes ")")
+closed_line label text a b = line_join_two label text (codes ")") a b refl
+
+awaited_line : (ends : Bool) → IsLine (if ends then codes " (before a result)" else [])
+awaited_line true = refl
+awaited_line false = refl
+
+context_line : (origin : Origin) (block : List ℕ) (ends : Bool) (within : Within) → IsLine (context_text origin block ends within)
+context_line origin block ends (Comment at) =
+    closed_line (codes " (in a comment that begins at ") (begin_text origin (take at block)) refl (begin_line origin.line (origin.offset + length (take at block)) (take at block))
+context_line origin block ends (TagName at) =
+    closed_line (codes " (in a tag that begins at ") (begin_text origin (take at block)) refl (begin_line origin.line (origin.offset + length (take at block)) (take at block))
+context_line origin block ends (TagValue at) =
+    closed_line (codes " (in the value of tag ") (tag_name_of (drop (at + 1) block)) refl (name_line (drop (at + 1) block))
+context_line origin block ends Variation = refl
+context_line origin block ends Tags = awaited_line ends
+context_line origin block ends MainLine = awaited_line ends
+context_line origin block ends Game = refl
+
+stop_line_line : (origin : Origin) (block : List ℕ) (place : ℕ) (within : Within) → IsLine (stop_line origin block place within)
+stop_line_line origin block place within =
+    let context = context_text origin block (place == length block) within in
+    line_join_two (place_text origin (take place block)) (stopper_text block place) context
+    (place_line origin.line (origin.offset + length (take place block)) (take place block))
+    (stopper_line block place) (context_line origin block (place == length block) within)
+
+hints_lines : (offset : ℕ) (block : List ℕ) → AreLines (hints offset block)
+hints_lines offset block = by ((offset == 0) && bytes_eq (take 2 block) (31 ∷ 139 ∷ []))
+  where
+    by : (is : Bool) → AreLines (if is then codes "this looks like a compressed file: zcat FILE | pgn-extract .." ∷ [] else [])
+    by true = (refl, tt)
+    by false = tt
+
+-- a note on bytes that are no game
+pub stop_note : (explain : Bool) → explain ≡ true → (origin : Origin) (block : List ℕ) (begin : ℕ) (note : List ℕ) → IsStopNote origin block begin note → IsNote explain note
+stop_note explain asked origin block begin note is =
+    subst (λ e. IsNote e note) (sym asked) (
+      stop_line origin block is.place is.within ∷ hints origin.offset block,
+      (stop_line_line origin block is.place is.within, hints_lines origin.offset block),
+      is.says,
+    )
+
+-- a note on a block over the limit
+pub too_long_note : (explain : Bool) → explain ≡ true → (size limit : ℕ) → IsNote explain (indented (too_long_text size limit ∷ []))
+too_long_note explain asked size limit =
+    let last = codes "; games are parted at lines that begin with [Event \"" in
+    subst (λ e. IsNote e (indented (too_long_text size limit ∷ []))) (sym asked) (
+      too_long_text size limit ∷ [],
+      (
+        line_join (decimal size ++ codes " bytes, over the limit of " ++ decimal limit) last
+            (line_join_two (decimal size) (codes " bytes, over the limit of ") (decimal limit) (decimal_line size) refl (decimal_line limit)) refl,
+        tt,
+      ),
+      refl,
+    )

@@ -1,0 +1,24 @@
+use Rattle.std.proofs.Common.{◌+◌, ◌++◌, refl, sym, ap, ◌∙◌, append_assoc, codes, arith}
+use Rattle.std.proofs.lemmas.List.{append-nil}
+use Rattle.std.proofs.lemmas.Result.{on_ok_weaker}
+use Rattle.pgn_extract.specs.Index.{fault_text}
+use Rattle.pgn_extract.specs.declared.notes.Origin.{Origin}
+use Rattle.pgn_extract.proofs.NoteLines.{stop_note}
+use Rattle.pgn_extract.proofs.report.add_unreadable.Goals as goal
+
+pub returns : goal.returns
+returns c =
+    let line = fault_text c.args.number (c.args.offset + c.args.at) (codes "unreadable") in
+    let origin : Origin = record { offset = c.args.offset; line = c.args.report.now.line } in
+    on_ok_weaker c.push_stop_note.result
+    (λ note. (
+      note.0,
+      stop_note c.args.settings.now.explain c.if-not-settings.false origin c.args.block.now c.args.at note.0 note.1,
+      record {
+        output = sym (append-nil c.args.report.now.output.items);
+        faults = note.2 ∙ ap (λ t. t ++ note.0) c.in_ok-push_fault_line.ensures ∙ append_assoc c.args.report.now.faults.items line note.0;
+        games = omega arith;
+        faulty = refl;
+      },
+    ))
+    c.push_stop_note.ensures
