@@ -1,10 +1,13 @@
 -- One piece reported: a game by the index, by the listing of its replay or by its fault, or bytes that are no game.
-use Rattle.std.proofs.Common.{◌≡◌, ℕ, ◌+◌, Bool, List, ◌++◌, Vec, Global, refl, sym, ap, ◌∙◌, subst, arith, codes, inl, inr}
+use Rattle.std.proofs.Common.{◌≡◌, ◌==◌, ℕ, ◌+◌, Bool, List, take, drop, ◌++◌, Vec, Global, refl, sym, ap, ◌∙◌, subst, arith, codes, inl, inr}
 use Rattle.std.proofs.lemmas.List.{append-nil}
 use Rattle.std.specs.Prelude.{Option, if◌then◌else◌}
 use Rattle.pgn_text.specs.GameTexts.{GameText, IsGameText, ShowsGame, tag_in}
 use Rattle.pgn_text.specs.Games.{Item, first_tag}
-use Rattle.pgn_text.specs.Left.{IsPiece}
+use Rattle.pgn_text.specs.Left.{IsPiece, IsStopOf}
+use Rattle.pgn_text.specs.Limits.{depth_limit}
+use Rattle.pgn_text.specs.Stops.{StopsBlockAt}
+use Rattle.pgn_text.proofs.Stopping.{one_stop}
 use Rattle.pgn_text.specs.Marks.{marked}
 use Rattle.pgn_text.specs.Parts.{Part}
 use Rattle.pgn_text.specs.Pieces as spec
@@ -22,7 +25,7 @@ use Rattle.pgn_extract.specs.Index.{fault_text, mark_line}
 use Rattle.pgn_extract.specs.Listing.{Entry, listing, entries_from, AreListed, tags_in, cause_text, IsReplayOf, IsFaultOf}
 use Rattle.pgn_extract.specs.Exports.{written_lines, IsWritten, with_entry, without_entry}
 use Rattle.pgn_extract.specs.Notes.{IsNote}
-use Rattle.pgn_extract.specs.Verdicts.{Verdict, SoundGame, FaultyGame, output_of, fault_line_of, is_faulty, IsVerdictIn, IsGameVerdict}
+use Rattle.pgn_extract.specs.Verdicts.{Verdict, SoundGame, FaultyGame, output_of, fault_line_of, is_faulty, IsVerdictIn, IsGameVerdict, IsUnreadableVerdict}
 use Rattle.pgn_extract.specs.declared.report.Report.{Report}
 use Rattle.pgn_criteria.specs.Meeting.{Tags}
 use Rattle.pgn_extract.specs.Aims.{Aim, IsEntry}
@@ -136,14 +139,14 @@ counted_first verdict adds output faults games faulty = record {
 }
 
 -- a piece that is a game is counted, and reported
-pub piece_game : (aim : Aim) {old mid new : Report} (number offset here : ℕ) (piece : Piece) (game : GameText) → piece ≡ given.Game game → here ≡ offset + game.at
+pub piece_game : (aim : Aim) {old mid new : Report} (number offset here : ℕ) (block : List ℕ) (piece : Piece) (game : GameText) → piece ≡ given.Game game → here ≡ offset + game.at
     → AddsGame aim mid new number here game → mid.output ≡ old.output → mid.faults ≡ old.faults → mid.games ≡ old.games + 1 → mid.faulty ≡ old.faulty
-    → AddsPiece aim old new number offset piece
-piece_game aim {old} {mid} {new} number offset here piece game is_game place adds output faults games faulty shown is =
+    → AddsPiece aim old new number offset block piece
+piece_game aim {old} {mid} {new} number offset here block piece game is_game place adds output faults games faulty shown is stops =
     shows shown (subst (λ p. IsPiece p shown) is_game is)
   where
     shows : (shown : spec.Piece) → IsPiece (given.Game game) shown → AddsMark aim old new number (marked offset shown)
-    shows (spec.Unreadable at) is = absurd is
+    shows (spec.Unreadable at stop) is = absurd is
     shows (spec.Game at parts) is =
         let verdict = adds at parts is in (
           verdict.0,
@@ -151,43 +154,55 @@ piece_game aim {old} {mid} {new} number offset here piece game is_game place add
           counted_first verdict.0 verdict.2 output faults games faulty,
         )
 
+-- the verdict on bytes that are no game is that on the piece at the same place, which stops where they do
+pub unreadable_there : (explain : Bool) (number offset : ℕ) (block : List ℕ) (place at own stop : ℕ) (verdict : Verdict) → place ≡ at
+    → StopsBlockAt depth_limit (offset == 0) block place own → StopsBlockAt depth_limit (offset == 0) block at stop
+    → IsUnreadableVerdict explain (offset + own) (fault_text number (offset + place) (codes "unreadable")) verdict
+    → IsUnreadableVerdict explain (offset + stop) (fault_text number (offset + at) (codes "unreadable")) verdict
+unreadable_there explain number offset block place at own stop verdict is own_stops stops by =
+    let here = rw is at own_stops in
+    let same : here.0 ≡ stops.0 = one_stop depth_limit (offset == 0) (take at block) (drop at block) here.0 stops.0 here.2 stops.2 in
+    let same_stop : own ≡ stop = here.1 ∙ ap (λ n. at + n) same ∙ sym stops.1 in
+    rw (is, same_stop) at by
+
 -- a piece that is no game is counted, and reported
-pub piece_unreadable : (aim : Aim) {old mid new : Report} (number offset : ℕ) (piece : Piece) (place : ℕ) (note : List ℕ) → piece ≡ given.Unreadable place
-    → IsNote aim.explain note → AddsVerdict mid new (FaultyGame (fault_text number (offset + place) (codes "unreadable")) note) 0
+pub piece_unreadable : (aim : Aim) {old mid new : Report} (number offset : ℕ) (block : List ℕ) (piece : Piece) (place own : ℕ) (verdict : Verdict)
+    → piece ≡ given.Unreadable place → StopsBlockAt depth_limit (offset == 0) block place own
+    → IsUnreadableVerdict aim.explain (offset + own) (fault_text number (offset + place) (codes "unreadable")) verdict → AddsVerdict mid new verdict 0
     → mid.output ≡ old.output → mid.faults ≡ old.faults → mid.games ≡ old.games + 1 → mid.faulty ≡ old.faulty
-    → AddsPiece aim old new number offset piece
-piece_unreadable aim {old} {mid} {new} number offset piece place note is_none noted adds output faults games faulty shown is =
-    shows shown (subst (λ p. IsPiece p shown) is_none is)
+    → AddsPiece aim old new number offset block piece
+piece_unreadable aim {old} {mid} {new} number offset block piece place own verdict is_none own_stops by adds output faults games faulty shown is stops =
+    shows shown (subst (λ p. IsPiece p shown) is_none is) stops
   where
-    shows : (shown : spec.Piece) → IsPiece (given.Unreadable place) shown → AddsMark aim old new number (marked offset shown)
-    shows (spec.Game at parts) is = absurd is
-    shows (spec.Unreadable at) is =
-        let verdict = FaultyGame (fault_text number (offset + place) (codes "unreadable")) note in (
-          verdict,
-          (note, noted, ap (λ n. FaultyGame (fault_text number (offset + n) (codes "unreadable")) note) is),
-          counted_first verdict adds output faults games faulty,
-        )
+    shows : (shown : spec.Piece) → IsPiece (given.Unreadable place) shown → IsStopOf depth_limit (offset == 0) block shown
+        → AddsMark aim old new number (marked offset shown)
+    shows (spec.Game at parts) is stops = absurd is
+    shows (spec.Unreadable at stop) is stops = (
+      verdict,
+      unreadable_there aim.explain number offset block place at own stop verdict is own_stops stops by,
+      counted_first verdict adds output faults games faulty,
+    )
 
 -- the mark of a piece that is a game is counted, and reported
-pub mark_game : (explain : Bool) {old new : Report} (number offset place : ℕ) (mark : Mark) → mark ≡ marks.Game place
+pub mark_game : (explain : Bool) {old new : Report} (number offset : ℕ) (block : List ℕ) (place : ℕ) (mark : Mark) → mark ≡ marks.Game place
     → new.output.items ≡ old.output.items ++ mark_line number (offset + place)
     → new.faults.items ≡ old.faults.items → new.games ≡ old.games + 1 → new.faulty ≡ old.faulty
-    → (verdict : Verdict) × IsMarkVerdict explain number offset mark verdict × AddsVerdict old new verdict 1
-mark_game explain {old} {new} number offset place mark is output faults games faulty =
+    → (verdict : Verdict) × IsMarkVerdict explain number offset block mark verdict × AddsVerdict old new verdict 1
+mark_game explain {old} {new} number offset block place mark is output faults games faulty =
     let verdict = SoundGame (mark_line number (offset + place)) in (
       verdict,
-      subst (λ m. IsMarkVerdict explain number offset m verdict) (sym is) refl,
+      subst (λ m. IsMarkVerdict explain number offset block m verdict) (sym is) refl,
       record { output = output; faults = faults ∙ sym (append-nil old.faults.items); games = games; faulty = faulty ∙ omega arith },
     )
 
 -- and that of one that is none
-pub mark_unreadable : (explain : Bool) {old mid new : Report} (number offset place : ℕ) (mark : Mark) (note : List ℕ) → mark ≡ marks.Unreadable place
-    → IsNote explain note → AddsVerdict mid new (FaultyGame (fault_text number (offset + place) (codes "unreadable")) note) 0
+pub mark_unreadable : (explain : Bool) {old mid new : Report} (number offset : ℕ) (block : List ℕ) (place own : ℕ) (mark : Mark) (verdict : Verdict)
+    → mark ≡ marks.Unreadable place → StopsBlockAt depth_limit (offset == 0) block place own
+    → IsUnreadableVerdict explain (offset + own) (fault_text number (offset + place) (codes "unreadable")) verdict → AddsVerdict mid new verdict 0
     → mid.output ≡ old.output → mid.faults ≡ old.faults → mid.games ≡ old.games + 1 → mid.faulty ≡ old.faulty
-    → (verdict : Verdict) × IsMarkVerdict explain number offset mark verdict × AddsVerdict old new verdict 1
-mark_unreadable explain number offset place mark note is noted adds output faults games faulty =
-    let verdict = FaultyGame (fault_text number (offset + place) (codes "unreadable")) note in (
-      verdict,
-      subst (λ m. IsMarkVerdict explain number offset m verdict) (sym is) (note, noted, refl),
-      counted_first verdict adds output faults games faulty,
-    )
+    → (verdict : Verdict) × IsMarkVerdict explain number offset block mark verdict × AddsVerdict old new verdict 1
+mark_unreadable explain number offset block place own mark verdict is stops by adds output faults games faulty = (
+  verdict,
+  subst (λ m. IsMarkVerdict explain number offset block m verdict) (sym is) (own, stops, by),
+  counted_first verdict adds output faults games faulty,
+)

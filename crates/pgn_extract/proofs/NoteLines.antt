@@ -1,19 +1,22 @@
 -- Notes are lines: no text of theirs holds a line feed.
-use Rattle.std.proofs.Common.{◌≡◌, ℕ, zero, suc, ◌+◌, ◌/◌, ◌%◌, ◌<◌, ◌≤◌, Bool, true, false, ◌&&◌, List, [], ◌∷◌, ◌++◌, take, drop, length, refl, sym, ap, ◌∙◌, subst, arith, inl, inr, codes, decimal, Option, Some, None}
+use Rattle.std.proofs.Common.{◌≡◌, ℕ, zero, suc, ◌+◌, ◌/◌, ◌%◌, ◌<◌, ◌≤◌, Bool, true, false, ◌&&◌, List, [], ◌∷◌, ◌++◌, take, drop, length, refl, sym, ap, ◌∙◌, subst, arith, inl, inr, codes, decimal, append_assoc, Option, Some, None}
 use Rattle.std.specs.Prelude.{IsTrue, ◌==◌, nat_le, nat_lt, bytes_eq, slice_index, if◌then◌else◌}
 use Rattle.std.specs.List.{list_all}
 use Rattle.std.proofs.lemmas.Bool.{and_from, and_parts, cases_eq}
 use Rattle.std.proofs.lemmas.Bool.Decides.{nat_tests}
+use Rattle.std.proofs.lemmas.List.{length-take-le}
 use Rattle.std.proofs.lemmas.List.Folds.{list_all-append}
 use Rattle.pgn_text.specs.Bytes.{is_white, is_name_byte, is_not_line_feed}
+use Rattle.pgn_text.specs.Limits.{depth_limit}
 use Rattle.pgn_text.specs.Reading.{run_of, after_run}
 use Rattle.pgn_text.specs.StopPlaces.{tag_name_of}
 use Rattle.pgn_text.specs.declared.agreement.Within.{Within}
 use Rattle.pgn_text.specs.declared.agreement.Within.TheVariants.{Comment, TagName, TagValue, Tags, Variation, MainLine, Game}
 use Rattle.pgn_text.proofs.Fronts.{list_all-run}
 use Rattle.pgn_game.proofs.PlainTokens.{AreDigits, decimal_digits}
-use Rattle.pgn_extract.specs.Notes.{IsNote, AreLines, indented, line_feeds, column_behind, position_text, place_in, place_text, begin_in, begin_text, hex_digit, byte_text, stopper_text, context_text, stop_line, hints, IsStopNote, too_long_text}
+use Rattle.pgn_extract.specs.Notes.{IsNote, NamesByte, NamesStop, AreLines, indented, line_feeds, column_behind, position_text, place_in, place_text, begin_in, begin_text, hex_digit, byte_text, stopper_text, context_text, stop_line, hints, IsStopNote, too_long_text}
 use Rattle.pgn_extract.specs.declared.notes.Origin.{Origin}
+use Rattle.pgn_extract.proofs.StopNotes.{stops_within}
 
 -- a note may say nothing
 pub empty_note : (explain : Bool) → IsNote explain []
@@ -157,3 +160,61 @@ too_long_note explain asked size limit =
       ),
       refl,
     )
+
+-- where no explanations are asked for there is no note
+pub no_note : (explain : Bool) → explain ≡ false → (stop : ℕ) → IsNote explain [] × NamesStop explain stop []
+no_note explain plain stop = subst (λ e. IsNote e [] × NamesStop e stop []) (sym plain) (refl, tt)
+
+-- some note names the byte at the offset
+pub some_stop_note : (explain : Bool) (stop : ℕ) → (note : List ℕ) × IsNote explain note × NamesStop explain stop note
+some_stop_note false stop = ([], refl, tt)
+some_stop_note true stop =
+    let line = codes "byte " ++ decimal stop ++ codes ": " in
+    (indented (line ∷ []), (line ∷ [], (line_join_two (codes "byte ") (decimal stop) (codes ": ") refl (decimal_line stop) refl, tt), refl), ([], 10 ∷ [], inl refl, refl))
+
+-- what is said of a byte begins with its place
+joined : (place byte stopper context tail : List ℕ)
+    → ((((place ++ codes ", byte ") ++ byte) ++ (codes ": " ++ stopper)) ++ context) ++ tail
+    ≡ ((((place ++ codes ", ") ++ codes "byte ") ++ byte) ++ codes ": ") ++ ((stopper ++ context) ++ tail)
+joined place byte stopper context tail = simp append_assoc refl
+
+joined_bare : (byte stopper context tail : List ℕ)
+    → ((byte ++ (codes ": " ++ stopper)) ++ context) ++ tail ≡ (byte ++ codes ": ") ++ ((stopper ++ context) ++ tail)
+joined_bare byte stopper context tail = simp append_assoc refl
+
+names_place : (line : Option ℕ) (byte : ℕ) (front stopper context tail : List ℕ)
+    → NamesByte byte (32 ∷ 32 ∷ (((place_in line byte front ++ (codes ": " ++ stopper)) ++ context) ++ tail))
+names_place None byte front stopper context tail =
+    ([], (stopper ++ context) ++ tail, inl refl, ap (λ t. codes "  byte " ++ t) (joined_bare (decimal byte) stopper context tail))
+names_place (Some first) byte front stopper context tail =
+    let line = first + line_feeds front in
+    let column = column_behind front in (
+      position_text first front ++ codes ", ",
+      (stopper ++ context) ++ tail,
+      inr (line, column, refl),
+      ap (λ t. codes "  " ++ t) (joined (position_text first front) (decimal byte) stopper context tail),
+    )
+
+stopper_is : (block : List ℕ) (place : ℕ) → (said : List ℕ) × (stopper_text block place ≡ codes ": " ++ said)
+stopper_is block place = said_of (place == length block)
+  where
+    said_of : (ends : Bool) → (said : List ℕ)
+        × ((if ends then codes ": the text ends here" else codes ": no game goes on with " ++ byte_text (slice_index block place)) ≡ codes ": " ++ said)
+    said_of true = (codes "the text ends here", refl)
+    said_of false = (codes "no game goes on with " ++ byte_text (slice_index block place), refl)
+
+-- so a note on bytes that are no game names the byte at which they stop agreeing with games
+pub names_stop : (explain : Bool) (origin : Origin) (block : List ℕ) (begin : ℕ) (note : List ℕ) → begin ≤ length block
+    → (is : IsStopNote origin block begin note) → NamesStop explain (origin.offset + is.place) note
+names_stop false origin block begin note fits is = tt
+names_stop true origin block begin note fits is =
+    let said = stopper_is block is.place in
+    let inside = stops_within depth_limit (origin.offset == 0) block begin is.stops.0 fits is.stops.2 in
+    let size : length (take is.place block) ≡ is.place = length-take-le is.place block (omega (arith, inside, is.stops.1)) in
+    let context = context_text origin block (is.place == length block) is.within in
+    let tail = 10 ∷ indented (hints origin.offset block) in
+    let names = names_place origin.line (origin.offset + length (take is.place block)) (take is.place block) said.0 context tail in
+    let shaped = 32 ∷ 32 ∷ (((place_text origin (take is.place block) ++ (codes ": " ++ said.0)) ++ context) ++ tail) in
+    let whole : note ≡ shaped =
+    is.says ∙ ap (λ t. 32 ∷ 32 ∷ (((place_text origin (take is.place block) ++ t) ++ context) ++ tail)) said.1 in
+    subst (NamesByte (origin.offset + is.place)) (sym whole) (subst (λ n. NamesByte (origin.offset + n) shaped) size names)

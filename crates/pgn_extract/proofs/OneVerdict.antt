@@ -12,7 +12,7 @@ use Rattle.pgn_extract.specs.Exports.{written_lines, IsWritten, with_entry, with
 use Rattle.pgn_extract.specs.Index.{fault_text}
 use Rattle.pgn_extract.specs.Listing.{listing, entries_from, AreListed, tags_in, cause_text}
 use Rattle.pgn_extract.specs.Notes.{IsNote}
-use Rattle.pgn_extract.specs.Verdicts.{Verdict, SoundGame, FaultyGame, IsListed, IsExported, IsVerdictIn, IsReportedBy, IsPieceVerdict, AreVerdicts, without_note}
+use Rattle.pgn_extract.specs.Verdicts.{Verdict, SoundGame, FaultyGame, IsListed, IsExported, IsVerdictIn, IsReportedBy, IsPieceVerdict, AreVerdicts, without_note, IsUnreadableVerdict}
 use Rattle.pgn_extract.specs.Aims.{Aim, IsEntry}
 use Rattle.pgn_extract.proofs.Chosen.{one_chosen}
 use Rattle.pgn_extract.proofs.GameExport.{PartsHaveOneExport}
@@ -30,6 +30,10 @@ one_written one_export aim parts replay x y (without_entry none first) (without_
 -- a piece that one line reports
 one_line : (aim : Aim) (line : List ℕ) (a b : Verdict) → IsReportedBy aim line a → IsReportedBy aim line b → without_note a ≡ without_note b
 one_line aim line a b (first, is, x) (second, also, y) = ap without_note x ∙ sym (ap without_note y)
+
+-- bytes that are no game are reported by their line and a note
+reported_by : (aim : Aim) (stop : ℕ) (line : List ℕ) (v : Verdict) → IsUnreadableVerdict aim.explain stop line v → IsReportedBy aim line v
+reported_by aim stop line v (note, noted, names, is) = (note, noted, is)
 
 module _ (one_replay : GameHasOneReplay) (one_fault : GameHasOneFault) (no_fault : SoundGameHasNoFault) (one_export : PartsHaveOneExport) where
   -- a game in the listing
@@ -67,7 +71,8 @@ module _ (one_replay : GameHasOneReplay) (one_fault : GameHasOneFault) (no_fault
   -- a piece
   one_verdict : (kind : PieceKind) (aim : Aim) (number offset : ℕ) (a b : Verdict) → IsPieceVerdict kind aim number offset a → IsPieceVerdict kind aim number offset b → without_note a ≡ without_note b
   one_verdict (ReadableGame parts) aim number offset a b x y = one_in aim.mode aim number offset parts a b x y
-  one_verdict UnreadableRest aim number offset a b x y = one_line aim (fault_text number offset (codes "unreadable")) a b x y
+  one_verdict (UnreadableRest stop) aim number offset a b x y =
+      one_line aim (fault_text number offset (codes "unreadable")) a b (reported_by aim stop _ a x) (reported_by aim stop _ b y)
   one_verdict TooLongBlock aim number offset a b x y = one_line aim (fault_text number offset (codes "too long")) a b x y
 
   -- pieces in a row
@@ -101,7 +106,8 @@ module _ (aim : Aim) (plain : aim.explain ≡ false) where
 
   bare_piece : (kind : PieceKind) (number offset : ℕ) (v : Verdict) → IsPieceVerdict kind aim number offset v → without_note v ≡ v
   bare_piece (ReadableGame parts) number offset v is = bare_in aim.mode number offset parts v is
-  bare_piece UnreadableRest number offset v is = bare_line v (fault_text number offset (codes "unreadable")) is
+  bare_piece (UnreadableRest stop) number offset v is =
+      bare_line v (fault_text number offset (codes "unreadable")) (reported_by aim stop _ v is)
   bare_piece TooLongBlock number offset v is = bare_line v (fault_text number offset (codes "too long")) is
 
   pub bare_verdicts : (number : ℕ) (pieces : List MarkedPiece) (verdicts : List Verdict) → AreVerdicts aim number pieces verdicts → map without_note verdicts ≡ verdicts

@@ -17,7 +17,7 @@ use Rattle.pgn_game.specs.Starts.{fen_tag}
 use Rattle.pgn_extract.specs.Index.{fault_text, mark_line}
 use Rattle.pgn_extract.specs.Listing.{listing, entries_from, tags_in, cause_text, IsReplayOf, IsFaultOf}
 use Rattle.pgn_extract.specs.Exports.{written_lines, HasEntry, IsWritten, with_entry, without_entry}
-use Rattle.pgn_extract.specs.Verdicts.{Verdict, SoundGame, FaultyGame, IsVerdictIn, IsReportedBy, IsPieceVerdict, AreVerdicts}
+use Rattle.pgn_extract.specs.Verdicts.{Verdict, SoundGame, FaultyGame, IsVerdictIn, IsReportedBy, IsPieceVerdict, AreVerdicts, IsUnreadableVerdict}
 use Rattle.pgn_game.specs.Replays.{Replay}
 use Rattle.pgn_criteria.specs.Meeting.{Tags}
 use Rattle.pgn_extract.specs.Aims.{Aim, IsMet, IsWanted, IsEntry}
@@ -26,14 +26,14 @@ use Rattle.pgn_extract.proofs.Chosen.{some_chosen}
 use Rattle.pgn_extract.proofs.Decided.{IsDecided, all_decided}
 use Rattle.pgn_extract.proofs.ExactEntries.{of_positions}
 use Rattle.pgn_extract.proofs.GameExport.{some_export_of_parts}
-use Rattle.pgn_extract.proofs.NoteLines.{empty_note}
+use Rattle.pgn_extract.proofs.NoteLines.{empty_note, some_stop_note}
 use Rattle.pgn_extract.specs.declared.settings.Mode.{Mode}
 use Rattle.pgn_extract.specs.declared.settings.Mode.TheVariants as modes
 
 -- the parts of a game make one that a reader can be handed
 abbrev IsMade : PieceKind → Type 0
 IsMade (ReadableGame parts) = (game : GameText) × IsGameText game × ShowsGame game game.at parts
-IsMade UnreadableRest = Unit {0}
+IsMade (UnreadableRest stop) = Unit {0}
 IsMade TooLongBlock = Unit {0}
 
 abbrev AreMade : List MarkedPiece → Type 0
@@ -51,7 +51,7 @@ pieces_made max_depth file_start before (Game at parts ∷ more) text offset h =
   made_of parts (some_game_text max_depth file_start (before ++ spelled h.0) parts h.1 0 h.5),
   pieces_made max_depth file_start ((before ++ spelled h.0) ++ spelled parts) more h.1 offset h.6,
 )
-pieces_made max_depth file_start before (Unreadable at ∷ more) text offset h =
+pieces_made max_depth file_start before (Unreadable at stop ∷ more) text offset h =
     (tt, subst (λ l. AreMade (map (marked offset) l)) (sym h.7) tt)
 
 made_append : (xs ys : List MarkedPiece) → AreMade xs → AreMade ys → AreMade (xs ++ ys)
@@ -181,10 +181,15 @@ module _ (aim : Aim) (decided : IsDecided aim) (number offset : ℕ) (parts : Li
 by_line : (aim : Aim) (line : List ℕ) → (verdict : Verdict) × IsReportedBy aim line verdict
 by_line aim line = (FaultyGame line [], ([], empty_note aim.explain, refl))
 
+unreadable_reported : (explain : Bool) (stop : ℕ) (line : List ℕ) → (verdict : Verdict) × IsUnreadableVerdict explain stop line verdict
+unreadable_reported explain stop line =
+    let some = some_stop_note explain stop in
+    (FaultyGame line some.0, (some.0, some.1, some.2, refl))
+
 piece_reported : (kind : PieceKind) (aim : Aim) → IsDecided aim → (number offset : ℕ) → IsMade kind
     → (verdict : Verdict) × IsPieceVerdict kind aim number offset verdict
 piece_reported (ReadableGame parts) aim decided number offset made = game_reported aim decided number offset parts made aim.mode
-piece_reported UnreadableRest aim decided number offset made = by_line aim (fault_text number offset (codes "unreadable"))
+piece_reported (UnreadableRest stop) aim decided number offset made = unreadable_reported aim.explain stop (fault_text number offset (codes "unreadable"))
 piece_reported TooLongBlock aim decided number offset made = by_line aim (fault_text number offset (codes "too long"))
 
 all_reported : (aim : Aim) → IsDecided aim → (number : ℕ) (pieces : List MarkedPiece) → AreMade pieces

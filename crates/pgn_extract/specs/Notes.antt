@@ -1,5 +1,5 @@
 -- What stands on standard error behind the line of a faulty game where explanations are asked for.
-use Rattle.std.specs.Prelude.{◌≡◌, ℕ, ◌+◌, ◌/◌, ◌%◌, ◌<◌, ◌≤◌, ◌==◌, ◌&&◌, nat_le, nat_lt, Bool, true, false, List, [], ◌∷◌, ◌++◌, length, take, drop, fold, count_by, slice_index, Option, Some, None, codes, decimal, bytes_eq, IsTrue, if◌then◌else◌}
+use Rattle.std.specs.Prelude.{◌≡◌, ◌⊎◌, ℕ, ◌+◌, ◌/◌, ◌%◌, ◌<◌, ◌≤◌, ◌==◌, ◌&&◌, nat_le, nat_lt, Bool, true, false, List, [], ◌∷◌, ◌++◌, length, take, drop, fold, count_by, slice_index, Option, Some, None, codes, decimal, bytes_eq, IsTrue, if◌then◌else◌}
 use Rattle.std.specs.List.{list_all}
 use Rattle.pgn_text.specs.Bytes.{is_not_line_feed}
 use Rattle.pgn_text.specs.Limits.{depth_limit}
@@ -23,6 +23,21 @@ AreLines (line ∷ more) = IsTrue (list_all is_not_line_feed line) × AreLines m
 abbrev pub IsNote : Bool → List ℕ → Type 0
 IsNote false note = note ≡ []
 IsNote true note = (lines : List (List ℕ)) × AreLines lines × (note ≡ indented lines)
+
+-- nothing, or a line and a column
+abbrev pub IsLinePlace : List ℕ → Type 0
+IsLinePlace text =
+    (text ≡ []) ⊎ ((line column : ℕ) × (text ≡ codes "line " ++ decimal line ++ codes ", column " ++ decimal column ++ codes ", "))
+
+-- the note names the byte at the offset: with its line and column, or without
+abbrev pub NamesByte : ℕ → List ℕ → Type 0
+NamesByte offset note =
+    (place behind : List ℕ) × IsLinePlace place × (note ≡ codes "  " ++ place ++ codes "byte " ++ decimal offset ++ codes ": " ++ behind)
+
+-- the note on bytes that are no game names that at which they stop agreeing with games
+abbrev pub NamesStop : Bool → ℕ → List ℕ → Type 0
+NamesStop false stop note = Unit {0}
+NamesStop true stop note = NamesByte stop note
 
 -- how many line feeds the bytes have
 abbrev pub line_feeds : List ℕ → ℕ

@@ -1,5 +1,5 @@
 //! What is reported of the pieces of one block.
-ghost use Rattle.std.specs.Prelude.{◌≡◌, ℕ, List, None, Some, ◌+◌, ◌^◌, ◌<◌, ◌≤◌, [], ◌∷◌, length, codes, OnOk};
+ghost use Rattle.std.specs.Prelude.{◌≡◌, ℕ, List, None, Some, ◌+◌, ◌^◌, ◌<◌, ◌≤◌, ◌==◌, [], ◌∷◌, length, codes, OnOk};
 ghost use Rattle.pgn_text.specs.Left.{piece_place};
 ghost use Rattle.pgn_text.specs.LeftMarks.{mark_place};
 ghost use Rattle.pgn_text.specs.Limits.{block_limit, depth_limit, largest_offset};
@@ -9,7 +9,8 @@ ghost use Rattle.pgn_extract.specs.Blockwise.{IsShown, Reports, ReportsBlock, Ad
 ghost use Rattle.pgn_extract.specs.Index.{fault_text};
 ghost use Rattle.pgn_extract.specs.Listing.{cause_text};
 ghost use Rattle.pgn_extract.specs.Notes.{IsNote};
-ghost use Rattle.pgn_extract.specs.Verdicts.{Verdict, FaultyGame};
+ghost use Rattle.pgn_extract.specs.Verdicts.{Verdict, FaultyGame, IsUnreadableVerdict};
+ghost use Rattle.pgn_text.specs.Stops.{StopsBlockAt};
 ghost use Rattle.pgn_extract.specs.declared.settings.Mode.TheVariants.{Index};
 ghost use Rattle.pgn_game.specs.Faults.{Fault};
 ghost use Rattle.pgn_game.specs.Replays.{fault_of};
@@ -197,8 +198,9 @@ fn add_unreadable(
     requires place { at ≤ length block.now }
     requires room { offset + length block.now < 2 ^ 64 }
     requires faulty { report.old.faulty + 1 < 2 ^ 64 }
-    ensures { OnOk result ((note : List ℕ) × IsNote settings.now.explain note
-        × AddsVerdict report.old report.new (FaultyGame (fault_text number (offset + at) (codes "unreadable")) note) 0) }
+    ensures { OnOk result ((stop : ℕ) × StopsBlockAt depth_limit (offset == 0) block.now at stop
+        × ((verdict : Verdict) × IsUnreadableVerdict settings.now.explain (offset + stop) (fault_text number (offset + at) (codes "unreadable")) verdict
+        × AddsVerdict report.old report.new verdict 0)) }
 {
     push_fault_line(
         &mut report.faults,
@@ -250,7 +252,7 @@ fn add_piece<'a>(
     requires place { piece_place piece.now ≤ length block.now }
     requires room { offset + length block.now < 2 ^ 64 }
     requires counts { (report.old.games + 1 < 2 ^ 64) × (report.old.faulty + 1 < 2 ^ 64) }
-    ensures { OnOk result (AddsPiece (aim_of settings.now) report.old report.new number offset piece.now) }
+    ensures { OnOk result (AddsPiece (aim_of settings.now) report.old report.new number offset block.now piece.now) }
 {
     report.games += 1;
     match piece {
@@ -274,7 +276,7 @@ fn add_mark(
     requires place { mark_place mark ≤ length block.now }
     requires room { offset + length block.now < 2 ^ 64 }
     requires counts { (index.old.games + 1 < 2 ^ 64) × (index.old.faulty + 1 < 2 ^ 64) }
-    ensures { OnOk result ((verdict : Verdict) × IsMarkVerdict settings.now.explain number offset mark verdict
+    ensures { OnOk result ((verdict : Verdict) × IsMarkVerdict settings.now.explain number offset block.now mark verdict
         × AddsVerdict index.old index.new verdict 1) }
 {
     index.games += 1;

@@ -7,7 +7,7 @@ use Rattle.pgn_text.specs.Steps.{State, start, step}
 use Rattle.pgn_text.specs.Stops.{StopsAt}
 use Rattle.pgn_text.specs.Agreement.{Walks}
 use Rattle.pgn_text.specs.PartFronts.{Follows, NoneFollows}
-use Rattle.pgn_text.proofs.Existence.{shorter}
+use Rattle.pgn_text.proofs.OneList.{shorter}
 use Rattle.pgn_text.proofs.FoundLemmas.{part_or_none}
 use Rattle.pgn_text.proofs.GameFronts.{stops_in_part, stops_at_game}
 use Rattle.pgn_text.proofs.Halfway.{reads_end, stands_join, spelled-append}

@@ -1,21 +1,18 @@
 -- Each block has a list of pieces.
-use Rattle.std.proofs.Common.{◌≡◌, ◌≢◌, ℕ, zero, suc, ◌<◌, ◌≤◌, Bool, true, false, List, [], ◌∷◌, ◌++◌, Option, Some, None, length, IsTrue, refl, sym, ap, ◌∙◌, ◌⊎◌, inl, inr, arith, append_assoc, append-nil, length-append}
+use Rattle.std.proofs.Common.{◌≡◌, ◌≢◌, ℕ, zero, suc, ◌+◌, ◌<◌, ◌≤◌, Bool, true, false, List, [], ◌∷◌, ◌++◌, Option, Some, None, length, IsTrue, refl, sym, ap, ◌∙◌, ◌⊎◌, inl, inr, arith, append_assoc, append-nil, length-append}
 use Rattle.std.specs.List.{list_all}
 use Rattle.std.proofs.lemmas.Bool.{false≢true, and_parts, and_from, not_from_false, cases_Bool, cases_eq}
 use Rattle.pgn_text.specs.Parts.{Part, standing_of, Stands, spelled, spelled_part}
 use Rattle.pgn_text.specs.Games.{is_gap_part, is_result, begins_outside_gap, IsGame}
 use Rattle.pgn_text.specs.Steps.{State, start, step}
-use Rattle.pgn_text.specs.Pieces.{IsGap, IsLongestGap, NoGame, Piece, Game, Unreadable, ArePieces}
+use Rattle.pgn_text.specs.Gaps.{IsGap, IsLongestGap}
+use Rattle.pgn_text.specs.Pieces.{NoGame, Piece, Game, Unreadable, ArePieces}
 use Rattle.pgn_text.proofs.PartLemmas.{one_part, part_has_byte}
 use Rattle.pgn_text.proofs.FoundLemmas.{part_or_none}
-use Rattle.pgn_text.proofs.OneList.{game_has_byte}
+use Rattle.pgn_text.proofs.OneList.{shorter, game_has_byte}
+use Rattle.pgn_text.proofs.EachStops.{stop_exists}
 use Rattle.pgn_text.proofs.Halfway.{Reads, reads_more, reads_end, reads_first, game_reads, reads_game}
 use Rattle.pgn_text.proofs.Resumption.{no_gap_part, empty_gap, gap_spent}
-
--- behind bytes less is left
-pub shorter : (text x rest : List ℕ) (fuel : ℕ) → text ≡ x ++ rest → x ≢ [] → length text < suc fuel → length rest < fuel
-shorter text [] rest fuel e some l = absurd (some refl)
-shorter text (b ∷ x) rest fuel e some l = omega (arith, ap length e, length-append x rest)
 
 -- ---- a reading, or none
 
@@ -194,7 +191,10 @@ module _ (max_depth : ℕ) (file_start : Bool) where
                 more.1,
               ),
             )
-        | inr none ↦ (Unreadable (length (before ++ spelled gap)) ∷ [], (gap, b ∷ bs, e, l, refl, λ e. cc, none, refl))
+        | inr none ↦
+            let at = length (before ++ spelled gap) in
+            let stop = stop_exists max_depth file_start (before ++ spelled gap) (b ∷ bs) in
+            (Unreadable at (at + stop.0) ∷ [], (gap, b ∷ bs, e, l, refl, λ e. cc, none, refl, (stop.0, refl, stop.1)))
       ]
 
   pieces_within : (fuel : ℕ) (before text : List ℕ) → length text < fuel

@@ -2,7 +2,8 @@
 use Rattle.std.proofs.Common.{◌≡◌, ◌≢◌, ℕ, ◌+◌, ◌-◌, ◌≤◌, ◌==◌, Bool, true, List, [], ◌∷◌, ◌++◌, map, length, take, get_or, refl, sym, ap, subst, ◌∙◌, inl, inr, arith, append_assoc, append-nil, length-append, take_at, IsTrue}
 use Rattle.std.proofs.lemmas.Bool.{and_parts, and_from}
 use Rattle.pgn_text.specs.Parts.{spelled}
-use Rattle.pgn_text.specs.Pieces.{IsGap, Piece, Game, Unreadable, ArePieces}
+use Rattle.pgn_text.specs.Gaps.{IsGap}
+use Rattle.pgn_text.specs.Pieces.{Piece, Game, Unreadable, ArePieces}
 use Rattle.pgn_text.specs.Blocks.{event_line, is_event_line, IsFirstBlock, AreBlocks}
 use Rattle.pgn_text.specs.Marks.{TooLongBlock, MarkedPiece, marked, AreOfBlock, over, within, AreOfBlocks, AreMarkedPieces}
 use Rattle.pgn_text.specs.Laws.{FrontHasThePiecesBefore}
@@ -38,7 +39,7 @@ pieces_front max_depth file_start before [] (Game at parts) later text h = recor
   pieces = (h.0, refl, gap_end file_start before h.0 (spelled parts ++ h.1) h.3.is_gap.stand h.3.is_gap.only);
   line = λ tail. gap_line file_start before h.0 (spelled parts ++ h.1) tail h.3.is_gap.stand h.3.is_gap.only;
 }
-pieces_front max_depth file_start before [] (Unreadable at) later text h = record {
+pieces_front max_depth file_start before [] (Unreadable at stop) later text h = record {
   front = spelled h.0;
   rest = h.1;
   parted = h.2;
@@ -64,7 +65,7 @@ pieces_front max_depth file_start before (Game at parts ∷ more) piece later te
       pieces = (h.0, r.front, refl, longest, h.4, game, r.pieces);
       line = λ tail some e. game_line max_depth file_start (before ++ a) parts r.front a r.front tail game e;
     }
-pieces_front max_depth file_start before (Unreadable at ∷ more) piece later text h = absurd (not_nil more piece later h.7)
+pieces_front max_depth file_start before (Unreadable at stop ∷ more) piece later text h = absurd (not_nil more piece later h.7)
 
 -- the same of pieces with their offsets: the front keeps an event line that the block begins with
 record BlockFront (limit max_depth offset : ℕ) (block : List ℕ) (earlier : List MarkedPiece) (piece : MarkedPiece) : Type 0 where

@@ -36,6 +36,7 @@ pub mod PartsAt
 pub mod Places
 pub mod ReadLemmas
 pub mod ReadingLemmas
+pub mod ResumedPieces
 pub mod ResumedText
 pub mod Resumption
 pub mod Rows
@@ -49,6 +50,7 @@ pub mod Spliced
 pub mod StopContexts
 pub mod StopRows
 pub mod StopWalk
+pub mod StopsThere
 pub mod Stopping
 pub mod Stuck
 pub mod Tables

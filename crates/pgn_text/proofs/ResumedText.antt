@@ -10,7 +10,8 @@ use Rattle.pgn_text.specs.Marks.{ReadableGame, UnreadableRest, TooLongBlock, Mar
 use Rattle.pgn_text.proofs.Lines.{cut_append, cut_single}
 use Rattle.pgn_text.proofs.MarkedPieces.{one_marked_pieces}
 use Rattle.pgn_text.proofs.OneList.{no_bytes, game_has_byte}
-use Rattle.pgn_text.proofs.Resumption.{IsClear, Begun, begun_start, begun_clear, begun_more, gap_spent, moved_back, resumed_at_game, resumed_at_unreadable}
+use Rattle.pgn_text.proofs.Resumption.{IsClear, Begun, begun_start, begun_clear, begun_more, gap_spent}
+use Rattle.pgn_text.proofs.ResumedPieces.{moved_back, resumed_at_game, resumed_at_unreadable}
 
 -- ---- the blocks of what is left of a text within its first block
 
@@ -58,7 +59,11 @@ blocks_rest x y (next ∷ more) text some h = (
 -- the place of a piece in its block
 abbrev pub place_of_piece : Piece → ℕ
 place_of_piece (Game at parts) = at
-place_of_piece (Unreadable at) = at
+place_of_piece (Unreadable at stop) = at
+
+same_unreadable : {a b : ℕ} {c d : ℕ} {first second : List MarkedPiece} → a ≡ b → c ≡ d → first ≡ second
+    → record { offset = a; kind = UnreadableRest c } ∷ first ≡ record { offset = b; kind = UnreadableRest d } ∷ second
+same_unreadable same same_stop rest = rw (same, same_stop, rest) refl
 
 -- moved back and marked from further on, a piece has the same mark
 marked_back : (max_depth : ℕ) (file_start : Bool) (before z : List ℕ) (pieces : List Piece) (text : List ℕ) (offset : ℕ)
@@ -71,12 +76,14 @@ marked_back max_depth file_start before z (Game at parts ∷ more) text offset h
     let rest = marked_back max_depth file_start before ((z ++ spelled h.0) ++ spelled parts) more h.1 offset
     (rw (append_assoc before z (spelled h.0), append_assoc before (z ++ spelled h.0) (spelled parts)) at h.6) in
     ap₂ (λ (n : ℕ) (l : List MarkedPiece). record { offset = n; kind = ReadableGame parts } ∷ l) same rest
-marked_back max_depth file_start before z (Unreadable at ∷ more) text offset h =
+marked_back max_depth file_start before z (Unreadable at stop ∷ more) text offset h =
     let same : (offset + length before) + (at - length before) ≡ offset + at =
     omega (arith, h.4, length-append (before ++ z) (spelled h.0), length-append before z) in
+    let same_stop : (offset + length before) + (stop - length before) ≡ offset + stop =
+    omega (arith, h.8.1, h.4, length-append (before ++ z) (spelled h.0), length-append before z) in
     let rest : map (marked (offset + length before)) (map (moved_back (length before)) more) ≡ map (marked offset)
     more = rw h.7 refl in
-    ap₂ (λ (n : ℕ) (l : List MarkedPiece). record { offset = n; kind = UnreadableRest } ∷ l) same rest
+    same_unreadable same same_stop rest
 
 -- where a piece stands in a block, and the block from there on
 record StandsAt (max_depth : ℕ) (file_start : Bool) (before text : List ℕ) (earlier : List Piece) (piece : Piece)
@@ -119,7 +126,7 @@ pieces_from max_depth file_start before [] (Game at parts) later text begun h =
           ap₂ (λ (n : ℕ) (l : List MarkedPiece). record { offset = n; kind = ReadableGame parts } ∷ l) same
           (marked_back max_depth file_start there (spelled parts) later h.1 offset h.6);
     }
-pieces_from max_depth file_start before [] (Unreadable at) later text begun h =
+pieces_from max_depth file_start before [] (Unreadable at stop) later text begun h =
     let there = before ++ spelled h.0 in
     let rest = h.1 in
     let longest = gap_spent file_start before h.0 rest h.3 in record {
@@ -133,13 +140,14 @@ pieces_from max_depth file_start before [] (Unreadable at) later text begun h =
       some = h.5;
       again = λ clear.
           let here : at - length there ≡ 0 = omega (arith, h.4) in
-          let r = resumed_at_unreadable max_depth file_start there rest clear longest h.5 h.6 in
-          (r.0, r.1, r.2, r.3, here ∙ r.4, r.5, r.6, rw h.7 refl);
+          let r = resumed_at_unreadable max_depth file_start there rest clear longest h.5 h.6 h.8.0 h.8.2 in
+          (r.0, r.1, r.2, r.3, here ∙ r.4, r.5, r.6, rw h.7 refl, (r.8.0, omega (arith, h.8.1, h.4, r.8.1), r.8.2));
       marks = λ offset.
           let same : (offset + length there) + (at - length there) ≡ offset + at = omega (arith, h.4) in
           let none : map (marked (offset + length there)) (map (moved_back (length there)) later) ≡ map (marked offset)
           later = rw h.7 refl in
-          ap₂ (λ (n : ℕ) (l : List MarkedPiece). record { offset = n; kind = UnreadableRest } ∷ l) same none;
+          let same_stop : (offset + length there) + (stop - length there) ≡ offset + stop = omega (arith, h.8.1, h.4) in
+          same_unreadable same same_stop none;
     }
 pieces_from max_depth file_start before (Game at parts ∷ earlier) piece later text begun h =
     let behind = (before ++ spelled h.0) ++ spelled parts in
@@ -162,7 +170,7 @@ pieces_from max_depth file_start before (Game at parts ∷ earlier) piece later 
       again = r.again;
       marks = r.marks;
     }
-pieces_from max_depth file_start before (Unreadable at ∷ earlier) piece later text begun h =
+pieces_from max_depth file_start before (Unreadable at stop ∷ earlier) piece later text begun h =
     absurd (not_nil earlier piece later h.7)
 
 -- ---- one block
@@ -227,7 +235,7 @@ resumed_within limit max_depth offset block earlier piece later pieces (b ∷ bs
 
 pub offset_of_marked : (offset : ℕ) (piece : Piece) → (marked offset piece).offset ≡ offset + place_of_piece piece
 offset_of_marked offset (Game at parts) = refl
-offset_of_marked offset (Unreadable at) = refl
+offset_of_marked offset (Unreadable at stop) = refl
 
 resumed_cut : (limit max_depth offset : ℕ) (block : List ℕ) (earlier : List MarkedPiece) (piece : MarkedPiece)
     (later : List MarkedPiece) (front : List Piece) (one : Piece) (back : List Piece)

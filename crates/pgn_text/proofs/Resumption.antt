@@ -8,7 +8,7 @@ use Rattle.std.proofs.lemmas.Bool.Decides.{nat_tests}
 use Rattle.pgn_text.specs.Bytes.{is_white, is_word_byte, is_mark, is_empty}
 use Rattle.pgn_text.specs.Parts.{Part, ByteOrderMark, White, Brace, Line, EscapeLine, Tag, Word, Star, Dot, Glyph, Marks, Open, Close, Standing, standing_of, is_column_one, Stands, AllStand, spelled, spelled_part}
 use Rattle.pgn_text.specs.Games.{is_gap_part, begins_outside_gap, IsGame}
-use Rattle.pgn_text.specs.Pieces.{IsGap, IsLongestGap, NoGame, Piece, Game, Unreadable, ArePieces}
+use Rattle.pgn_text.specs.Gaps.{IsGap, IsLongestGap}
 use Rattle.pgn_text.proofs.PartLemmas.{part_has_byte}
 use Rattle.pgn_text.proofs.ShorterText.{game_elsewhere}
 use Rattle.pgn_text.proofs.OneList.{no_bytes, game_has_byte}
@@ -19,6 +19,16 @@ pub IsClear : Bool → List ℕ → Type 0
 IsClear file_start before =
     (b : ℕ) (bs : List ℕ) → (file_start && bytes_eq (before ++ b ∷ bs) (239 ∷ 187 ∷ 191 ∷ [])) ≡ false
 
+and_false : (b : Bool) → (b && false) ≡ false
+and_false true = refl
+and_false false = refl
+
+-- so the place is not at the file's start
+pub clear_start : (file_start : Bool) (before : List ℕ) → IsClear file_start before → (file_start && is_empty before) ≡ false
+unfolding IsClear
+clear_start file_start [] clear = clear 239 (187 ∷ 191 ∷ [])
+clear_start file_start (x ∷ before) clear = and_false file_start
+
 -- ---- the place behind bytes of the piece
 
 is_empty-append : (x : List ℕ) (b : ℕ) (bs : List ℕ) → is_empty (x ++ b ∷ bs) ≡ false
@@ -28,10 +38,6 @@ is_empty-append (y ∷ x) b bs = refl
 bytes_eq-append : (x : List ℕ) (b : ℕ) (bs : List ℕ) → bytes_eq (x ++ b ∷ bs) [] ≡ false
 bytes_eq-append [] b bs = refl
 bytes_eq-append (y ∷ x) b bs = refl
-
-and_false : (b : Bool) → (b && false) ≡ false
-and_false true = refl
-and_false false = refl
 
 last_byte : (x : List ℕ) (b : ℕ) (bs : List ℕ)
     → slice_index (x ++ b ∷ bs) (length (x ++ b ∷ bs) - 1) ≡ slice_index (b ∷ bs) (length (b ∷ bs) - 1)
@@ -196,7 +202,7 @@ gap_spent file_start before gap text l = empty_gap file_start (before ++ spelled
 
 -- ---- all that follows a byte of the piece
 
-some_bytes : (z y : List ℕ) → z ≢ [] → z ++ y ≢ []
+pub some_bytes : (z y : List ℕ) → z ≢ [] → z ++ y ≢ []
 some_bytes z y some e = some (no_bytes z y e)
 
 pub gap_there : (file_start : Bool) (before z : List ℕ) (gap : List Part) (after : List ℕ) → IsClear file_start before
@@ -210,95 +216,9 @@ gap_there file_start before z gap after clear some l = record {
   });
 }
 
--- a piece as a block sees it that begins n bytes further on
-abbrev pub moved_back : ℕ → Piece → Piece
-moved_back n (Game at parts) = Game (at - n) parts
-moved_back n (Unreadable at) = Unreadable (at - n)
-
-pub pieces_there : (max_depth : ℕ) (file_start : Bool) (before z : List ℕ) (pieces : List Piece) (text : List ℕ)
-    → IsClear file_start before → z ≢ [] → ArePieces max_depth file_start (before ++ z) pieces text
-    → ArePieces max_depth false z (map (moved_back (length before)) pieces) text
-pieces_there max_depth file_start before z [] text clear some h =
-    (h.0, h.1, gap_there file_start before z h.0 [] clear some h.2)
-pieces_there max_depth file_start before z (Game at parts ∷ more) text clear some h =
-    let place = append_assoc before z (spelled h.0) in
-    let some_here = some_bytes z (spelled h.0) some in (
-      h.0,
-      h.1,
-      h.2,
-      gap_there file_start before z h.0 (spelled parts ++ h.1) clear some h.3,
-      omega (
-        arith,
-        h.4,
-        length-append (before ++ z) (spelled h.0),
-        length-append before z,
-        length-append z
-            (spelled h.0),
-      ),
-      game_elsewhere max_depth file_start false ((before ++ z) ++ spelled h.0) (z ++ spelled h.0) parts h.1 h.1 h.5
-          (stand_there file_start before (z ++ spelled h.0) parts h.1 clear some_here (rw place at h.5.stand)),
-      pieces_there max_depth file_start before ((z ++ spelled h.0) ++ spelled parts) more h.1 clear
-          (some_bytes (z ++ spelled h.0) (spelled parts) some_here)
-          (rw (place, append_assoc before (z ++ spelled h.0) (spelled parts)) at h.6),
-    )
-pieces_there max_depth file_start before z (Unreadable at ∷ more) text clear some h =
-    let place = append_assoc before z (spelled h.0) in
-    let some_here = some_bytes z (spelled h.0) some in (
-      h.0,
-      h.1,
-      h.2,
-      gap_there file_start before z h.0 h.1 clear some h.3,
-      omega (
-        arith,
-        h.4,
-        length-append (before ++ z) (spelled h.0),
-        length-append before z,
-        length-append z
-            (spelled h.0),
-      ),
-      h.5,
-      λ parts after e g. h.6 parts after e (game_elsewhere max_depth false file_start (z ++ spelled h.0)
-          ((before ++ z) ++ spelled h.0) parts after after g
-          (rw place (stand_back file_start before (z ++ spelled h.0) parts after clear some_here g.stand))),
-      rw h.7 refl,
-    )
-
--- ---- the block from one of its pieces on
-
-pub resumed_at_game : (max_depth : ℕ) (file_start : Bool) (before : List ℕ) (parts : List Part) (more : List Piece)
-    (after : List ℕ)
-    → IsClear file_start before → IsLongestGap file_start before [] (spelled parts ++ after)
-    → IsGame max_depth file_start before parts after
-    → ArePieces max_depth file_start (before ++ spelled parts) more after
-    → ArePieces max_depth false [] (Game 0 parts ∷ map (moved_back (length before)) more) (spelled parts ++ after)
-resumed_at_game max_depth file_start before parts more after clear l g h = (
-  [],
-  after,
-  refl,
-  no_gap_there file_start before (spelled parts ++ after) l,
-  refl,
-  game_there max_depth file_start before parts after clear g,
-  pieces_there max_depth file_start before (spelled parts) more after clear (game_has_byte max_depth file_start before
-      parts after g) h,
-)
-
-pub resumed_at_unreadable : (max_depth : ℕ) (file_start : Bool) (before text : List ℕ) → IsClear file_start before
-    → IsLongestGap file_start before [] text → text ≢ [] → NoGame max_depth file_start before text
-    → ArePieces max_depth false [] (Unreadable 0 ∷ []) text
-resumed_at_unreadable max_depth file_start before text clear l some none = (
-  [],
-  text,
-  refl,
-  no_gap_there file_start before text l,
-  refl,
-  some,
-  λ parts after e g. none parts after e (game_back max_depth file_start before parts after clear g),
-  refl,
-)
-
 -- ---- what is before a piece is clear, unless it is nothing
 
-clear_longer : (file_start : Bool) (before y : List ℕ) → IsClear file_start before → IsClear file_start (before ++ y)
+pub clear_longer : (file_start : Bool) (before y : List ℕ) → IsClear file_start before → IsClear file_start (before ++ y)
 unfolding IsClear
 clear_longer file_start before [] clear b bs = rw append-nil (clear b bs)
 clear_longer file_start before (c ∷ y) clear b bs = rw append_assoc (clear c (y ++ b ∷ bs))

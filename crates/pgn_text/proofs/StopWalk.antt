@@ -9,7 +9,8 @@ use Rattle.pgn_text.specs.Reading.{Kept, is_kept_result, step_kept}
 use Rattle.pgn_text.specs.Stops.{StopsAt}
 use Rattle.pgn_text.specs.Walk.{PartAt, KeptAt}
 use Rattle.pgn_text.proofs.EachStops.{wrong_part}
-use Rattle.pgn_text.specs.Agreement.{WalkedTo, StopsBlockAt}
+use Rattle.pgn_text.specs.Agreement.{WalkedTo}
+use Rattle.pgn_text.specs.Stops.{StopsBlockAt}
 use Rattle.pgn_text.specs.PartFronts.{Longest, Follows, IsPartFront, NoneFollows}
 use Rattle.pgn_text.proofs.GameFronts.{stops_in_part, stops_at_game}
 use Rattle.pgn_text.proofs.Halfway.{Reads, reads_end, stands_join, spelled-append, before_more}

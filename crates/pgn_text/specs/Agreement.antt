@@ -6,7 +6,7 @@ use Rattle.pgn_text.specs.Parts.{Part, standing_of, AllStand, spelled}
 use Rattle.pgn_text.specs.Games.{is_result}
 use Rattle.pgn_text.specs.PartFronts.{NoneFollows}
 use Rattle.pgn_text.specs.Steps.{State, start, step}
-use Rattle.pgn_text.specs.Stops.{StopsAt}
+use Rattle.pgn_text.specs.Stops.{StopsBlockAt}
 use Rattle.pgn_text.specs.StopPlaces.{PartsThen, is_open_brace, is_open_bracket, is_quote}
 use Rattle.pgn_text.specs.Tokens.{state_of}
 use Rattle.pgn_text.specs.declared.agreement.Reached.{Reached}
@@ -29,11 +29,6 @@ pub record WalkedTo (max_depth : ℕ) (file_start : Bool) (block : List ℕ) (be
   pub passed : take at block ≡ take begin block ++ spelled done
   pub forward : begin ≤ at
   pub within : at ≤ length block
-
--- the place of the block where the text from the place `begin` on stops
-abbrev pub StopsBlockAt : ℕ → Bool → List ℕ → ℕ → ℕ → Type 0
-StopsBlockAt max_depth file_start block begin place =
-    (n : ℕ) × (place ≡ begin + n) × StopsAt max_depth file_start (take begin block) (drop begin block) n
 
 -- behind a game, with no byte more
 abbrev pub BehindGame : Bool → List ℕ → ℕ → ℕ → Type 0

@@ -3,7 +3,7 @@ use Rattle.std.specs.Prelude.{◌≡◌, ◌⊎◌, ℕ, Bool, false, ◌-◌, �
 use Rattle.pgn_text.specs.Parts.{Part, Stands, standing_of, spelled_part, spelled}
 use Rattle.pgn_text.specs.Games.{is_gap_part, IsGame, Item, first_tag, items_of, result_of}
 use Rattle.pgn_text.specs.GameTexts.{IsPaired}
-use Rattle.pgn_text.specs.Pieces.{IsGap, IsLongestGap}
+use Rattle.pgn_text.specs.Gaps.{IsGap, IsLongestGap}
 use Rattle.pgn_text.specs.Reading.{Kept, kept}
 
 -- the part stands at the place `at` of the block and reaches to the place `end`

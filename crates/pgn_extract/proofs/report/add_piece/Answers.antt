@@ -7,13 +7,13 @@ use Rattle.pgn_extract.proofs.report.add_piece.Goals as goal
 pub returns-in-Game : goal.returns-in-Game
 returns-in-Game c =
     on_ok_weaker c.add_game.result
-    (λ adds. piece_game (aim_of c.args.settings.now) c.args.number c.args.offset (c.args.offset + c.at.result) c.args.piece.now c.in-Game.game c.in-Game.is
+    (λ adds. piece_game (aim_of c.args.settings.now) c.args.number c.args.offset (c.args.offset + c.at.result) c.args.block.now c.args.piece.now c.in-Game.game c.in-Game.is
     (ap (λ n. c.args.offset + n) c.at.ensures) adds refl refl refl refl)
     c.add_game.ensures
 
 pub returns-in-Unreadable : goal.returns-in-Unreadable
 returns-in-Unreadable c =
     on_ok_weaker c.add_unreadable.result
-    (λ adds. piece_unreadable (aim_of c.args.settings.now) c.args.number c.args.offset c.args.piece.now c.in-Unreadable.at adds.0 c.in-Unreadable.is adds.1 adds.2
-    refl refl refl refl)
+    (λ adds. piece_unreadable (aim_of c.args.settings.now) c.args.number c.args.offset c.args.block.now c.args.piece.now c.in-Unreadable.at adds.0 adds.2.0
+    c.in-Unreadable.is adds.1 adds.2.1 adds.2.2 refl refl refl refl)
     c.add_unreadable.ensures
