@@ -3,6 +3,7 @@ pub mod StepFacts
 pub mod BitFacts
 pub mod CarryFacts
 pub mod UsualWords
+pub mod PlainTexts
 pub mod HeldFacts
 pub mod RightsFacts
 pub mod HitFacts
