@@ -1,5 +1,5 @@
 -- The squares between two squares are the common squares of their lines that stand between them in order: by computing.
-use Rattle.std.proofs.Common.{◌≡◌, ◌⊎◌, ◌+◌, ◌-◌, ◌*◌, ◌^◌, ◌%◌, ◌/◌, ◌<◌, ◌≤◌, ◌&&◌, ◌||◌, not, ℕ, zero, suc, Bool, true, false, nat_eq, nat_lt, bit_and, bit_or, bit_xor, get_or, refl, inl, inr, sym, ap, ◌∙◌, subst, arith}
+use Rattle.std.proofs.Common.{◌≡◌, ◌⊎◌, ◌+◌, ◌-◌, ◌*◌, ◌^◌, ◌%◌, ◌/◌, ◌<◌, ◌≤◌, ◌&&◌, ◌||◌, not, ℕ, zero, suc, Bool, true, false, nat_eq, nat_lt, bit_and, bit_or, bit_xor, [], get_or, refl, inl, inr, sym, ap, ◌∙◌, subst, arith}
 use Rattle.std.specs.Int.{bit_at}
 use Rattle.std.proofs.lemmas.Bool.{agree_below, agree_below_at, cases_eq}
 use Rattle.std.proofs.lemmas.Bool.Decides.{nat_tests}
@@ -9,14 +9,18 @@ use Rattle.chess.specs.SetFacts.{square_at-index_of, index_of-below}
 use Rattle.chess.specs.Sets.{has_bit}
 use Rattle.chess.specs.BitWords.{IsWordOf}
 use Rattle.chess.specs.Sights.{StandsBetween}
-use Rattle.chess.specs.declared.board.sights.tables.TheConstants.{FILES, RANKS, RISING, FALLING}
+use Rattle.chess.specs.declared.board.sights.tables.TheConstants.{LINES}
 use Rattle.chess.specs.declared.board.direction.Direction.{Direction}
 use Rattle.chess.specs.declared.board.direction.Direction.TheVariants.{North, South, East, West, NorthEast, NorthWest, SouthEast, SouthWest}
 use Rattle.chess.proofs.SightFacts.{any_line, straight, diagonal}
 
+-- the squares of one of the four lines through a square
+abbrev line_of : ℕ → ℕ → ℕ
+line_of a k = get_or (get_or LINES a []) k 0
+
 abbrev pub lines_word : ℕ → ℕ → ℕ
-lines_word a b = bit_or (bit_or (bit_or (bit_and (get_or FILES a 0) (get_or FILES b 0)) (bit_and (get_or RANKS a 0) (get_or RANKS b 0)))
-    (bit_and (get_or RISING a 0) (get_or RISING b 0))) (bit_and (get_or FALLING a 0) (get_or FALLING b 0))
+lines_word a b = bit_or (bit_or (bit_or (bit_and (line_of a 0) (line_of b 0)) (bit_and (line_of a 1) (line_of b 1)))
+    (bit_and (line_of a 2) (line_of b 2))) (bit_and (line_of a 3) (line_of b 3))
 
 abbrev pub between_word : ℕ → ℕ → ℕ
 between_word a b = bit_and (lines_word a b) (bit_xor (18446744073709551615 * 2 ^ a % 2 ^ 64) (18446744073709551615 * 2 ^ b % 2 ^ 64))

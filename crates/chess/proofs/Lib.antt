@@ -2,6 +2,8 @@ pub mod PlaceFacts
 pub mod StepFacts
 pub mod BitFacts
 pub mod CarryFacts
+pub mod UsualWords
+pub mod PlainTexts
 pub mod HeldFacts
 pub mod RightsFacts
 pub mod HitFacts

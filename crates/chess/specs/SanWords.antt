@@ -93,6 +93,17 @@ said_by r = record { letter = r.letter; file = r.file; rank = r.rank; target = r
 abbrev pub IsReadSaid : List ℕ → Option SaidMove → Type 0
 IsReadSaid x result = (said : Said) → Spells x said ↔ (option_map said_by result ≡ Some said)
 
+-- a letter or none, a file and a rank are such bytes, and say this
+abbrev pub SaysPlainly : Option ℕ → ℕ → ℕ → SaidMove → Type 0
+SaysPlainly letter file rank r = IfSome letter (λ b. is_of KindLetter b ≡ true) × (is_of FileLetter file ≡ true) × (is_of Digit rank ≡ true)
+    × (said_by r ≡ record {
+      letter = kind_given letter;
+      file = None;
+      rank = None;
+      target = record { file = file - 96; rank = rank - 48 };
+      promote = None;
+    })
+
 -- the move of a man on s that the text speaks of
 abbrev pub move_from : Said → Place → Move
 move_from said s = record { from = s; to = said.target; promote = said.promote; castle = None }

@@ -2,6 +2,7 @@
 ghost use Rattle.std.specs.Prelude.{◌≡◌, ◌↔◌, IsTrue, None};
 ghost use Rattle.chess.specs.Placements.{Placement, no_men, man_at, with_man, AreOnBoard, IsEmpty, IsHeld};
 ghost use Rattle.chess.specs.Attacks.{IsAttacked};
+ghost use Rattle.chess.specs.Start.{usual_men};
 ghost use Rattle.chess.specs.Sets.{IsReachOf, IsSquaresOf, HoldsExactly, IsHitter};
 
 mod bits;
@@ -12,6 +13,7 @@ mod man;
 mod set;
 mod sights;
 mod square;
+mod usual;
 
 pub use bits::Bits;
 pub use direction::Direction;
@@ -28,6 +30,10 @@ pub trait Board: Copy {
     /// The board without men.
     fn empty() -> Self
         ensures { men result ≡ no_men };
+
+    /// The board with all men where they stand as games usually begin (Laws 2.3).
+    fn usual() -> Self
+        ensures { men result ≡ usual_men };
 
     /// The man on a square, or none.
     fn at(&self, square: Square) -> Option<Man>

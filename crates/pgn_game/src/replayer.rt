@@ -39,6 +39,7 @@ pub fn replay<'a>(alloc: Global, raw: &RawGame<'a>, lines: Lines) -> Result<Repl
 }
 
 /// Counts the plies of the main line of the game, or reports its fault: just as a replay of the main line, but no position is kept.
+#[inline(never)]
 pub fn count_plies<'a>(alloc: Global, raw: &RawGame<'a>) -> Result<usize, GameFault<'a>>
     ensures { MatchResult result
         (HasPlies (tag_in fen_tag raw.now.tags) raw.now.elements)

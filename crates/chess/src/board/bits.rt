@@ -5,6 +5,7 @@ ghost use Rattle.chess.specs.Placements.{with_man, man_at, IsHeld, IsEmpty};
 ghost use Rattle.chess.specs.Attacks.{IsAttacked};
 ghost use Rattle.chess.specs.BitWords.{AreApart, IsWordOf, IsCleared, IsBitSet, IsMan, IsRunner, IsHitBy, IsHitStraight, IsHitDiagonal, words_men, man_in, man_of_row, number_of_kind, row_of};
 ghost use Rattle.chess.specs.Sights.{IsInSight};
+ghost use Rattle.chess.specs.Start.{usual_men};
 ghost use Rattle.chess.specs.CellFacts.{on_board-men_of};
 ghost use Rattle.chess.specs.declared.board.man.Kind.TheVariants.{King, Knight, Pawn};
 
@@ -30,6 +31,12 @@ impl Board for Bits {
         Bits { words: no_words() }
     }
 
+    fn usual() -> Self {
+        Bits {
+            words: usual_words(),
+        }
+    }
+
     fn at(&self, square: Square) -> Option<Man> {
         man_on(&self.words, square)
     }
@@ -43,7 +50,7 @@ impl Board for Bits {
         carried(&mut self.words, man, from, taken, to);
     }
 
-    #[inline(always)]
+    #[inline(never)]
     fn is_empty(&self, square: Square) -> bool {
         occupied(&self.words) & word_of(square) == 0
     }
@@ -68,7 +75,7 @@ impl Board for Bits {
         SquareSet::of_word(squares_with(&self.words, man.side, man.kind))
     }
 
-    #[inline(always)]
+    #[inline(never)]
     fn hitters(&self, man: Man, target: Square, among: SquareSet) -> SquareSet {
         let own = squares_with(&self.words, man.side, man.kind) & among.word();
         hitters_of(man, target, own, occupied(&self.words))
@@ -83,6 +90,27 @@ fn no_words() -> [u64; 12]
     ensures apart { AreApart result }
 {
     [0; 12]
+}
+
+/// The words of the men where they stand as games usually begin.
+fn usual_words() -> [u64; 12]
+    ensures men { words_men result ≡ usual_men }
+    ensures apart { AreApart result }
+{
+    [
+        0x10,
+        0x08,
+        0x81,
+        0x24,
+        0x42,
+        0xff00,
+        0x1000_0000_0000_0000,
+        0x0800_0000_0000_0000,
+        0x8100_0000_0000_0000,
+        0x2400_0000_0000_0000,
+        0x4200_0000_0000_0000,
+        0x00ff_0000_0000_0000,
+    ]
 }
 
 /// The number of a man's word.

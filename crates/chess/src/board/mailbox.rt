@@ -8,6 +8,7 @@ ghost use Rattle.chess.specs.Sets.{HoldsExactly, IsHitter};
 ghost use Rattle.chess.specs.Cells.{cells_men, cell_of};
 ghost use Rattle.chess.specs.CellFacts.{on_board-men_of};
 
+use crate::board::usual::usual_man;
 use crate::board::{Board, Direction, Kind, Man, Side, Square, SquareSet};
 
 /// A board of 64 cells, in the order a1, b1 to h1, a2 and so on.
@@ -22,6 +23,15 @@ impl Board for Mailbox {
 
     fn empty() -> Self {
         Mailbox { cells: no_cells() }
+    }
+
+    fn usual() -> Self {
+        let mut board = Mailbox::empty();
+        for index in 0u8..64 {
+            let square = Square::of_index(index);
+            board.put(square, usual_man(square));
+        }
+        board
     }
 
     fn at(&self, square: Square) -> Option<Man> {

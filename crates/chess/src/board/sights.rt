@@ -11,7 +11,7 @@ mod tables;
 
 use crate::board::bits::number_of;
 use crate::board::{Kind, Man, Side, Square, SquareSet};
-use tables::{FALLING, FILES, HITS, RANKS, RISING};
+use tables::{HITS, LINES};
 
 /// The number of the table of what a man sees: one for each kind, and a second one for Black's pawns.
 #[inline(always)]
@@ -39,11 +39,11 @@ fn between(from: Square, to: Square) -> u64
     ensures { IsWordOf (StandsBetween from to) result }
 {
     let (a, b) = (from.index(), to.index());
-    let (i, j) = (a as usize, b as usize);
-    let lines = (FILES[i] & FILES[j])
-        | (RANKS[i] & RANKS[j])
-        | (RISING[i] & RISING[j])
-        | (FALLING[i] & FALLING[j]);
+    let (here, there) = (&LINES[a as usize], &LINES[b as usize]);
+    let lines = (here[0] & there[0])
+        | (here[1] & there[1])
+        | (here[2] & there[2])
+        | (here[3] & there[3]);
     lines & ((u64::MAX << a) ^ (u64::MAX << b))
 }
 

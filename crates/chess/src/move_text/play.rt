@@ -10,8 +10,8 @@ ghost use Rattle.chess.specs.declared.move_text.SanError.{SanError};
 use crate::board::{Board, Man};
 use crate::move_text::SanError;
 use crate::move_text::read::able::able_men;
-use crate::move_text::read::said::{SaidMove, castling, read_said};
-use crate::move_text::read::{castled, moved};
+use crate::move_text::read::only_named;
+use crate::move_text::read::said::{begins_castling, read_said};
 use crate::moves::Move;
 use crate::position::Position;
 
@@ -27,35 +27,24 @@ pub fn play_word<B: Board>(position: &mut Position<B>, text: &[u8]) -> Result<Mo
     only_played(position, text)
 }
 
-/// Plays the only legal move that the text names.
+/// Plays the only legal move that the text names: where only one man comes into question, he is carried at once.
 #[inline(always)]
 fn only_played<B: Board>(position: &mut Position<B>, text: &[u8]) -> Result<Move, SanError>
     ensures answer { IsAnswer (IsNamed position.old text.now) result }
     ensures played { IsPlayed position.old position.new result }
 {
-    if let Some(wing) = castling(text) {
-        let found = castled(position, wing);
-        make_found(position, &found);
-        return found;
+    if begins_castling(text) {
+        return play_found(position, text);
     }
     let Some(said) = read_said(text) else {
         return Err(SanError::None);
     };
-    play_said(position, &said)
-}
-
-/// Plays the only legal move that agrees with what is said: where only one man comes into question, its board is made once.
-#[inline(always)]
-fn play_said<B: Board>(position: &mut Position<B>, said: &SaidMove) -> Result<Move, SanError>
-    ensures answer { IsAnswer (IsMoveSaid position.old (said_by said.now)) result }
-    ensures played { IsPlayed position.old position.new result }
-{
-    let mut able = able_men(position, said);
+    let mut able = able_men(position, &said);
     let Some(from) = able.take_first() else {
         return Err(SanError::None);
     };
     if able.has_some() {
-        return play_one_of_several(position, said);
+        return play_found(position, text);
     }
     let man = Man {
         side: position.side(),
@@ -68,26 +57,15 @@ fn play_said<B: Board>(position: &mut Position<B>, said: &SaidMove) -> Result<Mo
     Ok(m)
 }
 
-/// Plays the only legal move that agrees with what is said, where several men may make it but for the safety of their king.
+/// Plays the only legal move that the text names, which is looked for first.
 #[cold]
-fn play_one_of_several<B: Board>(
-    position: &mut Position<B>,
-    said: &SaidMove,
-) -> Result<Move, SanError>
-    ensures answer { IsAnswer (IsMoveSaid position.old (said_by said.now)) result }
+fn play_found<B: Board>(position: &mut Position<B>, text: &[u8]) -> Result<Move, SanError>
+    ensures answer { IsAnswer (IsNamed position.old text.now) result }
     ensures played { IsPlayed position.old position.new result }
 {
-    let found = moved(position, said);
-    make_found(position, &found);
-    found
-}
-
-/// Makes the move that was found, if one was.
-fn make_found<B: Board>(position: &mut Position<B>, found: &Result<Move, SanError>)
-    requires { IfOk found.now (λ m. IsLegal position.old m) }
-    ensures { IsPlayed position.old position.new found.now }
-{
-    if let Ok(m) = found {
+    let found = only_named(position, text);
+    if let Ok(m) = &found {
         position.make(m);
     }
+    found
 }

@@ -28,7 +28,7 @@ pub fn resolve<B: Board>(position: &Position<B>, text: &[u8]) -> Result<Move, Sa
 }
 
 /// The only legal move that the text names: what `resolve` answers, as one fact of the answer.
-fn only_named<B: Board>(position: &Position<B>, text: &[u8]) -> Result<Move, SanError>
+pub(crate) fn only_named<B: Board>(position: &Position<B>, text: &[u8]) -> Result<Move, SanError>
     ensures { IsAnswer (IsNamed position.now text.now) result }
 {
     if let Some(wing) = castling(text) {
@@ -41,7 +41,7 @@ fn only_named<B: Board>(position: &Position<B>, text: &[u8]) -> Result<Move, San
 }
 
 /// Castling on the wing, if it is legal.
-pub(crate) fn castled<B: Board>(position: &Position<B>, wing: Wing) -> Result<Move, SanError>
+fn castled<B: Board>(position: &Position<B>, wing: Wing) -> Result<Move, SanError>
     ensures { IsAnswer (IsCastlingOn position.now wing) result }
 {
     let side = position.side();
@@ -64,7 +64,7 @@ pub(crate) fn castling_move(side: Side, wing: Wing) -> Move
 }
 
 /// The only legal move that agrees with what is said.
-pub(crate) fn moved<B: Board>(position: &Position<B>, said: &SaidMove) -> Result<Move, SanError>
+fn moved<B: Board>(position: &Position<B>, said: &SaidMove) -> Result<Move, SanError>
     ensures { IsAnswer (IsMoveSaid position.now (said_by said.now)) result }
 {
     let Some((from, rest)) = next_origin(position, said, able_men(position, said)) else {

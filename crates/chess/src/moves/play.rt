@@ -130,14 +130,14 @@ impl<B: Board> Position<B> {
 
     /// The castling rights that are left after the move.
     #[cold]
-    fn rights_left(&self, m: &Move) -> CastlingRights
-        ensures { result ≡ rights_after self.now.rights m.now }
+    fn rights_left(&self, m: Move) -> CastlingRights
+        ensures { result ≡ rights_after self.now.rights m }
     {
         CastlingRights {
-            white_king_side: self.keeps_right(m, Side::White, Wing::KingSide),
-            white_queen_side: self.keeps_right(m, Side::White, Wing::QueenSide),
-            black_king_side: self.keeps_right(m, Side::Black, Wing::KingSide),
-            black_queen_side: self.keeps_right(m, Side::Black, Wing::QueenSide),
+            white_king_side: self.keeps_right(&m, Side::White, Wing::KingSide),
+            white_queen_side: self.keeps_right(&m, Side::White, Wing::QueenSide),
+            black_king_side: self.keeps_right(&m, Side::Black, Wing::KingSide),
+            black_queen_side: self.keeps_right(&m, Side::Black, Wing::QueenSide),
         }
     }
 
@@ -147,7 +147,7 @@ impl<B: Board> Position<B> {
         ensures { result ≡ rights_after self.now.rights m.now }
     {
         if is_home(m.from) || is_home(m.to) {
-            return self.rights_left(m);
+            return self.rights_left(*m);
         }
         self.rights
     }
@@ -249,12 +249,29 @@ impl<B: Board> Position<B> {
         ensures legal { IsTrue result ↔ IsLegal self.old m.now }
         ensures moved { self.new ≡ (if result then after self.old m.now else self.old) }
     {
-        let side = self.side();
-        let board = self.board_after_of(man, m);
-        if board.attacked(self.king_after(m, side), side.opposite()) {
+        self.known();
+        let before = self.board();
+        let king = self.king_after(m, self.side());
+        let turn = self.turn_after();
+        let rights = self.rights_after(m);
+        let en_passant = self.en_passant_after(man, m);
+        let halfmove_clock = self.halfmove_clock_after(man, m);
+        let fullmove_number = self.fullmove_number_after();
+        let white_king = self.king_after(m, Side::White);
+        let black_king = self.king_after(m, Side::Black);
+        let (arriving, taken) = (self.arriving(man, m), self.taken_by(man, m));
+        self.board.carry(arriving, m.from, taken, m.to);
+        if self.board.attacked(king, turn) {
+            self.board = before;
             return false;
         }
-        self.settle(man, m, board);
+        self.turn = turn;
+        self.rights = rights;
+        self.en_passant = en_passant;
+        self.halfmove_clock = halfmove_clock;
+        self.fullmove_number = fullmove_number;
+        self.white_king = white_king;
+        self.black_king = black_king;
         true
     }
 

@@ -1,7 +1,7 @@
 //! What a move text says, read from its end (PGN 8.2.3).
 ghost use Rattle.std.specs.Prelude.{◌≡◌, ◌↔◌, ◌⊎◌, reverse, Some, None, IfSome, MatchOption, IsTrue};
 ghost use Rattle.chess.specs.San.{IsCastlingText};
-ghost use Rattle.chess.specs.SanWords.{IsReadSaid, IsWholeLetter, IsCastlingStem, kind_given, number_given, kind_of, is_of, last_of, before_last, unmarked, before_equals, stem, behind_target_rank, behind_sign, behind_rank, behind_file};
+ghost use Rattle.chess.specs.SanWords.{IsReadSaid, SaysPlainly, IsWholeLetter, IsCastlingStem, kind_given, number_given, kind_of, is_of, last_of, before_last, unmarked, before_equals, stem, behind_target_rank, behind_sign, behind_rank, behind_file};
 ghost use Rattle.chess.specs.declared.board.man.Wing.{Wing};
 ghost use Rattle.chess.specs.declared.move_text.read.said.ByteClass.TheVariants.{Digit, FileLetter, PromotionLetter};
 
@@ -160,11 +160,49 @@ fn number_given(byte: Option<u8>, zero: u8) -> Option<u8>
     }
 }
 
+/// What a letter or none, a file and a rank say together, if that is what the bytes are.
+#[inline(always)]
+fn plainly_said(letter: Option<u8>, file: u8, rank: u8) -> Option<SaidMove>
+    ensures { MatchOption result (Unit {0}) (SaysPlainly letter file rank) }
+{
+    if let Some(byte) = letter
+        && !is_of(ByteClass::KindLetter, byte)
+    {
+        return None;
+    }
+    if !is_of(ByteClass::FileLetter, file) || !is_of(ByteClass::Digit, rank) {
+        return None;
+    }
+    let target = Square::new(file.saturating_sub(b'`'), rank.saturating_sub(b'0'))?;
+    Some(SaidMove {
+        letter: kind_given(letter),
+        file: None,
+        rank: None,
+        target,
+        promote: None,
+    })
+}
+
+/// What the text says, if it is a target alone or a letter and a target, as most texts are; else it may be a move text of another form.
+#[inline(always)]
+fn read_plain(text: &[u8]) -> Option<SaidMove>
+    ensures { MatchOption result (Unit {0}) (λ said. IsReadSaid text.now (Some said)) }
+{
+    match text {
+        [file, rank] => plainly_said(None, *file, *rank),
+        [letter, file, rank] => plainly_said(Some(*letter), *file, *rank),
+        _ => None,
+    }
+}
+
 /// What the text says, if it is a move text that is not castling.
 #[inline(always)]
 pub(crate) fn read_said(text: &[u8]) -> Option<SaidMove>
     ensures { IsReadSaid text.now result }
 {
+    if let Some(said) = read_plain(text) {
+        return Some(said);
+    }
     let Some(parts) = split_parts(text) else {
         return None;
     };
@@ -203,7 +241,7 @@ fn is_castling(wing: Wing, stem: &[u8]) -> bool
 
 /// Whether the text begins as one of castling: no other move text does.
 #[inline(always)]
-fn begins_castling(text: &[u8]) -> bool
+pub(crate) fn begins_castling(text: &[u8]) -> bool
     ensures { (wing : Wing) → IsCastlingText wing text.now → IsTrue result }
 {
     match text {

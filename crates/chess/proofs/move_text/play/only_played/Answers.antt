@@ -1,18 +1,64 @@
-use Rattle.std.proofs.Common.{ap, option_map}
-use Rattle.chess.specs.SanWords.{said_by}
-use Rattle.chess.proofs.NamedFacts.{named_castling, named_none, named_said}
+use Rattle.std.proofs.Common.{◌≡◌, ap, sym, subst, refl, option_map, Option, None, Ok, Err}
+use Rattle.chess.specs.Squares.{Place}
+use Rattle.chess.specs.Moves.{IsPseudoLegal, IsLegal}
+use Rattle.chess.specs.Sets.{IsTakenFirst}
+use Rattle.chess.specs.SanWords.{said_by, IsMoveSaid}
+use Rattle.chess.specs.declared.moves.Move.{Move}
+use Rattle.chess.specs.declared.move_text.SanError.TheVariants.{None as NoMove}
+use Rattle.chess.proofs.PlaceFacts.{true_not_false}
+use Rattle.chess.proofs.LoopFacts.{taken_none}
+use Rattle.chess.proofs.CastlingTextFacts.{no_castling}
+use Rattle.chess.proofs.NamedFacts.{named_none, named_said}
+use Rattle.chess.proofs.AbleFacts.{none_said, not_said, the_said}
 use Rattle.chess.proofs.move_text.play.only_played.Goals as goal
 
-pub returns-in-Some-clause-answer : goal.returns-in-Some-clause-answer
-returns-in-Some-clause-answer g c =
-    named_castling c.args.position.now c.args.text.now c.in-Some.wing _ _ c.castling.ensures c.in-Some.is c.castled-found.ensures
+pub returns-in_default-clause-answer : goal.returns-in_default-clause-answer
+returns-in_default-clause-answer g c =
+    named_none c.args.position.now c.args.text.now None (option_map said_by c.read_said.result)
+    (no_castling c.args.text.now c.begins_castling.result c.begins_castling.ensures c.if-begins_castling.false) refl
+    c.read_said.ensures (ap (option_map said_by) c.in_default.is)
 
-pub returns-in_default-read_said-clause-answer : goal.returns-in_default-read_said-clause-answer
-returns-in_default-read_said-clause-answer g c =
-    named_none c.args.position.now c.args.text.now c.castling.result (option_map said_by c.read_said.result) c.castling.ensures c.in_default.is
-    c.read_said.ensures (ap (option_map said_by) c.in_default-read_said.is)
+pub returns-in_default-take_first-clause-answer : goal.returns-in_default-take_first-clause-answer
+returns-in_default-take_first-clause-answer g c =
+    let P = c.args.position.now in
+    let said = said_by c.in-Some.said in
+    named_said P c.args.text.now None (option_map said_by c.read_said.result) said (Err NoMove)
+    (no_castling c.args.text.now c.begins_castling.result c.begins_castling.ensures c.if-begins_castling.false) refl
+    c.read_said.ensures (ap (option_map said_by) c.in-Some.is)
+    (none_said P said c.able_men-able.result c.able_men-able.ensures
+    (taken_none c.able_men-able.result c.take_first.new.self c.take_first.result c.take_first.ensures c.in_default-take_first.is))
+
+pub try_move-requires-clause-pseudo_legal : goal.try_move-requires-clause-pseudo_legal
+try_move-requires-clause-pseudo_legal g c =
+    let taken = subst (λ (o : Option Place). IsTakenFirst c.able_men-able.result c.take_first.new.self o) c.in-Some-take_first.is c.take_first.ensures in
+    subst (IsPseudoLegal c.args.position.now) (sym c.from-m.ensures) ((c.able_men-able.ensures c.in-Some-take_first.from).0 taken.1).1.rules
+
+pub try_move-requires-clause-man : goal.try_move-requires-clause-man
+try_move-requires-clause-man g c =
+    let taken = subst (λ (o : Option Place). IsTakenFirst c.able_men-able.result c.take_first.new.self o) c.in-Some-take_first.is c.take_first.ensures in
+    sym (rw (c.from-m.ensures, c.side.ensures, c.kind.ensures) ((c.able_men-able.ensures c.in-Some-take_first.from).0 taken.1).1.here)
+
+pub returns-then-not-try_move-clause-answer : goal.returns-then-not-try_move-clause-answer
+returns-then-not-try_move-clause-answer g c =
+    let P = c.args.position.now in
+    let said = said_by c.in-Some.said in
+    named_said P c.args.text.now None (option_map said_by c.read_said.result) said (Err NoMove)
+    (no_castling c.args.text.now c.begins_castling.result c.begins_castling.ensures c.if-begins_castling.false) refl
+    c.read_said.ensures (ap (option_map said_by) c.in-Some.is)
+    (not_said P said c.able_men-able.result c.take_first.new.self c.in-Some-take_first.from c.able_men-able.ensures
+    (subst (λ (o : Option Place). IsTakenFirst c.able_men-able.result c.take_first.new.self o) c.in-Some-take_first.is c.take_first.ensures)
+    (λ some. true_not_false c.has_some.result (c.has_some.ensures.1 some) c.if-has_some.false)
+    (λ legal. true_not_false c.try_move.result (c.try_move.ensures.legal.1 (subst (IsLegal P) (sym c.from-m.ensures) legal)) c.if-not-try_move.true))
 
 pub returns-clause-answer : goal.returns-clause-answer
 returns-clause-answer g c =
-    named_said c.args.position.now c.args.text.now c.castling.result (option_map said_by c.read_said.result) (said_by c.in-Some-read_said.said) _ c.castling.ensures
-    c.in_default.is c.read_said.ensures (ap (option_map said_by) c.in-Some-read_said.is) c.play_said.ensures.answer
+    let P = c.args.position.now in
+    let said = said_by c.in-Some.said in
+    named_said P c.args.text.now None (option_map said_by c.read_said.result) said (Ok c.from-m.result)
+    (no_castling c.args.text.now c.begins_castling.result c.begins_castling.ensures c.if-begins_castling.false) refl
+    c.read_said.ensures (ap (option_map said_by) c.in-Some.is)
+    (subst (λ (m : Move). IsMoveSaid P said m × ((n : Move) → IsMoveSaid P said n → n ≡ m)) (sym c.from-m.ensures)
+    (the_said P said c.able_men-able.result c.take_first.new.self c.in-Some-take_first.from c.able_men-able.ensures
+    (subst (λ (o : Option Place). IsTakenFirst c.able_men-able.result c.take_first.new.self o) c.in-Some-take_first.is c.take_first.ensures)
+    (λ some. true_not_false c.has_some.result (c.has_some.ensures.1 some) c.if-has_some.false)
+    (subst (IsLegal P) c.from-m.ensures (c.try_move.ensures.legal.0 c.if-not-try_move.false))))

@@ -14,10 +14,10 @@ with_men men = record usual { men = men }
 pub invariant_of-result : goal.invariant_of-result
 unfolding with_men
 invariant_of-result g c =
-    subst (λ (men : Placement). IsKept (with_men men) c.at.result c.at-2.result) (sym c.usual_board.ensures)
+    subst (λ (men : Placement). IsKept (with_men men) c.at.result c.at-2.result) (sym c.usual.ensures)
     (subst (λ (k : Place). IsKept usual k c.at-2.result) (sym c.at.ensures.square)
     (subst (λ (k : Place). IsKept usual (king_from White) k) (sym c.at-2.ensures.square) usual_kept))
 
 pub returns-clause-sound : goal.returns-clause-sound
 unfolding with_men
-returns-clause-sound g c = subst (λ (men : Placement). IsSound (with_men men)) (sym c.usual_board.ensures) usual_kept.sound
+returns-clause-sound g c = subst (λ (men : Placement). IsSound (with_men men)) (sym c.usual.ensures) usual_kept.sound

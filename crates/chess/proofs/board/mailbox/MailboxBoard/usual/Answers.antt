@@ -4,13 +4,13 @@ use Rattle.chess.specs.Placements.{with_man}
 use Rattle.chess.specs.Cells.{first_men}
 use Rattle.chess.specs.Start.{usual_man}
 use Rattle.chess.proofs.StartFacts.{usual_none, usual_next}
-use Rattle.chess.proofs.start.usual_board.Goals as goal
+use Rattle.chess.proofs.board.mailbox.MailboxBoard.usual.Goals as goal
 
 pub loop-index-init : goal.loop-index-init
-loop-index-init g c = c.empty-board.ensures ∙ sym usual_none
+loop-index-init c = c.empty-board.ensures ∙ sym usual_none
 
 pub loop-index-preserved : goal.loop-index-preserved
-loop-index-preserved g c =
+loop-index-preserved c =
     let n = c.loop-index.index in
     let men = first_men (λ n. usual_man (square_at n)) n in
     let square = c.of_index-square.ensures.square in
@@ -21,6 +21,6 @@ loop-index-preserved g c =
     ∙ sym (usual_next n)
 
 pub returns : goal.returns
-returns g c =
+returns c =
     let all : c.loop-index.index ≡ 64 = omega arith in
     c.loop-index.invariant ∙ ap (first_men (λ n. usual_man (square_at n))) all
