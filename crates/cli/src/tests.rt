@@ -15,6 +15,7 @@ mod index;
 mod listing;
 mod passes;
 mod pieces;
+mod refusals;
 mod replays;
 mod stops;
 mod support;
