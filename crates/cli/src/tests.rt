@@ -16,6 +16,7 @@ mod index;
 mod listing;
 mod passes;
 mod pieces;
+mod refusals;
 mod replays;
 mod stops;
 mod support;

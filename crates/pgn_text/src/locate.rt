@@ -22,7 +22,8 @@ fn element_count(token: Token<'_>) -> usize
 /// The place in the block of the element of that index, in the game that begins at the place.
 pub fn element_place(block: &[u8], begin: usize, file_start: bool, index: usize) -> usize
     requires { begin ≤ length block.now }
-    ensures { IsElementPlace file_start block.now begin index result }
+    ensures place { IsElementPlace file_start block.now begin index result }
+    ensures within { result ≤ length block.now }
 {
     let mut at = begin;
     let mut left = index;
@@ -50,7 +51,8 @@ fn is_tag_of(token: Token<'_>, name: &[u8]) -> bool
 /// The place in the block of the first tag of the name, in the game that begins at the place.
 pub fn tag_place(block: &[u8], begin: usize, file_start: bool, name: &[u8]) -> usize
     requires { begin ≤ length block.now }
-    ensures { IsTagPlace file_start block.now begin name.now result }
+    ensures place { IsTagPlace file_start block.now begin name.now result }
+    ensures within { result ≤ length block.now }
 {
     let mut at = begin;
     while let Some((token, end)) = part_at(block, at, file_start) {

@@ -15,13 +15,19 @@ loop-token-preserved c =
           (token_of c.in-Some.token) done counted c.in-Some.ensures c.element_count-count.ensures (omega arith),
     )
 
-pub returns-then-left-count : goal.returns-then-left-count
-returns-then-left-count c =
+pub returns-then-left-count-clause-place : goal.returns-then-left-count-clause-place
+returns-then-left-count-clause-place c =
     let (done, to, counted) = c.loop-token.invariant in
     element_here c.args.file_start c.args.block.now c.args.begin c.loop-token.at c.in-Some.end c.args.index c.loop-token.left (token_of c.in-Some.token)
     done to counted c.in-Some.ensures (omega (arith, c.element_count-count.ensures))
 
-pub returns : goal.returns
-returns c =
+pub returns-clause-place : goal.returns-clause-place
+returns-clause-place c =
     let (done, to, counted) = c.loop-token.invariant in
     no_element c.args.file_start c.args.block.now c.args.begin c.loop-token.at c.args.index c.loop-token.left done to counted c.in_default.ensures
+
+pub returns-then-left-count-clause-within : goal.returns-then-left-count-clause-within
+returns-then-left-count-clause-within c = let (done, to, known) = c.loop-token.invariant in to.within
+
+pub returns-clause-within : goal.returns-clause-within
+returns-clause-within c = let (done, to, known) = c.loop-token.invariant in to.within

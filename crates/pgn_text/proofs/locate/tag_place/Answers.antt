@@ -14,13 +14,19 @@ loop-token-preserved c =
       tag_more c.args.name.now done c.in-Some.ensures.part (token_of c.in-Some.token) c.in-Some.ensures.keeps none (sym c.is_tag_of.ensures ∙ c.if-is_tag_of.false),
     )
 
-pub returns-then-is_tag_of : goal.returns-then-is_tag_of
-returns-then-is_tag_of c =
+pub returns-then-is_tag_of-clause-place : goal.returns-then-is_tag_of-clause-place
+returns-then-is_tag_of-clause-place c =
     let (done, to, none) = c.loop-token.invariant in
     tag_here c.args.file_start c.args.block.now c.args.begin c.loop-token.at c.in-Some.end c.args.name.now (token_of c.in-Some.token) done to none
     c.in-Some.ensures (sym c.is_tag_of.ensures ∙ c.if-is_tag_of.true)
 
-pub returns : goal.returns
-returns c =
+pub returns-clause-place : goal.returns-clause-place
+returns-clause-place c =
     let (done, to, none) = c.loop-token.invariant in
     no_tag c.args.file_start c.args.block.now c.args.begin c.loop-token.at c.args.name.now done to none c.in_default.ensures
+
+pub returns-then-is_tag_of-clause-within : goal.returns-then-is_tag_of-clause-within
+returns-then-is_tag_of-clause-within c = let (done, to, known) = c.loop-token.invariant in to.within
+
+pub returns-clause-within : goal.returns-clause-within
+returns-clause-within c = let (done, to, known) = c.loop-token.invariant in to.within
