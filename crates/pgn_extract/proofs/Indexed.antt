@@ -58,8 +58,7 @@ module _ {aim : Aim} {start now : Left} {report : Report} {number offset : ℕ} 
     completes = λ more left.
         subst (ArePiecesLeft depth_limit start) (sym (append_assoc l.done (takes.shown ∷ []) more)) (l.completes (takes.shown ∷ more) (takes.completes more left));
     written =
-        let more = reports_more aim report report' number here (map (marked offset) l.done) (marked offset takes.shown) l.written (is ∙ ap (λ n. number + n) l.written.games)
-        (
+        let more = reports_more aim report report' number here (map (marked offset) l.done) (marked offset takes.shown) l.written (is ∙ ap (λ n. number + n) l.written.games) (
           verdict,
           mark_is_verdict aim here offset block mark takes.shown verdict index takes.is (stop_in start now block offset l.same l.same_start begins takes.shown takes.stops) by,
           adds,

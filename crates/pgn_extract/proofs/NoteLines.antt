@@ -14,7 +14,8 @@ use Rattle.pgn_text.specs.declared.agreement.Within.{Within}
 use Rattle.pgn_text.specs.declared.agreement.Within.TheVariants.{Comment, TagName, TagValue, Tags, Variation, MainLine, Game}
 use Rattle.pgn_text.proofs.Fronts.{list_all-run}
 use Rattle.pgn_game.proofs.PlainTokens.{AreDigits, decimal_digits}
-use Rattle.pgn_extract.specs.Notes.{IsNote, NamesByte, NamesStop, AreLines, indented, line_feeds, column_behind, position_text, place_in, place_text, begin_in, begin_text, hex_digit, byte_text, stopper_text, context_text, stop_line, hints, IsStopNote, too_long_text}
+use Rattle.pgn_extract.specs.Notes.{IsNote, NamesByte, NamesStop, AreLines, indented}
+use Rattle.pgn_extract.specs.NoteTexts.{line_feeds, column_behind, position_text, place_in, place_text, begin_in, begin_text, hex_digit, byte_text, stopper_text, context_text, stop_line, hints, IsStopNote, too_long_text}
 use Rattle.pgn_extract.specs.declared.notes.Origin.{Origin}
 use Rattle.pgn_extract.proofs.StopNotes.{stops_within}
 

@@ -6,7 +6,7 @@ use Rattle.pgn_text.specs.StopPlaces.{PartsThen, StandsWithin, is_open_brace, is
 use Rattle.pgn_text.specs.Stops.{StopsAt}
 use Rattle.pgn_text.specs.declared.agreement.Within.{Within}
 use Rattle.pgn_text.specs.declared.agreement.Within.TheVariants.{Comment, TagName, TagValue, Tags, Variation, MainLine, Game}
-use Rattle.pgn_extract.specs.Notes.{IsWithinBlock}
+use Rattle.pgn_extract.specs.NoteTexts.{IsWithinBlock}
 
 pub stops_within : (max_depth : ℕ) (f : Bool) (block : List ℕ) (begin agreeing : ℕ) → begin ≤ length block
     → StopsAt max_depth f (take begin block) (drop begin block) agreeing → begin + agreeing ≤ length block

@@ -1,5 +1,5 @@
 use Rattle.std.proofs.Common.{◌≡◌, ◌+◌, ◌≤◌, take}
-use Rattle.pgn_extract.specs.Notes.{column_behind}
+use Rattle.pgn_extract.specs.NoteTexts.{column_behind}
 use Rattle.pgn_extract.proofs.notes.column.Given as goal
 
 abbrev pub invariant-loop-byte : goal.invariant-loop-byte

@@ -1,5 +1,5 @@
 use Rattle.std.proofs.Common.{◌≡◌, ◌≤◌, take}
-use Rattle.pgn_extract.specs.Notes.{line_feeds}
+use Rattle.pgn_extract.specs.NoteTexts.{line_feeds}
 use Rattle.pgn_extract.proofs.notes.line_feeds.Given as goal
 
 abbrev pub invariant-loop-byte : goal.invariant-loop-byte
