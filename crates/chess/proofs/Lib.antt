@@ -57,6 +57,7 @@ pub mod Examples
 pub mod Settled
 pub mod Searches
 pub mod LegalSettled
+pub mod RefusalFacts
 pub mod OnBoard
 pub mod NamedSettled
 pub mod MateSettled

@@ -3,11 +3,12 @@ use Rattle.std.proofs.Common.{◌≡◌, ◌≢◌, ◌↔◌, ◌&&◌, ◌+◌
 use Rattle.chess.specs.Squares.{Place, IsOnBoard}
 use Rattle.chess.specs.Placements.{man_at}
 use Rattle.chess.specs.Positions.{State}
-use Rattle.chess.specs.Moves.{IsLegal, Goes, Castles, after}
+use Rattle.chess.specs.Moves.{IsPseudoLegal, IsLegal, Goes, Castles, after}
 use Rattle.chess.specs.San.{Said, Spells, IsCastlingText, Agrees, IsNamed, IsOnlyNamed, letter_text, file_text, rank_text, IsFileOrRank}
 use Rattle.chess.specs.Letters.{kind_letter, is_sign, square_text}
 use Rattle.chess.specs.SanWords.{IsAble, CanGoSaid, IsNext, HasNone, IsMoveSaid, IsCastlingOn, move_from, castling_on, man_said}
 use Rattle.chess.specs.SanAnswers.{IsAnswer, IsPlayed}
+use Rattle.chess.specs.Refusals.{IsSpokenOf}
 use Rattle.chess.specs.Sets.{Places, is_in, IsTakenFirst, HoldsExactly}
 use Rattle.chess.specs.MoveWords.{IsLeft}
 use Rattle.chess.specs.declared.board.man.Man.{Man}
@@ -61,37 +62,40 @@ said_legal P said m named = subst (IsLegal P) (sym (said_move P said m named.1))
 pub said_on : (P : State) (said : Said) (m : Move) → IsMoveSaid P said m → IsOnBoard m.from
 said_on P said m named = named.0.pseudo_legal.from
 
-pub said_man : (P : State) (said : Said) (m : Move) → IsMoveSaid P said m → man_at P.men m.from ≡ Some (man_said P said)
-said_man P said m named =
-    let agrees = named.1 in
-    let rules = named.0.pseudo_legal in
+pub agreed_man : (P : State) (said : Said) (m : Move) → IsPseudoLegal P m → Agrees P said m → man_at P.men m.from ≡ Some (man_said P said)
+agreed_man P said m rules agrees =
     let side : agrees.man.side ≡ P.turn = same_side agrees.man rules.man (sym agrees.here ∙ rules.here) ∙ rules.own in
     agrees.here ∙ ap (λ (man : Man). Some man) (man_of agrees.man (man_said P said) side agrees.kind)
 
+pub agreed_able : (P : State) (said : Said) (m : Move) → IsPseudoLegal P m → Agrees P said m → IsAble P said m.from
+agreed_able P said m rules agrees = record {
+  here = agreed_man P said m rules agrees;
+  asked = (agrees.file, agrees.rank);
+  stays = λ pawn none. agrees.stays (agrees.kind ∙ pawn) none ∙ ap (λ (s : Place). s.file) agrees.target;
+  rules = subst (IsPseudoLegal P) (sym (said_move P said m agrees)) rules;
+}
+
+pub said_man : (P : State) (said : Said) (m : Move) → IsMoveSaid P said m → man_at P.men m.from ≡ Some (man_said P said)
+said_man P said m named = agreed_man P said m named.0.pseudo_legal named.1
+
 pub said_able : (P : State) (said : Said) (m : Move) → IsMoveSaid P said m → IsAble P said m.from
-said_able P said m named =
-    let agrees = named.1 in record {
-      here = said_man P said m named;
-      asked = (agrees.file, agrees.rank);
-      stays = λ pawn none. agrees.stays (agrees.kind ∙ pawn) none ∙ ap (λ (s : Place). s.file) agrees.target;
-      rules = (said_legal P said m named).pseudo_legal;
-    }
+said_able P said m named = agreed_able P said m named.0.pseudo_legal named.1
+
+pub agrees_able : (P : State) (said : Said) (s : Place) → IsAble P said s → Agrees P said (move_from said s)
+agrees_able P said s able = record {
+  not_castling = refl;
+  man = man_said P said;
+  here = able.here;
+  kind = refl;
+  target = refl;
+  file = able.asked.0;
+  rank = able.asked.1;
+  promote = refl;
+  stays = able.stays;
+}
 
 pub able_said : (P : State) (said : Said) (s : Place) → IsAble P said s → CanGoSaid P said s → IsMoveSaid P said (move_from said s)
-able_said P said s able legal = (
-  legal,
-  record {
-    not_castling = refl;
-    man = man_said P said;
-    here = able.here;
-    kind = refl;
-    target = refl;
-    file = able.asked.0;
-    rank = able.asked.1;
-    promote = refl;
-    stays = able.stays;
-  },
-)
+able_said P said s able legal = (legal, agrees_able P said s able)
 
 pub said_only : (P : State) (said : Said) (squares rest : Places) (s : Place) → HoldsExactly (IsAble P said) squares
     → IsNext (CanGoSaid P said) squares rest s → HasNone (CanGoSaid P said) rest
@@ -126,13 +130,15 @@ said_several P said squares rest more s t are next second =
 
 -- ---- castling
 
-pub castling_only : (P : State) (wing : Wing) (n : Move) → IsCastlingOn P wing n → n ≡ castling_on P.turn wing
-castling_only P wing n named =
-    let rules = named.0.pseudo_legal in
-    let goes = goes_castle P n rules.man.kind rules.goes wing named.1 in
+pub castling_is : (P : State) (wing : Wing) (n : Move) → IsPseudoLegal P n → n.castle ≡ Some wing → n ≡ castling_on P.turn wing
+castling_is P wing n rules castle =
+    let goes = goes_castle P n rules.man.kind rules.goes wing castle in
     let castles : Castles P wing n = goes.1 in
     let plain : n.promote ≡ None = (subst (Goes P n) goes.0 rules.goes).0 in
-    λ i. record { from = castles.from i; to = castles.to i; promote = plain i; castle = named.1 i }
+    λ i. record { from = castles.from i; to = castles.to i; promote = plain i; castle = castle i }
+
+pub castling_only : (P : State) (wing : Wing) (n : Move) → IsCastlingOn P wing n → n ≡ castling_on P.turn wing
+castling_only P wing n named = castling_is P wing n named.0.pseudo_legal named.1
 
 -- ---- answers
 
@@ -222,43 +228,59 @@ some_wing a b e = cc
 pub some_said : (a b : Said) → Some a ≡ Some b → a ≡ b
 some_said a b e = cc
 
-pub named_castling : (P : State) (x : List ℕ) (wing : Wing) (read : Option Wing) (result : Result Move SanError)
-    → ((w : Wing) → IsCastlingText w x ↔ (read ≡ Some w)) → read ≡ Some wing → IsAnswer (IsCastlingOn P wing) result → IsAnswer (IsNamed P x) result
-named_castling P x wing read result texts is answer =
-    let castles = (texts wing).1 is in
-    same_answer (IsCastlingOn P wing) (IsNamed P x) result
-    (λ m holds. record { legal = holds.0; by = inl (wing, castles, holds.1) })
-    (λ m named. (
-      named.legal,
-      elim named.by [
-        | inl by ↦ by.2 ∙ ap (λ (w : Wing). Some w) (some_wing by.0 wing (sym ((texts by.0).0 by.1) ∙ is))
-        | inr by ↦ absurd (not_both x wing by.0 castles by.1)
-      ],
-    )) answer
+-- what was read of a text: the wing on which it castles, and what it says otherwise
+abbrev pub AreCastling : List ℕ → Option Wing → Type 0
+AreCastling x read = (w : Wing) → IsCastlingText w x ↔ (read ≡ Some w)
 
-no_wing : (x : List ℕ) (read : Option Wing) → ((w : Wing) → IsCastlingText w x ↔ (read ≡ Some w)) → read ≡ None → (w : Wing) → IsCastlingText w x → ⊥
+abbrev pub AreSaid : List ℕ → Option Said → Type 0
+AreSaid x said = (s : Said) → Spells x s ↔ (said ≡ Some s)
+
+pub no_wing : (x : List ℕ) (read : Option Wing) → AreCastling x read → read ≡ None → (w : Wing) → IsCastlingText w x → ⊥
 no_wing x read texts is w castles = let e : None ≡ Some w = sym is ∙ (texts w).0 castles in cc
 
-pub named_none : (P : State) (x : List ℕ) (read : Option Wing) (said : Option Said) → ((w : Wing) → IsCastlingText w x ↔ (read ≡ Some w)) → read ≡ None
-    → ((s : Said) → Spells x s ↔ (said ≡ Some s)) → said ≡ None → (m : Move) → IsNamed P x m → ⊥
-named_none P x read said texts is spelled none m named = elim named.by [
-  | inl by ↦ no_wing x read texts is by.0 by.1
-  | inr by ↦ let e : None ≡ Some by.0 = sym none ∙ (spelled by.0).0 by.1 in absurd (cc)
-]
+-- a move that the text speaks of, where it castles, or says something
+pub by_castling : (P : State) (x : List ℕ) (wing : Wing) (read : Option Wing) (m : Move) → AreCastling x read → read ≡ Some wing → IsSpokenOf P x m → m.castle ≡ Some wing
+by_castling P x wing read m texts is (inl by) = by.2 ∙ ap (λ (w : Wing). Some w) (some_wing by.0 wing (sym ((texts by.0).0 by.1) ∙ is))
+by_castling P x wing read m texts is (inr by) = absurd (not_both x wing by.0 ((texts wing).1 is) by.1)
+
+pub by_none : (P : State) (x : List ℕ) (read : Option Wing) (said : Option Said) (m : Move) → AreCastling x read → read ≡ None → AreSaid x said → said ≡ None → IsSpokenOf P x m → ⊥
+by_none P x read said m texts is spelled none (inl by) = no_wing x read texts is by.0 by.1
+by_none P x read said m texts is spelled none (inr by) = let e : None ≡ Some by.0 = sym none ∙ (spelled by.0).0 by.1 in absurd (cc)
+
+pub by_said : (P : State) (x : List ℕ) (read : Option Wing) (said : Option Said) (own : Said) (m : Move) → AreCastling x read → read ≡ None → AreSaid x said → said ≡ Some own
+    → IsSpokenOf P x m → Agrees P own m
+by_said P x read said own m texts is spelled found (inl by) = absurd (no_wing x read texts is by.0 by.1)
+by_said P x read said own m texts is spelled found (inr by) = subst (λ s. Agrees P s m) (some_said by.0 own (sym ((spelled by.0).0 by.1) ∙ found)) by.2
+
+-- so each move that it names
+pub castling_named : (P : State) (x : List ℕ) (wing : Wing) (read : Option Wing) → AreCastling x read → read ≡ Some wing
+    → ((m : Move) → IsCastlingOn P wing m → IsNamed P x m) × ((m : Move) → IsNamed P x m → IsCastlingOn P wing m)
+castling_named P x wing read texts is = (
+  (λ m holds. record { legal = holds.0; by = inl (wing, (texts wing).1 is, holds.1) }),
+  (λ m named. (named.legal, by_castling P x wing read m texts is named.by)),
+)
+
+pub said_named : (P : State) (x : List ℕ) (read : Option Wing) (said : Option Said) (own : Said) → AreCastling x read → read ≡ None → AreSaid x said → said ≡ Some own
+    → ((m : Move) → IsMoveSaid P own m → IsNamed P x m) × ((m : Move) → IsNamed P x m → IsMoveSaid P own m)
+said_named P x read said own texts is spelled found = (
+  (λ m holds. record { legal = holds.0; by = inr (own, (spelled own).1 found, holds.1) }),
+  (λ m named. (named.legal, by_said P x read said own m texts is spelled found named.by)),
+)
+
+pub named_castling : (P : State) (x : List ℕ) (wing : Wing) (read : Option Wing) (result : Result Move SanError)
+    → AreCastling x read → read ≡ Some wing → IsAnswer (IsCastlingOn P wing) result → IsAnswer (IsNamed P x) result
+named_castling P x wing read result texts is answer =
+    let same = castling_named P x wing read texts is in same_answer (IsCastlingOn P wing) (IsNamed P x) result same.0 same.1 answer
+
+pub named_none : (P : State) (x : List ℕ) (read : Option Wing) (said : Option Said) → AreCastling x read → read ≡ None
+    → AreSaid x said → said ≡ None → (m : Move) → IsNamed P x m → ⊥
+named_none P x read said texts is spelled none m named = by_none P x read said m texts is spelled none named.by
 
 pub named_said : (P : State) (x : List ℕ) (read : Option Wing) (said : Option Said) (own : Said) (result : Result Move SanError)
-    → ((w : Wing) → IsCastlingText w x ↔ (read ≡ Some w)) → read ≡ None → ((s : Said) → Spells x s ↔ (said ≡ Some s)) → said ≡ Some own
+    → AreCastling x read → read ≡ None → AreSaid x said → said ≡ Some own
     → IsAnswer (IsMoveSaid P own) result → IsAnswer (IsNamed P x) result
 named_said P x read said own result texts is spelled found answer =
-    same_answer (IsMoveSaid P own) (IsNamed P x) result
-    (λ m holds. record { legal = holds.0; by = inr (own, (spelled own).1 found, holds.1) })
-    (λ m named. (
-      named.legal,
-      elim named.by [
-        | inl by ↦ absurd (no_wing x read texts is by.0 by.1)
-        | inr by ↦ subst (λ s. Agrees P s m) (some_said by.0 own (sym ((spelled by.0).0 by.1) ∙ found)) by.2
-      ],
-    )) answer
+    let same = said_named P x read said own texts is spelled found in same_answer (IsMoveSaid P own) (IsNamed P x) result same.0 same.1 answer
 
 -- what an answer gives where it is asked whether there is one
 pub none_given : {A : Type 0} (none : Type 0) (some : A → Type 0) (o : Option A) (b : Bool) → MatchOption o none some → b ≡ is_some o → b ≡ false → none

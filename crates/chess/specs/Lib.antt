@@ -8,6 +8,7 @@ pub mod Moves
 pub mod Passes
 pub mod Letters
 pub mod San
+pub mod Refusals
 pub mod Fen
 pub mod Sets
 pub mod Laws
@@ -24,6 +25,7 @@ pub mod FenTextWords
 pub mod OrderFacts
 pub mod SanWords
 pub mod SanAnswers
+pub mod RefusalWords
 pub mod SanTextWords
 pub mod SetFacts
 pub mod SquareFacts

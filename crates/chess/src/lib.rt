@@ -15,6 +15,8 @@ pub use board::{
     Bits, Board, CastlingRights, Direction, Kind, Mailbox, Man, Side, Square, SquareSet, Wing,
 };
 pub use fen::FenError;
-pub use move_text::{SanError, play_san, play_word, resolve, san};
+pub use move_text::{
+    Refusal, SanError, named_from, play_san, play_word, resolve, san, why_unnamed,
+};
 pub use moves::Move;
 pub use position::Position;

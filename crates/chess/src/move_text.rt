@@ -2,10 +2,12 @@
 
 mod play;
 mod read;
+mod refusal;
 mod write;
 
 pub use play::play_word;
 pub use read::resolve;
+pub use refusal::{Refusal, named_from, why_unnamed};
 pub use write::{play_san, san};
 
 /// Why a text names no move.

@@ -6,6 +6,8 @@ pub mod OnBoard
 pub mod Spelling
 pub mod RunFacts
 pub mod MainFacts
+pub mod RefusalSearch
+pub mod NamedMoves
 pub mod OneWord
 pub mod OneLine
 pub mod LaidFacts

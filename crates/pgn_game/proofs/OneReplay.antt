@@ -12,8 +12,8 @@ use Rattle.pgn_text.proofs.Values.{one_value}
 use Rattle.pgn_text.specs.Games.{Item}
 use Rattle.pgn_game.specs.MainLines.{main_words, IsMainLine}
 use Rattle.pgn_game.specs.Starts.{IsValueOf, IsStart, IsBadStart}
-use Rattle.pgn_game.specs.AllLines.{IsPlayed}
-use Rattle.pgn_game.specs.Faults.{Fault, IsMoveFault, IsLineFault, HasLineFault, IsFault}
+use Rattle.pgn_game.specs.AllLines.{IsPlayed, ArePlayed}
+use Rattle.pgn_game.specs.Faults.{Fault, IsMoveFault, IsLineFault, HaveFault, HasLineFault, IsFault}
 use Rattle.pgn_game.specs.Laws.{GameHasOneReplay, GameHasOneFault, SoundGameHasNoFault}
 use Rattle.pgn_game.specs.Replays.{Replay, AreTurns, IsReplay}
 use Rattle.pgn_game.specs.declared.replayer.Lines.{Lines}
@@ -132,7 +132,7 @@ one_fault lines fen items fault other (inr (start, is_start, met)) (inr (start2,
 
 -- ---- and a game with a replay has none
 
-line_or_fault : (now : State) (plies : ℕ) (words : List (List ℕ)) (positions : List State) (played : List Move) (fault : Fault)
+pub line_or_fault : (now : State) (plies : ℕ) (words : List (List ℕ)) (positions : List State) (played : List Move) (fault : Fault)
     → IsMainLine now words positions played → IsMoveFault now plies words fault → ⊥
 line_or_fault now plies [] positions played fault line met = met
 line_or_fault now plies (word ∷ words) positions played fault (m, later, more, positions_is, played_is, named, rest) (inl refused) =
@@ -141,12 +141,15 @@ line_or_fault now plies (word ∷ words) positions played fault (m, later, more,
     line_or_fault (after now m) (plies + 1) words later more fault rest
     (subst (λ k. IsMoveFault (after now k) (plies + 1) words fault) (one_move now word n m named2 named) met)
 
+pub all_or_fault : (start : State) (items : List Item) (turns : List Turn) (fault : Fault) → ArePlayed start items turns → HaveFault start items fault → ⊥
+all_or_fault start items turns fault (tree, is, all) (tree2, is2, met) =
+    let same : tree2 ≡ tree = one_tree tree2 tree (sym is2 ∙ is) in
+    played_or_faulty tree false start start 0 turns fault all (subst (λ l. IsLineFault false start start 0 l fault) same met)
+
 lines_or_fault : (lines : Lines) (start : State) (items : List Item) (positions : List State) (played : List Move) (turns : List Turn) (fault : Fault)
     → IsMainLine start (main_words items 0) positions played → AreTurns lines start items turns → HasLineFault lines start items fault → ⊥
 lines_or_fault Main start items positions played turns fault line none met = line_or_fault start 0 (main_words items 0) positions played fault line met
-lines_or_fault All start items positions played turns fault line (tree, is, all) (tree2, is2, met) =
-    let same : tree2 ≡ tree = one_tree tree2 tree (sym is2 ∙ is) in
-    played_or_faulty tree false start start 0 turns fault all (subst (λ l. IsLineFault false start start 0 l fault) same met)
+lines_or_fault All start items positions played turns fault line all met = all_or_fault start items turns fault all met
 
 replay_or_fault : (lines : Lines) (fen : Option (List ℕ)) (items : List Item) (replay : Replay) (fault : Fault) → IsReplay lines fen items replay → IsFault lines fen items fault → ⊥
 replay_or_fault lines fen items replay fault is (inl (bad, told)) = start_or_bad fen is.start is.is_start bad

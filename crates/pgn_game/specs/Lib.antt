@@ -4,6 +4,7 @@ pub mod MainLines
 pub mod AllLines
 pub mod Faults
 pub mod Replays
+pub mod Refusals
 pub mod TagLines
 pub mod TextLines
 pub mod Comments
@@ -13,6 +14,7 @@ pub mod Laws
 pub mod Codes
 pub mod Walks
 pub mod LineWalks
+pub mod RefusalWalks
 pub mod Pens
 pub mod CommentWords
 pub mod MovetextWalks

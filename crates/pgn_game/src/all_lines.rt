@@ -32,7 +32,7 @@ struct Level {
 /// All lines as far as they were played: the positions of the main line before its moves, its moves, all turns in the order of the text,
 /// the line that is being played, and those around it, the innermost last. There are no more of these than variations can be nested.
 #[derive(Drop)]
-struct LinesWalk {
+pub(crate) struct LinesWalk {
     positions: Vec<GamePosition>,
     played: Vec<Move>,
     turns: Vec<Turn>,
@@ -41,7 +41,7 @@ struct LinesWalk {
 }
 
 /// Whether the word is a pass: in a variation `--` and `Z0` are, in the main line no word is.
-fn passes(inside: bool, word: &[u8]) -> bool
+pub(crate) fn passes(inside: bool, word: &[u8]) -> bool
     ensures { result ≡ (inside && is_pass word.now) }
 {
     inside && (word == b"--".as_slice() || word == b"Z0".as_slice())
@@ -73,7 +73,7 @@ fn play_turn<'a>(
 
 impl LinesWalk {
     /// Before the first of the elements.
-    fn new(alloc: Global, start: &GamePosition) -> Self
+    pub(crate) fn new(alloc: Global, start: &GamePosition) -> Self
         ensures positions { result.positions.items ≡ [] }
         ensures played { result.played.items ≡ [] }
         ensures turns { result.turns.items ≡ [] }
@@ -94,10 +94,17 @@ impl LinesWalk {
     }
 
     /// Whether a variation is played.
-    fn is_inside(&self) -> bool
+    pub(crate) fn is_inside(&self) -> bool
         ensures { result ≡ is_inside self.now.outer.items }
     {
         !self.outer.is_empty()
+    }
+
+    /// The position behind the last turn of the line that is played.
+    pub(crate) fn position(&self) -> GamePosition
+        ensures { result ≡ self.now.line.now }
+    {
+        self.line.now.copy()
     }
 
     /// Keeps the last turn, and a move of the main line also among its moves, with the position before it.
@@ -153,7 +160,7 @@ impl LinesWalk {
     }
 
     /// Goes on by the element.
-    fn step<'a>(&mut self, element: Element<'a>) -> Result<(), GameFault<'a>>
+    pub(crate) fn step<'a>(&mut self, element: Element<'a>) -> Result<(), GameFault<'a>>
         requires room { self.old.line.plies < usize.MAX }
         ensures played { OnOk result ((items : List Item) (turns : List Turn) → RunsOn self.new items turns → RunsOn self.old (item_of element.entry ∷ items) turns) }
         ensures faults { OnOk result ((items : List Item) (fault : Fault) → StopsOn self.new items fault → StopsOn self.old (item_of element.entry ∷ items) fault) }

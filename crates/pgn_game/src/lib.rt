@@ -3,6 +3,7 @@
 
 mod all_lines;
 mod comment;
+mod explain;
 mod exporter;
 mod fault;
 pub mod laws;
@@ -18,6 +19,7 @@ mod tag_lines;
 mod tokens;
 mod turn;
 
+pub use explain::{Refused, Why, named_moves, refused_word};
 pub use exporter::export;
 pub use fault::GameFault;
 pub use replayed::{GamePosition, Replayed};

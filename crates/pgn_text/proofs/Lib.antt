@@ -25,6 +25,7 @@ pub mod Joined
 pub mod KeptLemmas
 pub mod LineFronts
 pub mod Lines
+pub mod Located
 pub mod MarkedPieces
 pub mod OldMarks
 pub mod OneBlocks

@@ -56,7 +56,7 @@ named-word wanted word =
     go false false false false = refl
 
 -- the first tag of a list with one part more at its head
-first_tag-cons : (wanted : List ℕ) (p : Part) (more : List Part) → first_tag wanted (p ∷ more) ≡ option_or (named_kept wanted (kept p)) (first_tag wanted more)
+pub first_tag-cons : (wanted : List ℕ) (p : Part) (more : List Part) → first_tag wanted (p ∷ more) ≡ option_or (named_kept wanted (kept p)) (first_tag wanted more)
 first_tag-cons wanted ByteOrderMark more = refl
 first_tag-cons wanted (White b) more = refl
 first_tag-cons wanted (Brace text) more = refl

@@ -70,7 +70,7 @@ impl Square {
     }
 
     /// The square that stands at this place in the order a1, b1 to h1, a2 and so on.
-    pub(crate) fn of_index(index: u8) -> Self
+    pub fn of_index(index: u8) -> Self
         requires { index < 64 }
         ensures square { result ≡ square_at index }
         ensures on_board { IsOnBoard result }

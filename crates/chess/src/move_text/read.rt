@@ -52,7 +52,7 @@ pub(crate) fn castled<B: Board>(position: &Position<B>, wing: Wing) -> Result<Mo
 }
 
 /// The side's castling on the wing.
-fn castling_move(side: Side, wing: Wing) -> Move
+pub(crate) fn castling_move(side: Side, wing: Wing) -> Move
     ensures { result ≡ castling_on side wing }
 {
     Move {

@@ -1,0 +1,94 @@
+-- Why a text names no legal move; and the move from a square that it names.
+use Rattle.std.proofs.Common.{◌≡◌, ◌↔◌, ℕ, Bool, true, false, inl, inr, refl, ap, sym, subst, ◌∙◌, Option, Some, None, List, IsTrue}
+use Rattle.chess.specs.Squares.{Place, IsOnBoard}
+use Rattle.chess.specs.Placements.{AreOnBoard}
+use Rattle.chess.specs.Positions.{State, IsCheck}
+use Rattle.chess.specs.Moves.{Promotes, IsPseudoLegal, IsLegal, IsUnbarred, men_after}
+use Rattle.chess.specs.San.{Said, Spells, IsCastlingText, IsNamed}
+use Rattle.chess.specs.Refusals.{IsMeant, IsRefusal, IsFrom}
+use Rattle.chess.specs.RefusalWords.{IsCastlingRefusal, IsSaidRefusal}
+use Rattle.chess.specs.SanWords.{IsAble, CanGoSaid, IsMoveSaid, IsCastlingOn, move_from, castling_on}
+use Rattle.chess.specs.Sets.{Places, is_in, no_places, HoldsExactly}
+use Rattle.chess.specs.declared.board.man.Wing.{Wing}
+use Rattle.chess.specs.declared.moves.Move.{Move}
+use Rattle.chess.specs.declared.move_text.refusal.Refusal.{Refusal}
+use Rattle.chess.specs.declared.move_text.refusal.Refusal.TheVariants.{NoMoveText, NoCastling, CastlingAttacked, WrongPromotion, NoneCan, LeavesKingAttacked}
+use Rattle.chess.proofs.AfterFacts.{after_on_board}
+use Rattle.chess.proofs.LegalSettled.{settled_check}
+use Rattle.chess.proofs.LoopFacts.{not_in}
+use Rattle.chess.proofs.NamedFacts.{AreCastling, AreSaid, agreed_able, agrees_able, able_said, said_move, castling_is, castling_only, no_wing, by_castling, by_said}
+use Rattle.chess.proofs.PlaceFacts.{true_not_false}
+
+-- ---- why none is legal
+
+-- a text that castles
+pub castling_refused : (P : State) (x : List ℕ) (wing : Wing) (read : Option Wing) (found : Refusal) → AreCastling x read → read ≡ Some wing
+    → IsCastlingRefusal P wing found → IsRefusal P x found
+castling_refused P x wing read CastlingAttacked texts is rules = ((wing, (texts wing).1 is), (castling_on P.turn wing, (rules, inl (wing, (texts wing).1 is, refl))))
+castling_refused P x wing read NoCastling texts is fails = (
+  (wing, (texts wing).1 is),
+  (λ m meant. fails (subst (IsPseudoLegal P) (castling_is P wing m meant.0 (by_castling P x wing read m texts is meant.1)) meant.0)),
+)
+castling_refused P x wing read NoMoveText texts is none = absurd none
+castling_refused P x wing read WrongPromotion texts is none = absurd none
+castling_refused P x wing read NoneCan texts is none = absurd none
+castling_refused P x wing read LeavesKingAttacked texts is none = absurd none
+
+-- a text that says nothing
+pub nothing_said : (P : State) (x : List ℕ) (read : Option Wing) (said : Option Said) → AreCastling x read → read ≡ None → AreSaid x said → said ≡ None
+    → IsRefusal P x NoMoveText
+nothing_said P x read said texts is spelled none = (
+  (λ castles. no_wing x read texts is castles.0 castles.1),
+  (λ s spells. let e : None ≡ Some s = sym none ∙ (spelled s).0 spells in cc),
+)
+
+-- a move of a man that is able, which no text names legally, leaves its king attacked
+unsafe : (P : State) (m : Move) → AreOnBoard P.men → IsPseudoLegal P m → m.castle ≡ None → (IsLegal P m → ⊥) → IsCheck (men_after P m) P.turn
+unsafe P m on_board rules plain fails = elim (settled_check (men_after P m) P.turn (after_on_board P m on_board rules.to)) [
+  | inl check ↦ check
+  | inr safe ↦ absurd (fails (record { pseudo_legal = rules; safe = safe; unbarred = subst (IsUnbarred P) (sym plain) tt }))
+]
+
+-- a text that says something else
+pub said_refused : (P : State) (x : List ℕ) (read : Option Wing) (said : Option Said) (own : Said) (found : Refusal) → AreOnBoard P.men
+    → AreCastling x read → read ≡ None → AreSaid x said → said ≡ Some own → ((m : Move) → IsNamed P x m → ⊥) → IsSaidRefusal P own found → IsRefusal P x found
+said_refused P x read said own WrongPromotion on_board texts is spelled some none wrong = (own, (spelled own).1 some, wrong)
+said_refused P x read said own NoneCan on_board texts is spelled some none (right, able) = (
+  own,
+  (spelled own).1 some,
+  right,
+  (λ m meant. able m.from meant.0.from (agreed_able P own m meant.0 (by_said P x read said own m texts is spelled some meant.1))),
+)
+said_refused P x read said own LeavesKingAttacked on_board texts is spelled some none (s, able) = (
+  own,
+  (spelled own).1 some,
+  (move_from own s, (able.rules, inr (own, (spelled own).1 some, agrees_able P own s able))),
+  (λ m meant.
+      let agrees = by_said P x read said own m texts is spelled some meant.1 in
+      unsafe P m on_board meant.0 agrees.not_castling (λ legal. none m (record { legal = legal; by = meant.1 }))),
+)
+said_refused P x read said own NoMoveText on_board texts is spelled some none fails = absurd fails
+said_refused P x read said own NoCastling on_board texts is spelled some none fails = absurd fails
+said_refused P x read said own CastlingAttacked on_board texts is spelled some none fails = absurd fails
+
+-- no man is able where the set of those that are is empty; else some man is
+pub none_able : (P : State) (said : Said) (able : Places) → HoldsExactly (IsAble P said) able → able ≡ no_places → (s : Place) → IsOnBoard s → IsAble P said s → ⊥
+none_able P said able are none s on here = true_not_false (is_in able s) ((are s).1 (on, here)) (not_in able s none)
+
+-- ---- the move from a square
+
+pub same_from : (fact own : Move → Type 0) (s : Place) (found : Option Move) → ((m : Move) → fact m → own m) × ((m : Move) → own m → fact m)
+    → IsFrom fact s found → IsFrom own s found
+same_from fact own s None same none = λ m here holds. none m here (same.1 m holds)
+same_from fact own s (Some m) same (here, holds, only) = (here, same.0 m holds, (λ n there other. only n there (same.1 n other)))
+
+pub castled_here : (P : State) (wing : Wing) (s : Place) → (castling_on P.turn wing).from ≡ s → IsLegal P (castling_on P.turn wing)
+    → IsFrom (IsCastlingOn P wing) s (Some (castling_on P.turn wing))
+castled_here P wing s here legal = (here, (legal, refl), (λ n there castles. castling_only P wing n castles))
+
+pub said_here : (P : State) (said : Said) (s : Place) → IsAble P said s → CanGoSaid P said s → IsFrom (IsMoveSaid P said) s (Some (move_from said s))
+said_here P said s able legal = (
+  refl,
+  able_said P said s able legal,
+  (λ n there holds. sym (said_move P said n holds.1) ∙ ap (move_from said) there),
+)

@@ -1,0 +1,5 @@
+use Rattle.pgn_game.proofs.NamedMoves.{HasNamed}
+use Rattle.pgn_game.proofs.explain.named_moves.Given as goal
+
+abbrev pub invariant-loop-index : goal.invariant-loop-index
+invariant-loop-index l = HasNamed l.position l.word l.index l.moves.items

@@ -1,0 +1,56 @@
+-- All lines, or the main line alone, while the first word is sought that is refused. Nothing but the proof of `refused_word` cites these.
+use Rattle.std.specs.Prelude.{◌≡◌, ◌⊎◌, ℕ, ◌+◌, ◌≤◌, Bool, true, false, List, [], ◌∷◌, ◌++◌, map, take}
+use Rattle.chess.specs.Positions.{State}
+use Rattle.chess.specs.San.{IsNamed}
+use Rattle.chess.specs.Squares.{Place}
+use Rattle.chess.specs.declared.moves.Move.{Move}
+use Rattle.pgn_text.specs.Games.{Item, MoveText}
+use Rattle.pgn_game.specs.Faults.{Fault, IsRefusedTurn}
+use Rattle.pgn_game.specs.LineWalks.{is_inside, first_level, Runs, Stops, RunsOn, StopsOn, AreWithin}
+use Rattle.pgn_game.specs.MainLines.{main_words}
+use Rattle.pgn_game.specs.Refusals.{IsWhy}
+use Rattle.pgn_game.specs.declared.all_lines.LinesWalk.{LinesWalk}
+use Rattle.pgn_game.specs.declared.explain.Refused.{Refused}
+use Rattle.pgn_game.specs.declared.replayer.Lines.{Lines}
+use Rattle.pgn_game.specs.declared.replayer.Lines.TheVariants.{Main, All}
+use Rattle.pgn_game.specs.declared.turn.Turn.{Turn}
+
+-- the elements that are played where these lines are replayed and so many variations are open: of the main line its moves
+abbrev pub played_items : Lines → List Item → ℕ → List Item
+played_items All items depth = items
+played_items Main items depth = map (λ word. MoveText word) (main_words items depth)
+
+-- the element is played, and so would each other word be in its place; or it is not
+abbrev pub IsCounted : Lines → Item → ℕ → ℕ → Bool → Type 0
+IsCounted lines item old new true =
+    ((more : List Item) → played_items lines (item ∷ more) old ≡ item ∷ played_items lines more new)
+    × ((word : List ℕ) (more : List Item) → played_items lines (MoveText word ∷ more) old ≡ MoveText word ∷ played_items lines more old)
+IsCounted lines item old new false = (more : List Item) → played_items lines (item ∷ more) old ≡ played_items lines more new
+
+-- the walk went on by the element
+pub record GoesOn (old : LinesWalk) (item : Item) (new : LinesWalk) : Type 0 where
+  pub runs : (items : List Item) (turns : List Turn) → RunsOn new items turns → RunsOn old (item ∷ items) turns
+  pub stops : (items : List Item) (fault : Fault) → StopsOn new items fault → StopsOn old (item ∷ items) fault
+  pub within : (n : ℕ) → AreWithin n old → AreWithin (n + 1) new
+
+-- its word is refused
+pub record IsRefusedHere (old : LinesWalk) (item : Item) (index : ℕ) (refused : Refused) : Type 0 where
+  pub element : refused.element ≡ index
+  pub word : item ≡ MoveText refused.word.now
+  pub position : refused.position ≡ old.line.now
+  pub why : IsWhy (is_inside old.outer.items) old.line.now refused.word.now refused.why
+
+-- the elements in front of the index were gone through
+pub record IsSearched (lines : Lines) (start : State) (items : List Item) (index : ℕ) (walk : LinesWalk) (depth : ℕ) : Type 0 where
+  pub runs : (more : List Item) (turns : List Turn) → RunsOn walk (played_items lines more depth) turns
+      → Runs (played_items lines (take index items ++ more) 0) (first_level start) [] turns
+  pub stops : (more : List Item) (fault : Fault) → StopsOn walk (played_items lines more depth) fault
+      → Stops (played_items lines (take index items ++ more) 0) (first_level start) [] fault
+  pub within : AreWithin index walk
+  pub depth_within : depth ≤ index
+
+-- the legal move that the word names from the square was put behind the others, if there is one
+abbrev pub AddsFrom : State → List ℕ → Place → List Move → List Move → Type 0
+AddsFrom now word s old new =
+    ((new ≡ old) × ((m : Move) → m.from ≡ s → IsNamed now word m → ⊥))
+    ⊎ ((m : Move) × (new ≡ old ++ m ∷ []) × (m.from ≡ s) × IsNamed now word m × ((n : Move) → n.from ≡ s → IsNamed now word n → n ≡ m))
