@@ -10,3 +10,4 @@ pub mod Resuming
 pub mod Laws
 -- Private words: what the parts of a run do. No public contract cites them.
 pub mod Blockwise
+pub mod MoveNotes
