@@ -10,7 +10,7 @@ _pgn_extract() {
     esac
     if [[ $word == -* ]]; then
         mapfile -t COMPREPLY < <(compgen -W '--list --index --criteria --min-ply --max-ply --first -C --no-comments -N --no-glyphs
-            -V --no-variations --roster -w --width --from -h --help --version' -- "$word")
+            -V --no-variations --roster -w --width --explain --from -h --help --version' -- "$word")
     else
         mapfile -t COMPREPLY < <(compgen -f -- "$word")
     fi
