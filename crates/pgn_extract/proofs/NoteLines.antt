@@ -25,14 +25,18 @@ empty_note true = ([], tt, refl)
 empty_note false = refl
 
 -- the bytes hold no line feed
-abbrev IsLine : List ℕ → Type 0
+abbrev pub IsLine : List ℕ → Type 0
 IsLine bytes = IsTrue (list_all is_not_line_feed bytes)
 
-line_join : (xs ys : List ℕ) → IsLine xs → IsLine ys → IsLine (xs ++ ys)
+pub line_join : (xs ys : List ℕ) → IsLine xs → IsLine ys → IsLine (xs ++ ys)
 line_join xs ys a b = list_all-append is_not_line_feed xs ys ∙ and_from (list_all is_not_line_feed xs) (list_all is_not_line_feed ys) a b
 
 line_join_two : (xs ys zs : List ℕ) → IsLine xs → IsLine ys → IsLine zs → IsLine (xs ++ ys ++ zs)
 line_join_two xs ys zs a b c = line_join (xs ++ ys) zs (line_join xs ys a b) c
+
+-- one byte that is no line feed
+pub shown_line : (b : ℕ) → is_not_line_feed b ≡ true → IsLine (b ∷ [])
+shown_line b other = and_from (is_not_line_feed b) true other refl
 
 above_feed : (b : ℕ) → 10 < b → is_not_line_feed b ≡ true
 above_feed b high = grind (arith, nat_tests)
@@ -53,7 +57,7 @@ position_line first front =
     line_join (codes "line " ++ line ++ codes ", column ") column
     (line_join_two (codes "line ") line (codes ", column ") refl (decimal_line (first + line_feeds front)) refl) (decimal_line (column_behind front))
 
-place_line : (line : Option ℕ) (byte : ℕ) (front : List ℕ) → IsLine (place_in line byte front)
+pub place_line : (line : Option ℕ) (byte : ℕ) (front : List ℕ) → IsLine (place_in line byte front)
 place_line None byte front = line_join (codes "byte ") (decimal byte) refl (decimal_line byte)
 place_line (Some first) byte front =
     line_join_two (position_text first front) (codes ", byte ") (decimal byte) (position_line first front) refl (decimal_line byte)
@@ -219,3 +223,11 @@ names_stop true origin block begin note fits is =
     let whole : note ≡ shaped =
     is.says ∙ ap (λ t. 32 ∷ 32 ∷ (((place_text origin (take is.place block) ++ t) ++ context) ++ tail)) said.1 in
     subst (NamesByte (origin.offset + is.place)) (sym whole) (subst (λ n. NamesByte (origin.offset + n) shaped) size names)
+
+-- a line that begins with a place, where nothing stood before it
+pub placed_line : {old new : List ℕ} (line : Option ℕ) (byte : ℕ) (front : List ℕ) → old ≡ [] → new ≡ old ++ place_in line byte front → IsLine new
+placed_line line byte front none is = subst IsLine (sym (is ∙ ap (λ xs. xs ++ place_in line byte front) none)) (place_line line byte front)
+
+-- one line is a note
+pub line_note : (line : List ℕ) → IsLine line → IsNote true (indented (line ∷ []))
+line_note line is = (line ∷ [], (is, tt), refl)

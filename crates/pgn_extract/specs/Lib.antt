@@ -11,3 +11,4 @@ pub mod Laws
 -- Private words: what the parts of a run do. No public contract cites them.
 pub mod Blockwise
 pub mod NoteTexts
+pub mod MoveNotes

@@ -10,6 +10,7 @@ pub mod laws;
 mod listing;
 mod mark;
 pub mod messages;
+mod move_notes;
 mod notes;
 mod outcome;
 mod put;

@@ -85,7 +85,7 @@ fn push_position(text: &mut Vec<u8>, first: u32, front: &[u8]) -> Result<(), All
 }
 
 /// Appends where the byte behind the front of a block stands in the file.
-fn push_place(text: &mut Vec<u8>, origin: Origin, front: &[u8]) -> Result<(), AllocError>
+pub fn push_place(text: &mut Vec<u8>, origin: Origin, front: &[u8]) -> Result<(), AllocError>
     requires { origin.offset + length front.now < 2 ^ 64 }
     ensures { OnOk result (text.new.items ≡ text.old.items ++ place_text origin front.now) }
 {

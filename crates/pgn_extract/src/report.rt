@@ -17,6 +17,7 @@ ghost use Rattle.pgn_game.specs.Replays.{fault_of};
 
 use crate::exporting::{push_export, written_lines};
 use crate::listing::{push_entries, push_plies};
+use crate::move_notes::{Site, push_game_note};
 use crate::notes::{Origin, push_stop_note, push_too_long_note};
 use crate::settings::{Mode, Settings};
 use crate::texts::{push_fault_line, push_game_fault, push_mark_line};
@@ -68,21 +69,37 @@ impl Report {
     }
 }
 
+/// The lines of a game that are replayed.
+fn replayed_lines(settings: &Settings) -> Lines {
+    match settings.mode {
+        Mode::Index | Mode::List => Lines::Main,
+        Mode::Export => written_lines(&settings.style),
+    }
+}
+
 /// Adds the line of a game that can't be replayed.
-fn add_fault(
+fn add_fault<'a>(
+    alloc: Global,
     report: &mut Report,
     settings: &Settings,
     number: u64,
     offset: u64,
+    site: Site<'a>,
+    game: &RawGame<'a>,
     fault: GameFault<'_>,
 ) -> Result<(), AllocError>
     requires faulty { report.old.faulty + 1 < 2 ^ 64 }
+    requires room { site.origin.offset + length site.block.now < 2 ^ 64 }
     ensures { OnOk result ((own : Fault) × (note : List ℕ) × (fault_of fault.entry ≡ Some own) × IsNote settings.now.explain note
         × AddsVerdict report.old report.new (FaultyGame (fault_text number offset (cause_text own)) note) 0) }
 {
     push_game_fault(&mut report.faults, number, offset, fault)?;
     report.faulty += 1;
-    Ok(())
+    if !settings.explain {
+        return Ok(());
+    }
+    let lines = replayed_lines(settings);
+    push_game_note(alloc, &mut report.faults, site, game, lines)
 }
 
 /// Adds what the listing reports of a game where criteria are given: the lines of its entries, or of its fault.
@@ -92,9 +109,11 @@ fn add_entries<'a>(
     settings: &'a Settings,
     number: u64,
     offset: u64,
+    site: Site<'a>,
     game: &RawGame<'a>,
 ) -> Result<(), AllocError>
     requires faulty { report.old.faulty + 1 < 2 ^ 64 }
+    requires room { site.origin.offset + length site.block.now < 2 ^ 64 }
     ensures { OnOk result (AddsListed (aim_of settings.now) report.old report.new number offset game.now) }
 {
     match replay(alloc, game, Lines::Main) {
@@ -107,7 +126,7 @@ fn add_entries<'a>(
             game,
             &replayed,
         ),
-        Err(fault) => add_fault(report, settings, number, offset, fault),
+        Err(fault) => add_fault(alloc, report, settings, number, offset, site, game, fault),
     }
 }
 
@@ -118,15 +137,17 @@ fn add_plies<'a>(
     settings: &'a Settings,
     number: u64,
     offset: u64,
+    site: Site<'a>,
     game: &RawGame<'a>,
 ) -> Result<(), AllocError>
     requires faulty { report.old.faulty + 1 < 2 ^ 64 }
+    requires room { site.origin.offset + length site.block.now < 2 ^ 64 }
     requires criteria { settings.now.criteria ≡ None }
     ensures { OnOk result (AddsListed (aim_of settings.now) report.old report.new number offset game.now) }
 {
     match count_plies(alloc, game) {
         Ok(plies) => push_plies(alloc, &mut report.output, settings, number, offset, plies),
-        Err(fault) => add_fault(report, settings, number, offset, fault),
+        Err(fault) => add_fault(alloc, report, settings, number, offset, site, game, fault),
     }
 }
 
@@ -137,14 +158,16 @@ fn add_listed<'a>(
     settings: &'a Settings,
     number: u64,
     offset: u64,
+    site: Site<'a>,
     game: &RawGame<'a>,
 ) -> Result<(), AllocError>
     requires faulty { report.old.faulty + 1 < 2 ^ 64 }
+    requires room { site.origin.offset + length site.block.now < 2 ^ 64 }
     ensures { OnOk result (AddsListed (aim_of settings.now) report.old report.new number offset game.now) }
 {
     match &settings.criteria {
-        Some(_) => add_entries(alloc, report, settings, number, offset, game),
-        None => add_plies(alloc, report, settings, number, offset, game),
+        Some(_) => add_entries(alloc, report, settings, number, offset, site, game),
+        None => add_plies(alloc, report, settings, number, offset, site, game),
     }
 }
 
@@ -155,15 +178,17 @@ fn add_exported<'a>(
     settings: &'a Settings,
     number: u64,
     offset: u64,
+    site: Site<'a>,
     game: &RawGame<'a>,
 ) -> Result<(), AllocError>
     requires faulty { report.old.faulty + 1 < 2 ^ 64 }
+    requires room { site.origin.offset + length site.block.now < 2 ^ 64 }
     ensures { OnOk result (AddsExported (aim_of settings.now) report.old report.new number offset game.now) }
 {
     game.known();
     match replay(alloc, game, written_lines(&settings.style)) {
         Ok(replayed) => push_export(alloc, &mut report.output, settings, game, &replayed),
-        Err(fault) => add_fault(report, settings, number, offset, fault),
+        Err(fault) => add_fault(alloc, report, settings, number, offset, site, game, fault),
     }
 }
 
@@ -174,15 +199,17 @@ fn add_game<'a>(
     settings: &'a Settings,
     number: u64,
     offset: u64,
+    site: Site<'a>,
     game: &RawGame<'a>,
 ) -> Result<(), AllocError>
     requires faulty { report.old.faulty + 1 < 2 ^ 64 }
+    requires room { site.origin.offset + length site.block.now < 2 ^ 64 }
     ensures { OnOk result (AddsGame (aim_of settings.now) report.old report.new number offset game.now) }
 {
     match settings.mode {
         Mode::Index => push_mark_line(&mut report.output, number, offset),
-        Mode::List => add_listed(alloc, report, settings, number, offset, game),
-        Mode::Export => add_exported(alloc, report, settings, number, offset, game),
+        Mode::List => add_listed(alloc, report, settings, number, offset, site, game),
+        Mode::Export => add_exported(alloc, report, settings, number, offset, site, game),
     }
 }
 
@@ -258,7 +285,12 @@ fn add_piece<'a>(
     match piece {
         Piece::Game(game) => {
             let here = offset + game.at() as u64;
-            add_game(alloc, report, settings, number, here, game)
+            let origin = Origin {
+                offset,
+                line: report.line,
+            };
+            let site = Site { origin, block };
+            add_game(alloc, report, settings, number, here, site, game)
         }
         Piece::Unreadable { at } => add_unreadable(report, settings, number, offset, block, *at),
     }

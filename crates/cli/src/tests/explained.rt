@@ -200,3 +200,64 @@ fn notes_are_made_of_large_texts(rt: HostRuntime) -> Result<(), Fail> {
     assert!(rt; is_noted(rt.alloc(), &deep, note)?);
     Ok(())
 }
+
+/// Whether the words report on the text just this, and write nothing.
+fn is_reported(
+    alloc: Global,
+    words: &[&str],
+    text: &[u8],
+    report: &[u8],
+) -> Result<bool, AllocError> {
+    let end = run_over(alloc, words, text)?;
+    Ok(end.is(b"", report, 1))
+}
+
+#[test]
+fn a_note_says_why_a_word_is_refused(rt: HostRuntime) -> Result<(), Fail> {
+    let rows: [(&[&str], &[u8], &[u8]); 8] = [
+        (
+            &["--list", "--explain"],
+            b"1. e4 e5 2. Ke3 *",
+            b"pgn-extract: game 1@0: illegal move Ke3 at ply 3\n  line 1, column 13, byte 12: Ke3: no king can move there\n",
+        ),
+        (
+            &["--explain"],
+            b"1. e4 e5\n(1... Ke7) 2. Nf3 *",
+            b"pgn-extract: game 1@0: illegal move Ke7 at ply 2\n  line 2, column 7, byte 15: Ke7: no king can move there\n",
+        ),
+        (
+            &["--list", "--explain"],
+            b"[FEN \"4k3/8/8/8/8/2N5/8/K5N1 w - - 0 1\"]\n1. Ne2 *",
+            b"pgn-extract: game 1@0: ambiguous move Ne2 at ply 1\n  line 2, column 4, byte 44: Ne2 names Nge2, Nce2\n",
+        ),
+        (
+            &["--list", "--explain"],
+            b"[FEN \"4r2k/8/8/8/8/8/4N3/4K3 w - - 0 1\"]\n1. Nc3 *",
+            b"pgn-extract: game 1@0: illegal move Nc3 at ply 1\n  line 2, column 4, byte 44: Nc3: leaves its king attacked\n",
+        ),
+        (
+            &["--list", "--explain"],
+            b"[FEN \"8/P3k3/8/8/8/8/8/4K3 w - - 0 1\"]\n1. a8 *",
+            b"pgn-extract: game 1@0: illegal move a8 at ply 1\n  line 2, column 4, byte 42: a8: its promotion is missing or wrong\n",
+        ),
+        (
+            &["--list", "--explain"],
+            b"1. O-O *",
+            b"pgn-extract: game 1@0: illegal move O-O at ply 1\n  line 1, column 4, byte 3: O-O: the right is lost, or men stand between king and rook\n",
+        ),
+        (
+            &["--list", "--explain"],
+            b"\n[Event \"x\"]\n[FEN \"8/8\"]\n\n*",
+            b"pgn-extract: game 1@1: bad position\n  line 3, column 1, byte 13: this tag gives no position\n",
+        ),
+        (
+            &["--list"],
+            b"1. O-O *",
+            b"pgn-extract: game 1@0: illegal move O-O at ply 1\n",
+        ),
+    ];
+    for (words, text, report) in rows {
+        assert!(rt; is_reported(rt.alloc(), words, text, report)?, "{text:?}");
+    }
+    Ok(())
+}
