@@ -84,7 +84,7 @@ const ENDING: &[u8] =
 #[test]
 fn conditions_hold_at_their_plies(rt: HostRuntime) -> Result<(), Fail> {
     let alloc = rt.alloc();
-    let rows: [(&[u8], &[u8], &[usize]); 44] = [
+    let rows: [(&[u8], &[u8], &[usize]); 48] = [
         (b"", SHORT, &[0, 1, 2]),
         (b"# x", SHORT, &[0, 1, 2]),
         (b"or", SHORT, &[0, 1, 2]),
@@ -137,6 +137,10 @@ fn conditions_hold_at_their_plies(rt: HostRuntime) -> Result<(), Fail> {
         (b"fen */*/*/*/4P*/*/*/*", SHORT, &[1, 2]),
         (b"fen */*/*/*/*/*/*1PPP/*", SHORT, &[1, 2]),
         (b"fen */*/*/*p*/*/*/*/*\nturn white", SHORT, &[2]),
+        (b"fen */*/*/*p3/4P*/*/PPPP*PPP/*R", SHORT, &[2]),
+        (b"fen r*r/p*p/*/*/*/*/*/R*KBNR", SHORT, &[0, 1, 2]),
+        (b"fen */*/*/*/*/*/P*P/*Q*K*", SHORT, &[0, 1, 2]),
+        (b"fen */*/*/*/*/*/*/4K3", SHORT, &[]),
     ];
     for (criteria, block, plies) in rows {
         assert!(rt;
