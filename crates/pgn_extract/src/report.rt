@@ -214,6 +214,7 @@ fn add_game<'a>(
 }
 
 /// Adds the line of bytes at the place of the block that are no game.
+#[cold]
 fn add_unreadable(
     report: &mut Report,
     settings: &Settings,
