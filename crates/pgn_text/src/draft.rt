@@ -1,6 +1,6 @@
 //! A game's tags and elements while it is read.
 
-ghost use Rattle.std.specs.Prelude.{◌≡◌, ◌++◌, ℕ, List, [], None, OnOk, map};
+ghost use Rattle.std.specs.Prelude.{◌≡◌, ◌++◌, ℕ, List, [], None, IfOk, OnOk, map};
 ghost use Rattle.std.specs.Option.{option_or};
 ghost use Rattle.pgn_text.specs.Elements.{AreOrdered, item_of, tag_at};
 ghost use Rattle.pgn_text.specs.Games.{single_mark as glyph_of_mark, double_mark as glyph_of_two, glyphs_of_marks};
@@ -97,16 +97,20 @@ fn keep_tag<'a>(tags: &mut BTreeMap<&'a [u8], &'a [u8]>, token: Token<'a>) -> Re
     }
 }
 
+/// The elements that a draft has room for at first: as many as most games have, so that their room does not grow.
+const ELEMENTS: usize = 128;
+
 impl<'a> Draft<'a> {
-    pub(crate) fn new(alloc: Global) -> Self
-        ensures ordered { AreOrdered result.tags }
-        ensures tags { (wanted : List ℕ) → tag_at result.tags wanted ≡ None }
-        ensures elements { result.elements.items ≡ [] }
+    /// Without tags and elements.
+    pub(crate) fn new(alloc: Global) -> Result<Self, AllocError>
+        ensures ordered { IfOk result (λ draft. AreOrdered draft.tags) }
+        ensures tags { IfOk result (λ draft. (wanted : List ℕ) → tag_at draft.tags wanted ≡ None) }
+        ensures elements { IfOk result (λ draft. draft.elements.items ≡ []) }
     {
-        Draft {
+        Ok(Draft {
             tags: BTreeMap::new(alloc),
-            elements: Vec::new(alloc),
-        }
+            elements: Vec::with_capacity(alloc, ELEMENTS)?,
+        })
     }
 
     /// Adds what a part gives.

@@ -332,7 +332,7 @@ pub(crate) fn read_game<'a>(
     requires outside { NoGapPartAt file_start block.now begin }
     ensures { IfOk result (λ read. MatchOption read (NoGame depth_limit file_start (take begin block.now) (drop begin block.now)) (λ found. (parts : List Part) × GameTo depth_limit file_start block.now begin parts found.1 × ShowsGame found.0 begin parts)) }
 {
-    let mut draft = Draft::new(alloc);
+    let mut draft = Draft::new(alloc)?;
     let Some((at, end)) = read_parts(block, begin, file_start, &mut draft)? else {
         return Ok(None);
     };

@@ -14,7 +14,7 @@ invariant_of-game c =
     let found = rw c.in-Some.is at c.in_ok-at.ensures in
     let read : GameRead depth_limit c.args.file_start c.args.block.now c.args.begin c.in-Some.at c.in-Some.end found.0 found.1 = found.2 in
     let held : IsDraftOf c.read_parts.new.keeper found.0 found.1 =
-    found.3 (record { ordered = c.new-draft.ensures.ordered; each = c.new-draft.ensures.tags; elements = ap (map item_of) c.new-draft.ensures.elements }) in
+    found.3 (record { ordered = c.in_ok-draft.ensures.ordered; each = c.in_ok-draft.ensures.tags; elements = ap (map item_of) c.in_ok-draft.ensures.elements }) in
     record {
       ordered = tags_ascend c.read_parts.new.keeper.tags.entries held.ordered;
       strings = λ name contents is. first_string name contents c.args.file_start (take c.args.begin c.args.block.now) read.parts (drop c.in-Some.end c.args.block.now)
@@ -27,7 +27,7 @@ returns c =
     let found = rw c.in-Some.is at c.in_ok-at.ensures in
     let read : GameRead depth_limit c.args.file_start c.args.block.now c.args.begin c.in-Some.at c.in-Some.end found.0 found.1 = found.2 in
     let held : IsDraftOf c.read_parts.new.keeper found.0 found.1 =
-    found.3 (record { ordered = c.new-draft.ensures.ordered; each = c.new-draft.ensures.tags; elements = ap (map item_of) c.new-draft.ensures.elements }) in (
+    found.3 (record { ordered = c.in_ok-draft.ensures.ordered; each = c.in_ok-draft.ensures.tags; elements = ap (map item_of) c.in_ok-draft.ensures.elements }) in (
       read.parts,
       read.game,
       record {
