@@ -1,5 +1,5 @@
 -- A beginning of what is reported of the first pieces of a text is one of what is reported of all of them.
-use Rattle.std.proofs.Common.{◌≡◌, ℕ, ◌+◌, zero, suc, List, [], ◌∷◌, ◌++◌, length, take, Option, refl, sym, ap, ◌∙◌, subst}
+use Rattle.std.proofs.Common.{◌≡◌, ℕ, ◌+◌, zero, suc, List, [], ◌∷◌, ◌++◌, length, take, Option, refl, sym, ap, subst}
 use Rattle.std.specs.Io.KnownBytes.{Appends}
 use Rattle.pgn_text.specs.Marks.{AreMarkedPieces}
 use Rattle.pgn_extract.specs.Blockwise.{BeginsFirst}

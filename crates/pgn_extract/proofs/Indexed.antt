@@ -1,5 +1,5 @@
 -- The marks of a block that the iterator has given so far.
-use Rattle.std.proofs.Common.{◌≡◌, ◌==◌, ℕ, ◌+◌, ◌≤◌, Bool, true, false, List, [], ◌∷◌, ◌++◌, map, length, refl, sym, ap, ◌∙◌, subst, arith, codes, append_assoc, length-append}
+use Rattle.std.proofs.Common.{◌≡◌, ◌==◌, ℕ, ◌+◌, ◌≤◌, Bool, true, false, List, [], ◌∷◌, ◌++◌, map, length, refl, sym, ap, ◌∙◌, subst, arith, append_assoc, length-append}
 use Rattle.std.specs.Prelude.{if◌then◌else◌}
 use Rattle.std.proofs.lemmas.List.{append-nil, map_push, length-map}
 use Rattle.pgn_text.specs.Limits.{block_limit, depth_limit}
@@ -11,8 +11,8 @@ use Rattle.pgn_text.specs.declared.pieces.Mark.{Mark}
 use Rattle.pgn_text.specs.declared.pieces.Mark.TheVariants.{Game, Unreadable}
 use Rattle.pgn_extract.specs.Aims.{Aim}
 use Rattle.pgn_extract.specs.Blockwise.{Reports, ReportsBlock, AddsVerdict, IsMarkVerdict}
-use Rattle.pgn_extract.specs.Index.{fault_text, mark_line}
-use Rattle.pgn_extract.specs.Verdicts.{Verdict, SoundGame, FaultyGame, is_faulty, IsVerdict, IsVerdictIn}
+use Rattle.pgn_extract.specs.Index.{mark_line}
+use Rattle.pgn_extract.specs.Verdicts.{Verdict, SoundGame, is_faulty, IsVerdict, IsVerdictIn}
 use Rattle.pgn_extract.specs.declared.report.Report.{Report}
 use Rattle.pgn_extract.specs.declared.settings.Mode.TheVariants as modes
 use Rattle.pgn_extract.proofs.GameVerdict.{unreadable_there}

@@ -1,5 +1,5 @@
 -- Notes are lines: no text of theirs holds a line feed.
-use Rattle.std.proofs.Common.{◌≡◌, ℕ, zero, suc, ◌+◌, ◌/◌, ◌%◌, ◌<◌, ◌≤◌, Bool, true, false, ◌&&◌, List, [], ◌∷◌, ◌++◌, take, drop, length, refl, sym, ap, ◌∙◌, subst, arith, inl, inr, codes, decimal, append_assoc, Option, Some, None}
+use Rattle.std.proofs.Common.{◌≡◌, ℕ, ◌+◌, ◌/◌, ◌%◌, ◌<◌, ◌≤◌, Bool, true, false, ◌&&◌, List, [], ◌∷◌, ◌++◌, take, drop, length, refl, sym, ap, ◌∙◌, subst, arith, inl, inr, codes, decimal, append_assoc, Option, Some, None}
 use Rattle.std.specs.Prelude.{IsTrue, ◌==◌, nat_le, nat_lt, bytes_eq, slice_index, if◌then◌else◌}
 use Rattle.std.specs.List.{list_all}
 use Rattle.std.proofs.lemmas.Bool.{and_from, and_parts, cases_eq}
@@ -8,7 +8,7 @@ use Rattle.std.proofs.lemmas.List.{length-take-le}
 use Rattle.std.proofs.lemmas.List.Folds.{list_all-append}
 use Rattle.pgn_text.specs.Bytes.{is_white, is_name_byte, is_not_line_feed}
 use Rattle.pgn_text.specs.Limits.{depth_limit}
-use Rattle.pgn_text.specs.Reading.{run_of, after_run}
+use Rattle.pgn_text.specs.Reading.{after_run}
 use Rattle.pgn_text.specs.StopPlaces.{tag_name_of}
 use Rattle.pgn_text.specs.declared.agreement.Within.{Within}
 use Rattle.pgn_text.specs.declared.agreement.Within.TheVariants.{Comment, TagName, TagValue, Tags, Variation, MainLine, Game}

@@ -1,5 +1,5 @@
 -- The pieces of a text are reported in only one way, but for the notes.
-use Rattle.std.proofs.Common.{◌≡◌, ℕ, List, sym, ◌∙◌}
+use Rattle.std.proofs.Common.{ℕ, List, sym, ◌∙◌}
 use Rattle.pgn_text.specs.Marks.{MarkedPiece}
 use Rattle.pgn_game.proofs.OneReplay.{one_replay, one_fault, no_fault}
 use Rattle.pgn_extract.specs.Aims.{Aim}

@@ -21,7 +21,7 @@ use Rattle.pgn_text.specs.declared.blocks.ReadError.{ReadError}
 use Rattle.pgn_text.specs.declared.blocks.ReadError.TheVariants as cause
 use Rattle.pgn_extract.specs.Outcomes.{AppendsFront, Writes, WritesComplete}
 use Rattle.pgn_extract.specs.Index.{fault_text, mark_line}
-use Rattle.pgn_extract.specs.Verdicts.{Verdict, SoundGame, FaultyGame, IsListed, IsExported, IsGameVerdict, IsVerdict, AreVerdicts, output_of, fault_line_of, output_text, fault_lines, is_faulty, IsUnreadableVerdict}
+use Rattle.pgn_extract.specs.Verdicts.{Verdict, SoundGame, IsListed, IsExported, IsGameVerdict, IsVerdict, AreVerdicts, output_of, fault_line_of, output_text, fault_lines, is_faulty, IsUnreadableVerdict}
 use Rattle.pgn_extract.specs.declared.report.Report.{Report}
 use Rattle.pgn_extract.specs.declared.outcome.RunError.{RunError}
 use Rattle.pgn_extract.specs.declared.outcome.RunError.TheVariants.{Read, Write, OutOfMemory, InputTooLong}

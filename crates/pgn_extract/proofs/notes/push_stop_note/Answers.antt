@@ -1,7 +1,5 @@
 use Rattle.std.proofs.Common.{refl}
 use Rattle.std.proofs.lemmas.Result.{on_ok_weaker}
-use Rattle.pgn_extract.specs.Notes.{indented}
-use Rattle.pgn_extract.specs.NoteTexts.{stop_line, hints}
 use Rattle.pgn_extract.proofs.StopNotes.{note_joined}
 use Rattle.pgn_extract.proofs.notes.push_stop_note.Goals as goal
 
