@@ -1,11 +1,11 @@
 -- Why a text names no legal move; and the move from a square that it names.
-use Rattle.std.proofs.Common.{◌≡◌, ◌↔◌, ℕ, Bool, true, false, inl, inr, refl, ap, sym, subst, ◌∙◌, Option, Some, None, List, IsTrue}
+use Rattle.std.proofs.Common.{◌≡◌, ℕ, inl, inr, refl, ap, sym, subst, ◌∙◌, Option, Some, None, List}
 use Rattle.chess.specs.Squares.{Place, IsOnBoard}
 use Rattle.chess.specs.Placements.{AreOnBoard}
 use Rattle.chess.specs.Positions.{State, IsCheck}
-use Rattle.chess.specs.Moves.{Promotes, IsPseudoLegal, IsLegal, IsUnbarred, men_after}
-use Rattle.chess.specs.San.{Said, Spells, IsCastlingText, IsNamed}
-use Rattle.chess.specs.Refusals.{IsMeant, IsRefusal, IsFrom}
+use Rattle.chess.specs.Moves.{IsPseudoLegal, IsLegal, IsUnbarred, men_after}
+use Rattle.chess.specs.San.{Said, IsNamed}
+use Rattle.chess.specs.Refusals.{IsRefusal, IsFrom}
 use Rattle.chess.specs.RefusalWords.{IsCastlingRefusal, IsSaidRefusal}
 use Rattle.chess.specs.SanWords.{IsAble, CanGoSaid, IsMoveSaid, IsCastlingOn, move_from, castling_on}
 use Rattle.chess.specs.Sets.{Places, is_in, no_places, HoldsExactly}

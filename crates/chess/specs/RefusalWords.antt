@@ -6,7 +6,6 @@ use Rattle.chess.specs.San.{Said}
 use Rattle.chess.specs.SanWords.{castling_on, IsAble}
 use Rattle.chess.specs.Refusals.{IsWrongPromotion}
 use Rattle.chess.specs.declared.board.man.Wing.{Wing}
-use Rattle.chess.specs.declared.moves.Move.{Move}
 use Rattle.chess.specs.declared.move_text.refusal.Refusal.{Refusal}
 use Rattle.chess.specs.declared.move_text.refusal.Refusal.TheVariants.{NoMoveText, NoCastling, CastlingAttacked, WrongPromotion, NoneCan, LeavesKingAttacked}
 

@@ -1,10 +1,10 @@
 -- Where a part stands in a block that is gone through part by part.
-use Rattle.std.proofs.Common.{◌≡◌, ◌⊎◌, ℕ, zero, suc, ◌+◌, ◌/◌, ◌%◌, ◌<◌, ◌≤◌, Bool, true, false, List, [], ◌∷◌, ◌++◌, Some, None, take, drop, length, refl, sym, ap, subst, ◌∙◌, inl, inr, arith, append_assoc, append-nil, length-append}
+use Rattle.std.proofs.Common.{◌≡◌, ◌⊎◌, ℕ, ◌+◌, ◌/◌, ◌%◌, ◌<◌, ◌≤◌, Bool, true, false, List, [], ◌∷◌, ◌++◌, Some, None, take, drop, length, refl, sym, ap, subst, ◌∙◌, inl, inr, arith, append_assoc, append-nil, length-append}
 use Rattle.std.specs.Prelude.{is_some, Option, ◌-◌}
 use Rattle.std.proofs.lemmas.List.{length-take-le}
 use Rattle.std.proofs.lemmas.List.Concat.{flat_map-append}
 use Rattle.pgn_text.specs.Parts.{Part, Stands, AllStand, standing_of, spelled_part, spelled}
-use Rattle.pgn_text.specs.Games.{Item, items_of, items_of_part, first_tag, glyphs_of_marks}
+use Rattle.pgn_text.specs.Games.{items_of, items_of_part, first_tag, glyphs_of_marks}
 use Rattle.pgn_text.specs.PartPlaces.{IsPlaceOf, GivesElement, IsFirstTag, IsElementPlace, IsTagPlace}
 use Rattle.pgn_text.specs.Reading.{Kept, kept, items_of_kept, named_kept}
 use Rattle.pgn_text.specs.Walk.{PartAt, KeptAt, NothingAt}

@@ -1,5 +1,5 @@
 -- The pieces of a block read again from one of them on, as a block by itself that is not at the file's start.
-use Rattle.std.proofs.Common.{◌≡◌, ◌≢◌, ℕ, ◌+◌, ◌-◌, Bool, false, List, [], ◌∷◌, ◌++◌, map, length, refl, arith, append_assoc, length-append}
+use Rattle.std.proofs.Common.{◌≢◌, ℕ, ◌-◌, Bool, false, List, [], ◌∷◌, ◌++◌, map, length, refl, arith, append_assoc, length-append}
 use Rattle.pgn_text.specs.Parts.{Part, spelled}
 use Rattle.pgn_text.specs.Games.{IsGame}
 use Rattle.pgn_text.specs.Gaps.{IsLongestGap}

@@ -1,5 +1,5 @@
 -- A block read again from one of its pieces on, as a block by itself that is not at the file's start: the same pieces follow.
-use Rattle.std.proofs.Common.{◌≡◌, ◌≢◌, ℕ, ◌+◌, ◌-◌, ◌≤◌, Bool, true, false, ◌&&◌, ◌==◌, List, [], ◌∷◌, ◌++◌, map, length, IsTrue, bytes_eq, slice_index, refl, sym, ap, ap₂, subst, ◌∙◌, ◌⊎◌, inl, inr, arith, append_assoc, append-nil, length-append}
+use Rattle.std.proofs.Common.{◌≡◌, ◌≢◌, ℕ, ◌+◌, ◌-◌, ◌≤◌, Bool, true, false, ◌&&◌, ◌==◌, List, [], ◌∷◌, ◌++◌, length, IsTrue, bytes_eq, slice_index, refl, sym, ap, ap₂, subst, ◌∙◌, ◌⊎◌, inl, inr, arith, append_assoc, append-nil, length-append}
 use Rattle.std.specs.List.{list_all}
 use Rattle.std.proofs.lemmas.Bool.{false≢true, and_parts, and_from, not-true}
 use Rattle.std.proofs.lemmas.List.{get_or-append-add, nil_from_length}
@@ -11,7 +11,7 @@ use Rattle.pgn_text.specs.Games.{is_gap_part, begins_outside_gap, IsGame}
 use Rattle.pgn_text.specs.Gaps.{IsGap, IsLongestGap}
 use Rattle.pgn_text.proofs.PartLemmas.{part_has_byte}
 use Rattle.pgn_text.proofs.ShorterText.{game_elsewhere}
-use Rattle.pgn_text.proofs.OneList.{no_bytes, game_has_byte}
+use Rattle.pgn_text.proofs.OneList.{no_bytes}
 use Rattle.pgn_text.proofs.Halfway.{spelled-append, stands_join}
 
 -- what stands before the place is no front of a byte order mark at the file's start that bytes after it could complete

@@ -1,10 +1,10 @@
 -- A text that is read again from one of its pieces on stops agreeing with games at the same place.
-use Rattle.std.proofs.Common.{◌≡◌, ◌≢◌, ℕ, ◌≤◌, Bool, true, false, ◌&&◌, ◌==◌, List, [], ◌∷◌, ◌++◌, length, take, drop, IsTrue, bytes_eq, refl, sym, ap, subst, ◌∙◌, arith, append_assoc, append-nil}
+use Rattle.std.proofs.Common.{◌≡◌, ◌≢◌, ℕ, Bool, true, false, List, [], ◌∷◌, ◌++◌, take, drop, refl, sym, ap, ◌∙◌, append_assoc, append-nil}
 use Rattle.std.specs.List.{list_all}
-use Rattle.std.proofs.lemmas.Bool.{false≢true, and_parts, and_from}
+use Rattle.std.proofs.lemmas.Bool.{false≢true, and_parts}
 use Rattle.std.proofs.lemmas.List.{take-append-drop}
-use Rattle.pgn_text.specs.Bytes.{is_empty, is_not_line_feed}
-use Rattle.pgn_text.specs.Parts.{Part, ByteOrderMark, White, Brace, Line, EscapeLine, Tag, Word, Star, Dot, Glyph, Marks, Open, Close, standing_of, Stands, AllStand, spelled, spelled_part}
+use Rattle.pgn_text.specs.Bytes.{is_not_line_feed}
+use Rattle.pgn_text.specs.Parts.{Part, ByteOrderMark, White, Brace, Line, EscapeLine, Tag, Word, Star, Dot, Glyph, Marks, Open, Close, standing_of, Stands, spelled, spelled_part}
 use Rattle.pgn_text.specs.Games.{is_gap_part, IsGame}
 use Rattle.pgn_text.specs.Gaps.{IsGap, IsLongestGap}
 use Rattle.pgn_text.specs.Stops.{IsGameFront, StopsAt}

@@ -1,5 +1,5 @@
 -- How far the parts of a game go, where the text may end before the game does: what the function `walk` of `agreement` answers.
-use Rattle.std.specs.Prelude.{◌≡◌, ℕ, Bool, true, false, not, ◌||◌, ◌+◌, ◌<◌, ◌≤◌, IsTrue, List, [], ◌∷◌, ◌++◌, length, take, drop, Some}
+use Rattle.std.specs.Prelude.{◌≡◌, ℕ, Bool, true, false, not, ◌||◌, ◌<◌, ◌≤◌, IsTrue, List, [], ◌∷◌, ◌++◌, length, take, drop, Some}
 use Rattle.std.specs.List.{list_any}
 use Rattle.pgn_text.specs.Bytes.{begins}
 use Rattle.pgn_text.specs.Parts.{Part, standing_of, AllStand, spelled}

@@ -1,7 +1,7 @@
 use Rattle.std.proofs.Common.{◌≡◌, true, ◌∙◌, sym, subst}
 use Rattle.std.specs.Prelude.{Some}
 use Rattle.chess.specs.Moves.{IsLegal}
-use Rattle.chess.specs.SanWords.{said_by, CanGoSaid, IsAble, IsMoveSaid}
+use Rattle.chess.specs.SanWords.{said_by, CanGoSaid, IsMoveSaid}
 use Rattle.chess.specs.Sets.{is_in}
 use Rattle.chess.specs.Refusals.{IsFrom}
 use Rattle.chess.specs.declared.moves.Move.{Move}
