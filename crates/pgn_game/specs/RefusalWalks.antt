@@ -5,7 +5,7 @@ use Rattle.chess.specs.San.{IsNamed}
 use Rattle.chess.specs.Squares.{Place}
 use Rattle.chess.specs.declared.moves.Move.{Move}
 use Rattle.pgn_text.specs.Games.{Item, MoveText}
-use Rattle.pgn_game.specs.Faults.{Fault, IsRefusedTurn}
+use Rattle.pgn_game.specs.Faults.{Fault}
 use Rattle.pgn_game.specs.LineWalks.{is_inside, first_level, Runs, Stops, RunsOn, StopsOn, AreWithin}
 use Rattle.pgn_game.specs.MainLines.{main_words}
 use Rattle.pgn_game.specs.Refusals.{IsWhy}

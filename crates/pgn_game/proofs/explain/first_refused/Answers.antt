@@ -1,4 +1,4 @@
-use Rattle.std.proofs.Common.{◌≡◌, ◌+◌, true, false, map, length, sym, subst, arith}
+use Rattle.std.proofs.Common.{◌≡◌, ◌+◌, map, length, sym, subst, arith}
 use Rattle.std.proofs.lemmas.List.{length-map}
 use Rattle.pgn_text.specs.Elements.{item_of}
 use Rattle.pgn_game.specs.RefusalWalks.{IsCounted, IsSearched}
