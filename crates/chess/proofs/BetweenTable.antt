@@ -9,7 +9,7 @@ use Rattle.chess.specs.SetFacts.{square_at-index_of, index_of-below}
 use Rattle.chess.specs.Sets.{has_bit}
 use Rattle.chess.specs.BitWords.{IsWordOf}
 use Rattle.chess.specs.Sights.{StandsBetween}
-use Rattle.chess.specs.declared.board.sights.tables.TheConstants.{LINES}
+use Rattle.chess.specs.declared.board.sights.lines_table.TheConstants.{LINES}
 use Rattle.chess.specs.declared.board.direction.Direction.{Direction}
 use Rattle.chess.specs.declared.board.direction.Direction.TheVariants.{North, South, East, West, NorthEast, NorthWest, SouthEast, SouthWest}
 use Rattle.chess.proofs.SightFacts.{any_line, straight, diagonal}

@@ -1,7 +1,7 @@
 -- The tables of the squares from which men see a square.
 use Rattle.std.proofs.Common.{◌≡◌, true, refl, get_or, []}
 use Rattle.chess.specs.BitWords.{sight_row_of}
-use Rattle.chess.specs.declared.board.sights.tables.TheConstants.{HITS}
+use Rattle.chess.specs.declared.board.sights.hits_table.TheConstants.{HITS}
 use Rattle.chess.specs.declared.board.man.Side.{Side}
 use Rattle.chess.specs.declared.board.man.Side.TheVariants.{White, Black}
 use Rattle.chess.specs.declared.board.man.Kind.{Kind}

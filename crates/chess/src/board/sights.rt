@@ -7,11 +7,13 @@ ghost use Rattle.chess.specs.Sets.{has_bit, HoldsExactly};
 ghost use Rattle.chess.specs.BitWords.{IsWordOf, sight_row_of};
 ghost use Rattle.chess.specs.Sights.{IsInSight, IsUnblocked, StandsBetween};
 
-mod tables;
+mod hits_table;
+mod lines_table;
 
 use crate::board::bits::number_of;
 use crate::board::{Kind, Man, Side, Square, SquareSet};
-use tables::{HITS, LINES};
+use hits_table::HITS;
+use lines_table::LINES;
 
 /// The number of the table of what a man sees: one for each kind, and a second one for Black's pawns.
 #[inline(always)]
