@@ -1,5 +1,5 @@
-/* A library to be loaded before the C library: it makes reads or writes of a program fail, or move few bytes.
- *     FAULTS_CALL=read|write   which calls; with FAULTS_FILE=N only those on the file of this number
+/* A library to be loaded before the C library: it makes reads, writes or seeks of a program fail, or reads and writes move few bytes.
+ *     FAULTS_CALL=read|write|lseek   which calls; with FAULTS_FILE=N only those on the file of this number
  *     FAULTS_AT=N              the N-th such call fails, counted from 1; with FAULTS_ONWARD=1 all behind it too
  *     FAULTS_ERROR=E           with this error; without it the call moves nothing and answers 0
  *     FAULTS_PIECE=N           each such call moves at most N bytes
@@ -56,6 +56,12 @@ ssize_t write(int file, const void *from, size_t size) {
     if (!is_meant("write", file)) return call(file, from, size);
     late_writes += faults > 0;
     return is_fault() ? (errno ? -1 : 0) : call(file, from, piece(size));
+}
+
+off_t lseek(int file, off_t offset, int whence) {
+    static off_t (*call)(int, off_t, int);
+    if (!call) call = (off_t (*)(int, off_t, int))dlsym(RTLD_NEXT, "lseek");
+    return is_meant("lseek", file) && is_fault() ? -1 : call(file, offset, whence);
 }
 
 __attribute__((destructor)) static void report(void) {

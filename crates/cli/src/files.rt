@@ -1,8 +1,9 @@
 //! The files of the machine that the program runs on.
 use pgn_extract::Files;
+use pgn_text::Skip;
 use std::alloc::AllocError;
 use std::fs::File;
-use std::io::{ErrorKind, Read, Stdin};
+use std::io::{ErrorKind, Read, Seek, SeekFrom, Stdin};
 use std::{fs, io};
 
 /// An input: a file, or standard input.
@@ -30,6 +31,28 @@ pub struct RealFiles {
 impl RealFiles {
     pub fn new(rt: HostRuntime) -> Self {
         RealFiles { rt }
+    }
+}
+
+/// Moves on by at most `most` bytes in a file whose end is known, and answers by how many; pipes and devices are to be read.
+fn move_on(file: &mut File, most: u64) -> io::Result<u64> {
+    let Ok(here) = file.stream_position() else {
+        return Ok(0);
+    };
+    let Ok(end) = file.seek(SeekFrom::End(0)) else {
+        return Ok(0);
+    };
+    let count = end.saturating_sub(here).min(most);
+    file.seek(SeekFrom::Start(here.saturating_add(count)))?;
+    Ok(count)
+}
+
+impl Skip for Source {
+    fn skip(&mut self, most: u64) -> io::Result<u64> {
+        match self {
+            Source::File(file) => move_on(file, most),
+            Source::Standard(_) => Ok(0),
+        }
     }
 }
 

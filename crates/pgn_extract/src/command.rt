@@ -29,8 +29,12 @@ pub struct Request<'a> {
     pub first: bool,
     /// `--explain` was given.
     pub explain: bool,
+    /// `--summary` was given.
+    pub summary: bool,
     /// The text after `--from`.
     pub from: Option<&'a str>,
+    /// The text after `--until`.
+    pub until: Option<&'a str>,
     /// The path of the input; without it standard input is read.
     pub file: Option<&'a str>,
 }
@@ -139,23 +143,38 @@ fn style_options<'a>(alloc: Global, command: Command<'a>) -> Result<Command<'a>,
         )
 }
 
-/// The option for what is said of faulty games.
-fn fault_options<'a>(alloc: Global, command: Command<'a>) -> Result<Command<'a>, AllocError> {
-    command.next_help_heading("Faulty games").arg(flag(
-        alloc,
-        "explain",
-        "Say behind the line of each where it stops being a game, and why",
-    ))
+/// The options for what goes to standard error.
+fn report_options<'a>(alloc: Global, command: Command<'a>) -> Result<Command<'a>, AllocError> {
+    command
+        .next_help_heading("Reports, on standard error")
+        .arg(flag(
+            alloc,
+            "explain",
+            "Say behind the line of each faulty game where it stops being one, and why",
+        ))?
+        .arg(flag(
+            alloc,
+            "summary",
+            "Say at the end how many games were read, and how many were faulty",
+        ))
 }
 
-/// The option for where the input begins.
+/// The options for where the input begins and ends.
 fn input_options<'a>(alloc: Global, command: Command<'a>) -> Result<Command<'a>, AllocError> {
-    command.next_help_heading("Input").arg(text_option(
-        alloc,
-        "from",
-        "N@O",
-        "Begin at the game with this mark, as another run printed it [default: 1@0]",
-    ))
+    command
+        .next_help_heading("Input")
+        .arg(text_option(
+            alloc,
+            "from",
+            "N@O",
+            "Begin at the game with this mark, as another run printed it [default: 1@0]",
+        ))?
+        .arg(text_option(
+            alloc,
+            "until",
+            "N@O",
+            "End before the game with this mark [default: the end of the input]",
+        ))
 }
 
 /// The options that print a text and end the program.
@@ -186,7 +205,7 @@ fn make_command<'a>(alloc: Global) -> Result<Command<'a>, AllocError> {
     let command = mode_options(alloc, command)?;
     let command = search_options(alloc, command)?;
     let command = style_options(alloc, command)?;
-    let command = fault_options(alloc, command)?;
+    let command = report_options(alloc, command)?;
     help_options(alloc, input_options(alloc, command)?)
 }
 
@@ -206,7 +225,9 @@ pub fn read_words<'a>(alloc: Global, words: &'a [String]) -> Result<Request<'a>,
         max_ply: matches.get_one("max-ply").unwrap_or(u32::MAX),
         first: matches.get_flag("first"),
         explain: matches.get_flag("explain"),
+        summary: matches.get_flag("summary"),
         from: matches.get_str("from"),
+        until: matches.get_str("until"),
         file: matches.get_str("FILE"),
     })
 }

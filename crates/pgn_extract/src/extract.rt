@@ -14,7 +14,7 @@ use crate::put::{finish, put};
 use crate::report::{Report, report_block};
 use crate::settings::{Mode, Settings};
 use crate::skip::skip;
-use pgn_text::{Block, Blocks, Tally};
+use pgn_text::{Block, Blocks, Skip, Tally};
 use std::alloc::Global;
 use std::io::{Read, Write};
 
@@ -150,7 +150,7 @@ fn run_blocks<R: Read, O: Write, E: Write>(
 
 /// Reads the input, and writes what the settings ask for to `out` and the lines of faulty games to
 /// `err`.
-pub fn run<R: Read, O: Write, E: Write>(
+pub fn run<R: Skip, O: Write, E: Write>(
     alloc: Global,
     input: &mut Tally<R>,
     out: &mut Tally<O>,

@@ -3,8 +3,11 @@
 /// Two mode words were given.
 pub const BOTH_MODES: &str = "pgn-extract: --list and --index exclude each other\n";
 
-/// The text of `--from` is no mark.
+/// The text of `--from` or `--until` is no mark.
 pub const BAD_MARK: &str = "pgn-extract: bad mark\n";
+
+/// The mark of `--until` does not stand behind that of `--from`.
+pub const NOTHING_BETWEEN: &str = "pgn-extract: --until is not behind --from\n";
 
 /// The file of criteria could not be opened, or a read of it failed.
 pub const CANNOT_READ_CRITERIA: &str = "pgn-extract: cannot read criteria\n";

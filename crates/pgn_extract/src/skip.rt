@@ -3,14 +3,13 @@ ghost use Rattle.std.specs.Prelude.{◌≡◌, ◌↔◌, ◌^◌, ◌≤◌, fa
 ghost use Rattle.pgn_extract.specs.Blockwise.{Drops, DropsSome};
 
 use crate::outcome::RunError;
-use pgn_text::Tally;
-use std::io::Read;
+use pgn_text::{Skip, Tally};
 
 /// The most bytes that one read drops.
 const CHUNK: usize = 8192;
 
 /// Drops the first `count` bytes of the input, or all where there are fewer.
-pub fn skip<R: Read>(input: &mut Tally<R>, count: u64) -> Result<(), RunError>
+pub fn skip<R: Skip>(input: &mut Tally<R>, count: u64) -> Result<(), RunError>
     requires { input.old.faulted ≡ false }
     ensures ok { IfOk result (λ _. Drops (R.remaining input.old.inner) (R.remaining input.new.inner)
         input.old.moved input.new.moved count) }
@@ -19,8 +18,11 @@ pub fn skip<R: Read>(input: &mut Tally<R>, count: u64) -> Result<(), RunError>
         input.old.moved input.new.moved count) }
     ensures fault { IsErrOf result RunError.Read ↔ (input.new.faulted ≡ true) }
 {
+    let mut left = match input.skip(count) {
+        Ok(passed) => count - passed,
+        Err(_) => return Err(RunError::Read),
+    };
     let mut buf = [0u8; CHUNK];
-    let mut left = count;
     while left > 0 {
         let room = left.min(CHUNK as u64) as usize;
         match input.read(&mut buf[..room]) {

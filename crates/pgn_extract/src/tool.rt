@@ -6,21 +6,21 @@ use crate::extract::run;
 use crate::front::read_front;
 use crate::mark::{Mark, read_mark};
 use crate::messages;
-use crate::outcome::RunError;
-use crate::put::put;
+use crate::outcome::{RunError, Summary};
+use crate::put::{finish, put};
 use crate::settings::{Mode, Settings};
 use crate::status::{FAILED, FAULTY, REFUSED, SOUND};
 use clap::Error;
 use clap::error::ErrorKind;
 use pgn_criteria::{Criteria, CriteriaError};
 use pgn_game::Style;
-use pgn_text::Tally;
+use pgn_text::{Skip, Tally};
 use std::alloc::{AllocError, Global};
 use std::io::{Read, Write};
 
 /// Where the program's input comes from: files by their paths, and standard input.
 pub trait Files {
-    type Input: Read;
+    type Input: Skip;
 
     /// Opens the file at `path`: `Ok(None)` where it cannot be opened, an error where memory runs out.
     fn open(&mut self, path: &str) -> Result<Option<Self::Input>, AllocError>;
@@ -69,6 +69,7 @@ struct Order<'a> {
     request: Request<'a>,
     mode: Mode,
     mark: Mark,
+    end: u64,
 }
 
 /// Reads the words and tests them in the order of the refusals: the words, the mode, the mark.
@@ -84,10 +85,15 @@ fn read_order<'a>(alloc: Global, words: &'a [String]) -> Result<Order<'a>, Refus
     let Some(mark) = mark_of(&request) else {
         return Err(Refusal::Line(messages::BAD_MARK));
     };
+    let end = match end_of(&request, mark) {
+        Ok(end) => end,
+        Err(line) => return Err(Refusal::Line(line)),
+    };
     Ok(Order {
         request,
         mode,
         mark,
+        end,
     })
 }
 
@@ -117,6 +123,18 @@ fn mark_of(request: &Request<'_>) -> Option<Mark> {
     match request.from {
         Some(text) => read_mark(text.as_bytes()),
         None => Some(Mark::FIRST),
+    }
+}
+
+/// The offset that the run ends before: that of the mark after `--until`, and one that no input comes to without it; or the line that refuses it.
+fn end_of(request: &Request<'_>, begin: Mark) -> Result<u64, &'static str> {
+    let Some(text) = request.until else {
+        return Ok(u64::MAX);
+    };
+    match read_mark(text.as_bytes()) {
+        Some(end) if end.offset > begin.offset => Ok(end.offset),
+        Some(_) => Err(messages::NOTHING_BETWEEN),
+        None => Err(messages::BAD_MARK),
     }
 }
 
@@ -189,9 +207,10 @@ where
         request,
         mode,
         mark,
+        end,
     } = read_order(alloc, words)?;
     let criteria = read_criteria(alloc, files, request.criteria)?;
-    let input = open_input(files, request.file)?;
+    let input = open_input(files, request.file)?.take(end);
     let settings = Settings {
         mode,
         criteria,
@@ -205,8 +224,7 @@ where
     };
     Ok(
         match run(alloc, &mut Tally::new(input), out, err, &settings) {
-            Ok(summary) if summary.faulty == 0 => SOUND,
-            Ok(_) => FAULTY,
+            Ok(summary) => end_run(alloc, err, request.summary, &summary),
             Err(error) => {
                 flush_rest(out);
                 report_line(err, line_of(error));
@@ -214,6 +232,36 @@ where
             }
         },
     )
+}
+
+/// Writes how many games were read, and how many of them were faulty.
+fn put_summary<E: Write>(
+    alloc: Global,
+    err: &mut Tally<E>,
+    summary: &Summary,
+) -> Result<(), RunError>
+    requires { err.old.faulted ≡ false }
+{
+    let Summary { games, faulty } = *summary;
+    let noun = if games == 1 { "game" } else { "games" };
+    match format!(in alloc; "pgn-extract: {games} {noun}, {faulty} of them faulty\n") {
+        Ok(line) => {
+            put(err, line.as_bytes())?;
+            finish(err)
+        }
+        Err(_) => Err(RunError::OutOfMemory),
+    }
+}
+
+/// Ends a run that came to the end of its input, with a summary where it is asked for: the status.
+fn end_run<E: Write>(alloc: Global, err: &mut Tally<E>, asked: bool, summary: &Summary) -> u8
+    requires { err.old.faulted ≡ false }
+{
+    if asked && let Err(error) = put_summary(alloc, err, summary) {
+        report_line(err, line_of(error));
+        return FAILED;
+    }
+    if summary.faulty == 0 { SOUND } else { FAULTY }
 }
 
 /// Writes what was gathered before a run failed. Behind a write that failed nothing is written.

@@ -1,9 +1,10 @@
 //! A reader or a writer with the memory of whether a call to it has failed.
-ghost use Rattle.std.specs.Prelude.{◌≡◌, ◌||◌, Bool, true, false, is_ok, is_err};
+ghost use Rattle.std.specs.Prelude.{◌≡◌, ◌≤◌, ◌||◌, Bool, true, false, IfOk, is_ok, is_err};
 ghost use Rattle.std.specs.Io.{ReadsAtMost, WritesAtMost};
-ghost use Rattle.std.specs.Io.KnownBytes.{Keeps, ReadConsumes, WriteAppends};
+ghost use Rattle.std.specs.Io.KnownBytes.{ConsumesCount, Keeps, ReadConsumes, WriteAppends};
 ghost use Rattle.pgn_text.specs.Tallies.{Tallied, moved_by, takes_nothing};
 
+use crate::skip::Skip;
 use std::io;
 use std::io::{Read, Write};
 use std::marker::Model;
@@ -92,6 +93,29 @@ impl<R: Read> Tally<R> {
         match self.inner.read(buf) {
             Ok(count) => {
                 self.moved = self.moved.saturating_add(count as u64);
+                Ok(count)
+            }
+            Err(error) => {
+                self.faulted = true;
+                Err(error)
+            }
+        }
+    }
+}
+
+impl<R: Skip> Tally<R> {
+    /// One skip of the reader, with its answer; the bytes that it passed over count as moved.
+    pub fn skip(&mut self, most: u64) -> io::Result<u64>
+        ensures bytes { ConsumesCount (R.remaining self.old.inner) (R.remaining self.new.inner) result }
+        ensures bound { IfOk result (λ count. count ≤ most) }
+        ensures faulted { self.new.faulted ≡ (self.old.faulted || is_err result) }
+        ensures moved { self.new.moved ≡ moved_by self.old.moved result }
+        ensures flushed { self.new.flushed ≡ false }
+    {
+        self.flushed = false;
+        match self.inner.skip(most) {
+            Ok(count) => {
+                self.moved = self.moved.saturating_add(count);
                 Ok(count)
             }
             Err(error) => {

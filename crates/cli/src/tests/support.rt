@@ -2,7 +2,7 @@
 ghost use Rattle.std.specs.Prelude.{◌≤◌};
 
 use pgn_extract::{Files, program};
-use pgn_text::{Piece, RawGame, Tally, games};
+use pgn_text::{Piece, RawGame, Skip, Tally, games};
 use std::alloc::{AllocError, Global};
 use std::io;
 use std::io::{ErrorKind, Read, Write};
@@ -122,6 +122,8 @@ impl Read for Pieces<'_> {
         Ok(count)
     }
 }
+
+impl Skip for Pieces<'_> {}
 
 /// How many bytes a `Page` can hold.
 pub const PAGE: usize = 4096;
