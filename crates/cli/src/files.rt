@@ -1,4 +1,6 @@
 //! The files of the machine that the program runs on.
+ghost use Rattle.std.specs.Prelude.{◌≤◌, IfOk};
+
 use pgn_extract::Files;
 use pgn_text::Skip;
 use std::alloc::AllocError;
@@ -35,7 +37,9 @@ impl RealFiles {
 }
 
 /// Moves on by at most `most` bytes in a file whose end is known, and answers by how many; pipes and devices are to be read.
-fn move_on(file: &mut File, most: u64) -> io::Result<u64> {
+fn move_on(file: &mut File, most: u64) -> io::Result<u64>
+    ensures { IfOk result (λ count. count ≤ most) }
+{
     let Ok(here) = file.stream_position() else {
         return Ok(0);
     };
