@@ -6,11 +6,11 @@ _pgn_extract() {
         mapfile -t COMPREPLY < <(compgen -f -- "$word")
         return
         ;;
-    --min-ply | --max-ply | --from | -w | --width) return ;;
+    --min-ply | --max-ply | --from | --until | -w | --width) return ;;
     esac
     if [[ $word == -* ]]; then
         mapfile -t COMPREPLY < <(compgen -W '--list --index --criteria --min-ply --max-ply --first -C --no-comments -N --no-glyphs
-            -V --no-variations --roster -w --width --explain --from -h --help --version' -- "$word")
+            -V --no-variations --roster -w --width --explain --summary --from --until -h --help --version' -- "$word")
     else
         mapfile -t COMPREPLY < <(compgen -f -- "$word")
     fi
