@@ -6,7 +6,7 @@ use super::trials::Trial;
 use pgn_criteria::Criteria;
 use pgn_extract::{Mode, Settings};
 use pgn_game::Style;
-use std::alloc::Global;
+use std::alloc::{AllocError, Global};
 use std::test::Fail;
 
 /// The main line with its comments and glyphs, in lines of at most 79 bytes.
@@ -124,6 +124,53 @@ fn the_program_reports_a_read_fault(rt: HostRuntime) -> Result<(), Fail> {
                 "{word} at {len}"
             );
         }
+    }
+    Ok(())
+}
+
+/// Whether a run from the second game on, over an input that passes over so many bytes a skip, reads no more than what is left, and moves all of it.
+fn reads_what_is_left(alloc: Global, settings: &Settings, whole: &[u8], passes: u64) -> bool
+    requires number { (1 ≤ settings.now.number) × (settings.now.number ≤ 2 ^ 62) }
+    requires offset { settings.now.offset ≤ 2 ^ 62 }
+{
+    let reader = Pieces::seeking(TWO_GAMES, 8192, passes);
+    let trial = Trial::new(alloc, settings, reader, Page::new(), Page::new());
+    // The bytes that are dropped, those that are kept, and the end.
+    let reads = if passes < 22 { 3 } else { 2 };
+    trial.calls[0] == reads && trial.moved == 43 && trial.is_whole(1, 0, whole, b"")
+}
+
+/// Whether a run from the second game on, over an input that fails at skips, writes nothing and does not read on.
+fn ends_at_a_skip(alloc: Global, settings: &Settings, fails: Fails) -> bool
+    requires number { (1 ≤ settings.now.number) × (settings.now.number ≤ 2 ^ 62) }
+    requires offset { settings.now.offset ≤ 2 ^ 62 }
+{
+    let reader = Pieces::failing_skip(TWO_GAMES, u64::MAX, fails);
+    let trial = Trial::new(alloc, settings, reader, Page::new(), Page::new());
+    trial.calls == [0, 0, 0] && trial.moved == 0 && trial.is_read_fault(b"", b"")
+}
+
+/// Whether the program over an input that fails at skips reports that a read failed.
+fn reports_a_skip_fault(alloc: Global, word: &str) -> Result<bool, AllocError> {
+    let words = [word, "--summary", "--from", "2@22", "--until", "3@43"];
+    let mut shelf = Shelf::failing_skip(TWO_GAMES);
+    let end = run_words(alloc, &words, &mut shelf, Page::new(), Page::new())?;
+    Ok(end.is(b"", b"pgn-extract: read failed\n", 3))
+}
+
+#[test]
+fn bytes_are_passed_over(rt: HostRuntime) -> Result<(), Fail> {
+    for (mode, word, first, whole) in MODES {
+        let left = whole.get(first.len()..).unwrap_or(b"");
+        let settings = rest(mode);
+        let holds = reads_what_is_left(rt.alloc(), &settings, left, 0)
+            && reads_what_is_left(rt.alloc(), &settings, left, 21)
+            && reads_what_is_left(rt.alloc(), &settings, left, 22)
+            && reads_what_is_left(rt.alloc(), &settings, left, u64::MAX)
+            && ends_at_a_skip(rt.alloc(), &settings, Fails::Always)
+            && ends_at_a_skip(rt.alloc(), &settings, Fails::Once)
+            && reports_a_skip_fault(rt.alloc(), word)?;
+        assert!(rt; holds, "{mode:?}");
     }
     Ok(())
 }
@@ -282,6 +329,54 @@ fn the_program_reports_a_write_fault(rt: HostRuntime) -> Result<(), Fail> {
     let page = Page::failing(5, 2);
     let end = run_words(rt.alloc(), &["--index"], &mut shelf, page, Page::new())?;
     assert!(rt; end.is_unflushed(b"1@0\n2", b"pgn-extract: write failed\n", 3));
+    Ok(())
+}
+
+/// Whether standard error that takes `room` bytes of the summary, and then fails, holds just these, beside the whole output: behind the fault nothing is written.
+fn leaves_a_front_of_the_summary(
+    alloc: Global,
+    word: &str,
+    whole: &[u8],
+    room: usize,
+) -> Result<bool, AllocError> {
+    let line = b"pgn-extract: 2 games, 0 of them faulty\n".as_slice();
+    for (fails, takes_nothing) in WRITE_FAULTS {
+        let page = Page::faulty(room, 3, fails, takes_nothing);
+        let mut shelf = Shelf::new(TWO_GAMES);
+        let end = run_words(alloc, &[word, "--summary"], &mut shelf, Page::new(), page)?;
+        let is_front = end.out.text() == whole
+            && end.out.is_flushed()
+            && end.err.text() == line.get(..room).unwrap_or(b"")
+            && !end.err.calls.again;
+        if end.status != 3 || !is_front {
+            return Ok(false);
+        }
+    }
+    Ok(true)
+}
+
+/// Whether no summary stands behind a run whose input or output failed.
+fn fails_without_a_summary(alloc: Global) -> Result<bool, AllocError> {
+    let words = ["--index", "--summary"];
+    let mut shelf = Shelf::failing(TWO_GAMES);
+    let read = run_words(alloc, &words, &mut shelf, Page::new(), Page::new())?;
+    let mut shelf = Shelf::new(TWO_GAMES);
+    let write = run_words(alloc, &words, &mut shelf, Page::failing(5, 2), Page::new())?;
+    Ok(
+        read.is(b"1@0\n", b"pgn-extract: read failed\n", 3)
+            && write.is_unflushed(b"1@0\n2", b"pgn-extract: write failed\n", 3),
+    )
+}
+
+#[test]
+fn a_summary_stands_whole_behind_a_whole_run(rt: HostRuntime) -> Result<(), Fail> {
+    for (_, word, _, whole) in MODES {
+        for room in 0..39usize {
+            let holds = leaves_a_front_of_the_summary(rt.alloc(), word, whole, room)?;
+            assert!(rt; holds, "{word} at {room}");
+        }
+    }
+    assert!(rt; fails_without_a_summary(rt.alloc())?);
     Ok(())
 }
 

@@ -53,18 +53,25 @@ impl Calls {
     /// Counts a call, and whether it fails.
     fn count(&mut self, fails: bool) {
         self.all = self.all.saturating_add(1);
+        self.note(fails);
+    }
+
+    /// Notes a call that is not counted, and whether it fails.
+    fn note(&mut self, fails: bool) {
         self.again = self.again || self.failed;
         self.failed = self.failed || fails;
     }
 }
 
-/// A reader over a text that gives at most `piece` bytes a call, and fails once it has given `sound` bytes.
+/// A reader over a text that gives at most `piece` bytes a call, and fails once it has given `sound` bytes. It passes over at most `passes` bytes a skip, or fails at it.
 #[derive(Drop)]
 pub struct Pieces<'a> {
     text: &'a [u8],
     piece: usize,
     sound: usize,
     fails: Fails,
+    passes: u64,
+    skip_fails: Fails,
     pub calls: Calls,
 }
 
@@ -76,8 +83,24 @@ impl<'a> Pieces<'a> {
             piece,
             sound: usize::MAX,
             fails: Fails::Never,
+            passes: 0,
+            skip_fails: Fails::Never,
             calls: Calls::NONE,
         }
+    }
+
+    /// All of a text, at most `passes` bytes of which are passed over a skip.
+    pub fn seeking(text: &'a [u8], piece: usize, passes: u64) -> Self {
+        let mut pieces = Pieces::new(text, piece);
+        pieces.passes = passes;
+        pieces
+    }
+
+    /// Such a reader whose skips fail so often.
+    pub fn failing_skip(text: &'a [u8], passes: u64, fails: Fails) -> Self {
+        let mut pieces = Pieces::seeking(text, 8192, passes);
+        pieces.skip_fails = fails;
+        pieces
     }
 
     /// The text, and a fault in the place of its end.
@@ -87,6 +110,8 @@ impl<'a> Pieces<'a> {
             piece,
             sound: text.len(),
             fails: Fails::Always,
+            passes: 0,
+            skip_fails: Fails::Never,
             calls: Calls::NONE,
         }
     }
@@ -98,6 +123,8 @@ impl<'a> Pieces<'a> {
             piece,
             sound,
             fails: Fails::Once,
+            passes: 0,
+            skip_fails: Fails::Never,
             calls: Calls::NONE,
         }
     }
@@ -123,7 +150,18 @@ impl Read for Pieces<'_> {
     }
 }
 
-impl Skip for Pieces<'_> {}
+impl Skip for Pieces<'_> {
+    fn skip(&mut self, most: u64) -> io::Result<u64> {
+        let fails = self.skip_fails.is_now();
+        self.calls.note(fails);
+        if fails {
+            return Err(io::Error::from(ErrorKind::Other));
+        }
+        let count = most.min(self.passes).min(self.text.len() as u64);
+        self.text = &self.text[count as usize..];
+        Ok(count)
+    }
+}
 
 /// How many bytes a `Page` can hold.
 pub const PAGE: usize = 4096;
@@ -236,7 +274,7 @@ impl Write for Page {
     }
 }
 
-/// A file of games, `games.pgn`, and the same text on standard input; it counts how often one of the two was opened. Beside it the criteria
+/// A file of games, `games.pgn`, and the same text on standard input; it counts how often one of the two was opened. Their readers pass over at most `passes` bytes a skip, or fail at it. Beside it the criteria
 /// `wanted.txt`, a `folder` that can be opened and not read, and `huge.pgn`, at which memory runs out.
 #[derive(Drop)]
 pub struct Shelf<'a> {
@@ -244,6 +282,8 @@ pub struct Shelf<'a> {
     criteria: &'a [u8],
     piece: usize,
     fails: bool,
+    passes: u64,
+    skip_fails: Fails,
     pub opened: u32,
 }
 
@@ -259,8 +299,24 @@ impl<'a> Shelf<'a> {
             criteria,
             piece: 8192,
             fails: false,
+            passes: 0,
+            skip_fails: Fails::Never,
             opened: 0,
         }
+    }
+
+    /// A shelf whose readers pass over at most `passes` bytes a skip.
+    pub fn seeking(text: &'a [u8], passes: u64) -> Self {
+        let mut shelf = Shelf::new(text);
+        shelf.passes = passes;
+        shelf
+    }
+
+    /// A shelf whose readers fail at skips.
+    pub fn failing_skip(text: &'a [u8]) -> Self {
+        let mut shelf = Shelf::new(text);
+        shelf.skip_fails = Fails::Always;
+        shelf
     }
 
     /// A shelf whose readers give the text and then fail.
@@ -270,6 +326,8 @@ impl<'a> Shelf<'a> {
             criteria: b"",
             piece: 8192,
             fails: true,
+            passes: 0,
+            skip_fails: Fails::Never,
             opened: 0,
         }
     }
@@ -279,7 +337,9 @@ impl<'a> Shelf<'a> {
         if self.fails {
             Pieces::failing(self.text, self.piece)
         } else {
-            Pieces::new(self.text, self.piece)
+            let mut pieces = Pieces::seeking(self.text, self.piece, self.passes);
+            pieces.skip_fails = self.skip_fails;
+            pieces
         }
     }
 }
@@ -387,8 +447,18 @@ pub type Row = (
     u8,
 );
 
-/// Whether the program does what the row says.
+/// How many bytes an input passes over a skip: none, as a pipe; one; as many as it is asked for, as a file.
+const PASSES: [u64; 3] = [0, 1, u64::MAX];
+
+/// Whether the program does what the row says, over inputs of each kind.
 pub fn holds(alloc: Global, row: &Row) -> Result<bool, AllocError> {
     let (words, text, out, err, status) = row;
-    Ok(run_over(alloc, words, text)?.is(out, err, *status))
+    for passes in PASSES {
+        let mut shelf = Shelf::seeking(text, passes);
+        let end = run_words(alloc, words, &mut shelf, Page::new(), Page::new())?;
+        if !end.is(out, err, *status) {
+            return Ok(false);
+        }
+    }
+    Ok(true)
 }

@@ -31,10 +31,32 @@ fn flushes_once() -> bool {
     first && known && second && out.faulted() && out.flushed()
 }
 
+/// Whether a skip that fails once is answered with the error, and those behind it pass over bytes, which count as those that are read.
+fn skips_once() -> bool {
+    let mut input = Tally::new(Pieces::failing_skip(b"vwxyz", 2, Fails::Once));
+    let mut buf = [0u8; 8];
+    let first = input.skip(4).is_err();
+    let known = input.faulted() && input.moved() == 0;
+    let second = matches!(input.skip(4), Ok(2)) && input.moved() == 2;
+    let third = matches!(input.skip(1), Ok(1)) && input.moved() == 3;
+    let rest = matches!(input.read(&mut buf), Ok(2)) && buf.starts_with(b"yz");
+    let end = matches!(input.skip(4), Ok(0)) && input.moved() == 5;
+    first && known && second && third && rest && end && input.faulted()
+}
+
+/// Whether a reader that passes over no bytes does so without a fault.
+fn skips_nothing() -> bool {
+    let mut input = Tally::new(Pieces::new(b"xyz", 2));
+    let none = matches!(input.skip(3), Ok(0));
+    none && !input.faulted() && input.moved() == 0
+}
+
 #[test]
 fn nothing_is_tried_again(rt: HostRuntime) -> Result<(), Fail> {
     let rows = [
         ("read", reads_once()),
+        ("skip", skips_once()),
+        ("skip of nothing", skips_nothing()),
         ("write", writes_once()),
         ("flush", flushes_once()),
     ];

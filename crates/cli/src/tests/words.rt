@@ -1,11 +1,11 @@
 //! Words, refusals and statuses.
-use super::support::{Page, Row, Shelf, TWO_GAMES, holds, run_words};
+use super::support::{FAULT_BETWEEN, LOST_BRACE, Page, Row, Shelf, TWO_GAMES, holds, run_words};
 use memchr::memmem;
 use std::alloc::{AllocError, Global};
 use std::test::Fail;
 
 /// Words that are accepted, and refusals in their order.
-const ROWS: [Row; 11] = [
+const ROWS: [Row; 13] = [
     (&["--index", "games.pgn"], TWO_GAMES, b"1@0\n2@22\n", b"", 0),
     (&["--index"], TWO_GAMES, b"1@0\n2@22\n", b"", 0),
     (&["--index", "--from=01@00"], b"1. e4 *", b"1@0\n", b"", 0),
@@ -32,6 +32,20 @@ const ROWS: [Row; 11] = [
         TWO_GAMES,
         b"",
         b"pgn-extract: bad mark\n",
+        2,
+    ),
+    (
+        &["--list", "--index", "--until", "0@0", "absent.pgn"],
+        TWO_GAMES,
+        b"",
+        b"pgn-extract: --list and --index exclude each other\n",
+        2,
+    ),
+    (
+        &["--index", "--until", "5@0", "absent.pgn"],
+        TWO_GAMES,
+        b"",
+        b"pgn-extract: --until is not behind --from\n",
         2,
     ),
     (
@@ -71,20 +85,360 @@ const ROWS: [Row; 11] = [
     ),
 ];
 
+/// Stretches of a text: what is written is what one run writes of the text that ends there.
+const STRETCHES: [Row; 23] = [
+    (&["--index", "--until", "2@22"], TWO_GAMES, b"1@0\n", b"", 0),
+    (
+        &["--list", "--until", "2@22"],
+        TWO_GAMES,
+        b"1@0 0\n1@0 1\n",
+        b"",
+        0,
+    ),
+    (
+        &["--until", "2@22"],
+        TWO_GAMES,
+        b"[Event \"A\"]\n[Site \"?\"]\n[Date \"????.??.??\"]\n[Round \"?\"]\n[White \"?\"]\n[Black \"?\"]\n[Result \"*\"]\n\n1. e4 *\n\n",
+        b"",
+        0,
+    ),
+    (
+        &["--from", "2@22", "--until", "3@43"],
+        TWO_GAMES,
+        b"[Event \"B\"]\n[Site \"?\"]\n[Date \"????.??.??\"]\n[Round \"?\"]\n[White \"?\"]\n[Black \"?\"]\n[Result \"*\"]\n\n1. d4 *\n\n",
+        b"",
+        0,
+    ),
+    (
+        &["--index", "--from", "2@22", "--until", "3@43"],
+        TWO_GAMES,
+        b"2@22\n",
+        b"",
+        0,
+    ),
+    (
+        &["--list", "--from", "2@22", "--until", "1@43"],
+        TWO_GAMES,
+        b"2@22 0\n2@22 1\n",
+        b"",
+        0,
+    ),
+    (&["--index", "--until", "9@22"], TWO_GAMES, b"1@0\n", b"", 0),
+    (&["--index", "--until=02@022"], TWO_GAMES, b"1@0\n", b"", 0),
+    (
+        &["--index", "--until", "3@44"],
+        TWO_GAMES,
+        b"1@0\n2@22\n",
+        b"",
+        0,
+    ),
+    (
+        &[
+            "--index",
+            "--until",
+            "4611686018427387904@4611686018427387904",
+        ],
+        TWO_GAMES,
+        b"1@0\n2@22\n",
+        b"",
+        0,
+    ),
+    (
+        &["--index", "--from", "2@22", "--until", "3@100"],
+        TWO_GAMES,
+        b"2@22\n",
+        b"",
+        0,
+    ),
+    (
+        &["--index", "--from", "9@100", "--until", "9@200"],
+        TWO_GAMES,
+        b"",
+        b"",
+        0,
+    ),
+    (
+        &["--list", "--from", "3@43", "--until", "3@44"],
+        TWO_GAMES,
+        b"",
+        b"",
+        0,
+    ),
+    (&["--index", "--until", "1@1"], b"", b"", b"", 0),
+    (
+        &["--index", "--until", "2@14"],
+        TWO_GAMES,
+        b"",
+        b"pgn-extract: game 1@0: unreadable\n",
+        1,
+    ),
+    (
+        &["--index", "--until", "2@23"],
+        TWO_GAMES,
+        b"1@0\n",
+        b"pgn-extract: game 2@22: unreadable\n",
+        1,
+    ),
+    (
+        &["--index", "--from", "2@22", "--until", "3@23"],
+        TWO_GAMES,
+        b"",
+        b"pgn-extract: game 2@22: unreadable\n",
+        1,
+    ),
+    (
+        &["--index", "--until", "2@25"],
+        LOST_BRACE,
+        b"",
+        b"pgn-extract: game 1@0: unreadable\n",
+        1,
+    ),
+    (
+        &["--list", "--until", "2@8"],
+        FAULT_BETWEEN,
+        b"1@0 0\n1@0 1\n",
+        b"",
+        0,
+    ),
+    (
+        &["--list", "--until", "3@18"],
+        FAULT_BETWEEN,
+        b"1@0 0\n1@0 1\n",
+        b"pgn-extract: game 2@8: illegal move Qxh8 at ply 1\n",
+        1,
+    ),
+    (
+        &["--list", "--from", "2@8", "--until", "3@18"],
+        FAULT_BETWEEN,
+        b"",
+        b"pgn-extract: game 2@8: illegal move Qxh8 at ply 1\n",
+        1,
+    ),
+    (
+        &["--list", "--from", "2@8", "--until", "4@26"],
+        FAULT_BETWEEN,
+        b"3@18 0\n3@18 1\n",
+        b"pgn-extract: game 2@8: illegal move Qxh8 at ply 1\n",
+        1,
+    ),
+    (
+        &["--index", "--from", "2@8", "--until", "3@18"],
+        FAULT_BETWEEN,
+        b"2@8\n",
+        b"",
+        0,
+    ),
+];
+
+/// Runs that say how many games they read, or end before they can.
+const SUMMARIES: [Row; 26] = [
+    (
+        &["--index", "--summary"],
+        b"",
+        b"",
+        b"pgn-extract: 0 games, 0 of them faulty\n",
+        0,
+    ),
+    (
+        &["--index", "--summary"],
+        b"% note\n",
+        b"",
+        b"pgn-extract: 0 games, 0 of them faulty\n",
+        0,
+    ),
+    (
+        &["--index", "--summary"],
+        b"1. e4 *",
+        b"1@0\n",
+        b"pgn-extract: 1 game, 0 of them faulty\n",
+        0,
+    ),
+    (
+        &["--list", "--summary"],
+        b"1. e4 *",
+        b"1@0 0\n1@0 1\n",
+        b"pgn-extract: 1 game, 0 of them faulty\n",
+        0,
+    ),
+    (
+        &["--summary"],
+        b"1. e4 *",
+        b"[Event \"?\"]\n[Site \"?\"]\n[Date \"????.??.??\"]\n[Round \"?\"]\n[White \"?\"]\n[Black \"?\"]\n[Result \"*\"]\n\n1. e4 *\n\n",
+        b"pgn-extract: 1 game, 0 of them faulty\n",
+        0,
+    ),
+    (
+        &["--list", "--summary"],
+        TWO_GAMES,
+        b"1@0 0\n1@0 1\n2@22 0\n2@22 1\n",
+        b"pgn-extract: 2 games, 0 of them faulty\n",
+        0,
+    ),
+    (
+        &["--summary", "games.pgn"],
+        TWO_GAMES,
+        b"[Event \"A\"]\n[Site \"?\"]\n[Date \"????.??.??\"]\n[Round \"?\"]\n[White \"?\"]\n[Black \"?\"]\n[Result \"*\"]\n\n1. e4 *\n\n[Event \"B\"]\n[Site \"?\"]\n[Date \"????.??.??\"]\n[Round \"?\"]\n[White \"?\"]\n[Black \"?\"]\n[Result \"*\"]\n\n1. d4 *\n\n",
+        b"pgn-extract: 2 games, 0 of them faulty\n",
+        0,
+    ),
+    (
+        &["--index", "--summary"],
+        b"1. e4",
+        b"",
+        b"pgn-extract: game 1@0: unreadable\npgn-extract: 1 game, 1 of them faulty\n",
+        1,
+    ),
+    (
+        &["--index", "--summary"],
+        LOST_BRACE,
+        b"2@25\n",
+        b"pgn-extract: game 1@0: unreadable\npgn-extract: 2 games, 1 of them faulty\n",
+        1,
+    ),
+    (
+        &["--list", "--summary"],
+        FAULT_BETWEEN,
+        b"1@0 0\n1@0 1\n3@18 0\n3@18 1\n",
+        b"pgn-extract: game 2@8: illegal move Qxh8 at ply 1\npgn-extract: 3 games, 1 of them faulty\n",
+        1,
+    ),
+    (
+        &["--summary"],
+        FAULT_BETWEEN,
+        b"[Event \"?\"]\n[Site \"?\"]\n[Date \"????.??.??\"]\n[Round \"?\"]\n[White \"?\"]\n[Black \"?\"]\n[Result \"*\"]\n\n1. e4 *\n\n[Event \"?\"]\n[Site \"?\"]\n[Date \"????.??.??\"]\n[Round \"?\"]\n[White \"?\"]\n[Black \"?\"]\n[Result \"*\"]\n\n1. d4 *\n\n",
+        b"pgn-extract: game 2@8: illegal move Qxh8 at ply 1\npgn-extract: 3 games, 1 of them faulty\n",
+        1,
+    ),
+    (
+        &["--index", "--summary"],
+        FAULT_BETWEEN,
+        b"1@0\n2@8\n3@18\n",
+        b"pgn-extract: 3 games, 0 of them faulty\n",
+        0,
+    ),
+    (
+        &["--list", "--summary", "--min-ply", "9"],
+        TWO_GAMES,
+        b"",
+        b"pgn-extract: 2 games, 0 of them faulty\n",
+        0,
+    ),
+    (
+        &["--summary", "--min-ply", "9"],
+        FAULT_BETWEEN,
+        b"",
+        b"pgn-extract: game 2@8: illegal move Qxh8 at ply 1\npgn-extract: 3 games, 1 of them faulty\n",
+        1,
+    ),
+    (
+        &["--index", "--summary", "--explain"],
+        b"1. e4",
+        b"",
+        b"pgn-extract: game 1@0: unreadable\n  line 1, column 6, byte 5: the text ends here (before a result)\npgn-extract: 1 game, 1 of them faulty\n",
+        1,
+    ),
+    (
+        &["--list", "--summary", "--from", "2@8"],
+        FAULT_BETWEEN,
+        b"3@18 0\n3@18 1\n",
+        b"pgn-extract: game 2@8: illegal move Qxh8 at ply 1\npgn-extract: 2 games, 1 of them faulty\n",
+        1,
+    ),
+    (
+        &["--list", "--summary", "--until", "3@18"],
+        FAULT_BETWEEN,
+        b"1@0 0\n1@0 1\n",
+        b"pgn-extract: game 2@8: illegal move Qxh8 at ply 1\npgn-extract: 2 games, 1 of them faulty\n",
+        1,
+    ),
+    (
+        &["--list", "--summary", "--from", "2@8", "--until", "3@18"],
+        FAULT_BETWEEN,
+        b"",
+        b"pgn-extract: game 2@8: illegal move Qxh8 at ply 1\npgn-extract: 1 game, 1 of them faulty\n",
+        1,
+    ),
+    (
+        &["--index", "--summary", "--from", "9@100"],
+        TWO_GAMES,
+        b"",
+        b"pgn-extract: 0 games, 0 of them faulty\n",
+        0,
+    ),
+    (
+        &["--list", "--index", "--summary"],
+        TWO_GAMES,
+        b"",
+        b"pgn-extract: --list and --index exclude each other\n",
+        2,
+    ),
+    (
+        &["--summary", "--from", "0@0"],
+        TWO_GAMES,
+        b"",
+        b"pgn-extract: bad mark\n",
+        2,
+    ),
+    (
+        &["--summary", "--until", "1@0"],
+        TWO_GAMES,
+        b"",
+        b"pgn-extract: --until is not behind --from\n",
+        2,
+    ),
+    (
+        &["--summary", "absent.pgn"],
+        TWO_GAMES,
+        b"",
+        b"pgn-extract: cannot open input\n",
+        2,
+    ),
+    (
+        &["--summary", "--criteria", "absent.txt"],
+        TWO_GAMES,
+        b"",
+        b"pgn-extract: cannot read criteria\n",
+        2,
+    ),
+    (
+        &["--summary", "huge.pgn"],
+        TWO_GAMES,
+        b"",
+        b"pgn-extract: out of memory\n",
+        3,
+    ),
+    (
+        &["--summary", "folder"],
+        TWO_GAMES,
+        b"",
+        b"pgn-extract: read failed\n",
+        3,
+    ),
+];
+
 #[test]
 fn rows_give_their_bytes(rt: HostRuntime) -> Result<(), Fail> {
-    for row in &ROWS {
+    let rows = ROWS.iter().chain(STRETCHES.iter()).chain(SUMMARIES.iter());
+    for row in rows {
         assert!(rt; holds(rt.alloc(), row)?, "{:?} over {:?}", row.0, row.1);
     }
     Ok(())
 }
 
-/// Whether a mark is refused, with nothing opened.
-fn is_refused(alloc: Global, mark: &str) -> Result<bool, AllocError> {
+/// Whether the marks are refused with this line, with nothing opened.
+fn is_refused(alloc: Global, from: &str, until: &str, line: &[u8]) -> Result<bool, AllocError> {
     let mut shelf = Shelf::new(TWO_GAMES);
-    let words = ["--index", "--from", mark];
+    let words = [
+        "--index",
+        "--from",
+        from,
+        "--until",
+        until,
+        "--criteria",
+        "absent.txt",
+    ];
     let end = run_words(alloc, &words, &mut shelf, Page::new(), Page::new())?;
-    Ok(end.is(b"", b"pgn-extract: bad mark\n", 2) && shelf.opened == 0)
+    Ok(end.is(b"", line, 2) && shelf.opened == 0)
 }
 
 #[test]
@@ -103,8 +457,33 @@ fn bad_marks_are_refused_before_anything_is_read(rt: HostRuntime) -> Result<(), 
         "1@00000000000000000000",
         "99999999999999999999@0",
     ];
+    let line = b"pgn-extract: bad mark\n";
     for mark in marks {
-        assert!(rt; is_refused(rt.alloc(), mark)?, "at {mark}");
+        let is_bad = is_refused(rt.alloc(), mark, "3@43", line)?
+            && is_refused(rt.alloc(), "2@22", mark, line)?
+            && is_refused(rt.alloc(), mark, "1@0", line)?;
+        assert!(rt; is_bad, "at {mark}");
+    }
+    Ok(())
+}
+
+#[test]
+fn a_mark_that_is_not_behind_the_beginning_is_refused(rt: HostRuntime) -> Result<(), Fail> {
+    let marks = [
+        ("1@0", "1@0"),
+        ("1@0", "9@0"),
+        ("2@22", "2@22"),
+        ("2@22", "3@22"),
+        ("2@22", "3@21"),
+        ("2@22", "1@0"),
+        ("1@4611686018427387904", "2@4611686018427387904"),
+    ];
+    let line = b"pgn-extract: --until is not behind --from\n";
+    for (from, until) in marks {
+        assert!(rt;
+            is_refused(rt.alloc(), from, until, line)?,
+            "{from} {until}"
+        );
     }
     Ok(())
 }
@@ -133,6 +512,9 @@ fn clap_refuses_the_words_that_it_does_not_know(rt: HostRuntime) -> Result<(), F
         ["--list", "--list"],
         ["--list=yes", "games.pgn"],
         ["--index", "--from"],
+        ["--index", "--until"],
+        ["--summary", "--summary"],
+        ["--summary=yes", "games.pgn"],
     ];
     for words in lines {
         assert!(rt; is_unknown(rt.alloc(), &words)?, "at {words:?}");
@@ -161,6 +543,9 @@ fn help_goes_to_standard_output(rt: HostRuntime) -> Result<(), Fail> {
         b"Usage: pgn-extract [OPTIONS] [FILE]\n".as_slice(),
         b"\nPositions looked for:\n      --criteria <FILE>  Only those ",
         b"\n  -w, --width <N>      Fill lines of moves up to N bytes, 1 to 9999 [default: 79]\n",
+        b"\nReports, on standard error:\n      --explain  Say behind the line of each faulty game where it stops being one, and why\n",
+        b"\n      --summary  Say at the end how many games were read, and how many were faulty\n",
+        b"\n      --until <N@O>  End before the game with this mark [default: the end of the input]\n",
         b"\nExamples:\n  pgn-extract games.pgn > clean.pgn ",
         b"\n  -h, --help     Print this help\n",
     ];
