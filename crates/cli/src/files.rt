@@ -40,6 +40,9 @@ impl RealFiles {
 fn move_on(file: &mut File, most: u64) -> io::Result<u64>
     ensures { IfOk result (λ count. count ≤ most) }
 {
+    if most == 0 {
+        return Ok(0);
+    }
     let Ok(here) = file.stream_position() else {
         return Ok(0);
     };
