@@ -1,11 +1,10 @@
 -- A block cut into pieces: one piece more in front of those that are left.
-use Rattle.std.proofs.Common.{◌≡◌, ◌≢◌, ℕ, ◌+◌, ◌≤◌, Bool, List, [], ◌∷◌, ◌++◌, length, take, drop, refl, sym, ap, ◌∙◌, subst, arith, append-nil, length-drop}
+use Rattle.std.proofs.Common.{◌≡◌, ◌≢◌, ℕ, ◌≤◌, Bool, List, [], ◌∷◌, ◌++◌, length, take, drop, refl, sym, ap, ◌∙◌, subst, arith, append-nil, length-drop}
 use Rattle.std.proofs.lemmas.List.{length-take-le, drop_all}
 use Rattle.pgn_text.specs.Parts.{Part, spelled}
 use Rattle.pgn_text.specs.Games.{IsGame}
 use Rattle.pgn_text.specs.Gaps.{IsLongestGap}
 use Rattle.pgn_text.specs.Pieces.{Piece, Game, Unreadable, ArePieces, NoGame}
-use Rattle.pgn_text.specs.Stops.{StopsAt}
 use Rattle.pgn_text.specs.Walk.{GapTo, LongestGapTo, GameTo}
 use Rattle.pgn_text.proofs.OneList.{no_bytes, game_has_byte, one_gap}
 
@@ -19,7 +18,7 @@ pub nothing_left : (max_depth : ℕ) (f : Bool) (before : List ℕ) (pieces : Li
 nothing_left max_depth f before [] are = refl
 nothing_left max_depth f before (Game at parts ∷ more) are =
     absurd (game_has_byte max_depth f (before ++ spelled are.0) parts are.1 are.5 (no_bytes (spelled parts) are.1 (second_empty (spelled are.0) (spelled parts ++ are.1) (sym are.2))))
-nothing_left max_depth f before (Unreadable at stop ∷ more) are = absurd (are.5 (second_empty (spelled are.0) are.1 (sym are.2)))
+nothing_left max_depth f before (Unreadable at bytes ∷ more) are = absurd (are.4 (second_empty (spelled are.0) bytes (sym are.1)))
 
 -- the place behind a gap
 place_behind : (f : Bool) (block : List ℕ) (at begin : ℕ) → (to : GapTo f block at begin) → begin ≡ length (take at block ++ spelled to.gap)
@@ -53,19 +52,16 @@ piece_left max_depth f block at begin gap not_end pieces are none =
 
 -- bytes behind a gap that are no game
 pub piece_unreadable : (max_depth : ℕ) (f : Bool) (block : List ℕ) (at begin : ℕ) → LongestGapTo f block at begin → begin ≢ length block → NoGame max_depth f (take begin block) (drop begin block)
-    → (n : ℕ) → StopsAt max_depth f (take begin block) (drop begin block) n
     → (more : List Piece) → ArePieces max_depth f (take (length block) block) more (drop (length block) block)
-    → ArePieces max_depth f (take at block) (Unreadable begin (begin + n) ∷ more) (drop at block)
-piece_unreadable max_depth f block at begin gap not_end none n stops more are =
+    → ArePieces max_depth f (take at block) (Unreadable begin (drop begin block) ∷ more) (drop at block)
+piece_unreadable max_depth f block at begin gap not_end none more are =
     let within : begin ≤ length block = gap.to.within in
     let empty : drop (length block) block ≡ [] = drop_all (length block) block (omega arith) in (
       gap.to.gap,
-      drop begin block,
       gap.to.parted,
       gap.longest,
       place_behind f block at begin gap.to,
       byte_left block begin within not_end,
       subst (λ xs. NoGame max_depth f xs (drop begin block)) gap.to.passed none,
       nothing_left max_depth f (take (length block) block) more (subst (ArePieces max_depth f (take (length block) block) more) empty are),
-      (n, refl, subst (λ xs. StopsAt max_depth f xs (drop begin block) n) gap.to.passed stops),
     )

@@ -1,5 +1,5 @@
 -- Each block has a list of pieces.
-use Rattle.std.proofs.Common.{◌≡◌, ℕ, zero, suc, ◌+◌, ◌<◌, ◌≤◌, Bool, true, false, List, [], ◌∷◌, ◌++◌, Option, Some, None, length, IsTrue, refl, sym, ap, ◌∙◌, ◌⊎◌, inl, inr, arith, append_assoc, append-nil, length-append}
+use Rattle.std.proofs.Common.{◌≡◌, ℕ, zero, suc, ◌<◌, ◌≤◌, Bool, true, false, List, [], ◌∷◌, ◌++◌, Option, Some, None, length, IsTrue, refl, sym, ap, ◌∙◌, ◌⊎◌, inl, inr, arith, append_assoc, append-nil, length-append}
 use Rattle.std.specs.List.{list_all}
 use Rattle.std.proofs.lemmas.Bool.{false≢true, and_parts, and_from, not_from_false, cases_Bool, cases_eq}
 use Rattle.pgn_text.specs.Parts.{Part, standing_of, Stands, spelled, spelled_part}
@@ -10,7 +10,6 @@ use Rattle.pgn_text.specs.Pieces.{NoGame, Piece, Game, Unreadable, ArePieces}
 use Rattle.pgn_text.proofs.PartLemmas.{one_part, part_has_byte}
 use Rattle.pgn_text.proofs.FoundLemmas.{part_or_none}
 use Rattle.pgn_text.proofs.OneList.{shorter, game_has_byte}
-use Rattle.pgn_text.proofs.EachStops.{stop_exists}
 use Rattle.pgn_text.proofs.Halfway.{Reads, reads_more, reads_end, reads_first, game_reads, reads_game}
 use Rattle.pgn_text.proofs.Resumption.{no_gap_part, empty_gap, gap_spent}
 
@@ -191,10 +190,7 @@ module _ (max_depth : ℕ) (file_start : Bool) where
                 more.1,
               ),
             )
-        | inr none ↦
-            let at = length (before ++ spelled gap) in
-            let stop = stop_exists max_depth file_start (before ++ spelled gap) (b ∷ bs) in
-            (Unreadable at (at + stop.0) ∷ [], (gap, b ∷ bs, e, l, refl, λ e. cc, none, refl, (stop.0, refl, stop.1)))
+        | inr none ↦ (Unreadable (length (before ++ spelled gap)) (b ∷ bs) ∷ [], (gap, e, l, refl, λ e. cc, none, refl))
       ]
 
   pieces_within : (fuel : ℕ) (before text : List ℕ) → length text < fuel

@@ -39,14 +39,14 @@ pieces_front max_depth file_start before [] (Game at parts) later text h = recor
   pieces = (h.0, refl, gap_end file_start before h.0 (spelled parts ++ h.1) h.3.is_gap.stand h.3.is_gap.only);
   line = λ tail. gap_line file_start before h.0 (spelled parts ++ h.1) tail h.3.is_gap.stand h.3.is_gap.only;
 }
-pieces_front max_depth file_start before [] (Unreadable at stop) later text h = record {
+pieces_front max_depth file_start before [] (Unreadable at bytes) later text h = record {
   front = spelled h.0;
-  rest = h.1;
-  parted = h.2;
-  place = h.4;
-  some = h.5;
-  pieces = (h.0, refl, gap_end file_start before h.0 h.1 h.3.is_gap.stand h.3.is_gap.only);
-  line = λ tail. gap_line file_start before h.0 h.1 tail h.3.is_gap.stand h.3.is_gap.only;
+  rest = bytes;
+  parted = h.1;
+  place = h.3;
+  some = h.4;
+  pieces = (h.0, refl, gap_end file_start before h.0 bytes h.2.is_gap.stand h.2.is_gap.only);
+  line = λ tail. gap_line file_start before h.0 bytes tail h.2.is_gap.stand h.2.is_gap.only;
 }
 pieces_front max_depth file_start before (Game at parts ∷ more) piece later text h =
     let a = spelled h.0 in
@@ -65,7 +65,7 @@ pieces_front max_depth file_start before (Game at parts ∷ more) piece later te
       pieces = (h.0, r.front, refl, longest, h.4, game, r.pieces);
       line = λ tail some e. game_line max_depth file_start (before ++ a) parts r.front a r.front tail game e;
     }
-pieces_front max_depth file_start before (Unreadable at stop ∷ more) piece later text h = absurd (not_nil more piece later h.7)
+pieces_front max_depth file_start before (Unreadable at bytes ∷ more) piece later text h = absurd (not_nil more piece later h.6)
 
 -- the same of pieces with their offsets: the front keeps an event line that the block begins with
 record BlockFront (limit max_depth offset : ℕ) (block : List ℕ) (earlier : List MarkedPiece) (piece : MarkedPiece) : Type 0 where

@@ -1,5 +1,5 @@
 -- What a call of `next` gives of the pieces of a block.
-use Rattle.std.proofs.Common.{◌≡◌, ◌≢◌, ℕ, ◌+◌, ◌<◌, ◌≤◌, Bool, true, false, List, length, take, drop, refl, subst, arith}
+use Rattle.std.proofs.Common.{◌≡◌, ◌≢◌, ℕ, ◌<◌, ◌≤◌, Bool, true, false, List, length, take, drop, refl, subst, arith}
 use Rattle.std.specs.Prelude.{Some, Ok, Err}
 use Rattle.std.specs.declared.alloc.AllocError.{AllocError}
 use Rattle.pgn_text.specs.Parts.{Part}
@@ -8,7 +8,6 @@ use Rattle.pgn_text.specs.GameTexts.{GameText, ShowsGame}
 use Rattle.pgn_text.specs.Walk.{LongestGapTo, GameTo}
 use Rattle.pgn_text.specs.Left.{Left, GivesPiece}
 use Rattle.pgn_text.specs.declared.pieces.Piece.TheVariants.{Game, Unreadable}
-use Rattle.pgn_text.proofs.EachStops.{stop_exists}
 use Rattle.pgn_text.proofs.Cuts.{piece_game, piece_unreadable, piece_left}
 use Rattle.pgn_text.proofs.Existence.{pieces_exist}
 
@@ -25,7 +24,6 @@ gives_game max_depth f block at begin end failed parts game old is sound gap to 
     (record {
       shown = GameOf begin parts;
       is = shows;
-      stops = tt;
       going = sound;
       grows = forward;
       starts = (let h : begin < end = to.forward in rw shows.place h);
@@ -38,19 +36,17 @@ pub gives_unreadable : (max_depth : ℕ) (f : Bool) (block : List ℕ) (at begin
     → left_at f block at failed ≡ old → failed ≡ false → LongestGapTo f block at begin → begin ≢ length block → NoGame max_depth f (take begin block) (drop begin block)
     → GivesPiece max_depth old (Some (Ok (Unreadable begin))) (left_at f block (length block) failed)
 gives_unreadable max_depth f block at begin failed old is sound gap not_end none =
-    let stop = stop_exists max_depth f (take begin block) (drop begin block) in
     let forward : at < length block = (let a : at ≤ begin = gap.to.forward in let b : begin ≤ length block = gap.to.within in omega arith) in
     subst (λ o. GivesPiece max_depth o (Some (Ok (Unreadable begin))) (left_at f block (length block) failed)) is
     (record {
-      shown = UnreadableOf begin (begin + stop.0);
+      shown = UnreadableOf begin (drop begin block);
       is = refl;
-      stops = (stop.0, refl, stop.1);
       going = sound;
       grows = forward;
       starts = (let h : begin ≤ length block = gap.to.within in omega arith);
       within = omega arith;
       same = (refl, refl, sound);
-      completes = piece_unreadable max_depth f block at begin gap not_end none stop.0 stop.1;
+      completes = piece_unreadable max_depth f block at begin gap not_end none;
     })
 
 pub gives_error : (max_depth : ℕ) (f : Bool) (block : List ℕ) (at begin : ℕ) (failed : Bool) (error : AllocError) (old : Left)

@@ -1,5 +1,5 @@
 -- What a call of `next` gives of the places of a block's pieces.
-use Rattle.std.proofs.Common.{◌≡◌, ◌≢◌, ℕ, ◌+◌, ◌<◌, ◌≤◌, Bool, false, List, length, take, drop, refl, subst, arith}
+use Rattle.std.proofs.Common.{◌≡◌, ◌≢◌, ℕ, ◌<◌, ◌≤◌, Bool, false, List, length, take, drop, refl, subst, arith}
 use Rattle.std.specs.Prelude.{Some}
 use Rattle.pgn_text.specs.Parts.{Part}
 use Rattle.pgn_text.specs.Pieces.{Game as GameOf, Unreadable as UnreadableOf, NoGame}
@@ -7,7 +7,6 @@ use Rattle.pgn_text.specs.Walk.{LongestGapTo, GameTo}
 use Rattle.pgn_text.specs.Left.{Left}
 use Rattle.pgn_text.specs.LeftMarks.{GivesMark}
 use Rattle.pgn_text.specs.declared.pieces.Mark.TheVariants.{Game, Unreadable}
-use Rattle.pgn_text.proofs.EachStops.{stop_exists}
 use Rattle.pgn_text.proofs.Cuts.{piece_game, piece_unreadable}
 use Rattle.pgn_text.proofs.Gives.{left_at}
 
@@ -20,7 +19,6 @@ marks_game max_depth f block at begin end parts old is gap to =
     (record {
       shown = GameOf begin parts;
       is = refl;
-      stops = tt;
       grows = forward;
       starts = to.forward;
       within = to.within;
@@ -32,16 +30,14 @@ pub marks_unreadable : (max_depth : ℕ) (f : Bool) (block : List ℕ) (at begin
     → left_at f block at false ≡ old → LongestGapTo f block at begin → begin ≢ length block → NoGame max_depth f (take begin block) (drop begin block)
     → GivesMark max_depth old (Some (Unreadable begin)) (left_at f block (length block) false)
 marks_unreadable max_depth f block at begin old is gap not_end none =
-    let stop = stop_exists max_depth f (take begin block) (drop begin block) in
     let forward : at < length block = (let a : at ≤ begin = gap.to.forward in let b : begin ≤ length block = gap.to.within in omega arith) in
     subst (λ o. GivesMark max_depth o (Some (Unreadable begin)) (left_at f block (length block) false)) is
     (record {
-      shown = UnreadableOf begin (begin + stop.0);
+      shown = UnreadableOf begin (drop begin block);
       is = refl;
-      stops = (stop.0, refl, stop.1);
       grows = forward;
       starts = (let h : begin ≤ length block = gap.to.within in omega arith);
       within = omega arith;
       same = (refl, refl, refl);
-      completes = piece_unreadable max_depth f block at begin gap not_end none stop.0 stop.1;
+      completes = piece_unreadable max_depth f block at begin gap not_end none;
     })

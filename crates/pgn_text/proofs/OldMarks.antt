@@ -43,7 +43,7 @@ same_pieces low high file_start before (Game at parts ∷ more) text offset le a
   deeper_game low high file_start (before ++ spelled h.0) parts h.1 le h.5,
   same_pieces low high file_start ((before ++ spelled h.0) ++ spelled parts) more h.1 offset le all h.6,
 )
-same_pieces low high file_start before (Unreadable at stop ∷ more) text offset le all h = absurd (false≢true all)
+same_pieces low high file_start before (Unreadable at bytes ∷ more) text offset le all h = absurd (false≢true all)
 
 pub same_of_block : (limit larger_limit low high offset : ℕ) (block : List ℕ) (own : List MarkedPiece)
     → limit ≤ larger_limit → low ≤ high → IsTrue (list_all is_readable own)

@@ -6,7 +6,6 @@ use Rattle.pgn_text.specs.Gaps.{IsLongestGap}
 use Rattle.pgn_text.specs.Pieces.{Piece, Game, Unreadable, ArePieces}
 use Rattle.pgn_text.proofs.PartLemmas.{part_has_byte}
 use Rattle.pgn_text.proofs.Halfway.{one_game}
-use Rattle.pgn_text.proofs.Stopping.{one_stop}
 
 -- two fronts of one text of the same length
 pub same_fronts : {X : Type 0} (a b c d : List X) → length a ≡ length c → a ++ b ≡ c ++ d → (a ≡ c) × (b ≡ d)
@@ -50,13 +49,13 @@ one_list max_depth file_start before [] [] text h k = refl
 one_list max_depth file_start before [] (Game at parts ∷ more) text h k =
     absurd (game_has_byte max_depth file_start (before ++ spelled k.0) parts k.1 k.5 (no_bytes (spelled parts) k.1
     (ends_there file_start before h.0 k.0 text (spelled parts ++ k.1) h.1 k.2 h.2 k.3)))
-one_list max_depth file_start before [] (Unreadable at stop ∷ more) text h k =
-    absurd (k.5 (ends_there file_start before h.0 k.0 text k.1 h.1 k.2 h.2 k.3))
+one_list max_depth file_start before [] (Unreadable at bytes ∷ more) text h k =
+    absurd (k.4 (ends_there file_start before h.0 k.0 text bytes h.1 k.1 h.2 k.2))
 one_list max_depth file_start before (Game at parts ∷ more) [] text h k =
     absurd (game_has_byte max_depth file_start (before ++ spelled h.0) parts h.1 h.5 (no_bytes (spelled parts) h.1
     (ends_there file_start before k.0 h.0 text (spelled parts ++ h.1) k.1 h.2 k.2 h.3)))
-one_list max_depth file_start before (Unreadable at stop ∷ more) [] text h k =
-    absurd (h.5 (ends_there file_start before k.0 h.0 text h.1 k.1 h.2 k.2 h.3))
+one_list max_depth file_start before (Unreadable at bytes ∷ more) [] text h k =
+    absurd (h.4 (ends_there file_start before k.0 h.0 text bytes k.1 h.1 k.2 h.2))
 one_list max_depth file_start before (Game at parts ∷ more) (Game at' parts' ∷ more') text h k =
     let same = one_gap file_start before h.0 k.0 (spelled parts ++ h.1) (spelled parts' ++ k.1) (sym h.2 ∙ k.2) h.3 k.3 in
     let one = one_game max_depth file_start (before ++ spelled k.0) (spelled parts ++ h.1) parts parts' h.1 k.1 refl
@@ -66,16 +65,15 @@ one_list max_depth file_start before (Game at parts ∷ more) (Game at' parts' �
     let rest : more ≡ more' = one_list max_depth file_start ((before ++ spelled k.0) ++ spelled parts') more more' k.1
     (rw (same.0, one.0, one.1) at h.6) k.6 in
     cc
-one_list max_depth file_start before (Game at parts ∷ more) (Unreadable at' stop' ∷ more') text h k =
-    let same = one_gap file_start before h.0 k.0 (spelled parts ++ h.1) k.1 (sym h.2 ∙ k.2) h.3 k.3 in
-    absurd (k.6 parts h.1 (sym same.1) (rw same.0 at h.5))
-one_list max_depth file_start before (Unreadable at stop ∷ more) (Game at' parts' ∷ more') text h k =
-    let same = one_gap file_start before k.0 h.0 (spelled parts' ++ k.1) h.1 (sym k.2 ∙ h.2) k.3 h.3 in
-    absurd (h.6 parts' k.1 (sym same.1) (rw same.0 at k.5))
-one_list max_depth file_start before (Unreadable at stop ∷ more) (Unreadable at' stop' ∷ more') text h k =
-    let same = one_gap file_start before h.0 k.0 h.1 k.1 (sym h.2 ∙ k.2) h.3 k.3 in
-    let at_is : at ≡ at' = h.4 ∙ ap (λ l. length (before ++ l)) same.0 ∙ sym k.4 in
-    let more_is : more ≡ more' = h.7 ∙ sym k.7 in
-    let n_is : h.8.0 ≡ k.8.0 = one_stop max_depth file_start (before ++ spelled k.0) k.1 h.8.0 k.8.0 (rw (same.0, same.1) at h.8.2) k.8.2 in
-    let stop_is : stop ≡ stop' = omega (arith, h.8.1, k.8.1, at_is, n_is) in
+one_list max_depth file_start before (Game at parts ∷ more) (Unreadable at' bytes' ∷ more') text h k =
+    let same = one_gap file_start before h.0 k.0 (spelled parts ++ h.1) bytes' (sym h.2 ∙ k.1) h.3 k.2 in
+    absurd (k.5 parts h.1 (sym same.1) (rw same.0 at h.5))
+one_list max_depth file_start before (Unreadable at bytes ∷ more) (Game at' parts' ∷ more') text h k =
+    let same = one_gap file_start before k.0 h.0 (spelled parts' ++ k.1) bytes (sym k.2 ∙ h.1) k.3 h.2 in
+    absurd (h.5 parts' k.1 (sym same.1) (rw same.0 at k.5))
+one_list max_depth file_start before (Unreadable at bytes ∷ more) (Unreadable at' bytes' ∷ more') text h k =
+    let same = one_gap file_start before h.0 k.0 bytes bytes' (sym h.1 ∙ k.1) h.2 k.2 in
+    let at_is : at ≡ at' = h.3 ∙ ap (λ l. length (before ++ l)) same.0 ∙ sym k.3 in
+    let bytes_is : bytes ≡ bytes' = same.1 in
+    let more_is : more ≡ more' = h.6 ∙ sym k.6 in
     cc

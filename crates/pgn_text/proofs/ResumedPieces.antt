@@ -3,17 +3,15 @@ use Rattle.std.proofs.Common.{◌≢◌, ℕ, ◌-◌, Bool, false, List, [], �
 use Rattle.pgn_text.specs.Parts.{Part, spelled}
 use Rattle.pgn_text.specs.Games.{IsGame}
 use Rattle.pgn_text.specs.Gaps.{IsLongestGap}
-use Rattle.pgn_text.specs.Stops.{StopsAt}
 use Rattle.pgn_text.specs.Pieces.{NoGame, Piece, Game, Unreadable, ArePieces}
 use Rattle.pgn_text.proofs.ShorterText.{game_elsewhere}
 use Rattle.pgn_text.proofs.OneList.{game_has_byte}
 use Rattle.pgn_text.proofs.Resumption.{IsClear, some_bytes, stand_there, stand_back, game_there, game_back, no_gap_there, gap_there}
-use Rattle.pgn_text.proofs.StopsThere.{stops_there, stops_at_mark}
 
 -- a piece as a block sees it that begins n bytes further on
 abbrev pub moved_back : ℕ → Piece → Piece
 moved_back n (Game at parts) = Game (at - n) parts
-moved_back n (Unreadable at stop) = Unreadable (at - n) (stop - n)
+moved_back n (Unreadable at bytes) = Unreadable (at - n) bytes
 
 pub pieces_there : (max_depth : ℕ) (file_start : Bool) (before z : List ℕ) (pieces : List Piece) (text : List ℕ)
     → IsClear file_start before → z ≢ [] → ArePieces max_depth file_start (before ++ z) pieces text
@@ -41,31 +39,25 @@ pieces_there max_depth file_start before z (Game at parts ∷ more) text clear s
           (some_bytes (z ++ spelled h.0) (spelled parts) some_here)
           (rw (place, append_assoc before (z ++ spelled h.0) (spelled parts)) at h.6),
     )
-pieces_there max_depth file_start before z (Unreadable at stop ∷ more) text clear some h =
+pieces_there max_depth file_start before z (Unreadable at bytes ∷ more) text clear some h =
     let place = append_assoc before z (spelled h.0) in
     let some_here = some_bytes z (spelled h.0) some in (
       h.0,
       h.1,
-      h.2,
-      gap_there file_start before z h.0 h.1 clear some h.3,
+      gap_there file_start before z h.0 bytes clear some h.2,
       omega (
         arith,
-        h.4,
+        h.3,
         length-append (before ++ z) (spelled h.0),
         length-append before z,
         length-append z
             (spelled h.0),
       ),
-      h.5,
-      λ parts after e g. h.6 parts after e (game_elsewhere max_depth false file_start (z ++ spelled h.0)
+      h.4,
+      λ parts after e g. h.5 parts after e (game_elsewhere max_depth false file_start (z ++ spelled h.0)
           ((before ++ z) ++ spelled h.0) parts after after g
           (rw place (stand_back file_start before (z ++ spelled h.0) parts after clear some_here g.stand))),
-      rw h.7 refl,
-      (
-        h.8.0,
-        omega (arith, h.8.1, h.4, length-append (before ++ z) (spelled h.0), length-append before z),
-        stops_there max_depth file_start before clear (z ++ spelled h.0) h.1 h.8.0 some_here (rw place at h.8.2),
-      ),
+      rw h.6 refl,
     )
 
 -- ---- the block from one of its pieces on
@@ -89,15 +81,13 @@ resumed_at_game max_depth file_start before parts more after clear l g h = (
 
 pub resumed_at_unreadable : (max_depth : ℕ) (file_start : Bool) (before text : List ℕ) → IsClear file_start before
     → IsLongestGap file_start before [] text → text ≢ [] → NoGame max_depth file_start before text
-    → (n : ℕ) → StopsAt max_depth file_start before text n → ArePieces max_depth false [] (Unreadable 0 n ∷ []) text
-resumed_at_unreadable max_depth file_start before text clear l some none n stop = (
+    → ArePieces max_depth false [] (Unreadable 0 text ∷ []) text
+resumed_at_unreadable max_depth file_start before text clear l some none = (
   [],
-  text,
   refl,
   no_gap_there file_start before text l,
   refl,
   some,
   λ parts after e g. none parts after e (game_back max_depth file_start before parts after clear g),
   refl,
-  (n, omega arith, stops_at_mark max_depth file_start before clear text n l stop),
 )

@@ -59,11 +59,11 @@ blocks_rest x y (next ∷ more) text some h = (
 -- the place of a piece in its block
 abbrev pub place_of_piece : Piece → ℕ
 place_of_piece (Game at parts) = at
-place_of_piece (Unreadable at stop) = at
+place_of_piece (Unreadable at bytes) = at
 
-same_unreadable : {a b : ℕ} {c d : ℕ} {first second : List MarkedPiece} → a ≡ b → c ≡ d → first ≡ second
-    → record { offset = a; kind = UnreadableRest c } ∷ first ≡ record { offset = b; kind = UnreadableRest d } ∷ second
-same_unreadable same same_stop rest = rw (same, same_stop, rest) refl
+same_unreadable : {a b : ℕ} {bytes : List ℕ} {first second : List MarkedPiece} → a ≡ b → first ≡ second
+    → record { offset = a; kind = UnreadableRest bytes } ∷ first ≡ record { offset = b; kind = UnreadableRest bytes } ∷ second
+same_unreadable same rest = rw (same, rest) refl
 
 -- moved back and marked from further on, a piece has the same mark
 marked_back : (max_depth : ℕ) (file_start : Bool) (before z : List ℕ) (pieces : List Piece) (text : List ℕ) (offset : ℕ)
@@ -76,14 +76,12 @@ marked_back max_depth file_start before z (Game at parts ∷ more) text offset h
     let rest = marked_back max_depth file_start before ((z ++ spelled h.0) ++ spelled parts) more h.1 offset
     (rw (append_assoc before z (spelled h.0), append_assoc before (z ++ spelled h.0) (spelled parts)) at h.6) in
     ap₂ (λ (n : ℕ) (l : List MarkedPiece). record { offset = n; kind = ReadableGame parts } ∷ l) same rest
-marked_back max_depth file_start before z (Unreadable at stop ∷ more) text offset h =
+marked_back max_depth file_start before z (Unreadable at bytes ∷ more) text offset h =
     let same : (offset + length before) + (at - length before) ≡ offset + at =
-    omega (arith, h.4, length-append (before ++ z) (spelled h.0), length-append before z) in
-    let same_stop : (offset + length before) + (stop - length before) ≡ offset + stop =
-    omega (arith, h.8.1, h.4, length-append (before ++ z) (spelled h.0), length-append before z) in
+    omega (arith, h.3, length-append (before ++ z) (spelled h.0), length-append before z) in
     let rest : map (marked (offset + length before)) (map (moved_back (length before)) more) ≡ map (marked offset)
-    more = rw h.7 refl in
-    same_unreadable same same_stop rest
+    more = rw h.6 refl in
+    same_unreadable same rest
 
 -- where a piece stands in a block, and the block from there on
 record StandsAt (max_depth : ℕ) (file_start : Bool) (before text : List ℕ) (earlier : List Piece) (piece : Piece)
@@ -126,28 +124,26 @@ pieces_from max_depth file_start before [] (Game at parts) later text begun h =
           ap₂ (λ (n : ℕ) (l : List MarkedPiece). record { offset = n; kind = ReadableGame parts } ∷ l) same
           (marked_back max_depth file_start there (spelled parts) later h.1 offset h.6);
     }
-pieces_from max_depth file_start before [] (Unreadable at stop) later text begun h =
+pieces_from max_depth file_start before [] (Unreadable at bytes) later text begun h =
     let there = before ++ spelled h.0 in
-    let rest = h.1 in
-    let longest = gap_spent file_start before h.0 rest h.3 in record {
+    let longest = gap_spent file_start before h.0 bytes h.2 in record {
       there = there;
-      rest = rest;
-      parted = ap (λ l. before ++ l) h.2 ∙ sym (append_assoc before (spelled h.0) rest);
-      place = h.4;
-      begun = begun_more file_start before h.0 rest begun h.3.is_gap.stand;
+      rest = bytes;
+      parted = ap (λ l. before ++ l) h.1 ∙ sym (append_assoc before (spelled h.0) bytes);
+      place = h.3;
+      begun = begun_more file_start before h.0 bytes begun h.2.is_gap.stand;
       from = omega (arith, length-append before (spelled h.0));
       first = λ e. refl;
-      some = h.5;
+      some = h.4;
       again = λ clear.
-          let here : at - length there ≡ 0 = omega (arith, h.4) in
-          let r = resumed_at_unreadable max_depth file_start there rest clear longest h.5 h.6 h.8.0 h.8.2 in
-          (r.0, r.1, r.2, r.3, here ∙ r.4, r.5, r.6, rw h.7 refl, (r.8.0, omega (arith, h.8.1, h.4, r.8.1), r.8.2));
+          let here : at - length there ≡ 0 = omega (arith, h.3) in
+          let r = resumed_at_unreadable max_depth file_start there bytes clear longest h.4 h.5 in
+          (r.0, r.1, r.2, here ∙ r.3, r.4, r.5, rw h.6 refl);
       marks = λ offset.
-          let same : (offset + length there) + (at - length there) ≡ offset + at = omega (arith, h.4) in
+          let same : (offset + length there) + (at - length there) ≡ offset + at = omega (arith, h.3) in
           let none : map (marked (offset + length there)) (map (moved_back (length there)) later) ≡ map (marked offset)
-          later = rw h.7 refl in
-          let same_stop : (offset + length there) + (stop - length there) ≡ offset + stop = omega (arith, h.8.1, h.4) in
-          same_unreadable same same_stop none;
+          later = rw h.6 refl in
+          same_unreadable same none;
     }
 pieces_from max_depth file_start before (Game at parts ∷ earlier) piece later text begun h =
     let behind = (before ++ spelled h.0) ++ spelled parts in
@@ -170,8 +166,8 @@ pieces_from max_depth file_start before (Game at parts ∷ earlier) piece later 
       again = r.again;
       marks = r.marks;
     }
-pieces_from max_depth file_start before (Unreadable at stop ∷ earlier) piece later text begun h =
-    absurd (not_nil earlier piece later h.7)
+pieces_from max_depth file_start before (Unreadable at bytes ∷ earlier) piece later text begun h =
+    absurd (not_nil earlier piece later h.6)
 
 -- ---- one block
 
@@ -235,7 +231,7 @@ resumed_within limit max_depth offset block earlier piece later pieces (b ∷ bs
 
 pub offset_of_marked : (offset : ℕ) (piece : Piece) → (marked offset piece).offset ≡ offset + place_of_piece piece
 offset_of_marked offset (Game at parts) = refl
-offset_of_marked offset (Unreadable at stop) = refl
+offset_of_marked offset (Unreadable at bytes) = refl
 
 resumed_cut : (limit max_depth offset : ℕ) (block : List ℕ) (earlier : List MarkedPiece) (piece : MarkedPiece)
     (later : List MarkedPiece) (front : List Piece) (one : Piece) (back : List Piece)

@@ -1,55 +1,22 @@
--- A text that is read again from one of its pieces on stops agreeing with games at the same place.
-use Rattle.std.proofs.Common.{◌≡◌, ◌≢◌, ℕ, Bool, true, false, List, [], ◌∷◌, ◌++◌, take, drop, refl, sym, ap, ◌∙◌, append_assoc, append-nil}
+-- Bytes that are no game stop agreeing with games by themselves where they do in their block.
+use Rattle.std.proofs.Common.{◌≡◌, ℕ, ◌+◌, ◌==◌, Bool, true, false, List, [], ◌∷◌, ◌++◌, length, take, drop, refl, sym, ap, subst, ◌∙◌, arith, append_assoc, append-nil, take_at, drop_at}
 use Rattle.std.specs.List.{list_all}
-use Rattle.std.proofs.lemmas.Bool.{false≢true, and_parts}
+use Rattle.std.proofs.lemmas.Bool.{false≢true, and_parts, ne_eqb}
 use Rattle.std.proofs.lemmas.List.{take-append-drop}
 use Rattle.pgn_text.specs.Bytes.{is_not_line_feed}
 use Rattle.pgn_text.specs.Parts.{Part, ByteOrderMark, White, Brace, Line, EscapeLine, Tag, Word, Star, Dot, Glyph, Marks, Open, Close, standing_of, Stands, spelled, spelled_part}
 use Rattle.pgn_text.specs.Games.{is_gap_part, IsGame}
 use Rattle.pgn_text.specs.Gaps.{IsGap, IsLongestGap}
+use Rattle.pgn_text.specs.Pieces.{Piece, Game, Unreadable, ArePieces}
 use Rattle.pgn_text.specs.Stops.{IsGameFront, StopsAt}
 use Rattle.pgn_text.specs.Reading.{run_of, after_run}
 use Rattle.pgn_text.proofs.Fronts.{run-append-after, list_all-run, stops-after_run}
 use Rattle.pgn_text.proofs.PartLemmas.{part_has_byte}
 use Rattle.pgn_text.proofs.ShorterText.{game_elsewhere}
-use Rattle.pgn_text.proofs.Resumption.{IsClear, clear_longer, clear_start, some_bytes, stand_there, stand_back, stands_anywhere, game_there, game_back, no_gap_part}
+use Rattle.pgn_text.proofs.ResumedText.{not_nil}
+use Rattle.pgn_text.proofs.Resumption.{IsClear, Begun, clear_longer, clear_start, begun_start, begun_clear, begun_more, gap_spent, some_bytes, stand_there, stand_back, stands_anywhere, game_there, game_back, no_gap_part}
 
 module _ (max_depth : ℕ) (f : Bool) (before : List ℕ) (clear : IsClear f before) where
-  -- ---- behind a byte of the piece
-
-  front_there : (z front : List ℕ) → z ≢ [] → IsGameFront max_depth f (before ++ z) front → IsGameFront max_depth false z front
-  front_there z front some h = record {
-    more = h.more;
-    gap = h.gap;
-    parts = h.parts;
-    parted = h.parted;
-    is_gap = record { stand = stand_there f before z h.gap (spelled h.parts) clear some h.is_gap.stand; only = h.is_gap.only };
-    is_game = game_elsewhere max_depth f false ((before ++ z) ++ spelled h.gap) (z ++ spelled h.gap) h.parts [] [] h.is_game
-        (stand_there f before (z ++ spelled h.gap) h.parts [] clear (some_bytes z (spelled h.gap) some)
-        (rw (append_assoc before z (spelled h.gap)) at h.is_game.stand));
-  }
-
-  front_back : (z front : List ℕ) → z ≢ [] → IsGameFront max_depth false z front → IsGameFront max_depth f (before ++ z) front
-  front_back z front some h = record {
-    more = h.more;
-    gap = h.gap;
-    parts = h.parts;
-    parted = h.parted;
-    is_gap = record { stand = stand_back f before z h.gap (spelled h.parts) clear some h.is_gap.stand; only = h.is_gap.only };
-    is_game = game_elsewhere max_depth false f (z ++ spelled h.gap) ((before ++ z) ++ spelled h.gap) h.parts [] [] h.is_game
-        (rw (append_assoc before z (spelled h.gap)) (stand_back f before (z ++ spelled h.gap) h.parts [] clear
-        (some_bytes z (spelled h.gap) some) h.is_game.stand));
-  }
-
-  pub stops_there : (z text : List ℕ) (n : ℕ) → z ≢ [] → StopsAt max_depth f (before ++ z) text n → StopsAt max_depth false z text n
-  stops_there z text n some h = record {
-    within = h.within;
-    agrees = front_there z (take n text) some h.agrees;
-    furthest = λ other low front. h.furthest other low (front_back z (take other text) some front);
-  }
-
-  -- ---- at the mark itself
-
   -- where no part of a gap stands before the text, a part of a gap that a front of the text agrees with stands at the mark too
   gap_part_there : (text : List ℕ) → IsLongestGap f before [] text → (q : Part) (after front more rest : List ℕ) (c : ℕ)
       → is_gap_part q ≡ true → text ≡ c ∷ (front ++ rest) → c ∷ (front ++ more) ≡ spelled_part q ++ after
@@ -146,10 +113,52 @@ module _ (max_depth : ℕ) (f : Bool) (before : List ℕ) (clear : IsClear f bef
             (stand_back f before (spelled (q ∷ gap)) parts [] clear (some_bytes (spelled_part q) (spelled gap) some) game.stand);
       }
 
-  pub stops_at_mark : (text : List ℕ) (n : ℕ) → IsLongestGap f before [] text → StopsAt max_depth f before text n → StopsAt max_depth false [] text n
+  stops_at_mark : (text : List ℕ) (n : ℕ) → IsLongestGap f before [] text → StopsAt max_depth f before text n → StopsAt max_depth false [] text n
   stops_at_mark text n l h = record {
     within = h.within;
     agrees = front_at_mark text (take n text) (drop n text) l (sym (take-append-drop n text)) h.agrees;
     furthest = λ other low front.
         h.furthest other low (goes_on_back (take other text) front.more front.gap front.parts front.parted front.is_gap front.is_game);
   }
+
+-- ---- in a block
+
+-- the bytes by themselves, with those that stand before them left out
+left_alone : (max_depth offset : ℕ) (there bytes : List ℕ) (n : ℕ) → Begun (offset == 0) there
+    → IsLongestGap (offset == 0) there [] bytes → StopsAt max_depth (offset == 0) there bytes n
+    → StopsAt max_depth ((offset + length there) == 0) [] bytes n
+left_alone max_depth offset [] bytes n begun l h =
+    let same : offset ≡ offset + 0 = omega arith in
+    subst (λ (m : ℕ). StopsAt max_depth (m == 0) [] bytes n) same h
+left_alone max_depth offset (b ∷ bs) bytes n begun l h =
+    let later : ((offset + length (b ∷ bs)) == 0) ≡ false = ne_eqb (offset + length (b ∷ bs)) 0 (λ e. omega (arith, e)) in
+    let clear = begun_clear (offset == 0) (b ∷ bs) begun (λ e. cc) in
+    subst (λ (f : Bool). StopsAt max_depth f [] bytes n) (sym later) (stops_at_mark max_depth (offset == 0) (b ∷ bs) clear bytes n l h)
+
+stops_behind : (max_depth offset : ℕ) (before : List ℕ) (earlier : List Piece) (at : ℕ) (bytes : List ℕ) (later : List Piece) (text : List ℕ) (n : ℕ)
+    → Begun (offset == 0) before → ArePieces max_depth (offset == 0) before (earlier ++ Unreadable at bytes ∷ later) text
+    → StopsAt max_depth (offset == 0) (take at (before ++ text)) (drop at (before ++ text)) n
+    → StopsAt max_depth ((offset + at) == 0) [] bytes n
+stops_behind max_depth offset before [] at bytes later text n begun h stops =
+    let there = before ++ spelled h.0 in
+    let parted : before ++ text ≡ there ++ bytes = ap (λ l. before ++ l) h.1 ∙ sym (append_assoc before (spelled h.0) bytes) in
+    let front : take at (before ++ text) ≡ there = ap (take at) parted ∙ take_at there bytes at (sym h.3) in
+    let rest : drop at (before ++ text) ≡ bytes = ap (drop at) parted ∙ drop_at there bytes at (sym h.3) in
+    let begun_there = begun_more (offset == 0) before h.0 bytes begun h.2.is_gap.stand in
+    subst (λ (m : ℕ). StopsAt max_depth ((offset + m) == 0) [] bytes n) (sym h.3)
+    (left_alone max_depth offset there bytes n begun_there (gap_spent (offset == 0) before h.0 bytes h.2) (rw (front, rest) at stops))
+stops_behind max_depth offset before (Game place parts ∷ earlier) at bytes later text n begun h stops =
+    let behind = (before ++ spelled h.0) ++ spelled parts in
+    let begun_there = begun_more (offset == 0) (before ++ spelled h.0) parts h.1 (begun_more (offset == 0) before h.0
+    (spelled parts ++ h.1) begun h.3.is_gap.stand) h.5.stand in
+    let regroup : before ++ text ≡ behind ++ h.1 = ap (λ l. before ++ l) h.2 ∙ sym (append_assoc before (spelled h.0)
+    (spelled parts ++ h.1)) ∙ sym (append_assoc (before ++ spelled h.0) (spelled parts) h.1) in
+    stops_behind max_depth offset behind earlier at bytes later h.1 n begun_there h.6 (rw regroup at stops)
+stops_behind max_depth offset before (Unreadable place own ∷ earlier) at bytes later text n begun h stops =
+    absurd (not_nil earlier (Unreadable at bytes) later h.6)
+
+-- an unreadable piece of a block that begins at the offset
+pub stops_alone : (max_depth offset : ℕ) (block : List ℕ) (earlier : List Piece) (at : ℕ) (bytes : List ℕ) (later : List Piece) (n : ℕ)
+    → ArePieces max_depth (offset == 0) [] (earlier ++ Unreadable at bytes ∷ later) block
+    → StopsAt max_depth (offset == 0) (take at block) (drop at block) n → StopsAt max_depth ((offset + at) == 0) [] bytes n
+stops_alone max_depth offset block earlier at bytes later n = stops_behind max_depth offset [] earlier at bytes later block n (begun_start (offset == 0))

@@ -4,7 +4,6 @@ use Rattle.std.specs.declared.alloc.AllocError.{AllocError}
 use Rattle.pgn_text.specs.GameTexts.{ShowsGame}
 use Rattle.pgn_text.specs.Pieces.{ArePieces}
 use Rattle.pgn_text.specs.Pieces as spec
-use Rattle.pgn_text.specs.Stops.{StopsBlockAt}
 use Rattle.pgn_text.specs.declared.pieces.Piece.{Piece}
 use Rattle.pgn_text.specs.declared.pieces.Piece.TheVariants.{Game, Unreadable}
 
@@ -22,14 +21,9 @@ ArePiecesLeft max_depth left pieces = ArePieces max_depth left.file_start (take 
 -- the piece given is the one of the definitions: a game with its place, tags, elements and result, or the place of bytes that are none
 abbrev pub IsPiece : Piece → spec.Piece → Type 0
 IsPiece (Game raw) (spec.Game at parts) = ShowsGame raw at parts
-IsPiece (Game raw) (spec.Unreadable at stop) = ⊥
+IsPiece (Game raw) (spec.Unreadable at bytes) = ⊥
 IsPiece (Unreadable place) (spec.Game at parts) = ⊥
-IsPiece (Unreadable place) (spec.Unreadable at stop) = place ≡ at
-
--- an unreadable piece has the place of the block where it stops agreeing with games
-abbrev pub IsStopOf : ℕ → Bool → List ℕ → spec.Piece → Type 0
-IsStopOf max_depth file_start block (spec.Game at parts) = Unit {0}
-IsStopOf max_depth file_start block (spec.Unreadable at stop) = StopsBlockAt max_depth file_start block at stop
+IsPiece (Unreadable place) (spec.Unreadable at bytes) = place ≡ at
 
 -- the place of a piece that is given
 abbrev pub piece_place : Piece → ℕ
@@ -40,7 +34,6 @@ piece_place (Unreadable place) = place
 pub record TakesPiece (max_depth : ℕ) (old new : Left) (piece : Piece) : Type 0 where
   pub shown : spec.Piece
   pub is : IsPiece piece shown
-  pub stops : IsStopOf max_depth old.file_start old.block shown
   pub going : old.failed ≡ false
   pub grows : old.at < new.at
   pub starts : piece_place piece < new.at

@@ -1,6 +1,6 @@
 -- What one call of `next` of the iterator over the places of a block's pieces does.
 use Rattle.std.specs.Prelude.{◌≡◌, ℕ, ◌<◌, ◌≤◌, List, [], ◌∷◌, length, Option, Some, None}
-use Rattle.pgn_text.specs.Left.{Left, ArePiecesLeft, IsStopOf}
+use Rattle.pgn_text.specs.Left.{Left, ArePiecesLeft}
 use Rattle.pgn_text.specs.Pieces as spec
 use Rattle.pgn_text.specs.declared.pieces.Mark.{Mark}
 use Rattle.pgn_text.specs.declared.pieces.Mark.TheVariants.{Game, Unreadable}
@@ -8,9 +8,9 @@ use Rattle.pgn_text.specs.declared.pieces.Mark.TheVariants.{Game, Unreadable}
 -- the mark gives the place and the kind of the piece
 abbrev pub IsMark : Mark → spec.Piece → Type 0
 IsMark (Game place) (spec.Game at parts) = place ≡ at
-IsMark (Game place) (spec.Unreadable at stop) = ⊥
+IsMark (Game place) (spec.Unreadable at bytes) = ⊥
 IsMark (Unreadable place) (spec.Game at parts) = ⊥
-IsMark (Unreadable place) (spec.Unreadable at stop) = place ≡ at
+IsMark (Unreadable place) (spec.Unreadable at bytes) = place ≡ at
 
 -- the place that a mark gives
 abbrev pub mark_place : Mark → ℕ
@@ -21,7 +21,6 @@ mark_place (Unreadable place) = place
 pub record TakesMark (max_depth : ℕ) (old new : Left) (mark : Mark) : Type 0 where
   pub shown : spec.Piece
   pub is : IsMark mark shown
-  pub stops : IsStopOf max_depth old.file_start old.block shown
   pub grows : old.at < new.at
   pub starts : mark_place mark < new.at
   pub within : new.at ≤ length new.block

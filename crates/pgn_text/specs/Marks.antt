@@ -8,15 +8,15 @@ use Rattle.pgn_text.specs.Blocks.{AreBlocks}
 pub data PieceKind : Type 0 where
   -- a game, with its parts
   ReadableGame : List Part → PieceKind
-  -- bytes that no game begins, to the end of their block, and the offset up to which they agree with games
-  UnreadableRest : ℕ → PieceKind
+  -- bytes that no game begins, to the end of their block
+  UnreadableRest : List ℕ → PieceKind
   -- a block over the limit
   TooLongBlock : PieceKind
 
 -- a piece of this kind is a game
 abbrev pub is_readable_kind : PieceKind → Bool
 is_readable_kind (ReadableGame parts) = true
-is_readable_kind (UnreadableRest stop) = false
+is_readable_kind (UnreadableRest bytes) = false
 is_readable_kind TooLongBlock = false
 
 -- a piece with the offset of its first byte, counted from the start of the file
@@ -31,7 +31,7 @@ is_readable piece = is_readable_kind piece.kind
 -- a piece of the block that begins at the offset, with its own offset
 abbrev pub marked : ℕ → Piece → MarkedPiece
 marked offset (Game at parts) = record { offset = offset + at; kind = ReadableGame parts }
-marked offset (Unreadable at stop) = record { offset = offset + at; kind = UnreadableRest (offset + stop) }
+marked offset (Unreadable at bytes) = record { offset = offset + at; kind = UnreadableRest bytes }
 
 -- the pieces of the block that begins at the offset: a block over the limit is one piece, at its first byte. A block is at the
 -- start of the file exactly where its offset is 0

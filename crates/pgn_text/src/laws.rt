@@ -1,6 +1,6 @@
 //! What holds of every text, whatever reads it. Each law is the contract of a function that does nothing.
 
-ghost use Rattle.pgn_text.specs.StopLaws.{EachTextStopsOnce, FrontsOfGameFronts, StopsBehindGame, StopsBehindChange};
+ghost use Rattle.pgn_text.specs.StopLaws.{EachTextStopsOnce, FrontsOfGameFronts, StopsBehindGame, StopsBehindChange, UnreadableStopsAlone};
 ghost use Rattle.pgn_text.specs.Laws.{AtMostOneGame, GameHasAGameText, GameTextIsOne, TextHasOneParting, BlockHasOneList, TextHasOneList, ResumesAnywhere, FrontHasThePiecesBefore, BlockKeepsPieces, TextKeepsPieces};
 
 /// A text has one reading: one parting into blocks, one list of pieces in each block, and so one list of pieces with their offsets;
@@ -35,9 +35,11 @@ pub fn old_marks()
 {}
 
 /// Each text agrees with games up to one place: behind its game, if it begins with one, and never before a change that was made in one.
+/// Bytes of a block that are no game agree with games as far by themselves as in the block.
 pub fn one_stop()
     ensures once { EachTextStopsOnce }
     ensures fronts { FrontsOfGameFronts }
     ensures game { StopsBehindGame }
     ensures change { StopsBehindChange }
+    ensures alone { UnreadableStopsAlone }
 {}

@@ -6,6 +6,7 @@ use Rattle.pgn_text.proofs.EachStops.{stop_exists}
 use Rattle.pgn_text.proofs.GameFronts.{stops_at_game}
 use Rattle.pgn_text.proofs.Halfway.{game_reads}
 use Rattle.pgn_text.proofs.Stopping.{front_of_front, one_stop}
+use Rattle.pgn_text.proofs.StopsThere.{stops_alone}
 use Rattle.pgn_text.proofs.laws.one_stop.Goals as goal
 
 pub returns-clause-once : goal.returns-clause-once
@@ -26,3 +27,6 @@ returns-clause-change c = λ max_depth file_start before game text change place 
     (front_of_front max_depth file_start before (take change text) (drop change game)
     (subst (IsGameFront max_depth file_start before)
     (sym (take-append-drop change game) ∙ ap (λ l. l ++ drop change game) (sym same)) g))
+
+pub returns-clause-alone : goal.returns-clause-alone
+returns-clause-alone c = stops_alone
