@@ -65,7 +65,7 @@ own_ply aim (ReadableGame parts) number offset own (sound replay is these) entry
     let of = chosen_from (λ e. IsEntry aim (tags_in parts) replay e.ply) (entries_from number offset 0 replay.positions) own these entry has in
     (parts, replay, refl, is, of_positions number offset 0 replay.positions entry of.0, of.1)
 own_ply aim (ReadableGame parts) number offset own (faulty fault is none) entry has = absurd (none_within entry (subst (λ e. Contains e entry) none has))
-own_ply aim (UnreadableRest stop) number offset own none entry has = absurd (none_within entry (subst (λ e. Contains e entry) none has))
+own_ply aim (UnreadableRest bytes) number offset own none entry has = absurd (none_within entry (subst (λ e. Contains e entry) none has))
 own_ply aim TooLongBlock number offset own none entry has = absurd (none_within entry (subst (λ e. Contains e entry) none has))
 
 -- and all of them, where it is sound
@@ -160,7 +160,7 @@ ascend_own : (aim : Aim) (kind : PieceKind) (number offset : ℕ) (own : List En
 ascend_own aim (ReadableGame parts) number offset own (sound replay is these) =
     chosen_ascend (λ e. IsEntry aim (tags_in parts) replay e.ply) (entries_from number offset 0 replay.positions) own these (ascend_positions number offset 0 replay.positions)
 ascend_own aim (ReadableGame parts) number offset own (faulty fault is none) = subst Ascend (sym none) tt
-ascend_own aim (UnreadableRest stop) number offset own none = subst Ascend (sym none) tt
+ascend_own aim (UnreadableRest bytes) number offset own none = subst Ascend (sym none) tt
 ascend_own aim TooLongBlock number offset own none = subst Ascend (sym none) tt
 
 -- the entries of pieces are in order

@@ -1,13 +1,12 @@
 -- One piece reported: a game by the index, by the listing of its replay or by its fault, or bytes that are no game.
-use Rattle.std.proofs.Common.{◌≡◌, ◌==◌, ℕ, ◌+◌, Bool, List, take, drop, ◌++◌, Vec, Global, refl, sym, ap, ◌∙◌, subst, arith, codes, inl, inr}
+use Rattle.std.proofs.Common.{◌≡◌, ◌==◌, ℕ, ◌+◌, Bool, true, false, List, ◌++◌, ◌∷◌, [], Vec, Global, refl, sym, ap, ◌∙◌, subst, arith, codes, inl, inr}
 use Rattle.std.proofs.lemmas.List.{append-nil}
 use Rattle.std.specs.Prelude.{Option, if◌then◌else◌}
 use Rattle.pgn_text.specs.GameTexts.{GameText, IsGameText, ShowsGame, tag_in}
 use Rattle.pgn_text.specs.Games.{Item, first_tag}
-use Rattle.pgn_text.specs.Left.{IsPiece, IsStopOf}
+use Rattle.pgn_text.specs.Left.{IsPiece}
 use Rattle.pgn_text.specs.Limits.{depth_limit}
-use Rattle.pgn_text.specs.Stops.{StopsBlockAt}
-use Rattle.pgn_text.proofs.Stopping.{one_stop}
+use Rattle.pgn_text.proofs.StopsThere.{stops_alone}
 use Rattle.pgn_text.specs.Marks.{marked}
 use Rattle.pgn_text.specs.Parts.{Part}
 use Rattle.pgn_text.specs.Pieces as spec
@@ -20,11 +19,11 @@ use Rattle.pgn_game.specs.Replays.{Replay, IsReplay}
 use Rattle.pgn_game.specs.declared.replayer.Lines.{Lines}
 use Rattle.pgn_game.specs.declared.replayer.Lines.TheVariants.{Main}
 use Rattle.pgn_game.specs.Starts.{fen_tag}
-use Rattle.pgn_extract.specs.Blockwise.{AddsVerdict, AddsListed, AddsExported, AddsGame, IsGameWritten, AddsMark, AddsPiece, IsMarkVerdict}
+use Rattle.pgn_extract.specs.Blockwise.{AddsVerdict, AddsListed, AddsExported, AddsGame, IsGameWritten, AddsMark, IsPieceOf, AddsPiece, NamesBlockStop, IsBlockVerdict, IsMarkVerdict}
 use Rattle.pgn_extract.specs.Index.{fault_text, mark_line}
 use Rattle.pgn_extract.specs.Listing.{Entry, listing, entries_from, AreListed, tags_in, cause_text, IsReplayOf, IsFaultOf}
 use Rattle.pgn_extract.specs.Exports.{written_lines, IsWritten, with_entry, without_entry}
-use Rattle.pgn_extract.specs.Notes.{IsNote}
+use Rattle.pgn_extract.specs.Notes.{IsNote, NamesByte, NamesStop}
 use Rattle.pgn_extract.specs.Verdicts.{Verdict, SoundGame, FaultyGame, output_of, fault_line_of, is_faulty, IsVerdictIn, IsGameVerdict, IsUnreadableVerdict}
 use Rattle.pgn_extract.specs.declared.report.Report.{Report}
 use Rattle.pgn_criteria.specs.Meeting.{Tags}
@@ -142,11 +141,11 @@ counted_first verdict adds output faults games faulty = record {
 pub piece_game : (aim : Aim) {old mid new : Report} (number offset here : ℕ) (block : List ℕ) (piece : Piece) (game : GameText) → piece ≡ given.Game game → here ≡ offset + game.at
     → AddsGame aim mid new number here game → mid.output ≡ old.output → mid.faults ≡ old.faults → mid.games ≡ old.games + 1 → mid.faulty ≡ old.faulty
     → AddsPiece aim old new number offset block piece
-piece_game aim {old} {mid} {new} number offset here block piece game is_game place adds output faults games faulty shown is stops =
+piece_game aim {old} {mid} {new} number offset here block piece game is_game place adds output faults games faulty shown is among =
     shows shown (subst (λ p. IsPiece p shown) is_game is)
   where
     shows : (shown : spec.Piece) → IsPiece (given.Game game) shown → AddsMark aim old new number (marked offset shown)
-    shows (spec.Unreadable at stop) is = absurd is
+    shows (spec.Unreadable at bytes) is = absurd is
     shows (spec.Game at parts) is =
         let verdict = adds at parts is in (
           verdict.0,
@@ -154,32 +153,39 @@ piece_game aim {old} {mid} {new} number offset here block piece game is_game pla
           counted_first verdict.0 verdict.2 output faults games faulty,
         )
 
--- the verdict on bytes that are no game is that on the piece at the same place, which stops where they do
-pub unreadable_there : (explain : Bool) (number offset : ℕ) (block : List ℕ) (place at own stop : ℕ) (verdict : Verdict) → place ≡ at
-    → StopsBlockAt depth_limit (offset == 0) block place own → StopsBlockAt depth_limit (offset == 0) block at stop
-    → IsUnreadableVerdict explain (offset + own) (fault_text number (offset + place) (codes "unreadable")) verdict
-    → IsUnreadableVerdict explain (offset + stop) (fault_text number (offset + at) (codes "unreadable")) verdict
-unreadable_there explain number offset block place at own stop verdict is own_stops stops by =
-    let here = rw is at own_stops in
-    let same : here.0 ≡ stops.0 = one_stop depth_limit (offset == 0) (take at block) (drop at block) here.0 stops.0 here.2 stops.2 in
-    let same_stop : own ≡ stop = here.1 ∙ ap (λ n. at + n) same ∙ sym stops.1 in
-    rw (is, same_stop) at by
+-- a note that names where the block stops names where the piece does, taken by itself
+stop_alone : (explain : Bool) (offset : ℕ) (block : List ℕ) (at : ℕ) (bytes note : List ℕ) → IsPieceOf offset block (spec.Unreadable at bytes)
+    → NamesBlockStop explain offset block at note → NamesStop explain (offset + at) bytes note
+stop_alone false offset block at bytes note among names = tt
+stop_alone true offset block at bytes note (before, behind, are) (place, (agreeing, parted, stops), names) =
+    let same : offset + place ≡ (offset + at) + agreeing = omega (arith, parted) in
+    (agreeing, stops_alone depth_limit offset block before at bytes behind agreeing are stops, subst (λ (n : ℕ). NamesByte n note) same names)
+
+-- the verdict on bytes of a block that are no game is that on the piece at the same place
+pub unreadable_there : (explain : Bool) (number offset : ℕ) (block : List ℕ) (place at : ℕ) (bytes : List ℕ) (verdict : Verdict) → place ≡ at
+    → IsPieceOf offset block (spec.Unreadable at bytes) → IsBlockVerdict explain number offset block place verdict
+    → IsUnreadableVerdict explain (offset + at) bytes (fault_text number (offset + at) (codes "unreadable")) verdict
+unreadable_there explain number offset block place at bytes verdict is among by =
+    alone (subst (λ (p : ℕ). IsBlockVerdict explain number offset block p verdict) is by)
+  where
+    alone : IsBlockVerdict explain number offset block at verdict
+        → IsUnreadableVerdict explain (offset + at) bytes (fault_text number (offset + at) (codes "unreadable")) verdict
+    alone (note, noted, names, says) = (note, noted, stop_alone explain offset block at bytes note among names, says)
 
 -- a piece that is no game is counted, and reported
-pub piece_unreadable : (aim : Aim) {old mid new : Report} (number offset : ℕ) (block : List ℕ) (piece : Piece) (place own : ℕ) (verdict : Verdict)
-    → piece ≡ given.Unreadable place → StopsBlockAt depth_limit (offset == 0) block place own
-    → IsUnreadableVerdict aim.explain (offset + own) (fault_text number (offset + place) (codes "unreadable")) verdict → AddsVerdict mid new verdict 0
+pub piece_unreadable : (aim : Aim) {old mid new : Report} (number offset : ℕ) (block : List ℕ) (piece : Piece) (place : ℕ) (verdict : Verdict)
+    → piece ≡ given.Unreadable place → IsBlockVerdict aim.explain number offset block place verdict → AddsVerdict mid new verdict 0
     → mid.output ≡ old.output → mid.faults ≡ old.faults → mid.games ≡ old.games + 1 → mid.faulty ≡ old.faulty
     → AddsPiece aim old new number offset block piece
-piece_unreadable aim {old} {mid} {new} number offset block piece place own verdict is_none own_stops by adds output faults games faulty shown is stops =
-    shows shown (subst (λ p. IsPiece p shown) is_none is) stops
+piece_unreadable aim {old} {mid} {new} number offset block piece place verdict is_none by adds output faults games faulty shown is among =
+    shows shown (subst (λ p. IsPiece p shown) is_none is) among
   where
-    shows : (shown : spec.Piece) → IsPiece (given.Unreadable place) shown → IsStopOf depth_limit (offset == 0) block shown
+    shows : (shown : spec.Piece) → IsPiece (given.Unreadable place) shown → IsPieceOf offset block shown
         → AddsMark aim old new number (marked offset shown)
-    shows (spec.Game at parts) is stops = absurd is
-    shows (spec.Unreadable at stop) is stops = (
+    shows (spec.Game at parts) is among = absurd is
+    shows (spec.Unreadable at bytes) is among = (
       verdict,
-      unreadable_there aim.explain number offset block place at own stop verdict is own_stops stops by,
+      unreadable_there aim.explain number offset block place at bytes verdict is among by,
       counted_first verdict adds output faults games faulty,
     )
 
@@ -196,13 +202,12 @@ mark_game explain {old} {new} number offset block place mark is output faults ga
     )
 
 -- and that of one that is none
-pub mark_unreadable : (explain : Bool) {old mid new : Report} (number offset : ℕ) (block : List ℕ) (place own : ℕ) (mark : Mark) (verdict : Verdict)
-    → mark ≡ marks.Unreadable place → StopsBlockAt depth_limit (offset == 0) block place own
-    → IsUnreadableVerdict explain (offset + own) (fault_text number (offset + place) (codes "unreadable")) verdict → AddsVerdict mid new verdict 0
+pub mark_unreadable : (explain : Bool) {old mid new : Report} (number offset : ℕ) (block : List ℕ) (place : ℕ) (mark : Mark) (verdict : Verdict)
+    → mark ≡ marks.Unreadable place → IsBlockVerdict explain number offset block place verdict → AddsVerdict mid new verdict 0
     → mid.output ≡ old.output → mid.faults ≡ old.faults → mid.games ≡ old.games + 1 → mid.faulty ≡ old.faulty
     → (verdict : Verdict) × IsMarkVerdict explain number offset block mark verdict × AddsVerdict old new verdict 1
-mark_unreadable explain number offset block place own mark verdict is stops by adds output faults games faulty = (
+mark_unreadable explain number offset block place mark verdict is by adds output faults games faulty = (
   verdict,
-  subst (λ m. IsMarkVerdict explain number offset block m verdict) (sym is) (own, stops, by),
+  subst (λ m. IsMarkVerdict explain number offset block m verdict) (sym is) by,
   counted_first verdict adds output faults games faulty,
 )

@@ -3,32 +3,32 @@ use Rattle.std.proofs.Common.{◌≡◌, ◌==◌, ℕ, ◌+◌, ◌≤◌, Bool
 use Rattle.std.specs.Prelude.{if◌then◌else◌}
 use Rattle.std.proofs.lemmas.List.{append-nil, map_push, length-map}
 use Rattle.pgn_text.specs.Limits.{block_limit, depth_limit}
-use Rattle.pgn_text.specs.Left.{Left, ArePiecesLeft, IsStopOf}
+use Rattle.pgn_text.specs.Left.{Left, ArePiecesLeft}
 use Rattle.pgn_text.specs.LeftMarks.{IsMark, TakesMark}
 use Rattle.pgn_text.specs.Marks.{marked, within as in_limit}
 use Rattle.pgn_text.specs.Pieces as spec
 use Rattle.pgn_text.specs.declared.pieces.Mark.{Mark}
 use Rattle.pgn_text.specs.declared.pieces.Mark.TheVariants.{Game, Unreadable}
 use Rattle.pgn_extract.specs.Aims.{Aim}
-use Rattle.pgn_extract.specs.Blockwise.{Reports, ReportsBlock, AddsVerdict, IsMarkVerdict}
+use Rattle.pgn_extract.specs.Blockwise.{Reports, ReportsBlock, AddsVerdict, IsPieceOf, IsMarkVerdict}
 use Rattle.pgn_extract.specs.Index.{mark_line}
 use Rattle.pgn_extract.specs.Verdicts.{Verdict, SoundGame, is_faulty, IsVerdict, IsVerdictIn}
 use Rattle.pgn_extract.specs.declared.report.Report.{Report}
 use Rattle.pgn_extract.specs.declared.settings.Mode.TheVariants as modes
 use Rattle.pgn_extract.proofs.GameVerdict.{unreadable_there}
-use Rattle.pgn_extract.proofs.Listed.{stop_in}
+use Rattle.pgn_extract.proofs.Listed.{piece_in}
 use Rattle.pgn_extract.proofs.VerdictFacts.{reports_more}
 
 -- what is reported of a mark is the index's verdict on the piece
 mark_is_verdict : (aim : Aim) (number offset : ℕ) (block : List ℕ) (mark : Mark) (shown : spec.Piece) (verdict : Verdict)
-    → aim.mode ≡ modes.Index → IsMark mark shown → IsStopOf depth_limit (offset == 0) block shown
+    → aim.mode ≡ modes.Index → IsMark mark shown → IsPieceOf offset block shown
     → IsMarkVerdict aim.explain number offset block mark verdict → IsVerdict aim number (marked offset shown) verdict
-mark_is_verdict aim number offset block (Game place) (spec.Game at parts) verdict index is stops by =
+mark_is_verdict aim number offset block (Game place) (spec.Game at parts) verdict index is among by =
     subst (λ m. IsVerdictIn m aim number (offset + at) parts verdict) (sym index) (by ∙ ap (λ n. SoundGame (mark_line number (offset + n))) is)
-mark_is_verdict aim number offset block (Game place) (spec.Unreadable at stop) verdict index is stops by = absurd is
-mark_is_verdict aim number offset block (Unreadable place) (spec.Game at parts) verdict index is stops by = absurd is
-mark_is_verdict aim number offset block (Unreadable place) (spec.Unreadable at stop) verdict index is stops (own, own_stops, by) =
-    unreadable_there aim.explain number offset block place at own stop verdict is own_stops stops by
+mark_is_verdict aim number offset block (Game place) (spec.Unreadable at bytes) verdict index is among by = absurd is
+mark_is_verdict aim number offset block (Unreadable place) (spec.Game at parts) verdict index is among by = absurd is
+mark_is_verdict aim number offset block (Unreadable place) (spec.Unreadable at bytes) verdict index is among by =
+    unreadable_there aim.explain number offset block place at bytes verdict is among by
 
 -- a verdict counts as one faulty piece at most
 faulty_once : (faulty : Bool) → (if faulty then 1 else 0) ≤ 1
@@ -45,7 +45,6 @@ pub record Indexed (aim : Aim) (start now : Left) (report : Report) (number offs
   pub few : length done ≤ now.at
   pub within : now.at ≤ length now.block
   pub same : now.block ≡ start.block
-  pub same_start : now.file_start ≡ start.file_start
 
 module _ {aim : Aim} {start now : Left} {report : Report} {number offset : ℕ} (l : Indexed aim start now report number offset) where
   -- one more mark
@@ -58,9 +57,10 @@ module _ {aim : Aim} {start now : Left} {report : Report} {number offset : ℕ} 
     completes = λ more left.
         subst (ArePiecesLeft depth_limit start) (sym (append_assoc l.done (takes.shown ∷ []) more)) (l.completes (takes.shown ∷ more) (takes.completes more left));
     written =
+        let among = piece_in start next block offset l.done takes.shown begins (λ more left. l.completes (takes.shown ∷ more) (takes.completes more left)) in
         let more = reports_more aim report report' number here (map (marked offset) l.done) (marked offset takes.shown) l.written (is ∙ ap (λ n. number + n) l.written.games) (
           verdict,
-          mark_is_verdict aim here offset block mark takes.shown verdict index takes.is (stop_in start now block offset l.same l.same_start begins takes.shown takes.stops) by,
+          mark_is_verdict aim here offset block mark takes.shown verdict index takes.is among by,
           adds,
         ) in
         subst (Reports aim report' number) (sym (map_push (marked offset) l.done takes.shown)) more;
@@ -71,7 +71,6 @@ module _ {aim : Aim} {start now : Left} {report : Report} {number offset : ℕ} 
     few = let f = l.few in let g = takes.grows in omega (arith, length-append l.done (takes.shown ∷ []));
     within = takes.within;
     same = takes.same.0 ∙ l.same;
-    same_start = takes.same.1 ∙ l.same_start;
   }
 
   -- all of them, where none is left

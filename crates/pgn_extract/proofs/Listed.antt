@@ -1,24 +1,26 @@
 -- The pieces of a block that the iterator has given so far.
-use Rattle.std.proofs.Common.{◌≡◌, ◌==◌, ℕ, ◌+◌, ◌≤◌, true, false, List, [], ◌∷◌, ◌++◌, map, length, refl, sym, ap, ◌∙◌, subst, arith, append_assoc, length-append, ◌⊎◌, inl, inr}
+use Rattle.std.proofs.Common.{◌≡◌, ◌==◌, ℕ, ◌+◌, ◌≤◌, true, false, List, [], ◌∷◌, ◌++◌, map, length, take, drop, refl, sym, ap, ◌∙◌, subst, arith, append_assoc, length-append, ◌⊎◌, inl, inr}
 use Rattle.std.proofs.lemmas.Bool.{both_ways}
 use Rattle.std.proofs.lemmas.List.{append-nil, map_push, length-map}
 use Rattle.pgn_text.specs.Limits.{block_limit, depth_limit}
-use Rattle.pgn_text.specs.Left.{Left, ArePiecesLeft, IsStopOf, TakesPiece}
+use Rattle.pgn_text.specs.Left.{Left, ArePiecesLeft, TakesPiece}
 use Rattle.pgn_text.specs.Marks.{marked, within as in_limit}
 use Rattle.pgn_text.specs.Pieces as spec
 use Rattle.pgn_text.specs.declared.pieces.Piece.{Piece}
-use Rattle.pgn_extract.specs.Blockwise.{Reports, ReportsBlock, AddsPiece}
+use Rattle.pgn_text.proofs.Existence.{pieces_exist}
+use Rattle.pgn_extract.specs.Blockwise.{Reports, ReportsBlock, IsPieceOf, AddsPiece}
 use Rattle.pgn_extract.specs.declared.report.Report.{Report}
 use Rattle.pgn_extract.specs.Aims.{Aim}
 use Rattle.pgn_extract.proofs.VerdictFacts.{reports_more}
 
--- where a piece of the block that is left stops is where it stops in the block
-pub stop_in : (start now : Left) (block : List ℕ) (offset : ℕ) → now.block ≡ start.block → now.file_start ≡ start.file_start
-    → start ≡ record { block = block; file_start = offset == 0; at = 0; failed = false } → (shown : spec.Piece)
-    → IsStopOf depth_limit now.file_start now.block shown → IsStopOf depth_limit (offset == 0) block shown
-stop_in start now block offset same same_start begins shown stops =
-    subst (λ f. IsStopOf depth_limit f block shown) (same_start ∙ ap (λ (s : Left). s.file_start) begins)
-    (subst (λ b. IsStopOf depth_limit now.file_start b shown) (same ∙ ap (λ (s : Left). s.block) begins) stops)
+-- the piece that completes those given is one of the block's
+pub piece_in : (start next : Left) (block : List ℕ) (offset : ℕ) (done : List spec.Piece) (shown : spec.Piece)
+    → start ≡ record { block = block; file_start = offset == 0; at = 0; failed = false }
+    → ((more : List spec.Piece) → ArePiecesLeft depth_limit next more → ArePiecesLeft depth_limit start (done ++ shown ∷ more))
+    → IsPieceOf offset block shown
+piece_in start next block offset done shown begins completes =
+    let more = pieces_exist depth_limit next.file_start (take next.at next.block) (drop next.at next.block) in
+    (done, more.0, subst (λ (s : Left). ArePiecesLeft depth_limit s (done ++ shown ∷ more.0)) begins (completes more.0 more.1))
 
 -- some pieces are given and reported, and those that are left complete them
 pub record Listed (aim : Aim) (start now : Left) (report : Report) (number offset : ℕ) : Type 0 where
@@ -28,7 +30,6 @@ pub record Listed (aim : Aim) (start now : Left) (report : Report) (number offse
   pub few : length done ≤ now.at
   pub within : now.at ≤ length now.block
   pub same : now.block ≡ start.block
-  pub same_start : now.file_start ≡ start.file_start
   pub sound : now.failed ≡ false
 
 module _ {aim : Aim} {start now : Left} {report : Report} {number offset : ℕ} (l : Listed aim start now report number offset) where
@@ -41,12 +42,12 @@ module _ {aim : Aim} {start now : Left} {report : Report} {number offset : ℕ} 
     completes = λ more left.
         subst (ArePiecesLeft depth_limit start) (sym (append_assoc l.done (takes.shown ∷ []) more)) (l.completes (takes.shown ∷ more) (takes.completes more left));
     written =
-        let more = reports_more aim report report' number here (map (marked offset) l.done) (marked offset takes.shown) l.written (is ∙ ap (λ n. number + n) l.written.games) (adds takes.shown takes.is (stop_in start now block offset l.same l.same_start begins takes.shown takes.stops)) in
+        let among = piece_in start next block offset l.done takes.shown begins (λ more left. l.completes (takes.shown ∷ more) (takes.completes more left)) in
+        let more = reports_more aim report report' number here (map (marked offset) l.done) (marked offset takes.shown) l.written (is ∙ ap (λ n. number + n) l.written.games) (adds takes.shown takes.is among) in
         subst (Reports aim report' number) (sym (map_push (marked offset) l.done takes.shown)) more;
     few = let f = l.few in let g = takes.grows in omega (arith, length-append l.done (takes.shown ∷ []));
     within = takes.within;
     same = takes.same.0 ∙ l.same;
-    same_start = takes.same.1 ∙ l.same_start;
     sound = takes.same.2;
   }
 

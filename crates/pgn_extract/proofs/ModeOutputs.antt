@@ -27,7 +27,7 @@ of_game aim (FaultyGame line note) number offset parts (fault, is, here, noted) 
 of_piece : (kind : PieceKind) (aim : Aim) → aim.mode ≡ modes.List → (number offset : ℕ) (verdict : Verdict) → IsPieceVerdict kind aim number offset verdict
     → (own : List Entry) × ArePieceEntries aim kind number offset own × (output_of verdict ≡ listing own)
 of_piece (ReadableGame parts) aim lists number offset verdict is = of_game aim verdict number offset parts (subst (λ m. IsVerdictIn m aim number offset parts verdict) lists is)
-of_piece (UnreadableRest stop) aim lists number offset verdict (note, noted, names, is) = ([], refl, ap output_of is)
+of_piece (UnreadableRest bytes) aim lists number offset verdict (note, noted, names, is) = ([], refl, ap output_of is)
 of_piece TooLongBlock aim lists number offset verdict (note, noted, is) = ([], refl, ap output_of is)
 
 -- the entries of pieces in a row
@@ -52,7 +52,7 @@ export_of_piece : (kind : PieceKind) (aim : Aim) → aim.mode ≡ modes.Export �
     → IsPieceExport aim kind (output_of verdict)
 export_of_piece (ReadableGame parts) aim exports number offset verdict is =
     export_of_game aim verdict number offset parts (subst (λ m. IsVerdictIn m aim number offset parts verdict) exports is)
-export_of_piece (UnreadableRest stop) aim exports number offset verdict (note, noted, names, is) = ap output_of is
+export_of_piece (UnreadableRest bytes) aim exports number offset verdict (note, noted, names, is) = ap output_of is
 export_of_piece TooLongBlock aim exports number offset verdict (note, noted, is) = ap output_of is
 
 -- the exports of pieces in a row
@@ -71,7 +71,7 @@ exports_of_pieces aim exports number (piece ∷ more) verdicts (verdict, rest, p
 indexed_piece : (kind : PieceKind) (aim : Aim) → aim.mode ≡ modes.Index → (number offset : ℕ) (verdict : Verdict) → IsPieceVerdict kind aim number offset verdict
     → output_of verdict ≡ index_line number (record { offset = offset; kind = kind })
 indexed_piece (ReadableGame parts) aim indexes number offset verdict is = ap output_of (subst (λ m. IsVerdictIn m aim number offset parts verdict) indexes is)
-indexed_piece (UnreadableRest stop) aim indexes number offset verdict (note, noted, names, is) = ap output_of is
+indexed_piece (UnreadableRest bytes) aim indexes number offset verdict (note, noted, names, is) = ap output_of is
 indexed_piece TooLongBlock aim indexes number offset verdict (note, noted, is) = ap output_of is
 
 -- the index of pieces in a row

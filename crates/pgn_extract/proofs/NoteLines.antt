@@ -12,8 +12,10 @@ use Rattle.pgn_text.specs.Reading.{after_run}
 use Rattle.pgn_text.specs.StopPlaces.{tag_name_of}
 use Rattle.pgn_text.specs.declared.agreement.Within.{Within}
 use Rattle.pgn_text.specs.declared.agreement.Within.TheVariants.{Comment, TagName, TagValue, Tags, Variation, MainLine, Game}
+use Rattle.pgn_text.proofs.EachStops.{stop_exists}
 use Rattle.pgn_text.proofs.Fronts.{list_all-run}
 use Rattle.pgn_game.proofs.PlainTokens.{AreDigits, decimal_digits}
+use Rattle.pgn_extract.specs.Blockwise.{NamesBlockStop}
 use Rattle.pgn_extract.specs.Notes.{IsNote, NamesByte, NamesStop, AreLines, indented}
 use Rattle.pgn_extract.specs.NoteTexts.{line_feeds, column_behind, position_text, place_in, place_text, begin_in, begin_text, hex_digit, byte_text, stopper_text, context_text, stop_line, hints, IsStopNote, too_long_text}
 use Rattle.pgn_extract.specs.declared.notes.Origin.{Origin}
@@ -167,15 +169,21 @@ too_long_note explain asked size limit =
     )
 
 -- where no explanations are asked for there is no note
-pub no_note : (explain : Bool) → explain ≡ false → (stop : ℕ) → IsNote explain [] × NamesStop explain stop []
-no_note explain plain stop = subst (λ e. IsNote e [] × NamesStop e stop []) (sym plain) (refl, tt)
+pub no_note : (explain : Bool) → explain ≡ false → (offset : ℕ) (block : List ℕ) (begin : ℕ)
+    → IsNote explain [] × NamesBlockStop explain offset block begin []
+no_note explain plain offset block begin = subst (λ e. IsNote e [] × NamesBlockStop e offset block begin []) (sym plain) (refl, tt)
 
--- some note names the byte at the offset
-pub some_stop_note : (explain : Bool) (stop : ℕ) → (note : List ℕ) × IsNote explain note × NamesStop explain stop note
-some_stop_note false stop = ([], refl, tt)
-some_stop_note true stop =
-    let line = codes "byte " ++ decimal stop ++ codes ": " in
-    (indented (line ∷ []), (line ∷ [], (line_join_two (codes "byte ") (decimal stop) (codes ": ") refl (decimal_line stop) refl, tt), refl), ([], 10 ∷ [], inl refl, refl))
+-- some note names the byte at which bytes stop agreeing with games
+pub some_stop_note : (explain : Bool) (offset : ℕ) (bytes : List ℕ) → (note : List ℕ) × IsNote explain note × NamesStop explain offset bytes note
+some_stop_note false offset bytes = ([], refl, tt)
+some_stop_note true offset bytes =
+    let stop = stop_exists depth_limit (offset == 0) [] bytes in
+    let at = offset + stop.0 in
+    let line = codes "byte " ++ decimal at ++ codes ": " in (
+      indented (line ∷ []),
+      (line ∷ [], (line_join_two (codes "byte ") (decimal at) (codes ": ") refl (decimal_line at) refl, tt), refl),
+      (stop.0, stop.1, ([], 10 ∷ [], inl refl, refl)),
+    )
 
 -- what is said of a byte begins with its place
 joined : (place byte stopper context tail : List ℕ)
@@ -210,7 +218,7 @@ stopper_is block place = said_of (place == length block)
 
 -- so a note on bytes that are no game names the byte at which they stop agreeing with games
 pub names_stop : (explain : Bool) (origin : Origin) (block : List ℕ) (begin : ℕ) (note : List ℕ) → begin ≤ length block
-    → (is : IsStopNote origin block begin note) → NamesStop explain (origin.offset + is.place) note
+    → (is : IsStopNote origin block begin note) → NamesBlockStop explain origin.offset block begin note
 names_stop false origin block begin note fits is = tt
 names_stop true origin block begin note fits is =
     let said = stopper_is block is.place in
@@ -222,7 +230,8 @@ names_stop true origin block begin note fits is =
     let shaped = 32 ∷ 32 ∷ (((place_text origin (take is.place block) ++ (codes ": " ++ said.0)) ++ context) ++ tail) in
     let whole : note ≡ shaped =
     is.says ∙ ap (λ t. 32 ∷ 32 ∷ (((place_text origin (take is.place block) ++ t) ++ context) ++ tail)) said.1 in
-    subst (NamesByte (origin.offset + is.place)) (sym whole) (subst (λ n. NamesByte (origin.offset + n) shaped) size names)
+    let named = subst (NamesByte (origin.offset + is.place)) (sym whole) (subst (λ n. NamesByte (origin.offset + n) shaped) size names) in
+    (is.place, is.stops, named)
 
 -- a line that begins with a place, where nothing stood before it
 pub placed_line : {old new : List ℕ} (line : Option ℕ) (byte : ℕ) (front : List ℕ) → old ≡ [] → new ≡ old ++ place_in line byte front → IsLine new

@@ -24,7 +24,7 @@ of_game aim parts x y (faulty fault is none) (faulty other also empty) = none �
 
 of_piece : (kind : PieceKind) (aim : Aim) (x y : List ℕ) → IsPieceExport aim kind x → IsPieceExport aim kind y → x ≡ y
 of_piece (ReadableGame parts) aim x y a b = of_game aim parts x y a b
-of_piece (UnreadableRest stop) aim x y a b = a ∙ sym b
+of_piece (UnreadableRest bytes) aim x y a b = a ∙ sym b
 of_piece TooLongBlock aim x y a b = a ∙ sym b
 
 pub one_exports : TextHasOneExport

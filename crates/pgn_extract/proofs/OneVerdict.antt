@@ -32,8 +32,8 @@ one_line : (aim : Aim) (line : List ℕ) (a b : Verdict) → IsReportedBy aim li
 one_line aim line a b (first, is, x) (second, also, y) = ap without_note x ∙ sym (ap without_note y)
 
 -- bytes that are no game are reported by their line and a note
-reported_by : (aim : Aim) (stop : ℕ) (line : List ℕ) (v : Verdict) → IsUnreadableVerdict aim.explain stop line v → IsReportedBy aim line v
-reported_by aim stop line v (note, noted, names, is) = (note, noted, is)
+reported_by : (aim : Aim) (offset : ℕ) (bytes line : List ℕ) (v : Verdict) → IsUnreadableVerdict aim.explain offset bytes line v → IsReportedBy aim line v
+reported_by aim offset bytes line v (note, noted, names, is) = (note, noted, is)
 
 module _ (one_replay : GameHasOneReplay) (one_fault : GameHasOneFault) (no_fault : SoundGameHasNoFault) (one_export : PartsHaveOneExport) where
   -- a game in the listing
@@ -71,8 +71,8 @@ module _ (one_replay : GameHasOneReplay) (one_fault : GameHasOneFault) (no_fault
   -- a piece
   one_verdict : (kind : PieceKind) (aim : Aim) (number offset : ℕ) (a b : Verdict) → IsPieceVerdict kind aim number offset a → IsPieceVerdict kind aim number offset b → without_note a ≡ without_note b
   one_verdict (ReadableGame parts) aim number offset a b x y = one_in aim.mode aim number offset parts a b x y
-  one_verdict (UnreadableRest stop) aim number offset a b x y =
-      one_line aim (fault_text number offset (codes "unreadable")) a b (reported_by aim stop _ a x) (reported_by aim stop _ b y)
+  one_verdict (UnreadableRest bytes) aim number offset a b x y =
+      one_line aim (fault_text number offset (codes "unreadable")) a b (reported_by aim offset bytes _ a x) (reported_by aim offset bytes _ b y)
   one_verdict TooLongBlock aim number offset a b x y = one_line aim (fault_text number offset (codes "too long")) a b x y
 
   -- pieces in a row
@@ -106,8 +106,8 @@ module _ (aim : Aim) (plain : aim.explain ≡ false) where
 
   bare_piece : (kind : PieceKind) (number offset : ℕ) (v : Verdict) → IsPieceVerdict kind aim number offset v → without_note v ≡ v
   bare_piece (ReadableGame parts) number offset v is = bare_in aim.mode number offset parts v is
-  bare_piece (UnreadableRest stop) number offset v is =
-      bare_line v (fault_text number offset (codes "unreadable")) (reported_by aim stop _ v is)
+  bare_piece (UnreadableRest bytes) number offset v is =
+      bare_line v (fault_text number offset (codes "unreadable")) (reported_by aim offset bytes _ v is)
   bare_piece TooLongBlock number offset v is = bare_line v (fault_text number offset (codes "too long")) is
 
   pub bare_verdicts : (number : ℕ) (pieces : List MarkedPiece) (verdicts : List Verdict) → AreVerdicts aim number pieces verdicts → map without_note verdicts ≡ verdicts

@@ -33,7 +33,7 @@ use Rattle.pgn_extract.specs.declared.settings.Mode.TheVariants as modes
 -- the parts of a game make one that a reader can be handed
 abbrev IsMade : PieceKind → Type 0
 IsMade (ReadableGame parts) = (game : GameText) × IsGameText game × ShowsGame game game.at parts
-IsMade (UnreadableRest stop) = Unit {0}
+IsMade (UnreadableRest bytes) = Unit {0}
 IsMade TooLongBlock = Unit {0}
 
 abbrev AreMade : List MarkedPiece → Type 0
@@ -51,8 +51,8 @@ pieces_made max_depth file_start before (Game at parts ∷ more) text offset h =
   made_of parts (some_game_text max_depth file_start (before ++ spelled h.0) parts h.1 0 h.5),
   pieces_made max_depth file_start ((before ++ spelled h.0) ++ spelled parts) more h.1 offset h.6,
 )
-pieces_made max_depth file_start before (Unreadable at stop ∷ more) text offset h =
-    (tt, subst (λ l. AreMade (map (marked offset) l)) (sym h.7) tt)
+pieces_made max_depth file_start before (Unreadable at bytes ∷ more) text offset h =
+    (tt, subst (λ l. AreMade (map (marked offset) l)) (sym h.6) tt)
 
 made_append : (xs ys : List MarkedPiece) → AreMade xs → AreMade ys → AreMade (xs ++ ys)
 made_append [] ys a b = b
@@ -181,15 +181,16 @@ module _ (aim : Aim) (decided : IsDecided aim) (number offset : ℕ) (parts : Li
 by_line : (aim : Aim) (line : List ℕ) → (verdict : Verdict) × IsReportedBy aim line verdict
 by_line aim line = (FaultyGame line [], ([], empty_note aim.explain, refl))
 
-unreadable_reported : (explain : Bool) (stop : ℕ) (line : List ℕ) → (verdict : Verdict) × IsUnreadableVerdict explain stop line verdict
-unreadable_reported explain stop line =
-    let some = some_stop_note explain stop in
+unreadable_reported : (explain : Bool) (offset : ℕ) (bytes line : List ℕ) → (verdict : Verdict) × IsUnreadableVerdict explain offset bytes line verdict
+unreadable_reported explain offset bytes line =
+    let some = some_stop_note explain offset bytes in
     (FaultyGame line some.0, (some.0, some.1, some.2, refl))
 
 piece_reported : (kind : PieceKind) (aim : Aim) → IsDecided aim → (number offset : ℕ) → IsMade kind
     → (verdict : Verdict) × IsPieceVerdict kind aim number offset verdict
 piece_reported (ReadableGame parts) aim decided number offset made = game_reported aim decided number offset parts made aim.mode
-piece_reported (UnreadableRest stop) aim decided number offset made = unreadable_reported aim.explain stop (fault_text number offset (codes "unreadable"))
+piece_reported (UnreadableRest bytes) aim decided number offset made =
+    unreadable_reported aim.explain offset bytes (fault_text number offset (codes "unreadable"))
 piece_reported TooLongBlock aim decided number offset made = by_line aim (fault_text number offset (codes "too long"))
 
 all_reported : (aim : Aim) → IsDecided aim → (number : ℕ) (pieces : List MarkedPiece) → AreMade pieces

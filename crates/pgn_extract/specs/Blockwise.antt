@@ -1,11 +1,11 @@
 -- What the parts of a run do with the bytes dropped, with one block and with the blocks in a row: the words between the code and
 -- those of `Outcomes`.
-use Rattle.std.specs.Prelude.{◌≡◌, ◌⊎◌, ℕ, ◌+◌, ◌<◌, ◌≤◌, Bool, true, List, [], ◌∷◌, ◌++◌, length, count_by, Option, IfSome, codes, if◌then◌else◌, ◌==◌}
+use Rattle.std.specs.Prelude.{◌≡◌, ◌⊎◌, ℕ, ◌+◌, ◌<◌, ◌≤◌, Bool, true, false, List, [], ◌∷◌, ◌++◌, length, count_by, Option, IfSome, codes, if◌then◌else◌, ◌==◌}
 use Rattle.pgn_text.specs.GameTexts.{GameText, ShowsGame, tag_in}
 use Rattle.pgn_game.specs.Exports.{IsExport}
 use Rattle.pgn_game.specs.Replays.{Replay}
 use Rattle.pgn_extract.specs.Exports.{HasEntry}
-use Rattle.pgn_text.specs.Left.{IsPiece, IsStopOf}
+use Rattle.pgn_text.specs.Left.{IsPiece}
 use Rattle.pgn_text.specs.Limits.{depth_limit, largest_offset}
 use Rattle.pgn_text.specs.Marks.{TooLongBlock, MarkedPiece, marked, AreOfBlock, AreMarkedPieces}
 use Rattle.pgn_text.specs.Parts.{Part}
@@ -19,9 +19,10 @@ use Rattle.pgn_text.specs.declared.blocks.Body.{Body}
 use Rattle.pgn_text.specs.declared.blocks.Body.TheVariants.{Bytes, TooLong}
 use Rattle.pgn_text.specs.declared.blocks.ReadError.{ReadError}
 use Rattle.pgn_text.specs.declared.blocks.ReadError.TheVariants as cause
+use Rattle.pgn_extract.specs.Notes.{IsNote, NamesByte}
 use Rattle.pgn_extract.specs.Outcomes.{AppendsFront, Writes, WritesComplete}
 use Rattle.pgn_extract.specs.Index.{fault_text, mark_line}
-use Rattle.pgn_extract.specs.Verdicts.{Verdict, SoundGame, IsListed, IsExported, IsGameVerdict, IsVerdict, AreVerdicts, output_of, fault_line_of, output_text, fault_lines, is_faulty, IsUnreadableVerdict}
+use Rattle.pgn_extract.specs.Verdicts.{Verdict, SoundGame, FaultyGame, IsListed, IsExported, IsGameVerdict, IsVerdict, AreVerdicts, output_of, fault_line_of, output_text, fault_lines, is_faulty}
 use Rattle.pgn_extract.specs.declared.report.Report.{Report}
 use Rattle.pgn_extract.specs.declared.outcome.RunError.{RunError}
 use Rattle.pgn_extract.specs.declared.outcome.RunError.TheVariants.{Read, Write, OutOfMemory, InputTooLong}
@@ -87,17 +88,32 @@ AddsGame aim old new number offset game =
 abbrev pub AddsMark : Aim → Report → Report → ℕ → MarkedPiece → Type 0
 AddsMark aim old new number piece = (verdict : Verdict) × IsVerdict aim number piece verdict × AddsVerdict old new verdict 1
 
+-- the piece is one of those of the block that begins at the offset
+abbrev pub IsPieceOf : ℕ → List ℕ → spec.Piece → Type 0
+IsPieceOf offset block piece =
+    (before : List spec.Piece) × (behind : List spec.Piece) × spec.ArePieces depth_limit (offset == 0) [] (before ++ piece ∷ behind) block
+
 -- the same, of the piece that is given of the block that begins at the offset
 abbrev pub AddsPiece : Aim → Report → Report → ℕ → ℕ → List ℕ → Piece → Type 0
 AddsPiece aim old new number offset block piece =
-    (shown : spec.Piece) → IsPiece piece shown → IsStopOf depth_limit (offset == 0) block shown → AddsMark aim old new number (marked offset shown)
+    (shown : spec.Piece) → IsPiece piece shown → IsPieceOf offset block shown → AddsMark aim old new number (marked offset shown)
+
+-- the note names the byte at which the block, which begins at the offset, stops agreeing with games from the place `begin` on
+abbrev pub NamesBlockStop : Bool → ℕ → List ℕ → ℕ → List ℕ → Type 0
+NamesBlockStop false offset block begin note = Unit {0}
+NamesBlockStop true offset block begin note =
+    (place : ℕ) × StopsBlockAt depth_limit (offset == 0) block begin place × NamesByte (offset + place) note
+
+-- bytes of the block from the place `begin` on that are no game are reported so
+abbrev pub IsBlockVerdict : Bool → ℕ → ℕ → List ℕ → ℕ → Verdict → Type 0
+IsBlockVerdict explain number offset block begin verdict =
+    (note : List ℕ) × IsNote explain note × NamesBlockStop explain offset block begin note
+    × (verdict ≡ FaultyGame (fault_text number (offset + begin) (codes "unreadable")) note)
 
 -- so the index reports the piece whose mark is given, in the block that begins at the offset
 abbrev pub IsMarkVerdict : Bool → ℕ → ℕ → List ℕ → Mark → Verdict → Type 0
 IsMarkVerdict explain number offset block (mark.Game place) verdict = verdict ≡ SoundGame (mark_line number (offset + place))
-IsMarkVerdict explain number offset block (mark.Unreadable place) verdict =
-    (stop : ℕ) × StopsBlockAt depth_limit (offset == 0) block place stop
-    × IsUnreadableVerdict explain (offset + stop) (fault_text number (offset + place) (codes "unreadable")) verdict
+IsMarkVerdict explain number offset block (mark.Unreadable place) verdict = IsBlockVerdict explain number offset block place verdict
 
 -- the report is of the pieces of the block
 pub record ReportsBlock (aim : Aim) (report : Report) (limit max_depth number offset : ℕ) (block : List ℕ) : Type 0 where

@@ -42,7 +42,7 @@ pub data IsGameExport (aim : Aim) (parts : List Part) (text : List ℕ) : Type 0
 -- what is written of a piece: nothing where it can't be read
 abbrev pub IsPieceExport : Aim → PieceKind → List ℕ → Type 0
 IsPieceExport aim (ReadableGame parts) text = IsGameExport aim parts text
-IsPieceExport aim (UnreadableRest stop) text = text ≡ []
+IsPieceExport aim (UnreadableRest bytes) text = text ≡ []
 IsPieceExport aim TooLongBlock text = text ≡ []
 
 -- what is written of pieces in a row: that of the first, and then that of the others

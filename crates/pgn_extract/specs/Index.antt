@@ -18,7 +18,7 @@ mark_line number offset = mark number offset ++ 10 ∷ []
 abbrev pub index_line : ℕ → MarkedPiece → List ℕ
 index_line number piece = elim piece.kind [
   | ReadableGame parts ↦ mark_line number piece.offset
-  | UnreadableRest stop ↦ []
+  | UnreadableRest bytes ↦ []
   | TooLongBlock ↦ []
 ]
 

@@ -72,7 +72,7 @@ pub data AreGameEntries (aim : Aim) (number offset : ℕ) (parts : List Part) (e
 -- the entries of a piece: only a game that can be read has any
 abbrev pub ArePieceEntries : Aim → PieceKind → ℕ → ℕ → List Entry → Type 0
 ArePieceEntries aim (ReadableGame parts) number offset entries = AreGameEntries aim number offset parts entries
-ArePieceEntries aim (UnreadableRest stop) number offset entries = entries ≡ []
+ArePieceEntries aim (UnreadableRest bytes) number offset entries = entries ≡ []
 ArePieceEntries aim TooLongBlock number offset entries = entries ≡ []
 
 -- the entries of pieces that are numbered from a number on: those of the first, and then those of the others

@@ -1,7 +1,9 @@
 -- What stands on standard error behind the line of a faulty game where explanations are asked for.
-use Rattle.std.specs.Prelude.{◌≡◌, ◌⊎◌, ℕ, Bool, true, false, List, [], ◌∷◌, ◌++◌, codes, decimal, IsTrue}
+use Rattle.std.specs.Prelude.{◌≡◌, ◌⊎◌, ℕ, ◌+◌, ◌==◌, Bool, true, false, List, [], ◌∷◌, ◌++◌, codes, decimal, IsTrue}
 use Rattle.std.specs.List.{list_all}
 use Rattle.pgn_text.specs.Bytes.{is_not_line_feed}
+use Rattle.pgn_text.specs.Limits.{depth_limit}
+use Rattle.pgn_text.specs.Stops.{StopsAt}
 
 -- lines, each behind two blanks and ended by a line feed
 abbrev pub indented : List (List ℕ) → List ℕ
@@ -28,7 +30,9 @@ abbrev pub NamesByte : ℕ → List ℕ → Type 0
 NamesByte offset note =
     (place behind : List ℕ) × IsLinePlace place × (note ≡ codes "  " ++ place ++ codes "byte " ++ decimal offset ++ codes ": " ++ behind)
 
--- the note on bytes that are no game names that at which they stop agreeing with games
-abbrev pub NamesStop : Bool → ℕ → List ℕ → Type 0
-NamesStop false stop note = Unit {0}
-NamesStop true stop note = NamesByte stop note
+-- the note on bytes that begin at the offset and are no game names that at which they stop agreeing with games. They are taken by themselves:
+-- nothing that stands before them is needed
+abbrev pub NamesStop : Bool → ℕ → List ℕ → List ℕ → Type 0
+NamesStop false offset bytes note = Unit {0}
+NamesStop true offset bytes note =
+    (agreeing : ℕ) × StopsAt depth_limit (offset == 0) [] bytes agreeing × NamesByte (offset + agreeing) note

@@ -78,17 +78,17 @@ IsGameVerdict aim number offset parts verdict = IsVerdictIn aim.mode aim number 
 abbrev pub IsReportedBy : Aim → List ℕ → Verdict → Type 0
 IsReportedBy aim line verdict = (note : List ℕ) × IsNote aim.explain note × (verdict ≡ FaultyGame line note)
 
--- bytes that are no game are reported so: by this line, and where explanations are asked for a note that names the byte at which they stop agreeing
--- with games
-abbrev pub IsUnreadableVerdict : Bool → ℕ → List ℕ → Verdict → Type 0
-IsUnreadableVerdict explain stop line verdict =
-    (note : List ℕ) × IsNote explain note × NamesStop explain stop note × (verdict ≡ FaultyGame line note)
+-- bytes that begin at the offset and are no game are reported so: by this line, and where explanations are asked for a note that names the byte at
+-- which they stop agreeing with games
+abbrev pub IsUnreadableVerdict : Bool → ℕ → List ℕ → List ℕ → Verdict → Type 0
+IsUnreadableVerdict explain offset bytes line verdict =
+    (note : List ℕ) × IsNote explain note × NamesStop explain offset bytes note × (verdict ≡ FaultyGame line note)
 
 -- a piece is reported so, by what it is: what can't be read is reported in the same way in each mode
 abbrev pub IsPieceVerdict : PieceKind → Aim → ℕ → ℕ → Verdict → Type 0
 IsPieceVerdict (ReadableGame parts) aim number offset verdict = IsGameVerdict aim number offset parts verdict
-IsPieceVerdict (UnreadableRest stop) aim number offset verdict =
-    IsUnreadableVerdict aim.explain stop (fault_text number offset (codes "unreadable")) verdict
+IsPieceVerdict (UnreadableRest bytes) aim number offset verdict =
+    IsUnreadableVerdict aim.explain offset bytes (fault_text number offset (codes "unreadable")) verdict
 IsPieceVerdict TooLongBlock aim number offset verdict = IsReportedBy aim (fault_text number offset (codes "too long")) verdict
 
 -- the piece with this number is reported so in the mode

@@ -5,12 +5,11 @@ ghost use Rattle.pgn_text.specs.LeftMarks.{mark_place};
 ghost use Rattle.pgn_text.specs.Limits.{block_limit, depth_limit, largest_offset};
 ghost use Rattle.pgn_text.specs.Windows.{Shows};
 ghost use Rattle.pgn_extract.specs.Aims.{aim_of};
-ghost use Rattle.pgn_extract.specs.Blockwise.{IsShown, Reports, ReportsBlock, AddsVerdict, AddsGame, AddsListed, AddsExported, AddsPiece, IsMarkVerdict, too_long_piece};
+ghost use Rattle.pgn_extract.specs.Blockwise.{IsShown, Reports, ReportsBlock, AddsVerdict, AddsGame, AddsListed, AddsExported, AddsPiece, IsBlockVerdict, IsMarkVerdict, too_long_piece};
 ghost use Rattle.pgn_extract.specs.Index.{fault_text};
 ghost use Rattle.pgn_extract.specs.Listing.{cause_text};
 ghost use Rattle.pgn_extract.specs.Notes.{IsNote};
-ghost use Rattle.pgn_extract.specs.Verdicts.{Verdict, FaultyGame, IsUnreadableVerdict};
-ghost use Rattle.pgn_text.specs.Stops.{StopsBlockAt};
+ghost use Rattle.pgn_extract.specs.Verdicts.{Verdict, FaultyGame};
 ghost use Rattle.pgn_extract.specs.declared.settings.Mode.TheVariants.{Index};
 ghost use Rattle.pgn_game.specs.Faults.{Fault};
 ghost use Rattle.pgn_game.specs.Replays.{fault_of};
@@ -226,9 +225,8 @@ fn add_unreadable(
     requires place { at ≤ length block.now }
     requires room { offset + length block.now < 2 ^ 64 }
     requires faulty { report.old.faulty + 1 < 2 ^ 64 }
-    ensures { OnOk result ((stop : ℕ) × StopsBlockAt depth_limit (offset == 0) block.now at stop
-        × ((verdict : Verdict) × IsUnreadableVerdict settings.now.explain (offset + stop) (fault_text number (offset + at) (codes "unreadable")) verdict
-        × AddsVerdict report.old report.new verdict 0)) }
+    ensures { OnOk result ((verdict : Verdict) × IsBlockVerdict settings.now.explain number offset block.now at verdict
+        × AddsVerdict report.old report.new verdict 0) }
 {
     push_fault_line(
         &mut report.faults,

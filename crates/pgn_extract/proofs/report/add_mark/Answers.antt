@@ -12,6 +12,6 @@ returns-in-Game c =
 pub returns-in-Unreadable : goal.returns-in-Unreadable
 returns-in-Unreadable c =
     on_ok_weaker c.add_unreadable.result
-    (λ adds. mark_unreadable c.args.settings.now.explain c.args.number c.args.offset c.args.block.now c.in-Unreadable.at adds.0 c.args.mark adds.2.0
-    c.in-Unreadable.is adds.1 adds.2.1 adds.2.2 refl refl refl refl)
+    (λ adds. mark_unreadable c.args.settings.now.explain c.args.number c.args.offset c.args.block.now c.in-Unreadable.at c.args.mark adds.0
+    c.in-Unreadable.is adds.1 adds.2 refl refl refl refl)
     c.add_unreadable.ensures

@@ -14,6 +14,6 @@ returns-in-Game c =
 pub returns-in-Unreadable : goal.returns-in-Unreadable
 returns-in-Unreadable c =
     on_ok_weaker c.add_unreadable.result
-    (λ adds. piece_unreadable (aim_of c.args.settings.now) c.args.number c.args.offset c.args.block.now c.args.piece.now c.in-Unreadable.at adds.0 adds.2.0
-    c.in-Unreadable.is adds.1 adds.2.1 adds.2.2 refl refl refl refl)
+    (λ adds. piece_unreadable (aim_of c.args.settings.now) c.args.number c.args.offset c.args.block.now c.args.piece.now c.in-Unreadable.at adds.0
+    c.in-Unreadable.is adds.1 adds.2 refl refl refl refl)
     c.add_unreadable.ensures

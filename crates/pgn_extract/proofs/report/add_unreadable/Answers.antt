@@ -1,8 +1,6 @@
 use Rattle.std.proofs.Common.{◌==◌, ◌+◌, [], take, drop, ◌++◌, refl, sym, ap, ◌∙◌, append_assoc, codes, arith}
 use Rattle.std.proofs.lemmas.List.{append-nil}
 use Rattle.std.proofs.lemmas.Result.{on_ok_weaker}
-use Rattle.pgn_text.specs.Limits.{depth_limit}
-use Rattle.pgn_text.proofs.EachStops.{stop_exists}
 use Rattle.pgn_extract.specs.Index.{fault_text}
 use Rattle.pgn_extract.specs.Verdicts.{FaultyGame}
 use Rattle.pgn_extract.specs.declared.notes.Origin.{Origin}
@@ -15,41 +13,32 @@ returns c =
     let origin : Origin = record { offset = c.args.offset; line = c.args.report.now.line } in
     on_ok_weaker c.push_stop_note.result
     (λ note. (
-      note.1.place,
-      note.1.stops,
+      FaultyGame line note.0,
       (
-        FaultyGame line note.0,
-        (
-          note.0,
-          stop_note c.args.settings.now.explain c.if-not-settings.false origin c.args.block.now c.args.at note.0 note.1,
-          names_stop c.args.settings.now.explain origin c.args.block.now c.args.at note.0 c.requires.place note.1,
-          refl,
-        ),
-        record {
-          output = sym (append-nil c.args.report.now.output.items);
-          faults = note.2 ∙ ap (λ t. t ++ note.0) c.in_ok-push_fault_line.ensures ∙ append_assoc c.args.report.now.faults.items line note.0;
-          games = omega arith;
-          faulty = refl;
-        },
+        note.0,
+        stop_note c.args.settings.now.explain c.if-not-settings.false origin c.args.block.now c.args.at note.0 note.1,
+        names_stop c.args.settings.now.explain origin c.args.block.now c.args.at note.0 c.requires.place note.1,
+        refl,
       ),
+      record {
+        output = sym (append-nil c.args.report.now.output.items);
+        faults = note.2 ∙ ap (λ t. t ++ note.0) c.in_ok-push_fault_line.ensures ∙ append_assoc c.args.report.now.faults.items line note.0;
+        games = omega arith;
+        faulty = refl;
+      },
     ))
     c.push_stop_note.ensures
 
 pub returns-then-not-settings : goal.returns-then-not-settings
 returns-then-not-settings c =
     let line = fault_text c.args.number (c.args.offset + c.args.at) (codes "unreadable") in
-    let stop = stop_exists depth_limit (c.args.offset == 0) (take c.args.at c.args.block.now) (drop c.args.at c.args.block.now) in
-    let none = no_note c.args.settings.now.explain c.if-not-settings.true (c.args.offset + (c.args.at + stop.0)) in (
-      c.args.at + stop.0,
-      (stop.0, refl, stop.1),
-      (
-        FaultyGame line [],
-        ([], none.0, none.1, refl),
-        record {
-          output = sym (append-nil c.args.report.now.output.items);
-          faults = c.in_ok-push_fault_line.ensures ∙ ap (λ t. c.args.report.now.faults.items ++ t) (sym (append-nil line));
-          games = omega arith;
-          faulty = refl;
-        },
-      ),
+    let none = no_note c.args.settings.now.explain c.if-not-settings.true c.args.offset c.args.block.now c.args.at in (
+      FaultyGame line [],
+      ([], none.0, none.1, refl),
+      record {
+        output = sym (append-nil c.args.report.now.output.items);
+        faults = c.in_ok-push_fault_line.ensures ∙ ap (λ t. c.args.report.now.faults.items ++ t) (sym (append-nil line));
+        games = omega arith;
+        faulty = refl;
+      },
     )
