@@ -12,7 +12,7 @@ use Rattle.pgn_text.specs.Agreement.{Walks}
 use Rattle.pgn_text.specs.PartFronts.{IsPartFront, NoneFollows}
 use Rattle.pgn_text.proofs.GameLeads.{game_leads, game_from}
 use Rattle.pgn_text.proofs.Halfway.{Reads, stands_join, stands_cut, spelled-append, one_reading}
-use Rattle.pgn_text.proofs.Stopping.{instead_nothing, instead_same, all_instead, Front, front_here, front_back, front_on, front_in_part, part_front_goes}
+use Rattle.pgn_text.proofs.Stopping.{instead_nothing, instead_same, all_instead, Front, ByteFront, front_here, front_back, front_on, front_in_part, part_front_goes}
 
 -- ---- a gap and a game, read from the start
 
@@ -67,7 +67,7 @@ gap_first max_depth s (p ∷ back) l = elim (cases_Bool (is_gap_part p)) [
 ]
 
 module _ (max_depth : ℕ) (f : Bool) where
-  front_from : (before x : List ℕ) → IsGameFront max_depth f before x → Front max_depth f before start x
+  pub front_from : (before x : List ℕ) → IsGameFront max_depth f before x → Front max_depth f before start x
   front_from before x g = record {
     more = g.more;
     parts = g.gap ++ g.parts;
@@ -80,13 +80,14 @@ module _ (max_depth : ℕ) (f : Bool) where
     };
   }
 
-  front_to : (before x : List ℕ) → Front max_depth f before start x → IsGameFront max_depth f before x
-  front_to before x k =
+  front_to : (before x : List ℕ) → ByteFront max_depth f before start x → IsGameFront max_depth f before x
+  front_to before x (k, bytes) =
       let r = k.reads in
       let first = gap_first max_depth start k.parts r.leads in
       let stand = stands_cut f before first.gap first.rest [] (subst (λ q. AllStand f before q []) first.is r.stand) in
       record {
         more = k.more;
+        bytes = bytes;
         gap = first.gap;
         parts = first.rest;
         parted = r.parted ∙ append-nil (spelled k.parts) ∙ ap spelled first.is ∙ spelled-append first.gap first.rest;
@@ -99,26 +100,40 @@ module _ (max_depth : ℕ) (f : Bool) where
 
   -- ---- the place
 
+  -- the text stops at the place, also among fronts that go on with numbers that are no bytes
+  pub record Halts (before text : List ℕ) (place : ℕ) : Type 0 where
+    pub within : place ≤ length text
+    pub agrees : IsGameFront max_depth f before (take place text)
+    pub furthest : (other : ℕ) → other ≤ length text → Front max_depth f before start (take other text) → other ≤ place
+
+  -- so it stops there
+  pub stops : (before text : List ℕ) (place : ℕ) → Halts before text place → StopsAt max_depth f before text place
+  stops before text place h = record {
+    within = h.within;
+    agrees = h.agrees;
+    furthest = λ other low g. h.furthest other low (front_from before (take other text) g);
+  }
+
   -- behind parts that were read, where no part may follow: as many bytes more as a part that may follow can begin with
-  pub stops_in_part : (before : List ℕ) (t : State) (done : List Part) (text : List ℕ) (n : ℕ)
+  pub halts_in_part : (before : List ℕ) (t : State) (done : List Part) (text : List ℕ) (n : ℕ)
       → Walks max_depth start done t → AllStand f before done text
       → NoneFollows max_depth (standing_of f (before ++ spelled done)) t text → n ≤ length text
       → (n ≢ 0 → IsPartFront max_depth (standing_of f (before ++ spelled done)) t (take n text))
       → ((k : ℕ) → k ≢ 0 → k ≤ length text
       → IsPartFront max_depth (standing_of f (before ++ spelled done)) t (take k text) → k ≤ n)
-      → StopsAt max_depth f before (spelled done ++ text) (length (spelled done) + n)
-  stops_in_part before t done text n w h none within goes most = record {
+      → Halts before (spelled done ++ text) (length (spelled done) + n)
+  halts_in_part before t done text n w h none within goes most = record {
     within = omega (arith, length-append (spelled done) text);
-    agrees = front_to before _ (subst (Front max_depth f before start) (sym (take-append-add (spelled done) text n))
+    agrees = front_to before _ (subst (ByteFront max_depth f before start) (sym (take-append-add (spelled done) text n))
         (agrees text n h within goes));
     furthest = furthest;
   }
     where
       agrees : (text : List ℕ) (n : ℕ) → AllStand f before done text → n ≤ length text
           → (n ≢ 0 → IsPartFront max_depth (standing_of f (before ++ spelled done)) t (take n text))
-          → Front max_depth f before start (spelled done ++ take n text)
+          → ByteFront max_depth f before start (spelled done ++ take n text)
       agrees text zero h within goes =
-          subst (Front max_depth f before start) (sym (append-nil (spelled done))) (front_here max_depth f before start t done text w h)
+          subst (ByteFront max_depth f before start) (sym (append-nil (spelled done))) (front_here max_depth f before start t done text w h)
       agrees [] (suc n) h within goes = absurd (omega (arith, within))
       agrees (c ∷ rest) (suc n) h within goes =
           front_back max_depth f before start t done c (take n rest) rest w h
@@ -135,42 +150,43 @@ module _ (max_depth : ℕ) (f : Bool) where
           (front_on max_depth f before start t done c (take j rest) rest w h k)
 
       furthest : (other : ℕ) → other ≤ length (spelled done ++ text)
-          → IsGameFront max_depth f before (take other (spelled done ++ text)) → other ≤ length (spelled done) + n
-      furthest other low g = elim (cases_lt (length (spelled done)) other) [
+          → Front max_depth f before start (take other (spelled done ++ text)) → other ≤ length (spelled done) + n
+      furthest other low k = elim (cases_lt (length (spelled done)) other) [
         | inl past ↦
             let j = other - suc (length (spelled done)) in
             let is : other ≡ length (spelled done) + suc j = omega (arith, past) in
             let size : suc j ≤ length text = omega (arith, low, is, length-append (spelled done) text) in
             let front : Front max_depth f before start (spelled done ++ take (suc j) text) =
             subst (Front max_depth f before start)
-            (ap (λ k. take k (spelled done ++ text)) is ∙ take-append-add (spelled done) text (suc j))
-            (front_from before (take other (spelled done ++ text)) g) in
+            (ap (λ i. take i (spelled done ++ text)) is ∙ take-append-add (spelled done) text (suc j)) k in
             omega (arith, is, most (suc j) (λ e. cc) size (beyond text j h none size front))
         | inr short ↦ omega (arith, short)
       ]
 
   -- a text that begins with a game, or a gap and a game, stops behind it
-  pub stops_at_game : (before text : List ℕ) (parts : List Part) (after : List ℕ)
-      → Reads max_depth f before text start parts after → StopsAt max_depth f before text (length (spelled parts))
-  stops_at_game before text parts after r = record {
+  pub halts_at_game : (before text : List ℕ) (parts : List Part) (after : List ℕ)
+      → Reads max_depth f before text start parts after → Halts before text (length (spelled parts))
+  halts_at_game before text parts after r = record {
     within = omega (arith, ap length r.parted, length-append (spelled parts) after);
-    agrees = front_to before _ (record {
-      more = [];
-      parts = parts;
-      reads = record {
-        parted = ap (λ l. l ++ []) (ap (take (length (spelled parts))) r.parted ∙ front);
-        stand = all_instead f before parts after [] (instead_nothing after) r.stand;
-        leads = r.leads;
-      };
-    });
-    furthest = λ other low g. elim (cases_lt (length (spelled parts)) other) [
+    agrees = front_to before _ (
+      record {
+        more = [];
+        parts = parts;
+        reads = record {
+          parted = ap (λ l. l ++ []) (ap (take (length (spelled parts))) r.parted ∙ front);
+          stand = all_instead f before parts after [] (instead_nothing after) r.stand;
+          leads = r.leads;
+        };
+      },
+      refl,
+    );
+    furthest = λ other low k. elim (cases_lt (length (spelled parts)) other) [
       | inl past ↦ absurd (beyond after r (other - suc (length (spelled parts)))
           (omega (arith, past, low, ap length r.parted, length-append (spelled parts) after))
           (subst (Front max_depth f before start)
-          (ap (λ k. take k text) (let is : other ≡ length (spelled parts) + suc (other - suc (length (spelled parts))) = omega (arith, past) in is)
+          (ap (λ i. take i text) (let is : other ≡ length (spelled parts) + suc (other - suc (length (spelled parts))) = omega (arith, past) in is)
           ∙ ap (take (length (spelled parts) + suc (other - suc (length (spelled parts))))) r.parted
-          ∙ take-append-add (spelled parts) after (suc (other - suc (length (spelled parts)))))
-          (front_from before (take other text) g)))
+          ∙ take-append-add (spelled parts) after (suc (other - suc (length (spelled parts))))) k))
       | inr short ↦ short
     ];
   }
@@ -191,3 +207,18 @@ module _ (max_depth : ℕ) (f : Bool) where
           } in
           let same = one_reading max_depth f before ((spelled parts ++ c ∷ take j rest) ++ k.more) start parts k.parts ((c ∷ take j rest) ++ k.more) [] other k.reads in
           let e = same.1 in cc
+
+  -- the same, said of the definition
+  pub stops_in_part : (before : List ℕ) (t : State) (done : List Part) (text : List ℕ) (n : ℕ)
+      → Walks max_depth start done t → AllStand f before done text
+      → NoneFollows max_depth (standing_of f (before ++ spelled done)) t text → n ≤ length text
+      → (n ≢ 0 → IsPartFront max_depth (standing_of f (before ++ spelled done)) t (take n text))
+      → ((k : ℕ) → k ≢ 0 → k ≤ length text
+      → IsPartFront max_depth (standing_of f (before ++ spelled done)) t (take k text) → k ≤ n)
+      → StopsAt max_depth f before (spelled done ++ text) (length (spelled done) + n)
+  stops_in_part before t done text n w h none within goes most =
+      stops before (spelled done ++ text) (length (spelled done) + n) (halts_in_part before t done text n w h none within goes most)
+
+  pub stops_at_game : (before text : List ℕ) (parts : List Part) (after : List ℕ)
+      → Reads max_depth f before text start parts after → StopsAt max_depth f before text (length (spelled parts))
+  stops_at_game before text parts after r = stops before text (length (spelled parts)) (halts_at_game before text parts after r)

@@ -5,7 +5,7 @@ use Rattle.std.specs.List.{list_all}
 use Rattle.std.proofs.Math.Seq.{drop-cons}
 use Rattle.std.proofs.Math.ListN.{drop_of_length-le}
 use Rattle.std.proofs.lemmas.Bool.{and_parts, and_from, cases_Bool, eqb-true, not_from_false, not-true}
-use Rattle.pgn_text.specs.Bytes.{is_white, is_name_byte, is_plain, is_empty}
+use Rattle.pgn_text.specs.Bytes.{is_byte, is_white, is_name_byte, is_plain, is_empty}
 use Rattle.pgn_text.specs.Strings.{Sign, Single, Escaped, spelled_sign, is_sign, IsContents}
 use Rattle.pgn_text.specs.Parts.{Part, Tag, Standing, Stands, spelled_part}
 use Rattle.pgn_text.specs.Games.{is_tag}
@@ -16,7 +16,7 @@ use Rattle.pgn_text.specs.declared.agreement.InTag.TheVariants.{BeforeName, Name
 use Rattle.pgn_text.proofs.Furthest.{longest_behind, longest_nothing}
 
 -- each place goes on to the tag's end
-each_ends : (s : InTag) → IsTagFront s []
+pub each_ends : (s : InTag) → IsTagFront s []
 each_ends BeforeName = (codes "A\"\"]", (Name, refl, (Contents, refl, (BehindString, refl, (Closed, refl, refl)))))
 each_ends Name = (codes "\"\"]", (Contents, refl, (BehindString, refl, (Closed, refl, refl))))
 each_ends BehindName = (codes "\"\"]", (Contents, refl, (BehindString, refl, (Closed, refl, refl))))
@@ -24,6 +24,22 @@ each_ends Contents = (codes "\"]", (BehindString, refl, (Closed, refl, refl)))
 each_ends BehindBackslash = (codes " \"]", (Contents, refl, (BehindString, refl, (Closed, refl, refl))))
 each_ends BehindString = (codes "]", (Closed, refl, refl))
 each_ends Closed = ([], refl)
+
+-- with bytes
+ends_in_bytes : (s : InTag) → IsTrue (list_all is_byte (each_ends s).0)
+unfolding each_ends
+ends_in_bytes BeforeName = refl
+ends_in_bytes Name = refl
+ends_in_bytes BehindName = refl
+ends_in_bytes Contents = refl
+ends_in_bytes BehindBackslash = refl
+ends_in_bytes BehindString = refl
+ends_in_bytes Closed = refl
+
+-- so each front of a tag does
+pub tag_bytes : (s : InTag) (x more : List ℕ) → Ends s (x ++ more) → (y : List ℕ) × Ends s (x ++ y) × IsTrue (list_all is_byte y)
+tag_bytes s [] more h = let end = each_ends s in (end.0, end.1, ends_in_bytes s)
+tag_bytes s (b ∷ x) more h = let r = tag_bytes h.0 x more h.2 in (r.0, (h.0, h.1, r.1), r.2)
 
 abbrev pub one_more : Option InTag → (InTag → ℕ) → ℕ
 one_more None count = 0

@@ -1,5 +1,6 @@
 pub mod BlockCuts
 pub mod Braces
+pub mod ByteFronts
 pub mod Classes
 pub mod Contents
 pub mod CutOff

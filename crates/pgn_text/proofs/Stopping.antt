@@ -1,29 +1,20 @@
 -- Texts that agree with some game so far: what can be told of them where a reader has come some way.
 use Rattle.std.proofs.Common.{◌≡◌, ◌≢◌, ℕ, zero, suc, ◌-◌, Bool, true, false, List, [], ◌∷◌, ◌++◌, Some, IsTrue, refl, sym, ap, subst, ◌∙◌, inl, inr, arith, append_assoc, append-nil}
-use Rattle.std.proofs.lemmas.Bool.{lt-ltb, MatchBool-at_true, MatchBool-at_false, cases_Bool, not_from_false}
-use Rattle.pgn_text.specs.Bytes.{is_digit, is_word_byte, is_mark, is_not_line_feed, stops}
+use Rattle.std.specs.List.{list_all}
+use Rattle.std.proofs.lemmas.Bool.{lt-ltb, MatchBool-at_true, MatchBool-at_false, and_from, cases_Bool, not_from_false}
+use Rattle.std.proofs.lemmas.List.Folds.{list_all-append}
+use Rattle.pgn_text.specs.Bytes.{is_byte, is_digit, is_word_byte, is_mark, is_not_line_feed, stops}
 use Rattle.pgn_text.specs.Parts.{Part, ByteOrderMark, White, Brace, Line, EscapeLine, Tag, Word, Star, Dot, Glyph, Marks, Open, Close, Standing, standing_of, Stands, AllStand, spelled, spelled_part}
 use Rattle.pgn_text.specs.Games.{is_result}
 use Rattle.pgn_text.specs.Steps.{State, step, Leads}
-use Rattle.pgn_text.specs.Stops.{IsGameFront, StopsAt}
+use Rattle.pgn_text.specs.Stops.{StopsAt}
 use Rattle.pgn_text.specs.Agreement.{Walks}
 use Rattle.pgn_text.specs.PartFronts.{Follows, IsPartFront, NoneFollows}
 use Rattle.pgn_text.proofs.Halfway.{Reads, reads_more, reads_end, reads_first}
+use Rattle.pgn_text.proofs.ByteFronts.{InBytes, part_bytes}
 use Rattle.pgn_text.proofs.Lines.{cut_append}
 
 -- ---- laws
-
--- a front of a front is one
-pub front_of_front : (max_depth : ℕ) (f : Bool) (before x y : List ℕ) → IsGameFront max_depth f before (x ++ y)
-    → IsGameFront max_depth f before x
-front_of_front max_depth f before x y g = record {
-  more = y ++ g.more;
-  gap = g.gap;
-  parts = g.parts;
-  parted = sym (append_assoc x y g.more) ∙ g.parted;
-  is_gap = g.is_gap;
-  is_game = g.is_game;
-}
 
 -- a text stops at one place
 pub one_stop : (max_depth : ℕ) (f : Bool) (before text : List ℕ) (a b : ℕ) → StopsAt max_depth f before text a
@@ -94,6 +85,11 @@ unfolding closes
 closes_stand f before zero = (tt, tt)
 closes_stand f before (suc d) = (tt, closes_stand f (before ++ 41 ∷ []) d)
 
+closes_bytes : (d : ℕ) → IsTrue (list_all is_byte (spelled (closes d)))
+unfolding closes
+closes_bytes zero = refl
+closes_bytes (suc d) = closes_bytes d
+
 closes_lead : (max_depth : ℕ) (s : State) (d : ℕ) → s.depth ≡ d → Leads max_depth s (closes d)
 unfolding closes
 closes_lead max_depth s zero e = (e, refl)
@@ -106,7 +102,7 @@ closes_lead max_depth s (suc d) e = (
 module _ (max_depth : ℕ) (f : Bool) where
   -- from each state a line feed, the ends of the open variations and an asterisk lead to the end of a game
   pub closing : (before : List ℕ) (s : State) → (text : List ℕ) × (parts : List Part)
-      × Reads max_depth f before (10 ∷ text) s parts []
+      × Reads max_depth f before (10 ∷ text) s parts [] × IsTrue (list_all is_byte text)
   closing before s = (
     spelled (closes s.depth),
     White 10 ∷ closes s.depth,
@@ -115,6 +111,7 @@ module _ (max_depth : ℕ) (f : Bool) where
       stand = (refl, closes_stand f (before ++ 10 ∷ []) s.depth);
       leads = (s, refl, closes_lead max_depth s s.depth refl);
     },
+    closes_bytes s.depth,
   )
 
   -- ---- fronts of readings
@@ -124,6 +121,10 @@ module _ (max_depth : ℕ) (f : Bool) where
     pub more : List ℕ
     pub parts : List Part
     pub reads : Reads max_depth f before (front ++ more) s parts []
+
+  -- with some more bytes, which are bytes and no other numbers
+  abbrev pub ByteFront : List ℕ → State → List ℕ → Type 0
+  ByteFront before s front = (k : Front before s front) × IsTrue (list_all is_byte k.more)
 
   pub walk_reads : (before : List ℕ) (s t : State) (done : List Part) (rest : List ℕ) (parts : List Part) (after : List ℕ)
       → Walks max_depth s done t → AllStand f before done rest
@@ -152,26 +153,32 @@ module _ (max_depth : ℕ) (f : Bool) where
 
   -- behind parts that were read: nothing more is still a front
   pub front_here : (before : List ℕ) (s t : State) (done : List Part) (rest : List ℕ)
-      → Walks max_depth s done t → AllStand f before done rest → Front before s (spelled done)
+      → Walks max_depth s done t → AllStand f before done rest → ByteFront before s (spelled done)
   front_here before s t done rest w h =
-      let end = closing (before ++ spelled done) t in record {
-        more = 10 ∷ end.0;
-        parts = done ++ end.1;
-        reads = walk_reads before s t done (10 ∷ end.0) end.1 [] w
-            (all_instead f before done rest (10 ∷ end.0) (instead_line_feed rest end.0) h) end.2;
-      }
+      let end = closing (before ++ spelled done) t in (
+        record {
+          more = 10 ∷ end.0;
+          parts = done ++ end.1;
+          reads = walk_reads before s t done (10 ∷ end.0) end.1 [] w
+              (all_instead f before done rest (10 ∷ end.0) (instead_line_feed rest end.0) h) end.2;
+        },
+        end.3,
+      )
 
   -- and some bytes are one exactly if they are one from the state there
   pub front_back : (before : List ℕ) (s t : State) (done : List Part) (c : ℕ) (x rest : List ℕ)
       → Walks max_depth s done t → AllStand f before done (c ∷ rest)
-      → Front (before ++ spelled done) t (c ∷ x) → Front before s (spelled done ++ c ∷ x)
-  front_back before s t done c x rest w h k = record {
-    more = k.more;
-    parts = done ++ k.parts;
-    reads = subst (λ l. Reads max_depth f before l s (done ++ k.parts) []) (sym (append_assoc (spelled done) (c ∷ x) k.more))
-        (walk_reads before s t done ((c ∷ x) ++ k.more) k.parts [] w
-        (all_instead f before done (c ∷ rest) ((c ∷ x) ++ k.more) (instead_same c rest (x ++ k.more)) h) k.reads);
-  }
+      → ByteFront (before ++ spelled done) t (c ∷ x) → ByteFront before s (spelled done ++ c ∷ x)
+  front_back before s t done c x rest w h (k, bytes) = (
+    record {
+      more = k.more;
+      parts = done ++ k.parts;
+      reads = subst (λ l. Reads max_depth f before l s (done ++ k.parts) []) (sym (append_assoc (spelled done) (c ∷ x) k.more))
+          (walk_reads before s t done ((c ∷ x) ++ k.more) k.parts [] w
+          (all_instead f before done (c ∷ rest) ((c ∷ x) ++ k.more) (instead_same c rest (x ++ k.more)) h) k.reads);
+    },
+    bytes,
+  )
 
   pub front_on : (before : List ℕ) (s t : State) (done : List Part) (c : ℕ) (x rest : List ℕ)
       → Walks max_depth s done t → AllStand f before done (c ∷ rest)
@@ -191,25 +198,34 @@ module _ (max_depth : ℕ) (f : Bool) where
   }
 
   -- the front of a part that may follow is the front of a reading
-  pub part_front_goes : (before : List ℕ) (s : State) (x : List ℕ) → IsPartFront max_depth (standing_of f before) s x → Front before s x
-  part_front_goes before s x k = elim (cases_Bool (is_result k.part)) [
-    | inl r ↦ record {
-      more = k.more;
-      parts = k.part ∷ [];
-      reads = reads_end max_depth f before (x ++ k.more) s k.part [] (sym k.spelt ∙ sym (append-nil (spelled_part k.part)))
-          k.stands r (k.follows.ends r);
-    }
-    | inr r ↦
-        let next = k.follows.goes_on r in
-        let end = closing (before ++ spelled_part k.part) next.0 in record {
-          more = k.more ++ 10 ∷ end.0;
-          parts = k.part ∷ end.1;
-          reads = reads_more max_depth f before (x ++ (k.more ++ 10 ∷ end.0)) s next.0 k.part (10 ∷ end.0) end.1 []
-              (sym (append_assoc x k.more (10 ∷ end.0)) ∙ ap (λ l. l ++ 10 ∷ end.0) (sym k.spelt))
-              (stands_instead (standing_of f before) k.part [] (10 ∷ end.0) (instead_line_feed [] end.0) k.stands)
-              r next.1 end.2;
-        }
-  ]
+  pub part_front_goes : (before : List ℕ) (s : State) (x : List ℕ) → IsPartFront max_depth (standing_of f before) s x → ByteFront before s x
+  part_front_goes before s x any = goes (part_bytes max_depth (standing_of f before) s x any)
+    where
+      goes : InBytes max_depth (standing_of f before) s x → ByteFront before s x
+      goes (k, bytes) = elim (cases_Bool (is_result k.part)) [
+        | inl r ↦ (
+          record {
+            more = k.more;
+            parts = k.part ∷ [];
+            reads = reads_end max_depth f before (x ++ k.more) s k.part [] (sym k.spelt ∙ sym (append-nil (spelled_part k.part)))
+                k.stands r (k.follows.ends r);
+          },
+          bytes,
+        )
+        | inr r ↦
+            let next = k.follows.goes_on r in
+            let end = closing (before ++ spelled_part k.part) next.0 in (
+              record {
+                more = k.more ++ 10 ∷ end.0;
+                parts = k.part ∷ end.1;
+                reads = reads_more max_depth f before (x ++ (k.more ++ 10 ∷ end.0)) s next.0 k.part (10 ∷ end.0) end.1 []
+                    (sym (append_assoc x k.more (10 ∷ end.0)) ∙ ap (λ l. l ++ 10 ∷ end.0) (sym k.spelt))
+                    (stands_instead (standing_of f before) k.part [] (10 ∷ end.0) (instead_line_feed [] end.0) k.stands)
+                    r next.1 end.2;
+              },
+              list_all-append is_byte k.more (10 ∷ end.0) ∙ and_from (list_all is_byte k.more) (list_all is_byte end.0) bytes end.3,
+            )
+      ]
 
   -- where no part may follow, the front of a reading is the front of a part
   pub front_in_part : (before : List ℕ) (s : State) (x behind : List ℕ) → x ≢ []

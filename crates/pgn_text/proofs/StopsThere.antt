@@ -1,15 +1,16 @@
 -- Bytes that are no game stop agreeing with games by themselves where they do in their block.
-use Rattle.std.proofs.Common.{◌≡◌, ℕ, ◌+◌, ◌==◌, Bool, true, false, List, [], ◌∷◌, ◌++◌, length, take, drop, refl, sym, ap, subst, ◌∙◌, arith, append_assoc, append-nil, take_at, drop_at}
+use Rattle.std.proofs.Common.{◌≡◌, ℕ, ◌+◌, ◌==◌, Bool, true, false, List, [], ◌∷◌, ◌++◌, IsTrue, length, take, drop, refl, sym, ap, subst, ◌∙◌, arith, append_assoc, append-nil, take_at, drop_at}
 use Rattle.std.specs.List.{list_all}
 use Rattle.std.proofs.lemmas.Bool.{false≢true, and_parts, ne_eqb}
 use Rattle.std.proofs.lemmas.List.{take-append-drop}
-use Rattle.pgn_text.specs.Bytes.{is_not_line_feed}
+use Rattle.pgn_text.specs.Bytes.{is_byte, is_not_line_feed}
 use Rattle.pgn_text.specs.Parts.{Part, ByteOrderMark, White, Brace, Line, EscapeLine, Tag, Word, Star, Dot, Glyph, Marks, Open, Close, standing_of, Stands, spelled, spelled_part}
 use Rattle.pgn_text.specs.Games.{is_gap_part, IsGame}
 use Rattle.pgn_text.specs.Gaps.{IsGap, IsLongestGap}
 use Rattle.pgn_text.specs.Pieces.{Piece, Game, Unreadable, ArePieces}
 use Rattle.pgn_text.specs.Stops.{IsGameFront, StopsAt}
 use Rattle.pgn_text.specs.Reading.{run_of, after_run}
+use Rattle.pgn_text.proofs.ByteFronts.{bytes_behind}
 use Rattle.pgn_text.proofs.Fronts.{run-append-after, list_all-run, stops-after_run}
 use Rattle.pgn_text.proofs.PartLemmas.{part_has_byte}
 use Rattle.pgn_text.proofs.ShorterText.{game_elsewhere}
@@ -42,21 +43,23 @@ module _ (max_depth : ℕ) (f : Bool) (before : List ℕ) (clear : IsClear f bef
 
   -- a gap and a game that go on from a front of the text
   goes_on_there : (text : List ℕ) → IsLongestGap f before [] text → (c : ℕ) (front rest more : List ℕ) (gap parts : List Part)
-      → text ≡ c ∷ (front ++ rest) → c ∷ (front ++ more) ≡ spelled gap ++ spelled parts → IsGap f before gap (spelled parts)
+      → IsTrue (list_all is_byte more) → text ≡ c ∷ (front ++ rest) → c ∷ (front ++ more) ≡ spelled gap ++ spelled parts → IsGap f before gap (spelled parts)
       → IsGame max_depth f (before ++ spelled gap) parts [] → IsGameFront max_depth false [] (c ∷ front)
-  goes_on_there text l c front rest more [] parts e is is_gap game = record {
+  goes_on_there text l c front rest more [] parts bytes e is is_gap game = record {
     more = more;
+    bytes = bytes;
     gap = [];
     parts = parts;
     parted = is;
     is_gap = record { stand = tt; only = refl };
     is_game = game_there max_depth f before parts [] clear (rw append-nil at game);
   }
-  goes_on_there text l c front rest more (q ∷ gap) parts e is is_gap game =
+  goes_on_there text l c front rest more (q ∷ gap) parts bytes e is is_gap game =
       let only = and_parts (is_gap_part q) (list_all is_gap_part gap) is_gap.only in
       let after = spelled gap ++ spelled parts in
       let some = part_has_byte (standing_of f before) q after is_gap.stand.0 in record {
         more = more;
+        bytes = bytes;
         gap = q ∷ gap;
         parts = parts;
         parted = is;
@@ -76,29 +79,32 @@ module _ (max_depth : ℕ) (f : Bool) (before : List ℕ) (clear : IsClear f bef
       → IsGameFront max_depth f before front → IsGameFront max_depth false [] front
   front_at_mark text [] rest l e h = record {
     more = spelled h.parts;
+    bytes = bytes_behind (spelled h.gap) (spelled h.parts) h.more h.parted h.bytes;
     gap = [];
     parts = h.parts;
     parted = refl;
     is_gap = record { stand = tt; only = refl };
     is_game = game_there max_depth f (before ++ spelled h.gap) h.parts [] (clear_longer f before (spelled h.gap) clear) h.is_game;
   }
-  front_at_mark text (c ∷ front) rest l e h = goes_on_there text l c front rest h.more h.gap h.parts e h.parted h.is_gap h.is_game
+  front_at_mark text (c ∷ front) rest l e h = goes_on_there text l c front rest h.more h.gap h.parts h.bytes e h.parted h.is_gap h.is_game
 
   -- and the other way round
-  goes_on_back : (front more : List ℕ) (gap parts : List Part) → front ++ more ≡ spelled gap ++ spelled parts
+  goes_on_back : (front more : List ℕ) (gap parts : List Part) → IsTrue (list_all is_byte more) → front ++ more ≡ spelled gap ++ spelled parts
       → IsGap false [] gap (spelled parts) → IsGame max_depth false (spelled gap) parts [] → IsGameFront max_depth f before front
-  goes_on_back front more [] parts is is_gap game = record {
+  goes_on_back front more [] parts bytes is is_gap game = record {
     more = more;
+    bytes = bytes;
     gap = [];
     parts = parts;
     parted = is;
     is_gap = record { stand = tt; only = refl };
     is_game = rw append-nil (game_back max_depth f before parts [] clear game);
   }
-  goes_on_back front more (q ∷ gap) parts is is_gap game =
+  goes_on_back front more (q ∷ gap) parts bytes is is_gap game =
       let after = spelled gap ++ spelled parts in
       let some = part_has_byte (standing_of false []) q after is_gap.stand.0 in record {
         more = more;
+        bytes = bytes;
         gap = q ∷ gap;
         parts = parts;
         parted = is;
@@ -118,7 +124,7 @@ module _ (max_depth : ℕ) (f : Bool) (before : List ℕ) (clear : IsClear f bef
     within = h.within;
     agrees = front_at_mark text (take n text) (drop n text) l (sym (take-append-drop n text)) h.agrees;
     furthest = λ other low front.
-        h.furthest other low (goes_on_back (take other text) front.more front.gap front.parts front.parted front.is_gap front.is_game);
+        h.furthest other low (goes_on_back (take other text) front.more front.gap front.parts front.bytes front.parted front.is_gap front.is_game);
   }
 
 -- ---- in a block

@@ -1,6 +1,10 @@
 -- Classes of bytes, and what a longest run is. A byte is a number below 256; letters and digits are those of ASCII.
 use Rattle.std.specs.Prelude.{ℕ, Bool, true, false, not, ◌&&◌, ◌||◌, ◌==◌, ◌-◌, nat_le, List, [], ◌∷◌, length, slice_index}
 
+-- the number is a byte
+abbrev pub is_byte : ℕ → Bool
+is_byte b = nat_le b 255
+
 -- white space: tab, line feed, vertical tab, form feed, carriage return and space
 abbrev pub is_white : ℕ → Bool
 is_white b = (nat_le 9 b && nat_le b 13) || b == 32

@@ -2,10 +2,10 @@
 use Rattle.std.proofs.Common.{◌++◌, take, drop, sym, ap, ◌∙◌, subst}
 use Rattle.std.proofs.lemmas.List.{take-append-drop}
 use Rattle.pgn_text.specs.Stops.{IsGameFront}
-use Rattle.pgn_text.proofs.EachStops.{stop_exists}
+use Rattle.pgn_text.proofs.EachStops.{stop_exists, front_of_front}
 use Rattle.pgn_text.proofs.GameFronts.{stops_at_game}
 use Rattle.pgn_text.proofs.Halfway.{game_reads}
-use Rattle.pgn_text.proofs.Stopping.{front_of_front, one_stop}
+use Rattle.pgn_text.proofs.Stopping.{one_stop}
 use Rattle.pgn_text.proofs.StopsThere.{stops_alone}
 use Rattle.pgn_text.proofs.laws.one_stop.Goals as goal
 
