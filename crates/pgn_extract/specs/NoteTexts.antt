@@ -2,7 +2,7 @@
 use Rattle.std.specs.Prelude.{◌≡◌, ℕ, ◌+◌, ◌/◌, ◌%◌, ◌<◌, ◌==◌, ◌&&◌, nat_le, nat_lt, Bool, List, [], ◌∷◌, ◌++◌, length, take, drop, fold, count_by, slice_index, Option, Some, None, codes, decimal, bytes_eq, if◌then◌else◌}
 use Rattle.pgn_text.specs.Limits.{depth_limit}
 use Rattle.pgn_text.specs.StopPlaces.{StandsWithin, tag_name_of}
-use Rattle.pgn_text.specs.Stops.{StopsAt}
+use Rattle.pgn_text.specs.Stops.{StopsBlockAt}
 use Rattle.pgn_text.specs.declared.agreement.Within.{Within}
 use Rattle.pgn_text.specs.declared.agreement.Within.TheVariants.{Comment, TagName, TagValue, Tags, Variation, MainLine, Game}
 use Rattle.pgn_extract.specs.Notes.{indented}
@@ -75,7 +75,7 @@ hints offset block =
 pub record IsStopNote (origin : Origin) (block : List ℕ) (begin : ℕ) (note : List ℕ) : Type 0 where
   pub place : ℕ
   pub within : Within
-  pub stops : (agreeing : ℕ) × (place ≡ begin + agreeing) × StopsAt depth_limit (origin.offset == 0) (take begin block) (drop begin block) agreeing
+  pub stops : StopsBlockAt depth_limit (origin.offset == 0) block begin place
   pub stands : StandsWithin (origin.offset == 0) block begin place within
   pub says : note ≡ indented (stop_line origin block place within ∷ hints origin.offset block)
 

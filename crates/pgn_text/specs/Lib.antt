@@ -5,12 +5,12 @@ pub mod Strings
 pub mod Parts
 pub mod Games
 pub mod Gaps
-pub mod Stops
 pub mod Pieces
 pub mod Blocks
 pub mod Complete
 pub mod Marks
 pub mod Laws
+pub mod Stops
 pub mod StopLaws
 pub mod Tallies
 pub mod Windows

@@ -1,13 +1,13 @@
 //! The place where the bytes of a block agree with no game any more.
 
-ghost use Rattle.std.specs.Prelude.{◌≡◌, ◌+◌, ◌<◌, ◌≤◌, ◌↔◌, ℕ, length, take, drop, true, IsTrue};
+ghost use Rattle.std.specs.Prelude.{◌≡◌, ◌+◌, ◌<◌, ◌≤◌, ◌↔◌, length, take, drop, true, IsTrue};
 ghost use Rattle.pgn_text.specs.Agreement.{FrontWithin, IsReached};
 ghost use Rattle.pgn_text.specs.Bytes.{is_check_mark};
 ghost use Rattle.pgn_text.specs.Limits.{depth_limit};
 ghost use Rattle.pgn_text.specs.PartFronts.{Longest, IsPartFront, IsTagFront, IsWordFront, NoneFollows, front_length, is_glyph_front, next_in, no_byte};
 ghost use Rattle.pgn_text.specs.Parts.{standing_of};
 ghost use Rattle.pgn_text.specs.StopPlaces.{StandsWithin, tag_name_of};
-ghost use Rattle.pgn_text.specs.Stops.{StopsAt};
+ghost use Rattle.pgn_text.specs.Stops.{StopsBlockAt};
 ghost use Rattle.pgn_text.specs.Tokens.{state_of};
 ghost use Rattle.pgn_text.specs.declared.agreement.InTag.TheVariants.{BeforeName};
 
@@ -253,7 +253,7 @@ pub struct Stop {
 /// it stands in.
 pub fn stopped_within(block: &[u8], begin: usize, file_start: bool) -> Stop
     requires { begin ≤ length block.now }
-    ensures place { (n : ℕ) × (result.place ≡ begin + n) × StopsAt depth_limit file_start (take begin block.now) (drop begin block.now) n }
+    ensures place { StopsBlockAt depth_limit file_start block.now begin result.place }
     ensures within { StandsWithin file_start block.now begin result.place result.within }
 {
     match walk(block, begin, file_start) {
@@ -274,7 +274,7 @@ pub fn stopped_within(block: &[u8], begin: usize, file_start: bool) -> Stop
 /// The place of the block up to which its bytes from `begin` on are the front of a gap and a game; no more of them are.
 pub fn stopped(block: &[u8], begin: usize, file_start: bool) -> usize
     requires { begin ≤ length block.now }
-    ensures { (n : ℕ) × (result ≡ begin + n) × StopsAt depth_limit file_start (take begin block.now) (drop begin block.now) n }
+    ensures { StopsBlockAt depth_limit file_start block.now begin result }
 {
     stopped_within(block, begin, file_start).place
 }
