@@ -2,9 +2,9 @@
 use Rattle.std.proofs.Common.{◌≡◌, zero, suc, List, [], ◌∷◌, refl, sym, ap, subst, arith, inl, inr, ◌⊎◌}
 use Rattle.std.specs.List.{Contains}
 use Rattle.std.proofs.lemmas.List.Elements.{Contains-append_right}
-use Rattle.pgn_extract.specs.Laws.{Ascend}
-use Rattle.pgn_extract.specs.Listing.{Entry, AreChosen}
-use Rattle.pgn_extract.specs.Listing.AreChosen.{none, keep, leave}
+use Rattle.pgn_extract.specs.Listing.{Entry, Ascend}
+use Rattle.pgn_extract.specs.GameReports.{AreChosen}
+use Rattle.pgn_extract.specs.GameReports.AreChosen.{none, keep, leave}
 
 none_in : (entry : Entry) → Contains [] entry → ⊥
 none_in entry (k, less, is) = omega arith

@@ -8,7 +8,8 @@ use Rattle.pgn_game.specs.declared.replayer.Lines.{Lines}
 use Rattle.pgn_criteria.specs.declared.condition.Condition.{Condition}
 use Rattle.pgn_criteria.proofs.MeetSettled.{each_position_meets}
 use Rattle.pgn_extract.specs.Aims.{Aim, IsMet}
-use Rattle.pgn_extract.specs.Listing.{IsReplayOf, tags_in}
+use Rattle.pgn_extract.specs.Listing.{tags_in}
+use Rattle.pgn_extract.specs.GameReports.{IsReplayOf}
 
 -- the position is decided
 abbrev pub IsDecidedAt : Option (List (List (Condition (List ℕ)))) → List Part → Replay → ℕ → Type 0

@@ -7,8 +7,9 @@ use Rattle.pgn_criteria.specs.Meeting.{Tags}
 use Rattle.pgn_criteria.specs.declared.condition.Condition.{Condition}
 use Rattle.pgn_extract.specs.Aims.{Aim, IsMet, IsEntry}
 use Rattle.pgn_extract.specs.Blockwise.{IsPlainEntry}
-use Rattle.pgn_extract.specs.Listing.{Entry, entry_line, listing, entries_from, AreListed, AreChosen}
-use Rattle.pgn_extract.specs.Listing.AreChosen.{keep}
+use Rattle.pgn_extract.specs.Listing.{Entry, entry_line, listing}
+use Rattle.pgn_extract.specs.GameReports.{entries_from, AreListed, AreChosen}
+use Rattle.pgn_extract.specs.GameReports.AreChosen.{keep}
 use Rattle.pgn_extract.proofs.ModeOutputs.{listing-append}
 use Rattle.pgn_extract.proofs.Picks.{entry_at, leaves, leaves_all, dropped}
 

@@ -1,28 +1,36 @@
 -- The entries of pieces in a row: which they are, and their order.
-use Rattle.std.proofs.Common.{◌≡◌, ℕ, ◌+◌, ◌<◌, ◌≤◌, zero, suc, List, [], ◌∷◌, ◌++◌, length, Some, refl, sym, ap, ◌∙◌, subst, arith, inl, inr, ◌⊎◌}
+use Rattle.std.proofs.Common.{◌≡◌, ℕ, ◌+◌, ◌<◌, ◌≤◌, zero, suc, List, [], ◌∷◌, ◌++◌, length, Option, Some, refl, sym, ap, ◌∙◌, subst, arith, inl, inr, ◌⊎◌}
 use Rattle.std.specs.List.{Contains, slice_get}
 use Rattle.std.proofs.lemmas.Bool.{cases_lt}
 use Rattle.std.proofs.lemmas.List.Elements.{Contains-append_left, Contains-append_right, Contains-append_cases}
 use Rattle.chess.specs.Positions.{State}
 use Rattle.pgn_text.specs.Marks.{PieceKind, ReadableGame, UnreadableRest, TooLongBlock, MarkedPiece}
 use Rattle.pgn_text.specs.Parts.{Part}
-use Rattle.pgn_text.specs.Games.{items_of, first_tag}
-use Rattle.pgn_game.specs.Laws.{GameHasOneReplay, SoundGameHasNoFault}
-use Rattle.pgn_game.specs.Replays.{Replay}
+use Rattle.pgn_text.specs.Games.{Item, items_of, first_tag}
+use Rattle.pgn_game.proofs.OneReplay.{one_replay, no_fault}
+use Rattle.pgn_game.specs.Replays.{Replay, IsReplay, IsMainReplay}
 use Rattle.pgn_game.specs.declared.replayer.Lines.TheVariants.{Main}
 use Rattle.pgn_game.specs.Starts.{fen_tag}
 use Rattle.pgn_extract.specs.Aims.{Aim, IsEntry}
 use Rattle.pgn_extract.proofs.Chosen.{chosen_from, chosen_all, chosen_ascend}
 use Rattle.pgn_extract.proofs.Picks.{entry_at}
-use Rattle.pgn_extract.specs.Laws.{IsPlyOfGame, IsEarlier, Ascend}
-use Rattle.pgn_extract.specs.Listing.{Entry, entries_from, IsReplayOf, tags_in, AreGameEntries, sound, faulty, ArePieceEntries, AreEntries}
+use Rattle.pgn_extract.specs.Listing.{Entry, tags_in, IsPlyOfGame, IsEarlier, Ascend, AreEntries}
+use Rattle.pgn_extract.specs.GameReports.{entries_from, IsReplayOf}
+use Rattle.pgn_extract.specs.EntryRows.{AreGameEntries, sound, faulty, ArePieceEntries, AreEntryRows}
+
+-- a replay of the main line alone is said in two ways
+main_of : {fen : Option (List ℕ)} {items : List Item} {replay : Replay} → IsReplay Main fen items replay → IsMainReplay fen items replay
+main_of is = record { start = is.start; is_start = is.is_start; line = is.line; turns = is.turns }
+
+replay_of : {fen : Option (List ℕ)} {items : List Item} {replay : Replay} → IsMainReplay fen items replay → IsReplay Main fen items replay
+replay_of is = record { start = is.start; is_start = is.is_start; line = is.line; turns = is.turns }
 
 -- nothing is among none
-none_within : (entry : Entry) → Contains [] entry → ⊥
+pub none_within : (entry : Entry) → Contains [] entry → ⊥
 none_within entry (k, less, is) = omega arith
 
 -- the first of some, or one of the others
-first_or_other : (x : Entry) (xs : List Entry) (entry : Entry) → Contains (x ∷ xs) entry → (x ≡ entry) ⊎ Contains xs entry
+pub first_or_other : (x : Entry) (xs : List Entry) (entry : Entry) → Contains (x ∷ xs) entry → (x ≡ entry) ⊎ Contains xs entry
 first_or_other x xs entry (zero, less, is) = inl is
 first_or_other x xs entry (suc k, less, is) = inr (k, omega arith, is)
 
@@ -69,19 +77,19 @@ own_ply aim (UnreadableRest bytes) number offset own none entry has = absurd (no
 own_ply aim TooLongBlock number offset own none entry has = absurd (none_within entry (subst (λ e. Contains e entry) none has))
 
 -- and all of them, where it is sound
-own_has : (one_replay : GameHasOneReplay) (no_fault : SoundGameHasNoFault) (aim : Aim) (number offset : ℕ) (parts : List Part) (own : List Entry) → AreGameEntries aim number offset parts own
+own_has : (aim : Aim) (number offset : ℕ) (parts : List Part) (own : List Entry) → AreGameEntries aim number offset parts own
     → (replay : Replay) → IsReplayOf Main parts replay → (ply : ℕ) → ply < length replay.positions → IsEntry aim (tags_in parts) replay ply → Contains own (entry_at number offset ply)
-own_has one_replay no_fault aim number offset parts own (sound first is these) replay also ply less listed =
+own_has aim number offset parts own (sound first is these) replay also ply less listed =
     let same : first ≡ replay = one_replay Main (first_tag fen_tag parts) (items_of parts) first replay is also in
     let here : ply < length first.positions = subst (λ (r : Replay). ply < length r.positions) (sym same) less in
     let also_listed : IsEntry aim (tags_in parts) first ply = subst (λ (r : Replay). IsEntry aim (tags_in parts) r ply) (sym same) listed in
     chosen_all (λ e. IsEntry aim (tags_in parts) first e.ply) (entries_from number offset 0 first.positions) own these (entry_at number offset ply)
     (has_ply number offset 0 first.positions ply (omega arith) (omega arith)) also_listed
-own_has one_replay no_fault aim number offset parts own (faulty fault is none) replay also ply less listed =
+own_has aim number offset parts own (faulty fault is none) replay also ply less listed =
     absurd (no_fault Main (first_tag fen_tag parts) (items_of parts) fault (replay, also) is)
 
 -- each entry is a ply of a sound game
-pub to_ply : (aim : Aim) (number : ℕ) (pieces : List MarkedPiece) (entries : List Entry) → AreEntries aim number pieces entries → (entry : Entry) → Contains entries entry
+pub to_ply : (aim : Aim) (number : ℕ) (pieces : List MarkedPiece) (entries : List Entry) → AreEntryRows aim number pieces entries → (entry : Entry) → Contains entries entry
     → IsPlyOfGame aim number pieces entry
 to_ply aim number [] entries none entry has = absurd (none_within entry (subst (λ e. Contains e entry) none has))
 to_ply aim number (piece ∷ more) entries (own, rest, parted, here, others) entry has =
@@ -96,7 +104,7 @@ to_ply aim number (piece ∷ more) entries (own, rest, parted, here, others) ent
             replay = of.1;
             game = ap (λ (p : MarkedPiece). Some p) (ap (λ k. record { offset = piece.offset; kind = k }) of.2 ∙ ap (λ n. record { offset = n; kind = ReadableGame of.0 }) (sym offset));
             numbered = ap (λ (e : Entry). e.number) place.is ∙ omega arith;
-            is_replay = of.3;
+            is_replay = main_of of.3;
             within = (let h = place.high in omega arith);
             listed = of.5;
           }
@@ -114,25 +122,24 @@ to_ply aim number (piece ∷ more) entries (own, rest, parted, here, others) ent
           }
     ]
 
-module _ (one_replay : GameHasOneReplay) (no_fault : SoundGameHasNoFault) where
-  -- and each of these is an entry
-  pub from_ply : (aim : Aim) (number : ℕ) (pieces : List MarkedPiece) (entries : List Entry) → AreEntries aim number pieces entries → (entry : Entry) → IsPlyOfGame aim number pieces entry
-      → Contains entries entry
-  from_ply aim number pieces entries are entry of = by_place number pieces entries are of.place of.game of.numbered
-    where
-      by_place : (number : ℕ) (pieces : List MarkedPiece) (entries : List Entry) → AreEntries aim number pieces entries
-          → (place : ℕ) → slice_get pieces place ≡ Some (record { offset = entry.offset; kind = ReadableGame of.parts }) → entry.number ≡ number + place → Contains entries entry
-      by_place number [] entries are place none numbered = absurd (cc)
-      by_place number (piece ∷ more) entries (own, rest, parted, here, others) zero game numbered =
-          let is : piece ≡ record { offset = entry.offset; kind = ReadableGame of.parts } = cc in
-          let same : number ≡ entry.number = omega arith in
-          let has = own_has one_replay no_fault aim number entry.offset of.parts own (subst (λ (p : MarkedPiece). ArePieceEntries aim p.kind number p.offset own) is here)
-          of.replay of.is_replay entry.ply of.within of.listed in
-          subst (λ e. Contains e entry) (sym parted)
-          (Contains-append_left own rest entry (subst (λ n. Contains own (entry_at n entry.offset entry.ply)) same has))
-      by_place number (piece ∷ more) entries (own, rest, parted, here, others) (suc place) game numbered =
-          subst (λ e. Contains e entry) (sym parted)
-          (Contains-append_right own rest entry (by_place (number + 1) more rest others place game (omega arith)))
+-- and each of these is an entry
+pub from_ply : (aim : Aim) (number : ℕ) (pieces : List MarkedPiece) (entries : List Entry) → AreEntryRows aim number pieces entries → (entry : Entry) → IsPlyOfGame aim number pieces entry
+    → Contains entries entry
+from_ply aim number pieces entries are entry of = by_place number pieces entries are of.place of.game of.numbered
+  where
+    by_place : (number : ℕ) (pieces : List MarkedPiece) (entries : List Entry) → AreEntryRows aim number pieces entries
+        → (place : ℕ) → slice_get pieces place ≡ Some (record { offset = entry.offset; kind = ReadableGame of.parts }) → entry.number ≡ number + place → Contains entries entry
+    by_place number [] entries are place none numbered = absurd (cc)
+    by_place number (piece ∷ more) entries (own, rest, parted, here, others) zero game numbered =
+        let is : piece ≡ record { offset = entry.offset; kind = ReadableGame of.parts } = cc in
+        let same : number ≡ entry.number = omega arith in
+        let has = own_has aim number entry.offset of.parts own (subst (λ (p : MarkedPiece). ArePieceEntries aim p.kind number p.offset own) is here)
+        of.replay (replay_of of.is_replay) entry.ply of.within of.listed in
+        subst (λ e. Contains e entry) (sym parted)
+        (Contains-append_left own rest entry (subst (λ n. Contains own (entry_at n entry.offset entry.ply)) same has))
+    by_place number (piece ∷ more) entries (own, rest, parted, here, others) (suc place) game numbered =
+        subst (λ e. Contains e entry) (sym parted)
+        (Contains-append_right own rest entry (by_place (number + 1) more rest others place game (omega arith)))
 
 -- positions in a row have their entries in order
 ascend_positions : (number offset ply : ℕ) (positions : List State) → Ascend (entries_from number offset ply positions)
@@ -164,7 +171,7 @@ ascend_own aim (UnreadableRest bytes) number offset own none = subst Ascend (sym
 ascend_own aim TooLongBlock number offset own none = subst Ascend (sym none) tt
 
 -- the entries of pieces are in order
-pub entries_ascend : (aim : Aim) (number : ℕ) (pieces : List MarkedPiece) (entries : List Entry) → AreEntries aim number pieces entries → Ascend entries
+pub entries_ascend : (aim : Aim) (number : ℕ) (pieces : List MarkedPiece) (entries : List Entry) → AreEntryRows aim number pieces entries → Ascend entries
 entries_ascend aim number [] entries none = subst Ascend (sym none) tt
 entries_ascend aim number (piece ∷ more) entries (own, rest, parted, here, others) =
     subst Ascend (sym parted)
@@ -175,3 +182,10 @@ entries_ascend aim number (piece ∷ more) entries (own, rest, parted, here, oth
     let low : x.number ≡ number = ap (λ (e : Entry). e.number) first.4.is in
     let high = second.numbered in
     inl (omega arith)))
+
+-- the rows of entries are all of them
+pub are_entries : (aim : Aim) (number : ℕ) (pieces : List MarkedPiece) (entries : List Entry) → AreEntryRows aim number pieces entries → AreEntries aim number pieces entries
+are_entries aim number pieces entries rows = record {
+  exact = λ entry. (λ has. to_ply aim number pieces entries rows entry has, λ of. from_ply aim number pieces entries rows entry of);
+  ascend = entries_ascend aim number pieces entries rows;
+}

@@ -12,7 +12,7 @@ use Rattle.pgn_game.proofs.OneExport.{one_export}
 use Rattle.pgn_game.proofs.SomeExport.{some_export}
 use Rattle.pgn_game.specs.declared.style.Style.{Style}
 use Rattle.pgn_extract.specs.Exports.{lines_with, IsExportOf}
-use Rattle.pgn_extract.specs.Listing.{IsReplayOf}
+use Rattle.pgn_extract.specs.GameReports.{IsReplayOf}
 
 -- the game of some parts has one export in a style
 abbrev pub PartsHaveOneExport : Type 0

@@ -13,6 +13,7 @@ pub mod Indexed
 pub mod JoinedParts
 pub mod Listed
 pub mod OneExports
+pub mod OneListing
 pub mod OneReport
 pub mod OneVerdict
 pub mod Picks
@@ -28,3 +29,4 @@ pub mod Writing
 pub mod NextLine
 pub mod NoteLines
 pub mod EachPly
+pub mod RunEnds

@@ -1,12 +1,12 @@
 -- What is reported to the output of pieces in a row is their index, the listing of their entries, or the exports of their games.
-use Rattle.std.proofs.Common.{◌≡◌, ℕ, ◌+◌, List, [], ◌∷◌, ◌++◌, Option, refl, sym, ap, ◌∙◌, subst, append_assoc}
-use Rattle.std.specs.Io.KnownBytes.{Appends}
+use Rattle.std.proofs.Common.{◌≡◌, ℕ, ◌+◌, List, [], ◌∷◌, ◌++◌, refl, sym, ap, ◌∙◌, subst, append_assoc}
 use Rattle.pgn_text.specs.Marks.{PieceKind, ReadableGame, UnreadableRest, TooLongBlock, MarkedPiece}
 use Rattle.pgn_text.specs.Parts.{Part}
 use Rattle.pgn_extract.specs.Index.{index, index_line}
-use Rattle.pgn_extract.specs.Listing.{Entry, entry_line, listing, AreGameEntries, sound, faulty, ArePieceEntries, AreEntries}
+use Rattle.pgn_extract.specs.Listing.{Entry, entry_line, listing}
+use Rattle.pgn_extract.specs.EntryRows.{AreGameEntries, sound, faulty, ArePieceEntries, AreEntryRows}
 use Rattle.pgn_extract.specs.Exports.{IsGameExport, sound as exported, faulty as unexported, IsPieceExport, AreExports}
-use Rattle.pgn_extract.specs.Outcomes.{Ends, Indexes, Lists, Exports}
+use Rattle.pgn_extract.specs.Runs.{Job, Io, Adds, Completes, Indexes, Exports}
 use Rattle.pgn_extract.specs.Verdicts.{Verdict, SoundGame, FaultyGame, output_of, output_text, IsListed, IsExported, IsVerdictIn, IsPieceVerdict, AreVerdicts}
 use Rattle.pgn_extract.specs.declared.outcome.Summary.{Summary}
 use Rattle.pgn_extract.specs.Aims.{Aim}
@@ -31,8 +31,8 @@ of_piece (UnreadableRest bytes) aim lists number offset verdict (note, noted, na
 of_piece TooLongBlock aim lists number offset verdict (note, noted, is) = ([], refl, ap output_of is)
 
 -- the entries of pieces in a row
-of_pieces : (aim : Aim) → aim.mode ≡ modes.List → (number : ℕ) (pieces : List MarkedPiece) (verdicts : List Verdict) → AreVerdicts aim number pieces verdicts
-    → (entries : List Entry) × AreEntries aim number pieces entries × (output_text verdicts ≡ listing entries)
+pub of_pieces : (aim : Aim) → aim.mode ≡ modes.List → (number : ℕ) (pieces : List MarkedPiece) (verdicts : List Verdict) → AreVerdicts aim number pieces verdicts
+    → (entries : List Entry) × AreEntryRows aim number pieces entries × (output_text verdicts ≡ listing entries)
 of_pieces aim lists number [] verdicts none = ([], refl, ap output_text none)
 of_pieces aim lists number (piece ∷ more) verdicts (verdict, rest, parted, is, others) =
     let own = of_piece piece.kind aim lists number piece.offset verdict is in
@@ -82,34 +82,21 @@ indexed_pieces aim indexes number (piece ∷ more) verdicts (verdict, rest, part
     ap output_text parted ∙ ap (λ t. t ++ output_text rest) (indexed_piece piece.kind aim indexes number piece.offset verdict is)
     ∙ ap (λ t. index_line number piece ++ t) (indexed_pieces aim indexes (number + 1) more rest others)
 
-module _ (aim : Aim) (limit max_depth number offset : ℕ) (whole : List ℕ) (out out' err err' : Option (List ℕ)) (summary : Summary)
-    (e : Ends aim limit max_depth number offset whole out out' err err' summary) where
+module _ (job : Job) (io : Io) (whole : List ℕ) (summary : Summary) (e : Completes job io whole summary) where
   -- a run for the index wrote it
-  pub indexes_of : aim.mode ≡ modes.Index → Indexes limit max_depth number offset whole out out'
+  pub indexes_of : job.aim.mode ≡ modes.Index → Indexes job io whole
   indexes_of is = record {
     pieces = e.pieces;
     each = e.each;
-    indexed = subst (Appends out out') (indexed_pieces aim is number e.pieces e.verdicts e.written.each) e.written.output;
+    indexed = subst (Adds io.out) (indexed_pieces job.aim is job.number e.pieces e.verdicts e.written.each) e.written.output;
   }
 
   -- a run for the export wrote it
-  pub exports_of : aim.mode ≡ modes.Export → Exports aim limit max_depth number offset whole out out'
+  pub exports_of : job.aim.mode ≡ modes.Export → Exports job io whole
   exports_of is = record {
     pieces = e.pieces;
     each = e.each;
     text = output_text e.verdicts;
-    are = exports_of_pieces aim is number e.pieces e.verdicts e.written.each;
+    are = exports_of_pieces job.aim is job.number e.pieces e.verdicts e.written.each;
     exported = e.written.output;
   }
-
-  -- a run for the listing wrote it
-  pub lists_of : aim.mode ≡ modes.List → Lists aim limit max_depth number offset whole out out'
-  lists_of is =
-      let of = of_pieces aim is number e.pieces e.verdicts e.written.each in
-      record {
-        pieces = e.pieces;
-        each = e.each;
-        entries = of.0;
-        are = of.1;
-        listed = subst (Appends out out') of.2 e.written.output;
-      }

@@ -10,7 +10,8 @@ use Rattle.pgn_game.specs.declared.replayer.Lines.TheVariants.{Main}
 use Rattle.pgn_game.specs.Starts.{fen_tag}
 use Rattle.pgn_extract.specs.Exports.{written_lines, IsWritten, with_entry, without_entry}
 use Rattle.pgn_extract.specs.Index.{fault_text}
-use Rattle.pgn_extract.specs.Listing.{listing, entries_from, AreListed, tags_in, cause_text}
+use Rattle.pgn_extract.specs.Listing.{listing, tags_in}
+use Rattle.pgn_extract.specs.GameReports.{entries_from, AreListed, cause_text}
 use Rattle.pgn_extract.specs.Notes.{IsNote}
 use Rattle.pgn_extract.specs.Verdicts.{Verdict, SoundGame, FaultyGame, IsListed, IsExported, IsVerdictIn, IsReportedBy, IsPieceVerdict, AreVerdicts, without_note, IsUnreadableVerdict}
 use Rattle.pgn_extract.specs.Aims.{Aim, IsEntry}

@@ -8,8 +8,9 @@ use Rattle.pgn_game.specs.Replays.{Replay}
 use Rattle.pgn_criteria.specs.Meeting.{Tags, Meets, IsFirst}
 use Rattle.pgn_criteria.specs.declared.condition.Condition.{Condition}
 use Rattle.pgn_extract.specs.Aims.{Aim, IsMet, IsWanted, IsEntry}
-use Rattle.pgn_extract.specs.Listing.{Entry, entry_line, listing, entries_from, AreListed, AreChosen}
-use Rattle.pgn_extract.specs.Listing.AreChosen.{none, keep, leave}
+use Rattle.pgn_extract.specs.Listing.{Entry, entry_line, listing}
+use Rattle.pgn_extract.specs.GameReports.{entries_from, AreListed, AreChosen}
+use Rattle.pgn_extract.specs.GameReports.AreChosen.{none, keep, leave}
 use Rattle.pgn_extract.proofs.ModeOutputs.{listing-append}
 
 -- the entry of a game at a ply

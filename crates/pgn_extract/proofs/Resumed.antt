@@ -4,8 +4,8 @@ use Rattle.std.specs.Prelude.{nat_le, if◌then◌else◌, Some, None, Ok, Err, 
 use Rattle.std.proofs.lemmas.Bool.Decides.{nat_tests}
 use Rattle.pgn_text.specs.Marks.{MarkedPiece, AreMarkedPieces}
 use Rattle.pgn_text.proofs.ResumedText.{resumed_pieces}
-use Rattle.pgn_extract.specs.Outcomes.{Ends}
-use Rattle.pgn_extract.specs.Resuming.{verdicts_at_least, Resumes}
+use Rattle.pgn_extract.specs.Runs.{Job, Io, Completes, Resumes}
+use Rattle.pgn_extract.specs.Resuming.{IsMarkAmong, WritesRest, verdicts_at_least}
 use Rattle.pgn_extract.specs.Verdicts.{Verdict, AreVerdicts, IsSameReport}
 use Rattle.pgn_extract.specs.declared.outcome.Summary.{Summary}
 use Rattle.pgn_extract.specs.Aims.{Aim}
@@ -38,21 +38,24 @@ at_least_from aim number (piece ∷ before) behind verdicts (verdict, rest, part
     )
 
 -- what a run reported of the rest is what the whole has from the mark on
-pub resumes_of : (aim : Aim) (limit max_depth number offset : ℕ) (whole : List ℕ) (out out' err err' : Option (List ℕ)) (summary : Summary)
-    → Ends aim limit max_depth number offset whole out out' err err' summary → Resumes aim limit max_depth number offset whole out out' err err'
-resumes_of aim limit max_depth number offset whole out out' err err' summary ends pieces all mark =
-    let rest = mark.piece ∷ mark.behind in
-    let same : ends.pieces ≡ rest = resumed_pieces limit max_depth whole mark.before mark.piece mark.behind ends.pieces
-    (subst (AreMarkedPieces limit max_depth 0 whole) mark.parted all)
-    (subst (λ o. AreMarkedPieces limit max_depth o (drop o whole) ends.pieces) mark.placed ends.each) in
-    let own : AreVerdicts aim number rest ends.verdicts = subst (λ p. AreVerdicts aim number p ends.verdicts) same ends.written.each in record {
-      verdicts = ends.verdicts;
-      written = record { each = own; output = ends.written.output; faults = ends.written.faults };
-      same = λ verdicts verdict.
-          let from = at_least_from aim 1 mark.before rest verdicts (subst (λ p. AreVerdicts aim 1 p verdicts) mark.parted verdict) in
-          subst (IsSameReport aim ends.verdicts) (sym from.2 ∙ ap (λ n. verdicts_at_least n 1 verdicts) (sym mark.numbered))
-          (same_report aim (length mark.before + 1) rest ends.verdicts from.0 (subst (λ n. AreVerdicts aim n rest ends.verdicts) mark.numbered own) from.1);
-    }
+pub resumes_of : (job : Job) (io : Io) (whole : List ℕ) (summary : Summary) → Completes job io whole summary → Resumes job io whole
+resumes_of job io whole summary ends = record { rest = rest_of }
+  where
+    rest_of : (pieces : List MarkedPiece) → AreMarkedPieces job.limit job.max_depth 0 whole pieces → (mark : IsMarkAmong job.number job.offset pieces)
+        → WritesRest job.aim job.number pieces (mark.piece ∷ mark.behind) io.out.old.bytes io.out.new.bytes io.err.old.bytes io.err.new.bytes
+    rest_of pieces all mark =
+        let rest = mark.piece ∷ mark.behind in
+        let same : ends.pieces ≡ rest = resumed_pieces job.limit job.max_depth whole mark.before mark.piece mark.behind ends.pieces
+        (subst (AreMarkedPieces job.limit job.max_depth 0 whole) mark.parted all)
+        (subst (λ o. AreMarkedPieces job.limit job.max_depth o (drop o whole) ends.pieces) mark.placed ends.each) in
+        let own : AreVerdicts job.aim job.number rest ends.verdicts = subst (λ p. AreVerdicts job.aim job.number p ends.verdicts) same ends.written.each in record {
+          verdicts = ends.verdicts;
+          written = record { each = own; output = ends.written.output; faults = ends.written.faults };
+          same = λ verdicts verdict.
+              let from = at_least_from job.aim 1 mark.before rest verdicts (subst (λ p. AreVerdicts job.aim 1 p verdicts) mark.parted verdict) in
+              subst (IsSameReport job.aim ends.verdicts) (sym from.2 ∙ ap (λ n. verdicts_at_least n 1 verdicts) (sym mark.numbered))
+              (same_report job.aim (length mark.before + 1) rest ends.verdicts from.0 (subst (λ n. AreVerdicts job.aim n rest ends.verdicts) mark.numbered own) from.1);
+        }
 
 -- a fact of an answer and of known bytes gives one of the bytes alone
 pub on_ok_some : {A E : Type 0} (r : Result A E) (o : Option (List ℕ)) (P : A → List ℕ → Type 0) (Q : List ℕ → Type 0)

@@ -29,7 +29,8 @@ use Rattle.pgn_extract.specs.declared.outcome.RunError.TheVariants.{Read, Write,
 use Rattle.pgn_extract.specs.declared.outcome.Summary.{Summary}
 use Rattle.pgn_criteria.specs.Meeting.{Tags}
 use Rattle.pgn_extract.specs.Aims.{Aim}
-use Rattle.pgn_extract.specs.Listing.{Entry, AreListed, listing}
+use Rattle.pgn_extract.specs.Listing.{Entry, listing}
+use Rattle.pgn_extract.specs.GameReports.{AreListed}
 
 -- a body that is shown has no more bytes than the limit
 abbrev pub IsShown : ℕ → Body → Type 0

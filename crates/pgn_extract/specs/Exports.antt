@@ -11,7 +11,8 @@ use Rattle.pgn_game.specs.declared.replayer.Lines.TheVariants.{Main, All}
 use Rattle.pgn_game.specs.declared.style.Style.{Style}
 use Rattle.pgn_criteria.specs.Meeting.{Tags}
 use Rattle.pgn_extract.specs.Aims.{Aim, IsEntry}
-use Rattle.pgn_extract.specs.Listing.{tags_in, IsReplayOf, IsFaultOf}
+use Rattle.pgn_extract.specs.Listing.{tags_in}
+use Rattle.pgn_extract.specs.GameReports.{IsReplayOf, IsFaultOf}
 
 -- the lines of a game that must be sound: all that are written
 abbrev pub lines_with : Bool → Lines

@@ -1,47 +1,18 @@
 -- What holds of the entries of every text, of its marks, and of what is reported of it.
-use Rattle.std.specs.Prelude.{◌≡◌, false, ◌↔◌, ◌⊎◌, ℕ, ◌+◌, ◌-◌, ◌<◌, List, [], ◌∷◌, ◌++◌, length, take, drop, count_by, Some}
-use Rattle.std.specs.List.{Contains, slice_get}
-use Rattle.pgn_text.specs.Marks.{ReadableGame, MarkedPiece, AreMarkedPieces}
-use Rattle.pgn_text.specs.Parts.{Part}
-use Rattle.pgn_game.specs.Replays.{Replay}
-use Rattle.pgn_game.specs.declared.replayer.Lines.TheVariants.{Main}
-use Rattle.pgn_extract.specs.Listing.{Entry, IsReplayOf, tags_in, AreEntries}
+use Rattle.std.specs.Prelude.{◌≡◌, false, ℕ, ◌+◌, ◌-◌, List, ◌∷◌, ◌++◌, length, take, drop, count_by}
+use Rattle.pgn_text.specs.Marks.{MarkedPiece, AreMarkedPieces}
+use Rattle.pgn_extract.specs.Listing.{Entry, AreEntries}
 use Rattle.pgn_extract.specs.Exports.{AreExports}
 use Rattle.pgn_extract.specs.Resuming.{IsMarkAmong}
 use Rattle.pgn_extract.specs.Verdicts.{Verdict, AreVerdicts, IsSameReport, output_text, fault_lines, is_faulty}
-use Rattle.pgn_extract.specs.Aims.{Aim, IsEntry}
+use Rattle.pgn_extract.specs.Aims.{Aim}
 use Rattle.pgn_extract.specs.declared.settings.Mode.TheVariants as modes
 
--- the entry names a sound game, by its place among the pieces and the offset of its first byte, and a ply of its main line that is listed
-pub record IsPlyOfGame (aim : Aim) (number : ℕ) (pieces : List MarkedPiece) (entry : Entry) : Type 0 where
-  pub place : ℕ
-  pub parts : List Part
-  pub replay : Replay
-  pub game : slice_get pieces place ≡ Some (record { offset = entry.offset; kind = ReadableGame parts })
-  pub numbered : entry.number ≡ number + place
-  pub is_replay : IsReplayOf Main parts replay
-  pub within : entry.ply < length replay.positions
-  pub listed : IsEntry aim (tags_in parts) replay entry.ply
-
--- the entries of pieces are exactly the plies of the sound games among them that are listed: within the bounds, at a position that meets the criteria,
--- and where only the first of each game is asked for, the first such
-abbrev pub EntriesAreExact : Type 0
-EntriesAreExact =
-    (aim : Aim) (number : ℕ) (pieces : List MarkedPiece) (entries : List Entry) → AreEntries aim number pieces entries
-    → (entry : Entry) → (Contains entries entry ↔ IsPlyOfGame aim number pieces entry)
-
--- the first entry is of an earlier game, or of the same and at a lower ply
-abbrev pub IsEarlier : Entry → Entry → Type 0
-IsEarlier first second = (first.number < second.number) ⊎ ((first.number ≡ second.number) × (first.ply < second.ply))
-
--- each entry is earlier than all behind it, so none is there twice
-abbrev pub Ascend : List Entry → Type 0
-Ascend [] = Unit {0}
-Ascend (entry ∷ more) = ((later : Entry) → Contains more later → IsEarlier entry later) × Ascend more
-
--- the entries of pieces stand in the order of their games and plies
-abbrev pub EntriesAscend : Type 0
-EntriesAscend = (aim : Aim) (number : ℕ) (pieces : List MarkedPiece) (entries : List Entry) → AreEntries aim number pieces entries → Ascend entries
+-- the pieces of each text have entries, which are one list
+abbrev pub PiecesHaveOneListing : Type 0
+PiecesHaveOneListing =
+    (aim : Aim) (limit max_depth number offset : ℕ) (text : List ℕ) (pieces : List MarkedPiece) → AreMarkedPieces limit max_depth offset text pieces
+    → (entries : List Entry) × AreEntries aim number pieces entries × ((others : List Entry) → AreEntries aim number pieces others → others ≡ entries)
 
 -- each piece of a text has a mark, which is one of them: its number, counted from 1, and its offset
 abbrev pub EachPieceHasAMark : Type 0

@@ -2,13 +2,17 @@
 pub mod Aims
 pub mod Index
 pub mod Listing
+pub mod GameReports
 pub mod Exports
 pub mod Notes
 pub mod Verdicts
 pub mod Outcomes
 pub mod Resuming
+pub mod Runs
 pub mod Laws
 -- Private words: what the parts of a run do. No public contract cites them.
+pub mod EntryRows
 pub mod Blockwise
+pub mod RunParts
 pub mod NoteTexts
 pub mod MoveNotes

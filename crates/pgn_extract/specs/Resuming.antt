@@ -1,6 +1,6 @@
 -- A run begun at a mark of an earlier run reports exactly the rest.
 use Rattle.std.specs.Prelude.{◌≡◌, ℕ, ◌+◌, nat_le, if◌then◌else◌, List, [], ◌∷◌, ◌++◌, length, Option}
-use Rattle.pgn_text.specs.Marks.{MarkedPiece, AreMarkedPieces}
+use Rattle.pgn_text.specs.Marks.{MarkedPiece}
 use Rattle.pgn_extract.specs.Outcomes.{Writes}
 use Rattle.pgn_extract.specs.Verdicts.{Verdict, AreVerdicts, IsSameReport}
 use Rattle.pgn_extract.specs.Aims.{Aim}
@@ -25,10 +25,3 @@ pub record WritesRest (aim : Aim) (number : ℕ) (pieces rest : List MarkedPiece
   pub verdicts : List Verdict
   pub written : Writes aim out out' err err' number rest verdicts
   pub same : (all : List Verdict) → AreVerdicts aim 1 pieces all → IsSameReport aim verdicts (verdicts_at_least number 1 all)
-
--- where the run began at a mark of the whole input, it wrote exactly what is reported of those pieces of the whole input whose number is
--- at least that of the mark
-abbrev pub Resumes : Aim → ℕ → ℕ → ℕ → ℕ → List ℕ → Option (List ℕ) → Option (List ℕ) → Option (List ℕ) → Option (List ℕ) → Type 0
-Resumes aim limit max_depth number offset whole out out' err err' =
-    (pieces : List MarkedPiece) → AreMarkedPieces limit max_depth 0 whole pieces → (mark : IsMarkAmong number offset pieces)
-    → WritesRest aim number pieces (mark.piece ∷ mark.behind) out out' err err'

@@ -6,7 +6,8 @@ use Rattle.pgn_game.specs.Faults.{Fault}
 use Rattle.pgn_game.specs.Replays.{Replay}
 use Rattle.pgn_game.specs.declared.replayer.Lines.TheVariants.{Main}
 use Rattle.pgn_extract.specs.Index.{fault_text, mark_line}
-use Rattle.pgn_extract.specs.Listing.{Entry, listing, AreListed, tags_in, IsReplayOf, IsFaultOf, cause_text}
+use Rattle.pgn_extract.specs.Listing.{Entry, listing, tags_in}
+use Rattle.pgn_extract.specs.GameReports.{AreListed, IsReplayOf, IsFaultOf, cause_text}
 use Rattle.pgn_extract.specs.Aims.{Aim}
 use Rattle.pgn_extract.specs.Exports.{written_lines, IsWritten}
 use Rattle.pgn_extract.specs.Notes.{IsNote, NamesStop}

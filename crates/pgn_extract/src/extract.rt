@@ -1,19 +1,18 @@
 //! The run over an input: block by block, each reported before the next is read.
-ghost use Rattle.std.specs.Prelude.{◌≡◌, ◌↔◌, ◌⊎◌, ℕ, ◌+◌, ◌^◌, ◌<◌, ◌≤◌, false, true, List, [], length, drop, IsErrOf, IfOk, IfErr, IfSome, OnOk, OnErr};
-ghost use Rattle.std.specs.Io.KnownBytes.{Appends, Keeps};
-ghost use Rattle.pgn_text.specs.Limits.{block_limit, depth_limit, largest_offset};
+ghost use Rattle.std.specs.Prelude.{◌≡◌, ◌⊎◌, ℕ, ◌^◌, ◌≤◌, false, true, List, IfOk, IfErr, OnOk, OnErr};
+ghost use Rattle.std.specs.Io.KnownBytes.{Keeps};
+ghost use Rattle.pgn_text.specs.Limits.{block_limit, largest_offset};
 ghost use Rattle.pgn_text.specs.Windows.{Shows};
-ghost use Rattle.pgn_extract.specs.Aims.{aim_of};
-ghost use Rattle.pgn_extract.specs.Blockwise.{IsShown, WritesBlock, BeginsBlock, EndsBlocks, BreaksOff};
-ghost use Rattle.pgn_extract.specs.Outcomes.{AppendsFront, Ends, Indexes, Lists, Exports, Stands};
-ghost use Rattle.pgn_extract.specs.Resuming.{Resumes};
+ghost use Rattle.pgn_extract.specs.Blockwise.{IsShown};
+ghost use Rattle.pgn_extract.specs.RunParts.{BeginsPieces, Broken, Finished, WriteFaultsAre, WritesPieces};
+ghost use Rattle.pgn_extract.specs.Runs.{Adds, AddsFront, FaultsAre, IsReady, IsRun, io_of, job_at, job_of, passage};
 
 use crate::notes::{first_line, line_behind};
 use crate::outcome::{RunError, Summary, of_read};
 use crate::put::{finish, put};
 use crate::report::{Report, report_block};
 use crate::settings::{Mode, Settings};
-use crate::skip::skip;
+use crate::skip::{drop_first, skip_first};
 use pgn_text::{Block, Blocks, Skip, Tally};
 use std::alloc::Global;
 use std::io::{Read, Write};
@@ -25,14 +24,12 @@ fn put_report<O: Write, E: Write>(
     report: &Report,
 ) -> Result<(), RunError>
     requires sound { (out.old.faulted ≡ false) × (err.old.faulted ≡ false) }
-    ensures ok { OnOk result (Appends (O.contents out.old.inner) (O.contents out.new.inner) report.now.output.items
-        × Appends (E.contents err.old.inner) (E.contents err.new.inner) report.now.faults.items) }
-    ensures err { OnErr result (AppendsFront (O.contents out.old.inner) (O.contents out.new.inner) report.now.output.items
-        × AppendsFront (E.contents err.old.inner) (E.contents err.new.inner) report.now.faults.items) }
+    ensures ok { OnOk result (Adds (passage O.contents out.old out.new) report.now.output.items
+        × Adds (passage E.contents err.old err.new) report.now.faults.items) }
+    ensures err { OnErr result (AddsFront (passage O.contents out.old out.new) report.now.output.items
+        × AddsFront (passage E.contents err.old err.new) report.now.faults.items) }
     ensures only { IfErr result (λ error. error ≡ RunError.Write) }
-    ensures fault { IsErrOf result RunError.Write
-        ↔ ((out.new.faulted ≡ true) ⊎ (err.new.faulted ≡ true)) }
-    ensures alone { (out.new.faulted ≡ true) × (err.new.faulted ≡ true) → ⊥ }
+    ensures faults { WriteFaultsAre result (passage O.contents out.old out.new) (passage E.contents err.old err.new) }
 {
     put(out, &report.output)?;
     put(err, &report.faults)
@@ -52,18 +49,12 @@ fn put_block<'a, O: Write, E: Write>(
     requires number { number ≤ 2 ^ 63 }
     requires offset { block.offset ≤ largest_offset }
     requires size { IsShown block_limit block.body }
-    ensures ok { IfOk result (λ summary. (bytes : List ℕ) → Shows block_limit block.entry.body bytes
-        → WritesBlock (aim_of settings.now) block_limit depth_limit number block.entry.offset bytes
-        (O.contents out.old.inner) (O.contents out.new.inner)
-        (E.contents err.old.inner) (E.contents err.new.inner) summary) }
-    ensures err { OnErr result ((bytes : List ℕ) → Shows block_limit block.entry.body bytes
-        → BeginsBlock (aim_of settings.now) block_limit depth_limit number block.entry.offset bytes
-        (O.contents out.old.inner) (O.contents out.new.inner)
-        (E.contents err.old.inner) (E.contents err.new.inner)) }
+    ensures done { IfOk result (λ summary. (bytes : List ℕ) → Shows block_limit block.entry.body bytes
+        → WritesPieces (job_at settings.now number block.entry.offset) (passage O.contents out.old out.new) (passage E.contents err.old err.new) bytes summary) }
+    ensures stopped { OnErr result ((bytes : List ℕ) → Shows block_limit block.entry.body bytes
+        → BeginsPieces (job_at settings.now number block.entry.offset) (passage O.contents out.old out.new) (passage E.contents err.old err.new) bytes) }
     ensures only { IfErr result (λ error. (error ≡ RunError.Write) ⊎ (error ≡ RunError.OutOfMemory)) }
-    ensures fault { IsErrOf result RunError.Write
-        ↔ ((out.new.faulted ≡ true) ⊎ (err.new.faulted ≡ true)) }
-    ensures alone { (out.new.faulted ≡ true) × (err.new.faulted ≡ true) → ⊥ }
+    ensures faults { WriteFaultsAre result (passage O.contents out.old out.new) (passage E.contents err.old err.new) }
 {
     match report_block(alloc, report, settings, number, block) {
         Ok(()) => {}
@@ -82,11 +73,9 @@ fn finish_both<O: Write, E: Write>(out: &mut Tally<O>, err: &mut Tally<E>) -> Re
     requires sound { (out.old.faulted ≡ false) × (err.old.faulted ≡ false) }
     ensures kept { Keeps (O.contents out.old.inner) (O.contents out.new.inner)
         × Keeps (E.contents err.old.inner) (E.contents err.new.inner) }
-    ensures ok { OnOk result ((out.new.flushed ≡ true) × (err.new.flushed ≡ true)) }
+    ensures flushed { OnOk result ((out.new.flushed ≡ true) × (err.new.flushed ≡ true)) }
     ensures only { IfErr result (λ error. error ≡ RunError.Write) }
-    ensures fault { IsErrOf result RunError.Write
-        ↔ ((out.new.faulted ≡ true) ⊎ (err.new.faulted ≡ true)) }
-    ensures alone { (out.new.faulted ≡ true) × (err.new.faulted ≡ true) → ⊥ }
+    ensures faults { WriteFaultsAre result (passage O.contents out.old out.new) (passage E.contents err.old err.new) }
 {
     finish(out)?;
     finish(err)
@@ -104,19 +93,9 @@ fn run_blocks<R: Read, O: Write, E: Write>(
         × (err.old.faulted ≡ false) }
     requires number { settings.now.number ≤ 2 ^ 62 }
     requires offset { settings.now.offset ≤ largest_offset }
-    ensures ok { IfOk result (EndsBlocks (aim_of settings.now) block_limit depth_limit settings.now.number settings.now.offset
-        (R.remaining input.old.inner) (R.remaining input.new.inner) input.old.moved input.new.moved
-        (O.contents out.old.inner) (O.contents out.new.inner)
-        (E.contents err.old.inner) (E.contents err.new.inner)) }
-    ensures flushed { OnOk result ((out.new.flushed ≡ true) × (err.new.flushed ≡ true)) }
-    ensures err { IfErr result (BreaksOff (aim_of settings.now) block_limit depth_limit settings.now.number settings.now.offset
-        (R.remaining input.old.inner) (R.remaining input.new.inner) input.old.moved input.new.moved
-        (O.contents out.old.inner) (O.contents out.new.inner)
-        (E.contents err.old.inner) (E.contents err.new.inner)) }
-    ensures read_fault { IsErrOf result RunError.Read ↔ (input.new.faulted ≡ true) }
-    ensures write_fault { IsErrOf result RunError.Write
-        ↔ ((out.new.faulted ≡ true) ⊎ (err.new.faulted ≡ true)) }
-    ensures alone { (out.new.faulted ≡ true) × (err.new.faulted ≡ true) → ⊥ }
+    ensures done { IfOk result (Finished (job_of settings.now) (io_of R.remaining O.contents E.contents input.old input.new out.old out.new err.old err.new)) }
+    ensures stopped { IfErr result (Broken (job_of settings.now) (io_of R.remaining O.contents E.contents input.old input.new out.old out.new err.old err.new)) }
+    ensures faults { FaultsAre result (io_of R.remaining O.contents E.contents input.old input.new out.old out.new err.old err.new) }
 {
     let mut blocks = Blocks::new(alloc, settings.offset);
     let mut report = Report::new(alloc, first_line(settings));
@@ -149,57 +128,37 @@ fn run_blocks<R: Read, O: Write, E: Write>(
 }
 
 /// Reads the input, and writes what the settings ask for to `out` and the lines of faulty games to
-/// `err`.
-pub fn run<R: Skip, O: Write, E: Write>(
+/// `err`. The input may be any reader; the bytes before the settings' offset are read and dropped.
+pub fn run<R: Read, O: Write, E: Write>(
     alloc: Global,
     input: &mut Tally<R>,
     out: &mut Tally<O>,
     err: &mut Tally<E>,
     settings: &Settings,
 ) -> Result<Summary, RunError>
-    requires sound { (input.old.faulted ≡ false) × (out.old.faulted ≡ false)
-        × (err.old.faulted ≡ false) }
-    requires fresh { input.old.moved ≡ 0 }
-    requires number { (1 ≤ settings.now.number) × (settings.now.number ≤ 2 ^ 62) }
-    requires offset { settings.now.offset ≤ largest_offset }
-
-    // At `Ok` the whole input, of at most 2^62 bytes, is reported, and both writers are flushed.
-    ensures ok { IfOk result (λ summary. IfSome (R.remaining input.old.inner) (λ whole.
-        Ends (aim_of settings.now) block_limit depth_limit settings.now.number settings.now.offset whole
-        (O.contents out.old.inner) (O.contents out.new.inner)
-        (E.contents err.old.inner) (E.contents err.new.inner) summary)) }
-    ensures flushed { OnOk result ((out.new.flushed ≡ true) × (err.new.flushed ≡ true)) }
-
-    // The output is then exactly the index, the listing, or the exports, of the pieces from the offset on.
-    ensures indexes { OnOk result (IfSome (R.remaining input.old.inner) (λ whole. settings.now.mode ≡ Mode.Index
-        → Indexes block_limit depth_limit settings.now.number settings.now.offset whole
-        (O.contents out.old.inner) (O.contents out.new.inner))) }
-    ensures lists { OnOk result (IfSome (R.remaining input.old.inner) (λ whole. settings.now.mode ≡ Mode.List
-        → Lists (aim_of settings.now) block_limit depth_limit settings.now.number settings.now.offset whole
-        (O.contents out.old.inner) (O.contents out.new.inner))) }
-
-    ensures exports { OnOk result (IfSome (R.remaining input.old.inner) (λ whole. settings.now.mode ≡ Mode.Export
-        → Exports (aim_of settings.now) block_limit depth_limit settings.now.number settings.now.offset whole
-        (O.contents out.old.inner) (O.contents out.new.inner))) }
-
-    // Begun at a mark of the whole input, the run reports exactly the rest of what a run over the whole reports.
-    ensures resumes { OnOk result (IfSome (R.remaining input.old.inner) (λ whole.
-        Resumes (aim_of settings.now) block_limit depth_limit settings.now.number settings.now.offset whole
-        (O.contents out.old.inner) (O.contents out.new.inner)
-        (E.contents err.old.inner) (E.contents err.new.inner))) }
-
-    // What stands after an error: a beginning of the whole report, or, where reading ended, the report of the complete blocks read.
-    // And when each comes: at most one of the three has failed then.
-    ensures err { IfErr result (λ error. IfSome (R.remaining input.old.inner) (λ whole.
-        Stands (aim_of settings.now) block_limit depth_limit settings.now.number settings.now.offset whole input.new.moved
-        (O.contents out.old.inner) (O.contents out.new.inner)
-        (E.contents err.old.inner) (E.contents err.new.inner) error)) }
-    ensures read_fault { IsErrOf result RunError.Read ↔ (input.new.faulted ≡ true) }
-    ensures write_fault { IsErrOf result RunError.Write
-        ↔ ((out.new.faulted ≡ true) ⊎ (err.new.faulted ≡ true)) }
-    ensures alone { (out.new.faulted ≡ true) × (err.new.faulted ≡ true) → ⊥ }
+    requires { IsReady (job_of settings.now) input.old out.old err.old }
+    ensures { IsRun (job_of settings.now)
+        (io_of R.remaining O.contents E.contents input.old input.new out.old out.new err.old err.new) result }
 {
-    match skip(input, settings.offset) {
+    match drop_first(input, settings.offset) {
+        Ok(()) => run_blocks(alloc, input, out, err, settings),
+        Err(error) => Err(error),
+    }
+}
+
+/// Does what `run` does, and passes over the bytes before the settings' offset where the reader can: a file is not read up to there.
+pub fn run_skipping<R: Skip, O: Write, E: Write>(
+    alloc: Global,
+    input: &mut Tally<R>,
+    out: &mut Tally<O>,
+    err: &mut Tally<E>,
+    settings: &Settings,
+) -> Result<Summary, RunError>
+    requires { IsReady (job_of settings.now) input.old out.old err.old }
+    ensures { IsRun (job_of settings.now)
+        (io_of R.remaining O.contents E.contents input.old input.new out.old out.new err.old err.new) result }
+{
+    match skip_first(input, settings.offset) {
         Ok(()) => run_blocks(alloc, input, out, err, settings),
         Err(error) => Err(error),
     }

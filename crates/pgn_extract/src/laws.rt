@@ -1,12 +1,11 @@
 //! What holds of every text, whatever lists or reports it. Each law is the contract of a function that does nothing.
 
-ghost use Rattle.pgn_extract.specs.Laws.{EntriesAreExact, EntriesAscend, EachPieceHasAMark, TextHasAReport, TextHasOneReport, ExportsAreWritten, TextHasOneExport, PartsJoin};
+ghost use Rattle.pgn_extract.specs.Laws.{PiecesHaveOneListing, EachPieceHasAMark, TextHasAReport, TextHasOneReport, ExportsAreWritten, TextHasOneExport, PartsJoin};
 
-/// The entries of a text are exactly those plies of its sound games that are within the bounds and whose position meets the criteria, or the
-/// least such of each game; each is listed once, in the order of the games and their plies.
-pub fn exact_entries()
-    ensures exact { EntriesAreExact }
-    ensures ascend { EntriesAscend }
+/// The pieces of each text have entries, and these are one list: the plies of its sound games that are within the bounds and whose position
+/// meets the criteria, or the least such of each game, each once, in the order of the games and their plies.
+pub fn one_listing()
+    ensures { PiecesHaveOneListing }
 {}
 
 /// Each piece of a text has a mark, which is one of the marks at which a run can begin.

@@ -9,6 +9,7 @@ mod front;
 pub mod laws;
 mod listing;
 mod mark;
+pub mod memory;
 pub mod messages;
 mod move_notes;
 mod notes;
@@ -21,7 +22,7 @@ pub mod status;
 mod texts;
 mod tool;
 
-pub use extract::run;
+pub use extract::{run, run_skipping};
 pub use outcome::{RunError, Summary};
 pub use settings::{Mode, Settings};
 pub use tool::{Files, program};

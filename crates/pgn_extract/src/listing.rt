@@ -6,7 +6,8 @@ ghost use Rattle.pgn_game.specs.Starts.{fen_tag};
 ghost use Rattle.pgn_criteria.specs.Meeting.{IsFirst};
 ghost use Rattle.pgn_extract.specs.Aims.{IsMet, aim_of};
 ghost use Rattle.pgn_extract.specs.Blockwise.{IsPlainEntry, AddsPlies};
-ghost use Rattle.pgn_extract.specs.Listing.{Entry, AreListed, listing};
+ghost use Rattle.pgn_extract.specs.Listing.{Entry, listing};
+ghost use Rattle.pgn_extract.specs.GameReports.{AreListed};
 
 use crate::settings::Settings;
 use crate::texts::{count_up, push_entry, push_mark};

@@ -7,7 +7,7 @@ ghost use Rattle.pgn_text.specs.Windows.{Shows};
 ghost use Rattle.pgn_extract.specs.Aims.{aim_of};
 ghost use Rattle.pgn_extract.specs.Blockwise.{IsShown, Reports, ReportsBlock, AddsVerdict, AddsGame, AddsListed, AddsExported, AddsPiece, IsBlockVerdict, IsMarkVerdict, too_long_piece};
 ghost use Rattle.pgn_extract.specs.Index.{fault_text};
-ghost use Rattle.pgn_extract.specs.Listing.{cause_text};
+ghost use Rattle.pgn_extract.specs.GameReports.{cause_text};
 ghost use Rattle.pgn_extract.specs.Notes.{IsNote};
 ghost use Rattle.pgn_extract.specs.Verdicts.{Verdict, FaultyGame};
 ghost use Rattle.pgn_extract.specs.declared.settings.Mode.TheVariants.{Index};

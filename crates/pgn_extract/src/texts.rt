@@ -3,7 +3,7 @@ ghost use Rattle.std.specs.Prelude.{◌≡◌, ◌+◌, ◌<◌, Some, [], ◌�
 ghost use Rattle.pgn_game.specs.Faults.{Fault};
 ghost use Rattle.pgn_game.specs.Replays.{fault_of};
 ghost use Rattle.pgn_extract.specs.Index.{mark, mark_line, fault_text};
-ghost use Rattle.pgn_extract.specs.Listing.{cause_text};
+ghost use Rattle.pgn_extract.specs.GameReports.{cause_text};
 
 use itoa::Buffer;
 use pgn_game::GameFault;

@@ -2,7 +2,7 @@
 ghost use Rattle.std.specs.Prelude.{◌≡◌, ◌≤◌, ◌^◌, false, OnErr};
 
 use crate::command::{Request, read_words};
-use crate::extract::run;
+use crate::extract::run_skipping;
 use crate::front::read_front;
 use crate::mark::{Mark, read_mark};
 use crate::messages;
@@ -223,7 +223,7 @@ where
         offset: mark.offset,
     };
     Ok(
-        match run(alloc, &mut Tally::new(input), out, err, &settings) {
+        match run_skipping(alloc, &mut Tally::new(input), out, err, &settings) {
             Ok(summary) => end_run(alloc, err, request.summary, &summary),
             Err(error) => {
                 flush_rest(out);

@@ -31,6 +31,13 @@ pub record IsReplay (lines : Lines) (fen : Option (List ℕ)) (items : List Item
   pub line : IsMainLine start (main_words items 0) replay.positions replay.played
   pub turns : AreTurns lines start items replay.turns
 
+-- it is the replay of the main line of the game with these contents of its FEN tag and these elements
+pub record IsMainReplay (fen : Option (List ℕ)) (items : List Item) (replay : Replay) : Type 0 where
+  pub start : State
+  pub is_start : IsStart fen start
+  pub line : IsMainLine start (main_words items 0) replay.positions replay.played
+  pub turns : replay.turns ≡ []
+
 -- it is the replay of the game's main line or of all its lines: either has the positions and the moves of the main line
 abbrev pub IsSomeReplay : Option (List ℕ) → List Item → Replay → Type 0
 IsSomeReplay fen items replay = (lines : Lines) × IsReplay lines fen items replay

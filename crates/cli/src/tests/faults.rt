@@ -133,8 +133,7 @@ fn reads_what_is_left(alloc: Global, settings: &Settings, whole: &[u8], passes: 
     requires number { (1 ≤ settings.now.number) × (settings.now.number ≤ 2 ^ 62) }
     requires offset { settings.now.offset ≤ 2 ^ 62 }
 {
-    let reader = Pieces::seeking(TWO_GAMES, 8192, passes);
-    let trial = Trial::new(alloc, settings, reader, Page::new(), Page::new());
+    let trial = Trial::skipping(alloc, settings, Pieces::seeking(TWO_GAMES, 8192, passes));
     // The bytes that are dropped, those that are kept, and the end.
     let reads = if passes < 22 { 3 } else { 2 };
     trial.calls[0] == reads && trial.moved == 43 && trial.is_whole(1, 0, whole, b"")
@@ -145,8 +144,11 @@ fn ends_at_a_skip(alloc: Global, settings: &Settings, fails: Fails) -> bool
     requires number { (1 ≤ settings.now.number) × (settings.now.number ≤ 2 ^ 62) }
     requires offset { settings.now.offset ≤ 2 ^ 62 }
 {
-    let reader = Pieces::failing_skip(TWO_GAMES, u64::MAX, fails);
-    let trial = Trial::new(alloc, settings, reader, Page::new(), Page::new());
+    let trial = Trial::skipping(
+        alloc,
+        settings,
+        Pieces::failing_skip(TWO_GAMES, u64::MAX, fails),
+    );
     trial.calls == [0, 0, 0] && trial.moved == 0 && trial.is_read_fault(b"", b"")
 }
 

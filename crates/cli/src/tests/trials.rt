@@ -2,7 +2,7 @@
 ghost use Rattle.std.specs.Prelude.{◌≤◌, ◌^◌};
 
 use super::support::{Page, Pieces};
-use pgn_extract::{RunError, Settings, Summary, run};
+use pgn_extract::{RunError, Settings, Summary, run, run_skipping};
 use pgn_text::Tally;
 use std::alloc::Global;
 
@@ -20,7 +20,7 @@ pub struct Trial {
 }
 
 impl Trial {
-    /// A run with these settings.
+    /// A run with these settings, which reads all bytes.
     pub fn new(alloc: Global, settings: &Settings, reader: Pieces<'_>, out: Page, err: Page) -> Self
         requires number { (1 ≤ settings.now.number) × (settings.now.number ≤ 2 ^ 62) }
         requires offset { settings.now.offset ≤ 2 ^ 62 }
@@ -29,6 +29,28 @@ impl Trial {
         let mut out = Tally::new(out);
         let mut err = Tally::new(err);
         let answer = run(alloc, &mut input, &mut out, &mut err, settings);
+        Trial::of(answer, input, out, err)
+    }
+
+    /// A run with these settings, which passes over the bytes before its begin where the reader can.
+    pub fn skipping(alloc: Global, settings: &Settings, reader: Pieces<'_>) -> Self
+        requires number { (1 ≤ settings.now.number) × (settings.now.number ≤ 2 ^ 62) }
+        requires offset { settings.now.offset ≤ 2 ^ 62 }
+    {
+        let mut input = Tally::new(reader);
+        let mut out = Tally::new(Page::new());
+        let mut err = Tally::new(Page::new());
+        let answer = run_skipping(alloc, &mut input, &mut out, &mut err, settings);
+        Trial::of(answer, input, out, err)
+    }
+
+    /// What a run with this answer left.
+    fn of(
+        answer: Result<Summary, RunError>,
+        input: Tally<Pieces<'_>>,
+        out: Tally<Page>,
+        err: Tally<Page>,
+    ) -> Self {
         let faulted = [input.faulted(), out.faulted(), err.faulted()];
         let flushed = out.flushed() && err.flushed();
         let moved = input.moved();

@@ -16,29 +16,32 @@ loop-block-smaller g c =
 pub loop-block-preserved : goal.loop-block-preserved
 loop-block-preserved g c =
     let gives = rw (c.in-Ok-Some.is, c.in-Ok-Some.field-0-is) at c.next.follows.holds-at-none in (
-      progress_more c.loop-block.invariant.0 gives.2.1 gives.1 gives.2.2.1 (c.in-Ok.ensures.ok gives.2.0 gives.2.2.0),
+      progress_more c.loop-block.invariant.0 gives.2.1 gives.1 gives.2.2.1 (c.in-Ok.ensures.done gives.2.0 gives.2.2.0),
       false_from_ne_true _ (λ is. let k = c.in-Ok-Some.ensures.fault.1 (c.loop-block.invariant.1, is) in cc),
-      false_from_ne_true _ (λ is. let k = c.in-Ok.ensures.fault.1 (inl is) in cc),
-      false_from_ne_true _ (λ is. let k = c.in-Ok.ensures.fault.1 (inr is) in cc),
+      false_from_ne_true _ (λ is. let k = c.in-Ok.ensures.faults.write.1 (inl is) in cc),
+      false_from_ne_true _ (λ is. let k = c.in-Ok.ensures.faults.write.1 (inr is) in cc),
     )
 
-pub returns-in-Err-put_block-clause-err : goal.returns-in-Err-put_block-clause-err
-returns-in-Err-put_block-clause-err g c =
+pub returns-in-Err-put_block-clause-stopped : goal.returns-in-Err-put_block-clause-stopped
+returns-in-Err-put_block-clause-stopped g c =
     let gives = rw (c.in-Ok-Some.is, c.in-Ok-Some.field-0-is) at c.next.follows.holds-at-none in
-    block_breaks c.loop-block.invariant.0 _ gives.2.1 gives.1 gives.2.2.1 (c.in-Err-put_block.ensures.err gives.2.0 gives.2.2.0) c.in-Err-put_block.ensures.only
+    block_breaks c.loop-block.invariant.0 _ gives.2.1 gives.1 gives.2.2.1 (c.in-Err-put_block.ensures.stopped gives.2.0 gives.2.2.0) c.in-Err-put_block.ensures.only
 
-pub returns-in-Ok-finish_both-clause-ok : goal.returns-in-Ok-finish_both-clause-ok
-returns-in-Ok-finish_both-clause-ok g c =
-    let gives = rw (c.in-Ok-None.is, c.in-Ok-None.field-0-is) at c.next.follows.holds-at-none in
-    all_written c.loop-block.invariant.0 gives.2.0 (subst (Reads _ _ _ _) gives.2.1 gives.1) c.finish_both.ensures.kept.0 c.finish_both.ensures.kept.1 refl refl
+pub returns-in-Ok-finish_both-clause-done : goal.returns-in-Ok-finish_both-clause-done
+returns-in-Ok-finish_both-clause-done g c =
+    let gives = rw (c.in-Ok-None.is, c.in-Ok-None.field-0-is) at c.next.follows.holds-at-none in (
+      all_written c.loop-block.invariant.0 gives.2.0 (subst (Reads _ _ _ _) gives.2.1 gives.1) c.finish_both.ensures.kept.0 c.finish_both.ensures.kept.1 refl refl,
+      c.in-Ok-finish_both.ensures.flushed.0,
+      c.in-Ok-finish_both.ensures.flushed.1,
+    )
 
-pub returns-in-Err-finish_both-clause-err : goal.returns-in-Err-finish_both-clause-err
-returns-in-Err-finish_both-clause-err g c =
+pub returns-in-Err-finish_both-clause-stopped : goal.returns-in-Err-finish_both-clause-stopped
+returns-in-Err-finish_both-clause-stopped g c =
     let gives = rw (c.in-Ok-None.is, c.in-Ok-None.field-0-is) at c.next.follows.holds-at-none in
     flush_breaks c.loop-block.invariant.0 _ gives.2.0 (subst (Reads _ _ _ _) gives.2.1 gives.1) c.finish_both.ensures.kept.0 c.finish_both.ensures.kept.1 c.in-Err-finish_both.ensures.only
 
-pub returns-in-Err-clause-err : goal.returns-in-Err-clause-err
-returns-in-Err-clause-err g c =
+pub returns-in-Err-clause-stopped : goal.returns-in-Err-clause-stopped
+returns-in-Err-clause-stopped g c =
     let gives = rw c.in-Err.is at c.next.follows.holds-at-none in
     rw c.of_read.ensures
     (read_breaks c.loop-block.invariant.0 gives.0 _ gives.1 gives.2.1

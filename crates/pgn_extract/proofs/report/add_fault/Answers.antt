@@ -2,7 +2,7 @@ use Rattle.std.proofs.Common.{[], ◌++◌, refl, sym, ap, subst, ◌∙◌, app
 use Rattle.std.proofs.lemmas.List.{append-nil}
 use Rattle.std.proofs.lemmas.Result.{on_ok_weaker}
 use Rattle.pgn_extract.specs.Index.{fault_text}
-use Rattle.pgn_extract.specs.Listing.{cause_text}
+use Rattle.pgn_extract.specs.GameReports.{cause_text}
 use Rattle.pgn_extract.specs.Notes.{IsNote}
 use Rattle.pgn_extract.proofs.NoteLines.{empty_note}
 use Rattle.pgn_extract.proofs.report.add_fault.Goals as goal

@@ -1,5 +1,5 @@
 use Rattle.pgn_extract.proofs.Dropping.{Dropping}
-use Rattle.pgn_extract.proofs.skip.skip.Given as goal
+use Rattle.pgn_extract.proofs.skip.drop_first.Given as goal
 
 abbrev pub invariant-loop-left : goal.invariant-loop-left
 invariant-loop-left g l =

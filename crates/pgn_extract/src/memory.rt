@@ -1,0 +1,156 @@
+//! Runs over memory: what each clause of `run` says where all bytes are known.
+ghost use Rattle.std.specs.Prelude.{◌≡◌, ◌↔◌, ◌⊎◌, ◌≤◌, ◌<◌, ◌^◌, ◌++◌, ℕ, true, List, drop, length, take, count_by, IfErr, IfOk, OnOk, IsErrOf};
+ghost use Rattle.pgn_text.specs.Complete.{AreCompletePieces};
+ghost use Rattle.pgn_text.specs.Limits.{block_limit, depth_limit, largest_offset};
+ghost use Rattle.pgn_text.specs.Marks.{MarkedPiece, AreMarkedPieces};
+ghost use Rattle.pgn_extract.specs.Aims.{aim_of};
+ghost use Rattle.pgn_extract.specs.Exports.{AreExports};
+ghost use Rattle.pgn_extract.specs.Index.{index};
+ghost use Rattle.pgn_extract.specs.Listing.{Entry, AreEntries, entries_at_least, listing};
+ghost use Rattle.pgn_extract.specs.Resuming.{IsMarkAmong, verdicts_at_least};
+ghost use Rattle.pgn_extract.specs.Runs.{ArePieces, IsReady, job_of};
+ghost use Rattle.pgn_extract.specs.Verdicts.{Verdict, AreVerdicts, IsSameReport, fault_lines, is_faulty, output_text};
+
+use crate::extract::run;
+use crate::outcome::{RunError, Summary};
+use crate::settings::{Mode, Settings};
+use pgn_text::Tally;
+use std::alloc::Global;
+
+/// What a run over a text wrote to the output and to standard error.
+#[derive(Drop)]
+pub struct Written {
+    pub out: Vec<u8>,
+    pub err: Vec<u8>,
+}
+
+/// The index of a text.
+pub fn index_text(alloc: Global, text: &[u8], settings: &Settings) -> Result<Written, RunError>
+    requires number { (1 ≤ settings.now.number) × (settings.now.number ≤ 2 ^ 62) }
+    requires offset { settings.now.offset ≤ largest_offset }
+    requires mode { settings.now.mode ≡ Mode.Index }
+    ensures { IfOk result (λ written. (pieces : List MarkedPiece) × ArePieces (job_of settings.now) text.now pieces
+        × (written.out.items ≡ index settings.now.number pieces)) }
+{
+    run_over(alloc, text, settings)
+}
+
+/// The listing of a text: exactly the pairs of game and ply that are looked for, each once, in their order.
+pub fn list_text(alloc: Global, text: &[u8], settings: &Settings) -> Result<Written, RunError>
+    requires number { (1 ≤ settings.now.number) × (settings.now.number ≤ 2 ^ 62) }
+    requires offset { settings.now.offset ≤ largest_offset }
+    requires mode { settings.now.mode ≡ Mode.List }
+    ensures { IfOk result (λ written. (pieces : List MarkedPiece) × (entries : List Entry) × ArePieces (job_of settings.now) text.now pieces
+        × AreEntries (aim_of settings.now) settings.now.number pieces entries × (written.out.items ≡ listing entries)) }
+{
+    run_over(alloc, text, settings)
+}
+
+/// The exports of the games of a text that have an entry.
+pub fn export_text(alloc: Global, text: &[u8], settings: &Settings) -> Result<Written, RunError>
+    requires number { (1 ≤ settings.now.number) × (settings.now.number ≤ 2 ^ 62) }
+    requires offset { settings.now.offset ≤ largest_offset }
+    requires mode { settings.now.mode ≡ Mode.Export }
+    ensures { IfOk result (λ written. (pieces : List MarkedPiece) × ArePieces (job_of settings.now) text.now pieces
+        × AreExports (aim_of settings.now) pieces written.out.items) }
+{
+    run_over(alloc, text, settings)
+}
+
+/// Runs over a text.
+fn run_over(alloc: Global, text: &[u8], settings: &Settings) -> Result<Written, RunError>
+    requires number { (1 ≤ settings.now.number) × (settings.now.number ≤ 2 ^ 62) }
+    requires offset { settings.now.offset ≤ largest_offset }
+    ensures indexes { IfOk result (λ written. settings.now.mode ≡ Mode.Index → (pieces : List MarkedPiece) × ArePieces (job_of settings.now) text.now pieces
+        × (written.out.items ≡ index settings.now.number pieces)) }
+    ensures lists { IfOk result (λ written. settings.now.mode ≡ Mode.List → (pieces : List MarkedPiece) × (entries : List Entry)
+        × ArePieces (job_of settings.now) text.now pieces × AreEntries (aim_of settings.now) settings.now.number pieces entries × (written.out.items ≡ listing entries)) }
+    ensures exports { IfOk result (λ written. settings.now.mode ≡ Mode.Export → (pieces : List MarkedPiece) × ArePieces (job_of settings.now) text.now pieces
+        × AreExports (aim_of settings.now) pieces written.out.items) }
+{
+    let mut input = Tally::new(text);
+    let mut out = Tally::new(Vec::new(alloc));
+    let mut err = Tally::new(Vec::new(alloc));
+    match run(alloc, &mut input, &mut out, &mut err, settings) {
+        Ok(_) => Ok(Written {
+            out: out.into_inner(),
+            err: err.into_inner(),
+        }),
+        Err(error) => Err(error),
+    }
+}
+
+/// Runs over a reader and writers in memory, which may hold bytes already. What was reported stands in their new bytes, and is counted.
+pub fn report_text<'a>(
+    alloc: Global,
+    input: &mut Tally<&'a [u8]>,
+    out: &mut Tally<Vec<u8>>,
+    err: &mut Tally<Vec<u8>>,
+    settings: &Settings,
+) -> Result<Summary, RunError>
+    requires { IsReady (job_of settings.now) input.old out.old err.old }
+    ensures reported { IfOk result (λ summary. (pieces : List MarkedPiece) × (verdicts : List Verdict)
+        × ArePieces (job_of settings.now) input.old.inner.now pieces × AreVerdicts (aim_of settings.now) settings.now.number pieces verdicts
+        × (out.new.inner.items ≡ out.old.inner.items ++ output_text verdicts) × (err.new.inner.items ≡ err.old.inner.items ++ fault_lines verdicts)
+        × (summary.games ≡ length pieces) × (summary.faulty ≡ count_by is_faulty verdicts)) }
+    ensures size { OnOk result (length input.old.inner.now ≤ largest_offset) }
+    ensures flushed { OnOk result ((out.new.flushed ≡ true) × (err.new.flushed ≡ true)) }
+    ensures read { IsErrOf result RunError.Read ↔ (input.new.faulted ≡ true) }
+    ensures write { IsErrOf result RunError.Write ↔ ((out.new.faulted ≡ true) ⊎ (err.new.faulted ≡ true)) }
+{
+    run(alloc, input, out, err, settings)
+}
+
+/// Begins at a mark of a text. What is reported is what a run over the whole text reports of the games from there on; and of a listing
+/// just the lines of their entries.
+pub fn resume_text<'a>(
+    alloc: Global,
+    input: &mut Tally<&'a [u8]>,
+    out: &mut Tally<Vec<u8>>,
+    err: &mut Tally<Vec<u8>>,
+    settings: &Settings,
+) -> Result<Summary, RunError>
+    requires { IsReady (job_of settings.now) input.old out.old err.old }
+    ensures rest { OnOk result ((pieces : List MarkedPiece) → AreMarkedPieces block_limit depth_limit 0 input.old.inner.now pieces
+        → IsMarkAmong settings.now.number settings.now.offset pieces → (all : List Verdict) → AreVerdicts (aim_of settings.now) 1 pieces all
+        → (own : List Verdict) × IsSameReport (aim_of settings.now) own (verdicts_at_least settings.now.number 1 all)
+        × (out.new.inner.items ≡ out.old.inner.items ++ output_text own) × (err.new.inner.items ≡ err.old.inner.items ++ fault_lines own)) }
+    ensures listed { OnOk result (settings.now.mode ≡ Mode.List → (pieces : List MarkedPiece) → AreMarkedPieces block_limit depth_limit 0 input.old.inner.now pieces
+        → IsMarkAmong settings.now.number settings.now.offset pieces → (entries : List Entry) → AreEntries (aim_of settings.now) 1 pieces entries
+        → out.new.inner.items ≡ out.old.inner.items ++ listing (entries_at_least settings.now.number entries)) }
+{
+    run(alloc, input, out, err, settings)
+}
+
+/// Runs over memory that may give out. After each error the writers hold what is said of it.
+pub fn report_some<'a>(
+    alloc: Global,
+    input: &mut Tally<&'a [u8]>,
+    out: &mut Tally<Vec<u8>>,
+    err: &mut Tally<Vec<u8>>,
+    settings: &Settings,
+) -> Result<Summary, RunError>
+    requires { IsReady (job_of settings.now) input.old out.old err.old }
+    // A read failed: the pieces of the complete blocks that were read are reported, and nothing else.
+    ensures read { IfErr result (λ error. error ≡ RunError.Read → (pieces : List MarkedPiece) × (verdicts : List Verdict)
+        × AreCompletePieces block_limit depth_limit settings.now.offset (drop settings.now.offset (take input.new.moved input.old.inner.now)) pieces
+        × AreVerdicts (aim_of settings.now) settings.now.number pieces verdicts
+        × (out.new.inner.items ≡ out.old.inner.items ++ output_text verdicts) × (err.new.inner.items ≡ err.old.inner.items ++ fault_lines verdicts)) }
+    // A write failed: each writer took a beginning of what is to be reported.
+    ensures write { IfErr result (λ error. error ≡ RunError.Write → (pieces : List MarkedPiece) × (verdicts : List Verdict) × (n : ℕ) × (m : ℕ)
+        × ArePieces (job_of settings.now) input.old.inner.now pieces × AreVerdicts (aim_of settings.now) settings.now.number pieces verdicts
+        × (out.new.inner.items ≡ out.old.inner.items ++ take n (output_text verdicts)) × (err.new.inner.items ≡ err.old.inner.items ++ take m (fault_lines verdicts))) }
+    // Memory ran out: so did each.
+    ensures memory { IfErr result (λ error. error ≡ RunError.OutOfMemory → (pieces : List MarkedPiece) × (verdicts : List Verdict) × (n : ℕ) × (m : ℕ)
+        × ArePieces (job_of settings.now) input.old.inner.now pieces × AreVerdicts (aim_of settings.now) settings.now.number pieces verdicts
+        × (out.new.inner.items ≡ out.old.inner.items ++ take n (output_text verdicts)) × (err.new.inner.items ≡ err.old.inner.items ++ take m (fault_lines verdicts))) }
+    // The input is longer than can be read: the complete blocks up to there are reported, and nothing else.
+    ensures too_long { IfErr result (λ error. error ≡ RunError.InputTooLong → largest_offset < length input.old.inner.now) }
+    ensures cut { IfErr result (λ error. error ≡ RunError.InputTooLong → (pieces : List MarkedPiece) × (verdicts : List Verdict)
+        × AreCompletePieces block_limit depth_limit settings.now.offset (drop settings.now.offset (take largest_offset input.old.inner.now)) pieces
+        × AreVerdicts (aim_of settings.now) settings.now.number pieces verdicts
+        × (out.new.inner.items ≡ out.old.inner.items ++ output_text verdicts) × (err.new.inner.items ≡ err.old.inner.items ++ fault_lines verdicts)) }
+    ensures alone { (out.new.faulted ≡ true) × (err.new.faulted ≡ true) → ⊥ }
+{
+    run(alloc, input, out, err, settings)
+}
