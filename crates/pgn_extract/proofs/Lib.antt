@@ -30,3 +30,6 @@ pub mod NextLine
 pub mod NoteLines
 pub mod EachPly
 pub mod RunEnds
+pub mod NoteOnce
+pub mod FirstExports
+pub mod PartsReported

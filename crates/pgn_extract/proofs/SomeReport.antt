@@ -99,7 +99,7 @@ wanted_or_not aim tags replay ply met = elim (cases_lt ply aim.min_ply) [
 ]
 
 -- none before a ply is wanted, or one is
-none_before : (aim : Aim) (tags : Tags) (replay : Replay) (ply : ℕ)
+pub none_before : (aim : Aim) (tags : Tags) (replay : Replay) (ply : ℕ)
     → ((n : ℕ) → n < ply → IsMet aim.criteria tags replay n ⊎ (IsMet aim.criteria tags replay n → ⊥))
     → ((n : ℕ) → n < ply → IsWanted aim tags replay n → ⊥) ⊎ ((n : ℕ) × (n < ply) × IsWanted aim tags replay n)
 none_before aim tags replay zero met = inl (λ n less wanted. omega arith)

@@ -1,8 +1,9 @@
 -- What holds of the entries of every text, of its marks, and of what is reported of it.
-use Rattle.std.specs.Prelude.{◌≡◌, false, ℕ, ◌+◌, ◌-◌, List, ◌∷◌, ◌++◌, length, take, drop, count_by}
+use Rattle.std.specs.Prelude.{◌≡◌, ◌↔◌, Bool, true, false, ℕ, ◌+◌, ◌-◌, ◌^◌, ◌<◌, List, ◌∷◌, ◌++◌, length, take, drop, count_by, codes}
 use Rattle.pgn_text.specs.Marks.{MarkedPiece, AreMarkedPieces}
 use Rattle.pgn_extract.specs.Listing.{Entry, AreEntries}
 use Rattle.pgn_extract.specs.Exports.{AreExports}
+use Rattle.pgn_extract.specs.Notes.{IsLinePlace, IsNote, NamesStop}
 use Rattle.pgn_extract.specs.Resuming.{IsMarkAmong}
 use Rattle.pgn_extract.specs.Verdicts.{Verdict, AreVerdicts, IsSameReport, output_text, fault_lines, is_faulty}
 use Rattle.pgn_extract.specs.Aims.{Aim}
@@ -49,6 +50,32 @@ abbrev pub TextHasOneExport : Type 0
 TextHasOneExport =
     (aim : Aim) (pieces : List MarkedPiece) (text other : List ℕ) → AreExports aim pieces text → AreExports aim pieces other → text ≡ other
 
+-- the aim that asks for all entries of each game, or for the first alone
+abbrev pub with_first : Bool → Aim → Aim
+with_first first aim = record {
+  mode = aim.mode;
+  criteria = aim.criteria;
+  min_ply = aim.min_ply;
+  max_ply = aim.max_ply;
+  first = first;
+  style = aim.style;
+  explain = aim.explain;
+}
+
+-- the exports are the same whether the first entry of each game is asked for or all
+abbrev pub FirstChangesNoExport : Type 0
+FirstChangesNoExport =
+    (aim : Aim) (pieces : List MarkedPiece) (text : List ℕ) → (AreExports (with_first true aim) pieces text ↔ AreExports (with_first false aim) pieces text)
+
+-- the note on bytes that are no game names one byte
+abbrev pub NoteNamesOneByte : Type 0
+NoteNamesOneByte =
+    (offset other : ℕ) (note : List ℕ) → offset < 2 ^ 64 → other < 2 ^ 64 → NamesStop true offset note → NamesStop true other note → offset ≡ other
+
+-- a line that is not indented is no note, nor is any where no explanations are asked for; and a byte alone is no place
+abbrev pub NoNotes : Type 0
+NoNotes = (IsNote true (codes "x") → ⊥) × (IsNote false (codes "  x") → ⊥) × (IsLinePlace (codes "x") → ⊥)
+
 -- two parts of a text have its pieces, one part those before the cut and the other those behind, and what is reported of them, one behind
 -- the other, is what is reported of the whole: on the output, counted, and on standard error but for the notes
 pub record AreJoined (aim : Aim) (before behind first second : List MarkedPiece) (all front rest : List Verdict) : Type 0 where
@@ -70,3 +97,14 @@ PartsJoin =
     → IsTextReported aim limit max_depth number offset (take (piece.offset - offset) text) first front
     → IsTextReported aim limit max_depth (number + length first) piece.offset (drop (piece.offset - offset) text) second rest
     → AreJoined aim before (piece ∷ behind) first second all front rest
+
+-- so two runs over a text, the first up to a mark and the second from it on, report what one run over the whole reports, where no explanations
+-- are asked for
+abbrev pub PartsAreReported : Type 0
+PartsAreReported =
+    (aim : Aim) (limit max_depth number offset : ℕ) (text : List ℕ) (pieces first second : List MarkedPiece) (all front rest : List Verdict)
+    → aim.explain ≡ false → AreMarkedPieces limit max_depth 0 text pieces → IsMarkAmong number offset pieces → AreVerdicts aim 1 pieces all
+    → AreMarkedPieces limit max_depth 0 (take offset text) first → AreVerdicts aim 1 first front
+    → AreMarkedPieces limit max_depth offset (drop offset text) second → AreVerdicts aim number second rest
+    → (output_text all ≡ output_text front ++ output_text rest) × (fault_lines all ≡ fault_lines front ++ fault_lines rest)
+    × (count_by is_faulty all ≡ count_by is_faulty front + count_by is_faulty rest)

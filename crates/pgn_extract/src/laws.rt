@@ -1,6 +1,6 @@
 //! What holds of every text, whatever lists or reports it. Each law is the contract of a function that does nothing.
 
-ghost use Rattle.pgn_extract.specs.Laws.{PiecesHaveOneListing, EachPieceHasAMark, TextHasAReport, TextHasOneReport, ExportsAreWritten, TextHasOneExport, PartsJoin};
+ghost use Rattle.pgn_extract.specs.Laws.{PiecesHaveOneListing, EachPieceHasAMark, TextHasAReport, TextHasOneReport, ExportsAreWritten, TextHasOneExport, FirstChangesNoExport, NoteNamesOneByte, NoNotes, PartsJoin, PartsAreReported};
 
 /// The pieces of each text have entries, and these are one list: the plies of its sound games that are within the bounds and whose position
 /// meets the criteria, or the least such of each game, each once, in the order of the games and their plies.
@@ -25,8 +25,20 @@ pub fn one_export()
     ensures one { TextHasOneExport }
 {}
 
+/// The exports are the same whether the first entry of each game is asked for or all.
+pub fn first_changes_no_export()
+    ensures { FirstChangesNoExport }
+{}
+
+/// The note on bytes that are no game names one byte; and what is no note.
+pub fn notes()
+    ensures one { NoteNamesOneByte }
+    ensures none { NoNotes }
+{}
+
 /// What is reported of a text is what is reported of its parts, one behind the other, where it is cut at one of its pieces. The text begins
 /// at any offset and its pieces are numbered from any number, so it may be cut again.
 pub fn parts()
-    ensures { PartsJoin }
+    ensures join { PartsJoin }
+    ensures reported { PartsAreReported }
 {}

@@ -1,5 +1,5 @@
 //! Runs over memory: what each clause of `run` says where all bytes are known.
-ghost use Rattle.std.specs.Prelude.{◌≡◌, ◌↔◌, ◌⊎◌, ◌≤◌, ◌<◌, ◌^◌, ◌++◌, ℕ, true, List, drop, length, take, count_by, IfErr, IfOk, OnOk, IsErrOf};
+ghost use Rattle.std.specs.Prelude.{◌≡◌, ◌↔◌, ◌⊎◌, ◌≤◌, ◌<◌, ◌^◌, ◌++◌, ℕ, true, false, List, drop, length, take, count_by, IfErr, IfOk, OnOk, IsErrOf};
 ghost use Rattle.pgn_text.specs.Complete.{AreCompletePieces};
 ghost use Rattle.pgn_text.specs.Limits.{block_limit, depth_limit, largest_offset};
 ghost use Rattle.pgn_text.specs.Marks.{MarkedPiece, AreMarkedPieces};
@@ -95,6 +95,7 @@ pub fn report_text<'a>(
         × (summary.games ≡ length pieces) × (summary.faulty ≡ count_by is_faulty verdicts)) }
     ensures size { OnOk result (length input.old.inner.now ≤ largest_offset) }
     ensures flushed { OnOk result ((out.new.flushed ≡ true) × (err.new.flushed ≡ true)) }
+    ensures sound { OnOk result ((out.new.faulted ≡ false) × (err.new.faulted ≡ false)) }
     ensures read { IsErrOf result RunError.Read ↔ (input.new.faulted ≡ true) }
     ensures write { IsErrOf result RunError.Write ↔ ((out.new.faulted ≡ true) ⊎ (err.new.faulted ≡ true)) }
 {
