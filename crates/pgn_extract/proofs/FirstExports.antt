@@ -47,12 +47,12 @@ module _ (aim : Aim) where
 
   piece_all : (kind : PieceKind) (text : List ℕ) → IsPieceExport (with_first true aim) kind text → IsPieceExport (with_first false aim) kind text
   piece_all (ReadableGame parts) text of = game_all parts text of
-  piece_all (UnreadableRest stop) text of = of
+  piece_all (UnreadableRest bytes) text of = of
   piece_all TooLongBlock text of = of
 
   piece_first : (kind : PieceKind) (text : List ℕ) → IsPieceExport (with_first false aim) kind text → IsPieceExport (with_first true aim) kind text
   piece_first (ReadableGame parts) text of = game_first parts text of
-  piece_first (UnreadableRest stop) text of = of
+  piece_first (UnreadableRest bytes) text of = of
   piece_first TooLongBlock text of = of
 
   exports_all : (pieces : List MarkedPiece) (text : List ℕ) → AreExports (with_first true aim) pieces text → AreExports (with_first false aim) pieces text

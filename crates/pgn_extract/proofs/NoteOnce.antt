@@ -1,9 +1,9 @@
 -- A note names one byte at most, and what is no note.
-use Rattle.std.proofs.Common.{◌≡◌, ◌⊎◌, ℕ, ◌^◌, ◌<◌, ◌≤◌, List, [], ◌∷◌, ◌++◌, refl, sym, ap, ◌∙◌, subst, arith, inl, inr, codes, decimal, append_assoc}
+use Rattle.std.proofs.Common.{◌≡◌, ◌⊎◌, ℕ, ◌+◌, ◌^◌, ◌<◌, ◌≤◌, List, [], ◌∷◌, ◌++◌, refl, sym, ap, ◌∙◌, subst, arith, inl, inr, codes, decimal, append_assoc}
 use Rattle.std.proofs.lemmas.Fmt.{decimal_injective}
 use Rattle.std.proofs.lemmas.List.{append_cancel_left}
 use Rattle.pgn_game.proofs.PlainTokens.{AreDigits, decimal_digits}
-use Rattle.pgn_extract.specs.Laws.{NoNotes, NoteNamesOneByte}
+use Rattle.pgn_extract.specs.Laws.{NoNotes, NoteNamesTheStop}
 use Rattle.pgn_extract.specs.Notes.{IsLinePlace, IsNote, NamesByte, indented}
 
 -- digits end where another byte follows
@@ -80,8 +80,10 @@ names_once offset other note small fits (place, after, is_place, is) (second, re
     decimal_injective offset other small fits
     (digits_once 58 (inr (omega arith)) (decimal offset) (decimal other) (codes " " ++ after) (codes " " ++ rest) (decimal_digits offset) (decimal_digits other) numbers).0
 
-pub one_byte : NoteNamesOneByte
-one_byte offset other note small fits names also = names_once offset other note small fits names also
+pub one_byte : NoteNamesTheStop
+one_byte offset byte bytes note small fits (agreeing, stops, names) also =
+    let within = stops.within in
+    (agreeing, names_once byte (offset + agreeing) note fits (omega arith) also names, stops)
 
 no_lines : (lines : List (List ℕ)) → codes "x" ≡ indented lines → ⊥
 no_lines [] e = cc

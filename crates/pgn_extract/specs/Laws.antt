@@ -1,9 +1,11 @@
 -- What holds of the entries of every text, of its marks, and of what is reported of it.
-use Rattle.std.specs.Prelude.{◌≡◌, ◌↔◌, Bool, true, false, ℕ, ◌+◌, ◌-◌, ◌^◌, ◌<◌, List, ◌∷◌, ◌++◌, length, take, drop, count_by, codes}
+use Rattle.std.specs.Prelude.{◌≡◌, ◌↔◌, Bool, true, false, ℕ, ◌+◌, ◌-◌, ◌^◌, ◌<◌, ◌==◌, List, [], ◌∷◌, ◌++◌, length, take, drop, count_by, codes}
+use Rattle.pgn_text.specs.Limits.{depth_limit}
+use Rattle.pgn_text.specs.Stops.{StopsAt}
 use Rattle.pgn_text.specs.Marks.{MarkedPiece, AreMarkedPieces}
 use Rattle.pgn_extract.specs.Listing.{Entry, AreEntries}
 use Rattle.pgn_extract.specs.Exports.{AreExports}
-use Rattle.pgn_extract.specs.Notes.{IsLinePlace, IsNote, NamesStop}
+use Rattle.pgn_extract.specs.Notes.{IsLinePlace, IsNote, NamesByte, NamesStop}
 use Rattle.pgn_extract.specs.Resuming.{IsMarkAmong}
 use Rattle.pgn_extract.specs.Verdicts.{Verdict, AreVerdicts, IsSameReport, output_text, fault_lines, is_faulty}
 use Rattle.pgn_extract.specs.Aims.{Aim}
@@ -67,10 +69,11 @@ abbrev pub FirstChangesNoExport : Type 0
 FirstChangesNoExport =
     (aim : Aim) (pieces : List MarkedPiece) (text : List ℕ) → (AreExports (with_first true aim) pieces text ↔ AreExports (with_first false aim) pieces text)
 
--- the note on bytes that are no game names one byte
-abbrev pub NoteNamesOneByte : Type 0
-NoteNamesOneByte =
-    (offset other : ℕ) (note : List ℕ) → offset < 2 ^ 64 → other < 2 ^ 64 → NamesStop true offset note → NamesStop true other note → offset ≡ other
+-- a note names one byte at most, and so the note on bytes that are no game names that at which they stop agreeing with games
+abbrev pub NoteNamesTheStop : Type 0
+NoteNamesTheStop =
+    (offset byte : ℕ) (bytes note : List ℕ) → offset + length bytes < 2 ^ 64 → byte < 2 ^ 64 → NamesStop true offset bytes note → NamesByte byte note
+    → (agreeing : ℕ) × (byte ≡ offset + agreeing) × StopsAt depth_limit (offset == 0) [] bytes agreeing
 
 -- a line that is not indented is no note, nor is any where no explanations are asked for; and a byte alone is no place
 abbrev pub NoNotes : Type 0

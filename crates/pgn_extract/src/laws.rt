@@ -1,6 +1,6 @@
 //! What holds of every text, whatever lists or reports it. Each law is the contract of a function that does nothing.
 
-ghost use Rattle.pgn_extract.specs.Laws.{PiecesHaveOneListing, EachPieceHasAMark, TextHasAReport, TextHasOneReport, ExportsAreWritten, TextHasOneExport, FirstChangesNoExport, NoteNamesOneByte, NoNotes, PartsJoin, PartsAreReported};
+ghost use Rattle.pgn_extract.specs.Laws.{PiecesHaveOneListing, EachPieceHasAMark, TextHasAReport, TextHasOneReport, ExportsAreWritten, TextHasOneExport, FirstChangesNoExport, NoteNamesTheStop, NoNotes, PartsJoin, PartsAreReported};
 
 /// The pieces of each text have entries, and these are one list: the plies of its sound games that are within the bounds and whose position
 /// meets the criteria, or the least such of each game, each once, in the order of the games and their plies.
@@ -30,9 +30,9 @@ pub fn first_changes_no_export()
     ensures { FirstChangesNoExport }
 {}
 
-/// The note on bytes that are no game names one byte; and what is no note.
+/// The note on bytes that are no game names just the byte at which they stop agreeing with games; and what is no note.
 pub fn notes()
-    ensures one { NoteNamesOneByte }
+    ensures one { NoteNamesTheStop }
     ensures none { NoNotes }
 {}
 
