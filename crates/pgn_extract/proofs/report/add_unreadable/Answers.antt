@@ -1,4 +1,4 @@
-use Rattle.std.proofs.Common.{◌==◌, ◌+◌, [], take, drop, ◌++◌, refl, sym, ap, ◌∙◌, append_assoc, codes, arith}
+use Rattle.std.proofs.Common.{◌+◌, [], ◌++◌, refl, sym, ap, ◌∙◌, append_assoc, codes, arith}
 use Rattle.std.proofs.lemmas.List.{append-nil}
 use Rattle.std.proofs.lemmas.Result.{on_ok_weaker}
 use Rattle.pgn_extract.specs.Index.{fault_text}
