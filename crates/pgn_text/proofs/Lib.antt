@@ -6,6 +6,7 @@ pub mod CutOff
 pub mod Cuts
 pub mod EachStops
 pub mod EndSearch
+pub mod EventLines
 pub mod Existence
 pub mod FoundLemmas
 pub mod FrontLengths
@@ -26,6 +27,7 @@ pub mod KeptLemmas
 pub mod LineFronts
 pub mod Lines
 pub mod Located
+pub mod MarkBounds
 pub mod MarkedPieces
 pub mod OldMarks
 pub mod OneBlocks

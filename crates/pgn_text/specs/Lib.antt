@@ -12,6 +12,7 @@ pub mod Complete
 pub mod Marks
 pub mod Laws
 pub mod StopLaws
+pub mod TextLaws
 pub mod Tallies
 pub mod Windows
 pub mod GameTexts

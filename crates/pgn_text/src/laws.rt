@@ -2,6 +2,7 @@
 
 ghost use Rattle.pgn_text.specs.StopLaws.{EachTextStopsOnce, FrontsOfGameFronts, StopsBehindGame, StopsBehindChange};
 ghost use Rattle.pgn_text.specs.Laws.{AtMostOneGame, GameHasAGameText, GameTextIsOne, TextHasOneParting, BlockHasOneList, TextHasOneList, ResumesAnywhere, FrontHasThePiecesBefore, BlockKeepsPieces, TextKeepsPieces};
+ghost use Rattle.pgn_text.specs.TextLaws.{PieceBeginsInItsText, PiecesJoinAtEventLines, PiecesPartAtEventLines};
 
 /// A text has one reading: one parting into blocks, one list of pieces in each block, and so one list of pieces with their offsets;
 /// and at any place of a block at most one game begins.
@@ -16,6 +17,18 @@ pub fn one_reading()
 pub fn one_game_text()
     ensures some { GameHasAGameText }
     ensures one { GameTextIsOne }
+{}
+
+/// Each piece of a text begins within it, and before it stand no more pieces than bytes.
+pub fn mark_bounds()
+    ensures { PieceBeginsInItsText }
+{}
+
+/// An event line parts the pieces of a text: those before it and those from it on do not depend on each other, so that
+/// unreadable bytes cost no game of another block.
+pub fn event_lines()
+    ensures join { PiecesJoinAtEventLines }
+    ensures part { PiecesPartAtEventLines }
 {}
 
 /// A reading that begins again at a piece of a text gives that piece and those behind it, with the same offsets.
