@@ -12,7 +12,7 @@ use Rattle.pgn_text.proofs.ResumedText.{event_line_behind}
 use Rattle.pgn_text.proofs.OneList.{no_bytes}
 
 -- bytes stand behind the place of an event line
-line_has_byte : (before after : List ℕ) → IsTrue (is_event_line before after) → after ≢ []
+pub line_has_byte : (before after : List ℕ) → IsTrue (is_event_line before after) → after ≢ []
 line_has_byte before after line none =
     false≢true (ap begins_line (sym none) ∙ (and_parts (ends_in_line_feed before) (begins_line after) line).1)
 

@@ -24,6 +24,7 @@ pub mod InTag
 pub mod InWord
 pub mod Joined
 pub mod KeptLemmas
+pub mod LeftEnds
 pub mod LineFronts
 pub mod Lines
 pub mod Located
@@ -32,6 +33,7 @@ pub mod MarkedPieces
 pub mod OldMarks
 pub mod OneBlocks
 pub mod OneList
+pub mod OnePlace
 pub mod Pairing
 pub mod PartLemmas
 pub mod PartsAt
@@ -41,6 +43,7 @@ pub mod ReadingLemmas
 pub mod ResumedPieces
 pub mod ResumedText
 pub mod Resumption
+pub mod UncutFailures
 pub mod Rows
 pub mod Runs
 pub mod RunsTo

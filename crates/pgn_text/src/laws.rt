@@ -3,6 +3,7 @@
 ghost use Rattle.pgn_text.specs.StopLaws.{EachTextStopsOnce, FrontsOfGameFronts, StopsBehindGame, StopsBehindChange};
 ghost use Rattle.pgn_text.specs.Laws.{AtMostOneGame, GameHasAGameText, GameTextIsOne, TextHasOneParting, BlockHasOneList, TextHasOneList, ResumesAnywhere, FrontHasThePiecesBefore, BlockKeepsPieces, TextKeepsPieces};
 ghost use Rattle.pgn_text.specs.TextLaws.{PieceBeginsInItsText, PiecesJoinAtEventLines, PiecesPartAtEventLines};
+ghost use Rattle.pgn_text.specs.AnswerLaws.{OneElementPlace, OneTagPlace, EndsWhereNothingIsLeft, EndsAfterAnError, FailsBeforeNoEventLine};
 
 /// A text has one reading: one parting into blocks, one list of pieces in each block, and so one list of pieces with their offsets;
 /// and at any place of a block at most one game begins.
@@ -53,4 +54,21 @@ pub fn one_stop()
     ensures fronts { FrontsOfGameFronts }
     ensures game { StopsBehindGame }
     ensures change { StopsBehindChange }
+{}
+
+/// An element of a game stands at one place, and so does the first tag of a name.
+pub fn one_place()
+    ensures element { OneElementPlace }
+    ensures tag { OneTagPlace }
+{}
+
+/// The pieces of a block end where none is left, or after an error.
+pub fn ends_of_pieces()
+    ensures nothing_left { EndsWhereNothingIsLeft }
+    ensures after_error { EndsAfterAnError }
+{}
+
+/// A failed read and the largest offset end no block that is held whole.
+pub fn failures()
+    ensures { FailsBeforeNoEventLine }
 {}
