@@ -30,10 +30,12 @@ pub mod Lines
 pub mod Located
 pub mod MarkBounds
 pub mod MarkedPieces
+pub mod MeantFronts
 pub mod OldMarks
 pub mod OneBlocks
 pub mod OneList
 pub mod OnePlace
+pub mod OneWithin
 pub mod Pairing
 pub mod PartLemmas
 pub mod PartsAt

@@ -1,6 +1,8 @@
 -- What holds of the answers that callers get of a block and of a text.
-use Rattle.std.specs.Prelude.{◌≡◌, ◌⊎◌, ◌↔◌, ℕ, ◌<◌, Bool, false, List, [], ◌++◌, length, take, drop, Option, Some, None, Result, Err, is_some, IsTrue}
+use Rattle.std.specs.Prelude.{◌≡◌, ◌⊎◌, ◌↔◌, ℕ, ◌-◌, ◌<◌, Bool, false, List, [], ◌++◌, length, take, drop, Option, Some, None, Result, Err, is_some, IsTrue}
 use Rattle.std.specs.declared.alloc.AllocError.{AllocError}
+use Rattle.std.specs.List.{list_all}
+use Rattle.pgn_text.specs.Bytes.{is_not_brace}
 use Rattle.pgn_text.specs.Parts.{Part, AllStand, spelled}
 use Rattle.pgn_text.specs.Games.{items_of, first_tag}
 use Rattle.pgn_text.specs.Pieces as spec
@@ -8,6 +10,9 @@ use Rattle.pgn_text.specs.Blocks.{is_event_line}
 use Rattle.pgn_text.specs.Windows.{FailsAfter}
 use Rattle.pgn_text.specs.Left.{Left, ArePiecesLeft, GivesPiece}
 use Rattle.pgn_text.specs.PartPlaces.{IsElementPlace, IsTagPlace}
+use Rattle.pgn_text.specs.StopPlaces.{StandsWithin}
+use Rattle.pgn_text.specs.declared.agreement.Within.{Within}
+use Rattle.pgn_text.specs.declared.agreement.Within.TheVariants.{Comment}
 use Rattle.pgn_text.specs.declared.blocks.ReadError.{ReadError}
 use Rattle.pgn_text.specs.declared.blocks.ReadError.TheVariants.{Read, InputTooLong}
 use Rattle.pgn_text.specs.declared.pieces.Piece.{Piece}
@@ -25,6 +30,18 @@ OneTagPlace =
     (f : Bool) (block : List ℕ) (begin : ℕ) (name : List ℕ) (place other : ℕ) (parts : List Part) (rest : List ℕ)
     → drop begin block ≡ spelled parts ++ rest → AllStand f (take begin block) parts rest → IsTrue (is_some (first_tag name parts))
     → IsTagPlace f block begin name place → IsTagPlace f block begin name other → place ≡ other
+
+-- a place up to which the text from another on was read stands in one thing
+abbrev pub StandsInOneThing : Type 0
+StandsInOneThing =
+    (f : Bool) (block : List ℕ) (begin place : ℕ) (within other : Within)
+    → StandsWithin f block begin place within → StandsWithin f block begin place other → within ≡ other
+
+-- where that is a comment, no closing brace stands between its begin and the place
+abbrev pub CommentIsOpen : Type 0
+CommentIsOpen =
+    (f : Bool) (block : List ℕ) (begin place at : ℕ)
+    → StandsWithin f block begin place (Comment at) → IsTrue (list_all is_not_brace (take (place - at) (drop at block)))
 
 -- as long as no error was answered, a call answers the end exactly where no piece is left
 abbrev pub EndsWhereNothingIsLeft : Type 0

@@ -3,7 +3,7 @@
 ghost use Rattle.pgn_text.specs.StopLaws.{EachTextStopsOnce, FrontsOfGameFronts, StopsBehindGame, StopsBehindChange};
 ghost use Rattle.pgn_text.specs.Laws.{AtMostOneGame, GameHasAGameText, GameTextIsOne, TextHasOneParting, BlockHasOneList, TextHasOneList, ResumesAnywhere, FrontHasThePiecesBefore, BlockKeepsPieces, TextKeepsPieces};
 ghost use Rattle.pgn_text.specs.TextLaws.{PieceBeginsInItsText, PiecesJoinAtEventLines, PiecesPartAtEventLines};
-ghost use Rattle.pgn_text.specs.AnswerLaws.{OneElementPlace, OneTagPlace, EndsWhereNothingIsLeft, EndsAfterAnError, FailsBeforeNoEventLine};
+ghost use Rattle.pgn_text.specs.AnswerLaws.{OneElementPlace, OneTagPlace, StandsInOneThing, CommentIsOpen, EndsWhereNothingIsLeft, EndsAfterAnError, FailsBeforeNoEventLine};
 
 /// A text has one reading: one parting into blocks, one list of pieces in each block, and so one list of pieces with their offsets;
 /// and at any place of a block at most one game begins.
@@ -60,6 +60,12 @@ pub fn one_stop()
 pub fn one_place()
     ensures element { OneElementPlace }
     ensures tag { OneTagPlace }
+{}
+
+/// A place where a text stops agreeing with games stands in one thing.
+pub fn one_context()
+    ensures one { StandsInOneThing }
+    ensures comment { CommentIsOpen }
 {}
 
 /// The pieces of a block end where none is left, or after an error.
