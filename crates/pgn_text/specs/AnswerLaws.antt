@@ -7,7 +7,7 @@ use Rattle.pgn_text.specs.Parts.{Part, AllStand, spelled}
 use Rattle.pgn_text.specs.Games.{items_of, first_tag}
 use Rattle.pgn_text.specs.Pieces as spec
 use Rattle.pgn_text.specs.Blocks.{is_event_line}
-use Rattle.pgn_text.specs.Windows.{FailsAfter}
+use Rattle.pgn_text.specs.Windows.{Window, IsCutOff, HoldsTheRest, FailsAfter}
 use Rattle.pgn_text.specs.Left.{Left, ArePiecesLeft, GivesPiece}
 use Rattle.pgn_text.specs.PartPlaces.{IsElementPlace, IsTagPlace}
 use Rattle.pgn_text.specs.StopPlaces.{StandsWithin}
@@ -61,3 +61,9 @@ abbrev pub FailsBeforeNoEventLine : Type 0
 FailsBeforeNoEventLine =
     (place : ℕ) (block ahead read : List ℕ) (error : ReadError) → IsTrue (is_event_line block ahead)
     → (error ≡ Read) ⊎ (error ≡ InputTooLong) → FailsAfter place (block ++ ahead) read error → ⊥
+
+-- after a block the bytes done with are those done with before and the block, but for the first of them, which were given up
+abbrev pub DoneWithTheBlock : Type 0
+DoneWithTheBlock =
+    (old new : Window) (left' : Option (List ℕ)) (read block : List ℕ) → IsCutOff old new left' read block → HoldsTheRest old new read
+    → (given_up : List ℕ) × (old.done ++ block ≡ given_up ++ new.done)

@@ -3,7 +3,7 @@
 ghost use Rattle.pgn_text.specs.StopLaws.{EachTextStopsOnce, FrontsOfGameFronts, StopsBehindGame, StopsBehindChange};
 ghost use Rattle.pgn_text.specs.Laws.{AtMostOneGame, GameHasAGameText, GameTextIsOne, TextHasOneParting, BlockHasOneList, TextHasOneList, ResumesAnywhere, FrontHasThePiecesBefore, BlockKeepsPieces, TextKeepsPieces};
 ghost use Rattle.pgn_text.specs.TextLaws.{PieceBeginsInItsText, PiecesJoinAtEventLines, PiecesPartAtEventLines};
-ghost use Rattle.pgn_text.specs.AnswerLaws.{OneElementPlace, OneTagPlace, StandsInOneThing, CommentIsOpen, EndsWhereNothingIsLeft, EndsAfterAnError, FailsBeforeNoEventLine};
+ghost use Rattle.pgn_text.specs.AnswerLaws.{OneElementPlace, OneTagPlace, StandsInOneThing, CommentIsOpen, EndsWhereNothingIsLeft, EndsAfterAnError, FailsBeforeNoEventLine, DoneWithTheBlock};
 
 /// A text has one reading: one parting into blocks, one list of pieces in each block, and so one list of pieces with their offsets;
 /// and at any place of a block at most one game begins.
@@ -77,4 +77,9 @@ pub fn ends_of_pieces()
 /// A failed read and the largest offset end no block that is held whole.
 pub fn failures()
     ensures { FailsBeforeNoEventLine }
+{}
+
+/// After a block no byte that was done with before is held again, and the block is done with.
+pub fn done_with()
+    ensures { DoneWithTheBlock }
 {}
