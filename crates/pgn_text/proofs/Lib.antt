@@ -8,6 +8,7 @@ pub mod EachStops
 pub mod EndSearch
 pub mod EventLines
 pub mod Existence
+pub mod FirstCalls
 pub mod FoundLemmas
 pub mod FrontLengths
 pub mod FrontText

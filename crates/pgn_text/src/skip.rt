@@ -24,3 +24,5 @@ impl<R: Skip> Skip for io::Take<R> {
         Ok(count)
     }
 }
+
+impl Skip for &[u8] {}
