@@ -1,41 +1,13 @@
--- What the first calls over a text in memory give.
-use Rattle.std.proofs.Common.{◌≡◌, ℕ, Bool, false, List, [], ◌∷◌, ◌++◌, Some, None, Ok, take, drop, refl, sym, ap, subst, ◌∙◌, append_assoc}
-use Rattle.std.specs.Borrow.{Bor}
-use Rattle.std.specs.Prelude.{Option, MatchOption, length}
-use Rattle.pgn_text.specs.Blocks.{IsFirstBlock}
+-- What the first calls over a block give.
+use Rattle.std.proofs.Common.{◌≡◌, ℕ, Bool, false, List, [], ◌∷◌, Some, None, Ok, take, drop, refl, subst}
+use Rattle.std.specs.Prelude.{Option, MatchOption}
 use Rattle.pgn_text.specs.Left.{Left, ArePiecesLeft, IsPiece, GivesPiece}
 use Rattle.pgn_text.specs.LeftMarks.{IsMark, GivesMark}
 use Rattle.pgn_text.specs.Pieces.{ArePieces}
 use Rattle.pgn_text.specs.Pieces as spec
-use Rattle.pgn_text.specs.Tallies.{Reads}
-use Rattle.pgn_text.specs.Windows.{Window, fresh_window, Shows, Gives}
-use Rattle.pgn_text.specs.declared.blocks.Block.{Block}
-use Rattle.pgn_text.specs.declared.blocks.Body.{Body}
-use Rattle.pgn_text.specs.declared.blocks.Body.TheVariants.{Bytes}
 use Rattle.pgn_text.specs.declared.pieces.Mark.{Mark}
 use Rattle.pgn_text.specs.declared.pieces.Piece.{Piece}
 use Rattle.pgn_text.proofs.Existence.{pieces_exist}
-
--- a block that the first call gives is the first of the text
-pub first_block_of : (limit : ℕ) (text : List ℕ) (old new : Window) (left' : Option (List ℕ)) (moved moved' : ℕ) (read : List ℕ) (block : Block)
-    → old ≡ fresh_window 0 → Reads (Some text) left' moved moved' read → Gives limit old new left' read (Ok (Some block))
-    → (bytes : List ℕ) × (rest : List ℕ) × (text ≡ bytes ++ rest) × IsFirstBlock bytes rest × Shows limit block.body bytes
-first_block_of limit text old new None moved moved' read block fresh reads gives = absurd reads.bytes
-first_block_of limit text old new (Some left) moved moved' read block fresh reads gives =
-    let cut = gives.1 in
-    let ahead : read ≡ gives.0 ++ new.ahead = ap (λ (w : Window). w.ahead ++ read) (sym fresh) ∙ cut.parted in (
-      gives.0,
-      new.ahead ++ left,
-      reads.bytes ∙ ap (λ l. l ++ left) ahead ∙ append_assoc gives.0 new.ahead left,
-      cut.first left (λ is. (cut.last is).1),
-      gives.2.0,
-    )
-
--- a body that shows the bytes of a block has as many
-pub shown_length : (limit : ℕ) (body : Body) (shown : Bor (List ℕ)) (bytes : List ℕ) → body ≡ Bytes shown → Shows limit body bytes
-    → length shown.now ≡ length bytes
-shown_length limit body shown bytes is shows =
-    let same = subst (λ b. Shows limit b bytes) is shows in ap length same.0
 
 -- the pieces of a block before the first call
 abbrev pub all_left : List ℕ → Bool → Left

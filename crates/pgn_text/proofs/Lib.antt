@@ -1,4 +1,5 @@
 pub mod BlockCuts
+pub mod BlockSizes
 pub mod Braces
 pub mod Classes
 pub mod Contents

@@ -1,12 +1,13 @@
 //! Texts in memory: what the calls of this crate say where all bytes are known. Each function is an example of one call.
 
-ghost use Rattle.std.specs.Prelude.{◌≡◌, ◌≤◌, ℕ, List, [], ◌∷◌, ◌++◌, length, take, IfOk, MatchResult, MatchOption};
-ghost use Rattle.pgn_text.specs.Blocks.{IsFirstBlock};
+ghost use Rattle.std.specs.Prelude.{◌≡◌, ◌≤◌, ℕ, List, [], ◌∷◌, ◌++◌, length, take, map, IfOk, MatchResult, MatchOption};
+ghost use Rattle.pgn_text.specs.Blocks.{AreBlocks};
 ghost use Rattle.pgn_text.specs.Left.{IsPiece};
 ghost use Rattle.pgn_text.specs.LeftMarks.{IsMark};
 ghost use Rattle.pgn_text.specs.Limits.{depth_limit};
 ghost use Rattle.pgn_text.specs.Pieces.{ArePieces};
 ghost use Rattle.pgn_text.specs.Pieces as spec;
+ghost use Rattle.pgn_text.specs.Windows.{Shows};
 
 use crate::blocks::{Blocks, Body, ReadError};
 use crate::pieces::start::{games, marks};
@@ -15,19 +16,35 @@ use crate::tally::Tally;
 use std::alloc::{AllocError, Global};
 use std::io;
 
-/// How many bytes the first block of the text has.
-pub fn first_block_len(alloc: Global, text: &[u8]) -> Result<u64, ReadError>
-    ensures { IfOk result (λ size. (block : List ℕ) × (rest : List ℕ) × (text.now ≡ block ++ rest)
-        × IsFirstBlock block rest × (size ≡ length block)) }
+/// How many bytes the body of a block stands for.
+fn size_of(body: Body<'_>) -> u64
+    ensures { (limit : ℕ) (bytes : List ℕ) → Shows limit body.entry bytes → result ≡ length bytes }
+{
+    match body {
+        Body::Bytes(bytes) => bytes.len() as u64,
+        Body::TooLong(size) => size,
+    }
+}
+
+/// How many bytes each block of the text has.
+pub fn block_sizes(alloc: Global, text: &[u8]) -> Result<Vec<u64>, ReadError>
+    ensures { IfOk result (λ sizes. (blocks : List (List ℕ)) × AreBlocks blocks text.now × (sizes.items ≡ map length blocks)) }
 {
     let mut input = Tally::new(text);
     let mut blocks = Blocks::new(alloc, 0);
-    match blocks.next(&mut input)? {
-        Some(block) => match block.body {
-            Body::Bytes(bytes) => Ok(bytes.len() as u64),
-            Body::TooLong(size) => Ok(size),
-        },
-        None => unreachable!(),
+    let mut sizes = Vec::new(alloc);
+    loop {
+        match blocks.next(&mut input) {
+            Ok(Some(block)) => {
+                let size = size_of(block.body);
+                match sizes.push(size) {
+                    Ok(()) => {}
+                    Err(_) => return Err(ReadError::OutOfMemory),
+                }
+            }
+            Ok(None) => return Ok(sizes),
+            Err(error) => return Err(error),
+        }
     }
 }
 
