@@ -17,8 +17,8 @@ use Rattle.pgn_text.proofs.BlockCuts.{cut_stays, cut_moved, no_cut_moved, no_cut
 use Rattle.pgn_text.proofs.Joined.{reads_join, reads_none}
 
 -- the search has passed over all places of the block from behind its first byte to `from`. Its first bytes, so many as `lost` says,
--- were given up, and the others are held from `begin` on
-pub record Searched (ahead held : List ℕ) (place begin lost from : ℕ) (left now : Option (List ℕ)) (moved count : ℕ) (faulted : Bool) : Type 0 where
+-- were given up, and the others are held from `begin` on. Of the bytes done with before it, which stand before `begin`, the first were too
+pub record Searched (done ahead held : List ℕ) (place begin lost from : ℕ) (left now : Option (List ℕ)) (moved count : ℕ) (faulted : Bool) : Type 0 where
   pub read : List ℕ
   pub gone : List ℕ
   pub reads : Reads left now moved count read
@@ -31,6 +31,8 @@ pub record Searched (ahead held : List ℕ) (place begin lost from : ℕ) (left 
   pub room : place + (lost + (length held - begin)) ≤ largest_offset
   pub bound : length held ≤ window_limit
   pub sound : faulted ≡ false
+  pub given_up : List ℕ
+  pub front : done ++ gone ≡ given_up ++ take begin held
 
 -- bytes that none were joined to
 pub nothing_joined : {held held' more : List ℕ} → held' ≡ held ++ more → more ≡ [] → held' ≡ held
@@ -38,7 +40,7 @@ nothing_joined {held} is nothing = is ∙ ap (λ t. held ++ t) nothing ∙ appen
 
 -- before the first turn
 pub search_start : {held : List ℕ} {at place : ℕ} {left : Option (List ℕ)} {moved : ℕ} {faulted : Bool} → IsHeld held at place → faulted ≡ false
-    → Searched (drop at held) held place at 0 (at + 1) left left moved moved faulted
+    → Searched (take at held) (drop at held) held place at 0 (at + 1) left left moved moved faulted
 search_start {held} {at} {place} {left} {moved} h sound = record {
   read = [];
   gone = [];
@@ -52,6 +54,8 @@ search_start {held} {at} {place} {left} {moved} h sound = record {
   room = (let r = h.room in omega arith);
   bound = h.bound;
   sound = sound;
+  given_up = [];
+  front = append-nil (take at held);
 }
 
 -- what was read of the block holds no event line behind its first byte
@@ -66,11 +70,11 @@ pub record Passed (ahead held : List ℕ) (place lost : ℕ) (left now : Option 
   pub room : place + (lost + length held) ≤ largest_offset
   pub few : length held < block_limit + 8
 
-module _ {ahead held : List ℕ} {place begin lost from : ℕ} {left now : Option (List ℕ)} {moved count : ℕ} {faulted : Bool}
-    (s : Searched ahead held place begin lost from left now moved count faulted) where
+module _ {done ahead held : List ℕ} {place begin lost from : ℕ} {left now : Option (List ℕ)} {moved count : ℕ} {faulted : Bool}
+    (s : Searched done ahead held place begin lost from left now moved count faulted) where
   -- an event line ends the block
   pub cut_found : {cut : ℕ} (seen : List ℕ) → seen ≡ held → IsNextCut seen from cut
-      → FindsEnd ahead held place left now moved count (record { size = lost + (cut - begin); at = cut; is_last = false })
+      → FindsEnd done ahead held place left now moved count (record { size = lost + (cut - begin); at = cut; is_last = false })
   cut_found {cut} seen same next =
       let bytes = s.gone ++ drop begin (take cut held) in
       let low : begin < cut = (let a = next.low in let b = s.behind in omega arith) in
@@ -115,6 +119,11 @@ module _ {ahead held : List ℕ} {place begin lost from : ℕ} {left now : Optio
         bound = s.bound;
         last = λ is. cc;
         more = λ _. omega arith;
+        given_up = s.given_up;
+        rest =
+            append_assoc done ahead s.read ∙ ap (λ t. done ++ t) s.joined ∙ sym (append_assoc done s.gone (drop begin held))
+            ∙ ap (λ t. t ++ drop begin held) s.front ∙ append_assoc s.given_up (take begin held) (drop begin held)
+            ∙ ap (λ t. s.given_up ++ t) (take-append-drop begin held);
       }
 
   -- no event line is held: bytes are given up
@@ -162,11 +171,11 @@ module _ {ahead held : List ℕ} {place lost : ℕ} {left now : Option (List ℕ
   size_so_far = ap length p.joined ∙ length-append p.gone held ∙ ap (λ k. k + length held) p.counted
 
   -- the text's end ends the block
-  pub end_found : {held' : List ℕ} {left' : Option (List ℕ)} {moved' : ℕ} (read : List ℕ) → Reads now left' count moved' read → read ≡ [] → IsAtEnd left'
+  pub end_found : {done held' : List ℕ} {left' : Option (List ℕ)} {moved' : ℕ} (read : List ℕ) → Reads now left' count moved' read → read ≡ [] → IsAtEnd left'
       → held' ≡ held → (size : ℕ) → size ≡ length held
-      → FindsEnd ahead held' place left left' moved moved' (record { size = lost + size; at = size; is_last = true })
-  end_found {held'} {left'} {moved'} read reads nothing ended same size known =
-      subst (λ k. FindsEnd ahead held' place left left' moved moved' (record { size = lost + k; at = k; is_last = true })) (sym known)
+      → FindsEnd done ahead held' place left left' moved moved' (record { size = lost + size; at = size; is_last = true })
+  end_found {done} {held'} {left'} {moved'} read reads nothing ended same size known =
+      subst (λ k. FindsEnd done ahead held' place left left' moved moved' (record { size = lost + k; at = k; is_last = true })) (sym known)
       (let bytes = p.gone ++ held in
       let none_left : drop (length held) held' ≡ [] = drop_all (length held) held' (omega (arith, ap length same)) in
       let all : take (length held) held' ≡ held = ap (take (length held)) same ∙ take_all (length held) held (omega arith) in
@@ -195,6 +204,11 @@ module _ {ahead held : List ℕ} {place lost : ℕ} {left now : Option (List ℕ
         bound = let f = p.few in let e = ap length same in omega arith;
         last = λ _. (sym (ap length same), ended);
         more = λ no. absurd (both_ways true no refl);
+        given_up = done ++ p.gone;
+        rest =
+            ap (λ t. (done ++ ahead) ++ (p.read ++ t)) nothing ∙ ap (λ t. (done ++ ahead) ++ t) (append-nil p.read)
+            ∙ append_assoc done ahead p.read ∙ ap (λ t. done ++ t) p.joined ∙ sym (append_assoc done p.gone held)
+            ∙ ap (λ t. (done ++ p.gone) ++ t) (sym same);
       })
 
   -- one byte too many
@@ -248,10 +262,10 @@ module _ {ahead held : List ℕ} {place lost : ℕ} {left now : Option (List ℕ
   read_failed error is last = failed_so_far error (λ other. let k = sym is ∙ other in cc) (λ other. let k = sym is ∙ other in cc) last
 
   -- more bytes came: only the last seven of those before may begin an event line
-  pub search_more : {held' : List ℕ} {left' : Option (List ℕ)} {moved' room more next : ℕ} {faulted' : Bool}
+  pub search_more : {done held' : List ℕ} {left' : Option (List ℕ)} {moved' room more next : ℕ} {faulted' : Bool}
       → AppendsRead held held' now left' count moved' room more → faulted' ≡ false → place + (lost + length held) + room ≤ largest_offset
-      → length held + room ≤ window_limit → next ≡ max (length held - 7) 1 → Searched ahead held' place 0 lost next left left' moved moved' faulted'
-  search_more {held'} {left'} {moved'} {room} {more} {next} {faulted'} appended sound fits narrow is =
+      → length held + room ≤ window_limit → next ≡ max (length held - 7) 1 → Searched done ahead held' place 0 lost next left left' moved moved' faulted'
+  search_more {done} {held'} {left'} {moved'} {room} {more} {next} {faulted'} appended sound fits narrow is =
       let size : length held' ≡ length held + more = omega (arith, ap length appended.joined, length-append held appended.read, appended.counted) in
       let few = appended.within in
       let whole : p.gone ++ held' ≡ (p.gone ++ held) ++ appended.read =
@@ -276,4 +290,6 @@ module _ {ahead held : List ℕ} {place lost : ℕ} {left now : Option (List ℕ
         room = omega arith;
         bound = omega arith;
         sound = sound;
+        given_up = done ++ p.gone;
+        front = sym (append-nil (done ++ p.gone));
       }

@@ -123,7 +123,7 @@ block_front limit max_depth offset block earlier piece later (within l pieces h 
 
 -- ---- blocks cut short
 
-event_front : (x y v : List ℕ) → IsTrue (is_event_line x y) → IsTrue (is_event_line x (y ++ v))
+pub event_front : (x y v : List ℕ) → IsTrue (is_event_line x y) → IsTrue (is_event_line x (y ++ v))
 event_front x y v h =
     let both = and_parts (get_or x (length x - 1) 0 == 10) (begins_line y) h in
     and_from (get_or x (length x - 1) 0 == 10) (begins_line (y ++ v)) both.0 (starts_more event_line y v both.1)

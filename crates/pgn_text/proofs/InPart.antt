@@ -103,7 +103,7 @@ module _ (max_depth : ℕ) where
   -- ---- a word
 
   -- what a part that begins with a word's byte is
-  from_word : (place : Standing) (b : ℕ) (y : List ℕ) → is_word_byte b ≡ true → (p : Part) → spelled_part p ≡ b ∷ y
+  pub from_word : (place : Standing) (b : ℕ) (y : List ℕ) → is_word_byte b ≡ true → (p : Part) → spelled_part p ≡ b ∷ y
       → Stands place p [] → p ≡ Word (b ∷ y)
   from_word place b y word (Word text) e h = ap Word e
   from_word place b y word ByteOrderMark e h = let is : 239 ≡ b = cc in absurd (false≢true (ap is_word_byte is ∙ word))
@@ -124,7 +124,7 @@ module _ (max_depth : ℕ) where
   from_word place b y word Open e h = let is : 40 ≡ b = cc in absurd (false≢true (ap is_word_byte is ∙ word))
   from_word place b y word Close e h = let is : 41 ≡ b = cc in absurd (false≢true (ap is_word_byte is ∙ word))
 
-  word_step : (s : State) (text : List ℕ) (t : State) → step max_depth s (Word text) ≡ Some t → (is_number text || is_move_text text) ≡ true
+  pub word_step : (s : State) (text : List ℕ) (t : State) → step max_depth s (Word text) ≡ Some t → (is_number text || is_move_text text) ≡ true
   word_step s text t e = elim (cases_Bool (is_move_text text)) [
     | inl m ↦ or_right (is_number text) (is_move_text text) m
     | inr m ↦ elim (cases_Bool (is_number text)) [

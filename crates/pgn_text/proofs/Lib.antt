@@ -1,4 +1,5 @@
 pub mod BlockCuts
+pub mod BlockSizes
 pub mod Braces
 pub mod ByteFronts
 pub mod Classes
@@ -7,7 +8,9 @@ pub mod CutOff
 pub mod Cuts
 pub mod EachStops
 pub mod EndSearch
+pub mod EventLines
 pub mod Existence
+pub mod FirstCalls
 pub mod FoundLemmas
 pub mod FrontLengths
 pub mod FrontText
@@ -24,13 +27,18 @@ pub mod InTag
 pub mod InWord
 pub mod Joined
 pub mod KeptLemmas
+pub mod LeftEnds
 pub mod LineFronts
 pub mod Lines
 pub mod Located
+pub mod MarkBounds
 pub mod MarkedPieces
+pub mod MeantFronts
 pub mod OldMarks
 pub mod OneBlocks
 pub mod OneList
+pub mod OnePlace
+pub mod OneWithin
 pub mod Pairing
 pub mod PartLemmas
 pub mod PartsAt
@@ -40,6 +48,7 @@ pub mod ReadingLemmas
 pub mod ResumedPieces
 pub mod ResumedText
 pub mod Resumption
+pub mod UncutFailures
 pub mod Rows
 pub mod Runs
 pub mod RunsTo

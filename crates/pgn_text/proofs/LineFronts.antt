@@ -6,11 +6,10 @@ use Rattle.std.specs.List.{starts_with, list_all}
 use Rattle.std.proofs.lemmas.Bool.{and_parts, and_from, false≢true, or_cases}
 use Rattle.std.proofs.lemmas.Bool.Decides.{nat_tests}
 use Rattle.std.proofs.lemmas.List.Folds.{list_all-append}
-use Rattle.pgn_text.specs.Bytes.{is_white}
+use Rattle.pgn_text.specs.Bytes.{is_white, ends_in_line_feed}
 use Rattle.pgn_text.specs.Parts.{Part, ByteOrderMark, White, Brace, Line, EscapeLine, Word, Star, Standing, standing_of, Stands, AllStand, spelled, spelled_part}
 use Rattle.pgn_text.specs.Games.{is_gap_part, is_result, is_result_word, EachFrom, IsGame}
 use Rattle.pgn_text.specs.Blocks.{event_line, IsFirstBlock}
-use Rattle.pgn_text.proofs.OneBlocks.{empty_first}
 use Rattle.pgn_text.proofs.TagLemmas.{bytes_eq-same}
 
 -- the text begins with an event line
@@ -131,11 +130,15 @@ game_line max_depth file_start before parts after a b tail g e =
     let behind = (plain_both a (spelled parts ++ b) (plain_front (a ++ (spelled parts ++ b)) tail e)).1 in
     plain_game max_depth file_start before parts after g (plain_both (spelled parts) b behind).0
 
--- and no whole block that more bytes follow: so where the text begins with the line, its first block has all of that line
-pub block_line : (block left : List ℕ) → IsFirstBlock block left → left ≢ [] → begins_line (block ++ left) ≡ true → begins_line block ≡ true
-block_line [] left first some h = absurd (some (empty_first left first))
-block_line (b ∷ u) left first some h = elim (short_front event_line (b ∷ u) left h) [
+-- and no bytes that end in a line feed: so where a text begins with the line, each front of it that ends so has all of that line
+pub line_front : (front left : List ℕ) → ends_in_line_feed front ≡ true → begins_line (front ++ left) ≡ true → begins_line front ≡ true
+line_front [] left feed h = absurd (false≢true feed)
+line_front (b ∷ u) left feed h = elim (short_front event_line (b ∷ u) left h) [
   | inl t ↦ t
-  | inr t ↦ absurd (last_plain b u (plain_front (b ∷ u) t.0 t.1)
-      (and_parts (get_or (b ∷ u) (length (b ∷ u) - 1) 0 == 10) (begins_line left) (first.ends some)).0)
+  | inr t ↦ absurd (last_plain b u (plain_front (b ∷ u) t.0 t.1) feed)
 ]
+
+-- as the first block has that more bytes follow
+pub block_line : (block left : List ℕ) → IsFirstBlock block left → left ≢ [] → begins_line (block ++ left) ≡ true → begins_line block ≡ true
+block_line block left first some h =
+    line_front block left (and_parts (ends_in_line_feed block) (begins_line left) (first.ends some)).0 h

@@ -118,7 +118,7 @@ module _ (f : Bool) (block : List ℕ) (begin at : ℕ) (done : List Part) (to :
 -- ---- elements
 
 -- parts that stand before others give no more elements
-fewer_items : (parts more done : List Part) → done ≡ parts ++ more → length (items_of parts) ≤ length (items_of done)
+pub fewer_items : (parts more done : List Part) → done ≡ parts ++ more → length (items_of parts) ≤ length (items_of done)
 fewer_items parts more done is =
     let joined : length (items_of done) ≡ length (items_of parts ++ items_of more) = ap (λ ps. length (items_of ps)) is ∙ ap length (flat_map-append items_of_part parts more) in
     omega (arith, joined, length-append (items_of parts) (items_of more))
@@ -146,7 +146,7 @@ no_element f block begin at index left done to counted nothing parts rest parted
 
 -- ---- tags
 
-neither : (a b : Option (List ℕ)) → option_or a b ≡ None → (a ≡ None) × (b ≡ None)
+pub neither : (a b : Option (List ℕ)) → option_or a b ≡ None → (a ≡ None) × (b ≡ None)
 neither None b none = (refl, none)
 neither (Some x) b none = absurd (cc)
 
@@ -155,7 +155,7 @@ is_none None fails = refl
 is_none (Some x) fails = let clash : true ≡ false = fails in absurd (cc)
 
 -- parts that stand before others have no tag of the name where those have none
-none_earlier : (name : List ℕ) (parts more : List Part) → first_tag name (parts ++ more) ≡ None → first_tag name parts ≡ None
+pub none_earlier : (name : List ℕ) (parts more : List Part) → first_tag name (parts ++ more) ≡ None → first_tag name parts ≡ None
 none_earlier name [] more none = refl
 none_earlier name (part ∷ parts) more none =
     let apart = neither (named_kept name (kept part)) (first_tag name (parts ++ more)) (sym (first_tag-cons name part (parts ++ more)) ∙ none) in

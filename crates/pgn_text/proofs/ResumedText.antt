@@ -31,7 +31,7 @@ last_byte x (b ∷ y) some =
     ap (λ n. get_or (x ++ b ∷ y) n 0) e ∙ get_or-append-add x (b ∷ y) (length (b ∷ y) - 1) 0
 
 -- an event line does not depend on what stands before the byte before it
-event_line_behind : (x y after : List ℕ) → y ≢ [] → is_event_line (x ++ y) after ≡ is_event_line y after
+pub event_line_behind : (x y after : List ℕ) → y ≢ [] → is_event_line (x ++ y) after ≡ is_event_line y after
 event_line_behind x y after some = ap (λ b. (b == 10) && starts_with nat_eq after event_line) (last_byte x y some)
 
 -- the end of a first block is a first block

@@ -3,10 +3,13 @@ use Rattle.std.proofs.Common.{◌≡◌, ℕ, zero, suc, ◌+◌, ◌-◌, ◌�
 use Rattle.std.specs.List.{list_all}
 use Rattle.std.proofs.lemmas.Bool.{and_from, eqb-true}
 use Rattle.std.proofs.lemmas.List.{length-take-le, take-append-drop}
+use Rattle.std.proofs.lemmas.List.Folds.{list_all-append}
+use Rattle.std.specs.Prelude.{◌&&◌}
 use Rattle.pgn_text.specs.Agreement.{Walks, WalkedTo, BehindGame, FrontWithin}
 use Rattle.pgn_text.specs.Bytes.{begins, is_not_brace}
-use Rattle.pgn_text.specs.PartFronts.{NoneFollows}
-use Rattle.pgn_text.specs.Parts.{Part, Standing, standing_of, AllStand, spelled_part, spelled}
+use Rattle.pgn_text.specs.Games.{is_meant}
+use Rattle.pgn_text.specs.PartFronts.{IsPartFront, NoneFollows}
+use Rattle.pgn_text.specs.Parts.{Part, Standing, standing_of, Stands, AllStand, spelled_part, spelled}
 use Rattle.pgn_text.specs.Reading.{Kept, is_kept_result}
 use Rattle.pgn_text.specs.Steps.{State, start}
 use Rattle.pgn_text.specs.StopPlaces.{PartsThen, StandsWithin, is_open_brace}
@@ -16,6 +19,9 @@ use Rattle.pgn_text.specs.declared.agreement.Within.TheVariants.{Comment, TagNam
 use Rattle.pgn_text.proofs.Halfway.{stands_join, spelled-append}
 use Rattle.pgn_text.proofs.InPart.{all_take}
 use Rattle.pgn_text.proofs.Lines.{Shows, shows_start, shows_more, depth_is}
+use Rattle.pgn_text.proofs.MeantFronts.{walks_meant, walks_unended, result_meant, no_meant_front}
+use Rattle.pgn_text.proofs.OneList.{no_bytes}
+use Rattle.pgn_text.proofs.PartLemmas.{part_has_byte}
 use Rattle.pgn_text.proofs.Stuck.{brace_missing}
 use Rattle.pgn_text.proofs.StopWalk.{size, kind, stands_there}
 
@@ -27,16 +33,24 @@ walks_show max_depth front (p ∷ done) s t h w =
     (walks_show max_depth (front ++ p ∷ []) done w.1.0 t (shows_more max_depth front s w.1.0 p w.1.1 h) w.1.2)
 
 module _ (max_depth : ℕ) (f : Bool) (block : List ℕ) (begin : ℕ) where
-  -- the parts up to a place, and the bytes from there to another
-  parts_then : (at place : ℕ) (state : State) (w : WalkedTo max_depth f block begin at state) → at ≤ place → place ≤ length block
+  -- the parts up to a place, and the bytes from there to another, which are the front of a part
+  parts_then : (at place : ℕ) (state : State) (w : WalkedTo max_depth f block begin at state)
+      → NoneFollows max_depth (standing_of f (take at block)) state (drop at block)
+      → IsPartFront max_depth (standing_of f (take at block)) state (take (place - at) (drop at block)) → at ≤ place → place ≤ length block
       → PartsThen f block begin at place w.done (take (place - at) (drop at block))
-  parts_then at place state w forward within =
+  parts_then at place state w nothing here forward within =
       let there : at + (place - at) ≡ place = omega (arith, forward) in
       let back : drop at block ≡ take (place - at) (drop at block) ++ drop place block =
       sym (take-append-drop (place - at) (drop at block)) ∙ ap (λ l. take (place - at) (drop at block) ++ l) (drop-drop (place - at) at block ∙ ap (λ k. drop k block) there) in
       record {
         parted = w.parted ∙ ap (λ l. spelled w.done ++ l) back;
         stand = subst (λ l. AllStand f (take begin block) w.done l) back w.stand;
+        meant = walks_meant max_depth start w.done state w.walks;
+        no_more = λ part rest e stands.
+            no_meant_front max_depth (standing_of f (take at block)) state (drop at block) part rest (rest ++ drop place block) nothing
+            (subst (IsPartFront max_depth (standing_of f (take at block)) state) e here)
+            (back ∙ ap (λ l. l ++ drop place block) e ∙ append_assoc (spelled_part part) rest (drop place block))
+            (subst (λ l. Stands (standing_of f l) part (rest ++ drop place block)) (sym w.passed) stands);
         at_is = size max_depth f block begin at state w;
         place_is = omega (arith, there, length-take-le (place - at) (drop at block) (omega (arith, forward, within, length-drop at block)));
       }
@@ -60,6 +74,12 @@ module _ (max_depth : ℕ) (f : Bool) (block : List ℕ) (begin : ℕ) where
               (subst (λ l. AllStand f (take begin block) w.done l)
               (found.parted ∙ ap (λ l. l ++ drop end block) (sym (append-nil (spelled_part here.part)))) w.stand)
               (stands_there max_depth f block begin at end state w token here, tt);
+          meant = list_all-append is_meant w.done (here.part ∷ [])
+              ∙ and_from (list_all is_meant w.done) (is_meant here.part && true) (walks_meant max_depth start w.done state w.walks)
+              (and_from (is_meant here.part) true (result_meant here.part (kind max_depth f block begin at end token here ∙ result)) refl);
+          no_more = λ part rest e stands.
+              absurd (part_has_byte (standing_of f (take begin block ++ spelled (w.done ++ here.part ∷ []))) part (rest ++ drop end block) stands
+              (no_bytes (spelled_part part) rest (sym e)));
           at_is = omega (arith, sizes, size max_depth f block begin at state w, ap length bytes, length-append (spelled w.done) (spelled_part here.part));
           place_is = omega arith;
         },
@@ -78,36 +98,37 @@ module _ (max_depth : ℕ) (f : Bool) (block : List ℕ) (begin : ℕ) where
       (all_take max_depth is_not_brace rest k (brace_missing max_depth place s rest (subst (λ d. NoneFollows max_depth place s (d ∷ rest)) is nothing)))
 
   pub stands_within : (at place : ℕ) (state : State) (within : Within) → WalkedTo max_depth f block begin at state
-      → NoneFollows max_depth (standing_of f (take at block)) state (drop at block) → at ≤ place → place ≤ length block
+      → NoneFollows max_depth (standing_of f (take at block)) state (drop at block)
+      → IsPartFront max_depth (standing_of f (take at block)) state (take (place - at) (drop at block)) → at ≤ place → place ≤ length block
       → FrontWithin state (take (place - at) (drop at block)) at within → StandsWithin f block begin place within
-  stands_within at place state (Comment begun) w nothing forward low h = (
+  stands_within at place state (Comment begun) w nothing here forward low h = (
     w.done,
     take (place - at) (drop at block),
-    rw h.0 (parts_then at place state w forward low),
+    rw h.0 (parts_then at place state w nothing here forward low),
     h.1,
     no_brace (standing_of f (take at block)) state (drop at block) (place - at) nothing h.1,
   )
-  stands_within at place state (TagName begun) w nothing forward low h =
-      (w.done, take (place - at) (drop at block), rw h.0 (parts_then at place state w forward low), h.1, h.2)
-  stands_within at place state (TagValue begun) w nothing forward low h =
-      (w.done, take (place - at) (drop at block), rw h.0 (parts_then at place state w forward low), h.1, h.2)
-  stands_within at place state Variation w nothing forward low h =
+  stands_within at place state (TagName begun) w nothing here forward low h =
+      (w.done, take (place - at) (drop at block), rw h.0 (parts_then at place state w nothing here forward low), h.1, h.2)
+  stands_within at place state (TagValue begun) w nothing here forward low h =
+      (w.done, take (place - at) (drop at block), rw h.0 (parts_then at place state w nothing here forward low), h.1, h.2)
+  stands_within at place state Variation w nothing here forward low h =
       let shown = walks_show max_depth [] w.done start state shows_start w.walks in (
         w.done,
-        record { at = at; front = take (place - at) (drop at block); parts_then = parts_then at place state w forward low; other = h.0 },
+        record { at = at; front = take (place - at) (drop at block); parts_then = parts_then at place state w nothing here forward low; other = h.0; unended = walks_unended max_depth start w.done state w.walks },
         omega (arith, h.1, depth_is w.done state shown),
       )
-  stands_within at place state Tags w nothing forward low h =
+  stands_within at place state Tags w nothing here forward low h =
       let shown = walks_show max_depth [] w.done start state shows_start w.walks in (
         w.done,
-        record { at = at; front = take (place - at) (drop at block); parts_then = parts_then at place state w forward low; other = h.0 },
+        record { at = at; front = take (place - at) (drop at block); parts_then = parts_then at place state w nothing here forward low; other = h.0; unended = walks_unended max_depth start w.done state w.walks },
         sym shown.tags ∙ h.1,
       )
-  stands_within at place state MainLine w nothing forward low h =
+  stands_within at place state MainLine w nothing here forward low h =
       let shown = walks_show max_depth [] w.done start state shows_start w.walks in (
         w.done,
-        record { at = at; front = take (place - at) (drop at block); parts_then = parts_then at place state w forward low; other = h.0 },
+        record { at = at; front = take (place - at) (drop at block); parts_then = parts_then at place state w nothing here forward low; other = h.0; unended = walks_unended max_depth start w.done state w.walks },
         depth_is w.done state shown ∙ h.1,
         sym shown.tags ∙ h.2,
       )
-  stands_within at place state Game w nothing forward low h = absurd h
+  stands_within at place state Game w nothing here forward low h = absurd h

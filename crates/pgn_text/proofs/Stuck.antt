@@ -59,7 +59,7 @@ get_first (b ∷ rest) = b
 module _ (max_depth : ℕ) where
   -- ---- the first byte tells the part
 
-  follows_always : (s : State) (p : Part) (t : State) → is_result p ≡ false → step max_depth s p ≡ Some t → Follows max_depth s p
+  pub follows_always : (s : State) (p : Part) (t : State) → is_result p ≡ false → step max_depth s p ≡ Some t → Follows max_depth s p
   follows_always s p t r e = record { ends = λ q. absurd (false≢true (sym r ∙ q)); goes_on = λ _. (t, e) }
 
   -- a word that begins with a letter may follow
@@ -98,7 +98,7 @@ module _ (max_depth : ℕ) where
       ]
 
   -- a tag's bracket begins nothing but a tag
-  bracket_tag : (place : Standing) (p : Part) (y : List ℕ) → spelled_part p ≡ 91 ∷ y → Stands place p [] → is_tag p ≡ true
+  pub bracket_tag : (place : Standing) (p : Part) (y : List ℕ) → spelled_part p ≡ 91 ∷ y → Stands place p [] → is_tag p ≡ true
   bracket_tag place (Tag first name second contents third) y e h = refl
   bracket_tag place (Word []) y e h = cc
   bracket_tag place (Marks []) y e h = cc
@@ -111,7 +111,7 @@ module _ (max_depth : ℕ) where
       absurd (false≢true (ap is_mark (sym b_is) ∙ (and_parts (is_mark b) (list_all is_mark marks) h.1).0))
   bracket_tag place p y e h = absurd (false≢true (ap (begins (λ b. b == 91)) e))
 
-  tag_stuck : (s : State) → s.in_tags ≡ false → (p : Part) → is_tag p ≡ true → Follows max_depth s p → ⊥
+  pub tag_stuck : (s : State) → s.in_tags ≡ false → (p : Part) → is_tag p ≡ true → Follows max_depth s p → ⊥
   tag_stuck s no_tags (Tag first name second contents third) e h =
       let next = h.goes_on refl in let g = rw no_tags at next.1 in cc
   tag_stuck s no_tags p e h = cc

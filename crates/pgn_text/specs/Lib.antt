@@ -12,6 +12,7 @@ pub mod Marks
 pub mod Laws
 pub mod Stops
 pub mod StopLaws
+pub mod TextLaws
 pub mod Tallies
 pub mod Windows
 pub mod GameTexts
@@ -20,6 +21,7 @@ pub mod Left
 pub mod LeftMarks
 pub mod StopPlaces
 pub mod PartPlaces
+pub mod AnswerLaws
 -- Private words: functions on lists that the code equals, and what its loops keep. No public contract cites them.
 pub mod Agreement
 pub mod Cuts

@@ -46,8 +46,8 @@ pub record GivesUp (held begin lost front : ℕ) : Type 0 where
   pub long : 0 < lost + (front - begin) → (block_limit ≤ lost + (front - begin)) × (front + 8 ≤ held)
 
 -- a search read on to the block's end, and gave up what it did not need: these are the block's bytes, and those of a block within
--- the limit are still held
-pub record FindsEnd (ahead held : List ℕ) (place : ℕ) (left left' : Option (List ℕ)) (moved moved' : ℕ) (end : BlockEnd) : Type 0 where
+-- the limit are still held. The first of all bytes held and read were given up
+pub record FindsEnd (done ahead held : List ℕ) (place : ℕ) (left left' : Option (List ℕ)) (moved moved' : ℕ) (end : BlockEnd) : Type 0 where
   pub read : List ℕ
   pub bytes : List ℕ
   pub reads : Reads left left' moved moved' read
@@ -60,6 +60,8 @@ pub record FindsEnd (ahead held : List ℕ) (place : ℕ) (left left' : Option (
   pub bound : length held ≤ window_limit
   pub last : end.is_last ≡ true → (end.at ≡ length held) × IsAtEnd left'
   pub more : end.is_last ≡ false → end.at < length held
+  pub given_up : List ℕ
+  pub rest : (done ++ ahead) ++ read ≡ given_up ++ held
 
 -- a call failed after it had read some bytes
 pub record FailsFrom (place : ℕ) (ahead : List ℕ) (left left' : Option (List ℕ)) (moved moved' : ℕ) (error : ReadError) : Type 0 where
@@ -71,5 +73,5 @@ pub record FailsFrom (place : ℕ) (ahead : List ℕ) (left left' : Option (List
 -- a step cut off the bytes of a block of this size, and those of a block within the limit end the bytes done with; or it failed
 abbrev pub StepGives : Window → Window → Option (List ℕ) → List ℕ → Result ℕ ReadError → Type 0
 StepGives old new left' read (Ok size) =
-    (bytes : List ℕ) × IsCutOff old new left' read bytes × (length bytes ≡ size) × (size ≤ block_limit → EndsIn new.done size bytes)
+    ((bytes : List ℕ) × IsCutOff old new left' read bytes × (length bytes ≡ size) × (size ≤ block_limit → EndsIn new.done size bytes))
 StepGives old new left' read (Err error) = (new.failed ≡ true) × (error ≢ Failed) × FailsAfter old.place old.ahead read error

@@ -2,9 +2,9 @@
 use Rattle.std.specs.Prelude.{◌≡◌, ℕ, Bool, true, false, not, ◌||◌, ◌==◌, ◌+◌, ◌<◌, List, [], ◌∷◌, ◌++◌, length, take, drop, IsTrue}
 use Rattle.std.specs.List.{list_all, list_any}
 use Rattle.pgn_text.specs.Bytes.{is_white, is_name_byte, is_not_brace, begins}
-use Rattle.pgn_text.specs.Parts.{Part, AllStand, spelled}
+use Rattle.pgn_text.specs.Parts.{Part, Stands, AllStand, standing_of, spelled_part, spelled}
 use Rattle.pgn_text.specs.Reading.{run_of, after_run}
-use Rattle.pgn_text.specs.Games.{is_gap_part, is_tag, is_result, depth_after}
+use Rattle.pgn_text.specs.Games.{is_gap_part, is_tag, is_result, is_meant, depth_after}
 use Rattle.pgn_text.specs.declared.agreement.Within.{Within}
 use Rattle.pgn_text.specs.declared.agreement.Within.TheVariants.{Comment, TagName, TagValue, Tags, Variation, MainLine, Game}
 
@@ -20,19 +20,24 @@ is_open_bracket b = b == 91
 abbrev pub is_quote : ℕ → Bool
 is_quote b = b == 34
 
--- up to the place the text from `begin` of a block on is these parts, the last of which ends at the place `at`, and these bytes
+-- up to the place the text from `begin` of a block on is these parts, each of which has a meaning and the last of which ends at the
+-- place `at`, and these bytes, at whose front stands no further such part
 pub record PartsThen (file_start : Bool) (block : List ℕ) (begin at place : ℕ) (parts : List Part) (front : List ℕ) : Type 0 where
   pub parted : drop begin block ≡ spelled parts ++ (front ++ drop place block)
   pub stand : AllStand file_start (take begin block) parts (front ++ drop place block)
+  pub meant : IsTrue (list_all is_meant parts)
+  pub no_more : (part : Part) (rest : List ℕ) → front ≡ spelled_part part ++ rest
+      → Stands (standing_of file_start (take begin block ++ spelled parts)) part (rest ++ drop place block) → is_meant part ≡ false
   pub at_is : at ≡ begin + length (spelled parts)
   pub place_is : place ≡ at + length front
 
--- the same, and the bytes are neither in a comment nor in a tag
+-- the same, the bytes are neither in a comment nor in a tag, and none of the parts ends a game
 pub record PartsThenOther (file_start : Bool) (block : List ℕ) (begin place : ℕ) (parts : List Part) : Type 0 where
   pub at : ℕ
   pub front : List ℕ
   pub parts_then : PartsThen file_start block begin at place parts front
   pub other : IsTrue (not (begins (λ b. is_open_brace b || is_open_bracket b) front))
+  pub unended : list_any is_result parts ≡ false
 
 -- the name of the tag whose bracket stands before these bytes: the bytes of a name that follow its first white space
 abbrev pub tag_name_of : List ℕ → List ℕ

@@ -35,6 +35,11 @@ pub record IsCutOff (old new : Window) (left' : Option (List ℕ)) (read bytes :
   pub more : new.ended ≡ false → new.ahead ≢ []
   pub sound : (new.failed ≡ false) × (new.over ≡ false)
 
+-- of the bytes held as the call began and those read in it the first were given up, and the others are held, done with or ahead
+pub record HoldsTheRest (old new : Window) (read : List ℕ) : Type 0 where
+  pub given_up : List ℕ
+  pub held : (old.done ++ old.ahead) ++ read ≡ given_up ++ (new.done ++ new.ahead)
+
 -- what was read of the block holds no event line, up to where reading failed
 pub record IsCutShort (place : ℕ) (bytes : List ℕ) : Type 0 where
   pub uncut : IsFirstBlock bytes []

@@ -1,5 +1,5 @@
 //! The blocks of a text: from its begin or an event line to the next event line or the end.
-ghost use Rattle.std.specs.Prelude.{◌≡◌, ◌≢◌, ◌↔◌, ◌⊎◌, ℕ, ◌+◌, ◌-◌, ◌^◌, ◌<◌, ◌≤◌, true, false, List, [], ◌++◌, length, drop, IsTrue, IfOk, IfErr, IsErrOf};
+ghost use Rattle.std.specs.Prelude.{◌≡◌, ◌≢◌, ◌↔◌, ◌⊎◌, ℕ, ◌+◌, ◌-◌, ◌^◌, ◌<◌, ◌≤◌, true, false, List, [], ◌++◌, length, take, drop, IsTrue, IfOk, IfErr, IsErrOf};
 ghost use Rattle.std.specs.Borrow.{sem};
 ghost use Rattle.std.specs.Io.BufRead.{Rests};
 ghost use Rattle.std.specs.Io.KnownBytes.{IsAtEnd};
@@ -9,7 +9,7 @@ ghost use Rattle.pgn_text.specs.Limits.{block_limit, largest_offset, window_limi
 ghost use Rattle.pgn_text.specs.Phases.{is_failed, is_ended, is_over};
 ghost use Rattle.pgn_text.specs.Searches.{FindsCut, FindsMore, FindsEnd, FailsFrom, GivesUp, StepGives};
 ghost use Rattle.pgn_text.specs.Tallies.{Reads};
-ghost use Rattle.pgn_text.specs.Windows.{EndsIn, IsBlock, Gives, fresh_window};
+ghost use Rattle.pgn_text.specs.Windows.{EndsIn, HoldsTheRest, IsBlock, Gives, fresh_window};
 ghost use Rattle.pgn_text.specs.contracts.blocks.Blocks.{the_row};
 
 use crate::buffer::Buffer;
@@ -153,11 +153,12 @@ impl Blocks {
         ensures fault { IsErrOf result ReadError.Read
             ↔ ((input.old.faulted ≡ false) × (input.new.faulted ≡ true)) }
 
-        // What was read, and what the call gives of it and of the bytes held.
+        // What was read, what the call gives of it and of the bytes held, and that the rest of these is held.
         ensures* after_borrow { sem 𝓛 (Rests the_row self.entry (λ new. (read : List ℕ)
             × Reads (R.remaining input.old.inner) (R.remaining input.new.inner)
             input.old.moved input.new.moved read
-            × Gives block_limit self.old new (R.remaining input.new.inner) read result)) }
+            × Gives block_limit self.old new (R.remaining input.new.inner) read result
+            × HoldsTheRest self.old new read)) }
     {
         match self.phase {
             Phase::Failed => return Err(ReadError::Failed),
@@ -184,7 +185,8 @@ impl Blocks {
         ensures gives { (read : List ℕ)
             × Reads (R.remaining input.old.inner) (R.remaining input.new.inner)
             input.old.moved input.new.moved read
-            × StepGives self.old self.new (R.remaining input.new.inner) read result }
+            × StepGives self.old self.new (R.remaining input.new.inner) read result
+            × HoldsTheRest self.old self.new read }
         ensures fault { IsErrOf result ReadError.Read ↔ (input.new.faulted ≡ true) }
     {
         match find_end(&mut self.buf, self.at, self.place, input) {
@@ -286,7 +288,7 @@ fn find_end<R: Read>(
 ) -> Result<BlockEnd, ReadError>
     requires held { IsHeld buf.old at place }
     requires sound { input.old.faulted ≡ false }
-    ensures ok { IfOk result (FindsEnd (drop at buf.old) buf.new place
+    ensures ok { IfOk result (FindsEnd (take at buf.old) (drop at buf.old) buf.new place
         (R.remaining input.old.inner) (R.remaining input.new.inner)
         input.old.moved input.new.moved) }
     ensures err { IfErr result (FailsFrom place (drop at buf.old)

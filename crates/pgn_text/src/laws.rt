@@ -2,6 +2,8 @@
 
 ghost use Rattle.pgn_text.specs.StopLaws.{EachTextStopsOnce, FrontsOfGameFronts, StopsBehindGame, StopsBehindChange, UnreadableStopsAlone};
 ghost use Rattle.pgn_text.specs.Laws.{AtMostOneGame, GameHasAGameText, GameTextIsOne, TextHasOneParting, BlockHasOneList, TextHasOneList, ResumesAnywhere, FrontHasThePiecesBefore, BlockKeepsPieces, TextKeepsPieces};
+ghost use Rattle.pgn_text.specs.TextLaws.{PieceBeginsInItsText, PiecesJoinAtEventLines, PiecesPartAtEventLines};
+ghost use Rattle.pgn_text.specs.AnswerLaws.{OneElementPlace, OneTagPlace, StandsInOneThing, CommentIsOpen, EndsWhereNothingIsLeft, EndsAfterAnError, FailsBeforeNoEventLine, DoneWithTheBlock};
 
 /// A text has one reading: one parting into blocks, one list of pieces in each block, and so one list of pieces with their offsets;
 /// and at any place of a block at most one game begins.
@@ -16,6 +18,18 @@ pub fn one_reading()
 pub fn one_game_text()
     ensures some { GameHasAGameText }
     ensures one { GameTextIsOne }
+{}
+
+/// Each piece of a text begins within it, and before it stand no more pieces than bytes.
+pub fn mark_bounds()
+    ensures { PieceBeginsInItsText }
+{}
+
+/// An event line parts the pieces of a text: those before it and those from it on do not depend on each other, so that
+/// unreadable bytes cost no game of another block.
+pub fn event_lines()
+    ensures join { PiecesJoinAtEventLines }
+    ensures part { PiecesPartAtEventLines }
 {}
 
 /// A reading that begins again at a piece of a text gives that piece and those behind it, with the same offsets.
@@ -42,4 +56,32 @@ pub fn one_stop()
     ensures game { StopsBehindGame }
     ensures change { StopsBehindChange }
     ensures alone { UnreadableStopsAlone }
+{}
+
+/// An element of a game stands at one place, and so does the first tag of a name.
+pub fn one_place()
+    ensures element { OneElementPlace }
+    ensures tag { OneTagPlace }
+{}
+
+/// A place where a text stops agreeing with games stands in one thing.
+pub fn one_context()
+    ensures one { StandsInOneThing }
+    ensures comment { CommentIsOpen }
+{}
+
+/// The pieces of a block end where none is left, or after an error.
+pub fn ends_of_pieces()
+    ensures nothing_left { EndsWhereNothingIsLeft }
+    ensures after_error { EndsAfterAnError }
+{}
+
+/// A failed read and the largest offset end no block that is held whole.
+pub fn failures()
+    ensures { FailsBeforeNoEventLine }
+{}
+
+/// After a block no byte that was done with before is held again, and the block is done with.
+pub fn done_with()
+    ensures { DoneWithTheBlock }
 {}

@@ -1,5 +1,6 @@
 //! Chess games in Portable Game Notation: what a reader gives is parted into blocks, a block into games, and each game is read as
 //! tags, elements and a result. Nothing of a game is copied: tags, words, comments and results are slices of the block.
+//! The module `memory` has a proved example of each call over a reader, a writer or a block.
 #![tactic(auto)]
 
 mod agreement;
@@ -11,6 +12,7 @@ mod game;
 pub mod laws;
 mod limits;
 mod locate;
+pub mod memory;
 mod pieces;
 mod place;
 mod progress;
