@@ -23,9 +23,9 @@ few_pieces max_depth file_start before (Game at parts ∷ more) text h =
     let rest = few_pieces max_depth file_start ((before ++ spelled h.0) ++ spelled parts) more h.1 h.6 in
     let some : 0 < length (spelled parts) = some_length (spelled parts) (game_has_byte max_depth file_start (before ++ spelled h.0) parts h.1 h.5) in
     omega (arith, ap length h.2, length-append (spelled h.0) (spelled parts ++ h.1), length-append (spelled parts) h.1)
-few_pieces max_depth file_start before (Unreadable at stop ∷ more) text h =
-    let some : 0 < length h.1 = some_length h.1 h.5 in
-    omega (arith, ap length h.2, length-append (spelled h.0) h.1, ap length h.7)
+few_pieces max_depth file_start before (Unreadable at bytes ∷ more) text h =
+    let some : 0 < length bytes = some_length bytes h.4 in
+    omega (arith, ap length h.1, length-append (spelled h.0) bytes, ap length h.6)
 
 few_of_block : (limit max_depth offset : ℕ) (block : List ℕ) (marks : List MarkedPiece)
     → AreOfBlock limit max_depth offset block marks → length marks ≤ length block
@@ -43,10 +43,10 @@ piece_place max_depth file_start before [] (Game at parts) later text h =
     let own = h.4 ∙ length-append before (spelled h.0) in
     let all = ap length h.2 ∙ length-append (spelled h.0) (spelled parts ++ h.1) in
     (omega arith, omega (arith, length-append (spelled parts) h.1))
-piece_place max_depth file_start before [] (Unreadable at stop) later text h =
-    let some : 0 < length h.1 = some_length h.1 h.5 in
-    let own = h.4 ∙ length-append before (spelled h.0) in
-    let all = ap length h.2 ∙ length-append (spelled h.0) h.1 in
+piece_place max_depth file_start before [] (Unreadable at bytes) later text h =
+    let some : 0 < length bytes = some_length bytes h.4 in
+    let own = h.3 ∙ length-append before (spelled h.0) in
+    let all = ap length h.1 ∙ length-append (spelled h.0) bytes in
     (omega arith, omega arith)
 piece_place max_depth file_start before (Game at parts ∷ earlier) piece later text h =
     let behind = (before ++ spelled h.0) ++ spelled parts in
@@ -56,8 +56,8 @@ piece_place max_depth file_start before (Game at parts ∷ earlier) piece later 
     let first = length-append before (spelled h.0) in
     let all = ap length h.2 ∙ length-append (spelled h.0) (spelled parts ++ h.1) in
     (omega arith, omega (arith, length-append (spelled parts) h.1))
-piece_place max_depth file_start before (Unreadable at stop ∷ earlier) piece later text h =
-    absurd (not_nil earlier piece later h.7)
+piece_place max_depth file_start before (Unreadable at bytes ∷ earlier) piece later text h =
+    absurd (not_nil earlier piece later h.6)
 
 block_bounds : (limit max_depth offset : ℕ) (block : List ℕ) (earlier : List MarkedPiece) (piece : MarkedPiece) (later : List MarkedPiece)
     → AreOfBlock limit max_depth offset block (earlier ++ piece ∷ later)
