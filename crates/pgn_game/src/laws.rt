@@ -1,6 +1,7 @@
 //! What holds of every game, whatever replays it. Each law is the contract of a function that does nothing.
 
 ghost use Rattle.pgn_game.specs.Exports.{MovetextHasOneList};
+ghost use Rattle.pgn_game.specs.Refusals.{OneLineIsReached, RefusedWordIsTheFault};
 ghost use Rattle.pgn_game.specs.TextLines.{TokensHaveAText, TokensHaveOneText};
 ghost use Rattle.pgn_game.specs.Laws.{EachMoveIsNamed, MainLineIsTheLine, EachMoveHasATurn, GameHasOneReplay, GameHasOneFault, SoundGameHasNoFault, GameHasAnAnswer, MovetextHasTokens, GameHasAnExport, GameHasOneExport, NoLineIsMisread};
 
@@ -30,6 +31,13 @@ pub fn one_answer()
 /// parentheses stand in pairs, as in each game of a text. Of no other contents is there a value that could be read or refused.
 pub fn an_answer()
     ensures { GameHasAnAnswer }
+{}
+
+/// The elements in front of one lead to one position alone; and whatever word stands there and is refused in that position is the fault of
+/// the game, whatever stands behind it.
+pub fn one_place_reached()
+    ensures line { OneLineIsReached }
+    ensures fault { RefusedWordIsTheFault }
 {}
 
 /// Tokens have a text in lines of each width, and only one.
