@@ -26,3 +26,4 @@ pub mod SomeMovetext
 pub mod SomeExport
 pub mod PlainTokens
 pub mod PlainLines
+pub mod PlainExport

@@ -23,6 +23,7 @@ pub mod InTag
 pub mod InWord
 pub mod Joined
 pub mod KeptLemmas
+pub mod LastResult
 pub mod LineFronts
 pub mod Lines
 pub mod Located
