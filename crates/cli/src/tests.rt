@@ -14,6 +14,7 @@ mod exports;
 mod faults;
 mod index;
 mod listing;
+mod memory;
 mod passes;
 mod pieces;
 mod refusals;
