@@ -8,6 +8,7 @@ mod chess_moves;
 mod chess_rows;
 mod chess_texts;
 mod criteria;
+mod examples;
 mod explained;
 mod export_rows;
 mod exports;
