@@ -1,4 +1,14 @@
 //! Chess by the FIDE Laws: boards, positions, legal moves, FEN and SAN. No call takes memory.
+//!
+//! The position after the one legal move that a word names; none where the word names none or several:
+//!
+//! ```text
+//! fn after_word(fen: &[u8], word: &[u8]) -> Option<Position<Bits>> {
+//!     let position = Position::<Bits>::from_fen(fen).ok()?;
+//!     let m = resolve(&position, word).ok()?;
+//!     Some(position.play(m))
+//! }
+//! ```
 #![tactic(auto)]
 
 mod board;

@@ -1,11 +1,11 @@
 -- What the definitions say of lines that every reader can check.
-use Rattle.std.proofs.Common.{◌≡◌, List, [], ◌∷◌, ◌++◌, refl, inl, inr, arith, codes}
+use Rattle.std.proofs.Common.{◌≡◌, ◌≤◌, ℕ, List, [], ◌∷◌, ◌++◌, length, refl, inl, inr, arith, codes}
 use Rattle.chess.specs.Fen.{parted_at}
 use Rattle.chess.specs.declared.board.man.Kind.{Kind}
 use Rattle.chess.specs.declared.board.man.Kind.TheVariants.{King, Queen, Rook, Bishop, Knight, Pawn}
 use Rattle.chess.specs.declared.board.man.Side.TheVariants.{White}
 use Rattle.pgn_text.specs.Strings.{Single}
-use Rattle.pgn_criteria.specs.Lines.{SpellsCondition, SpellsLimits, IsLimitIn, a_word, and_words, IsLine, Accepts, alternatives_of}
+use Rattle.pgn_criteria.specs.Lines.{SpellsCondition, SpellsLimits, IsLimitIn, IsMoveWord, a_word, and_words, IsLine, Accepts, alternatives_of}
 use Rattle.pgn_criteria.specs.Lines.SpellsLimit.{one, exactly, at_least, at_most, any}
 use Rattle.pgn_criteria.specs.Materials.{limit_of}
 use Rattle.pgn_criteria.specs.declared.compare.Relation.TheVariants.{GreaterOrEqual}
@@ -84,6 +84,23 @@ moves = (
   ((λ none. cc), refl),
   and_words (codes "e4") (codes " ") (codes "*") (inr (omega arith, omega arith, refl)) ((λ none. cc), refl) (a_word (codes "*") (inl refl)),
 )
+
+-- a word for a move has 2 to 7 bytes
+two_letters : IsMoveWord (codes "e4")
+two_letters = inr (omega arith, omega arith, refl)
+
+seven_letters : IsMoveWord (codes "Nb1xd2e")
+seven_letters = inr (omega arith, omega arith, refl)
+
+bytes_of : (word : List ℕ) → IsMoveWord word → (word ≡ codes "*" → ⊥) → (2 ≤ length word) × (length word ≤ 7)
+bytes_of word (inl star) other = absurd (other star)
+bytes_of word (inr (low, high, _)) other = (low, high)
+
+not_one_letter : IsMoveWord (codes "e") → ⊥
+not_one_letter is = let few : 2 ≤ 1 = (bytes_of (codes "e") is (λ star. cc)).0 in absurd (omega arith)
+
+not_eight_letters : IsMoveWord (codes "Nb1xd2ef") → ⊥
+not_eight_letters is = let many : 8 ≤ 7 = (bytes_of (codes "Nb1xd2ef") is (λ star. cc)).1 in absurd (omega arith)
 
 -- blanks about a line do not count, nor does one carriage return
 ended : IsLine (32 ∷ 9 ∷ 99 ∷ 104 ∷ 101 ∷ 99 ∷ 107 ∷ 32 ∷ 13 ∷ []) (Asks Check)

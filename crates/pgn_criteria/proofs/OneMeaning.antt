@@ -10,7 +10,7 @@ use Rattle.chess.specs.declared.board.man.Kind.TheVariants.{King, Queen, Rook, B
 use Rattle.pgn_criteria.specs.Reading.{run_of, behind_word, core_of}
 use Rattle.pgn_criteria.specs.Materials.{limit_of}
 use Rattle.pgn_criteria.specs.Lines.{SpellsCondition, SpellsLimits, Spells, IsLine, AreLines, side_text, relation_text, alternatives_of, IsFirstBad}
-use Rattle.pgn_criteria.specs.Laws.{TextHasOneMeaning, TextHasOneAnswer}
+use Rattle.pgn_criteria.specs.Laws.{TextHasOneMeaning, TextHasOneAnswer, MemoryIsTheOnlyFault}
 use Rattle.pgn_criteria.specs.declared.compare.Relation.{Relation}
 use Rattle.pgn_criteria.specs.declared.compare.Relation.TheVariants.{Equal, Unequal, Less, LessOrEqual, Greater, GreaterOrEqual}
 use Rattle.pgn_criteria.specs.declared.material.Limits.{Limits}
@@ -226,4 +226,10 @@ text_one_answer = (
   (λ text alternatives number accepted refused. bad_refused (parted_at 10 text) number accepted.1.0 refused.1 accepted.1.1),
   (λ text number long refused. let short : length text ≤ 65536 = refused.0 in omega arith),
   (λ text number other refused refused_too. one_number (parted_at 10 text) number other refused.1 refused_too.1),
+)
+
+pub memory_only_fault : MemoryIsTheOnlyFault
+memory_only_fault text (alternatives, accepted) = (
+  (λ long. text_one_answer.0 text alternatives accepted long),
+  (λ number refused. text_one_answer.1 text alternatives number accepted refused),
 )

@@ -6,7 +6,7 @@ use Rattle.pgn_game.specs.declared.replayer.Lines.{Lines}
 use Rattle.pgn_criteria.specs.Lines.{Accepts, IsRefused}
 use Rattle.pgn_criteria.specs.Meeting.{Tags, Meets}
 use Rattle.pgn_criteria.specs.declared.condition.Condition.{Condition}
-use Rattle.pgn_criteria.specs.declared.parse.CriteriaError.TheVariants.{TooLong, Line}
+use Rattle.pgn_criteria.specs.declared.parse.CriteriaError.TheVariants.{TooLong, Line, OutOfMemory}
 
 -- an accepted text has one meaning
 abbrev pub TextHasOneMeaning : Type 0
@@ -19,6 +19,12 @@ TextHasOneAnswer =
     × ((text : List ℕ) (alternatives : List (List (Condition (List ℕ)))) (number : ℕ) → Accepts text alternatives → IsRefused text (Line number) → ⊥)
     × ((text : List ℕ) (number : ℕ) → IsRefused text TooLong → IsRefused text (Line number) → ⊥)
     × ((text : List ℕ) (number other : ℕ) → IsRefused text (Line number) → IsRefused text (Line other) → number ≡ other)
+
+-- where memory runs out, the text has no other fault: it is neither too long, nor is one of its lines bad
+abbrev pub MemoryIsTheOnlyFault : Type 0
+MemoryIsTheOnlyFault =
+    (text : List ℕ) → IsRefused text OutOfMemory
+    → (IsRefused text TooLong → ⊥) × ((number : ℕ) → IsRefused text (Line number) → ⊥)
 
 -- each position of a sound game meets criteria or does not
 abbrev pub EachPositionMeetsOrDoesNot : Type 0

@@ -1,11 +1,13 @@
 //! What holds of every text, whatever reads it. Each law is the contract of a function that does nothing.
 
-ghost use Rattle.pgn_criteria.specs.Laws.{TextHasOneMeaning, TextHasOneAnswer, EachPositionMeetsOrDoesNot};
+ghost use Rattle.pgn_criteria.specs.Laws.{TextHasOneMeaning, TextHasOneAnswer, MemoryIsTheOnlyFault, EachPositionMeetsOrDoesNot};
 
-/// A text spells at most one list of alternatives, and is either accepted, or too long, or refused for one of its lines.
+/// A text spells at most one list of alternatives, and is either accepted, or too long, or refused for one of its lines. Memory runs out
+/// only where the text is neither too long nor bad.
 pub fn one_meaning()
     ensures meaning { TextHasOneMeaning }
     ensures answer { TextHasOneAnswer }
+    ensures memory { MemoryIsTheOnlyFault }
 {}
 
 /// Each position of a sound game meets criteria or does not.

@@ -6,7 +6,9 @@ pub mod OnBoard
 pub mod Spelling
 pub mod RunFacts
 pub mod MainFacts
+pub mod ReachedLines
 pub mod RefusalSearch
+pub mod RefusalExamples
 pub mod NamedMoves
 pub mod OneWord
 pub mod OneLine
@@ -24,3 +26,4 @@ pub mod SomeMovetext
 pub mod SomeExport
 pub mod PlainTokens
 pub mod PlainLines
+pub mod PlainExport

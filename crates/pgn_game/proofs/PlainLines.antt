@@ -1,9 +1,14 @@
 -- No line of tokens that may begin a line is misread.
-use Rattle.std.proofs.Common.{◌≡◌, ◌⊎◌, ℕ, List, [], ◌∷◌, ◌++◌, refl, sym, ap, ◌∙◌, subst, inl, inr, append_assoc, arith}
+use Rattle.std.proofs.Common.{◌≡◌, ◌⊎◌, ℕ, List, [], ◌∷◌, ◌++◌, refl, sym, ap, ◌∙◌, subst, inl, inr, append_assoc, append-nil, arith}
 use Rattle.std.specs.Prelude.{codes}
+use Rattle.chess.specs.Positions.{State}
 use Rattle.pgn_text.specs.Blocks.{event_line}
+use Rattle.pgn_text.specs.GameTexts.{IsResult}
+use Rattle.pgn_text.specs.Games.{Item}
+use Rattle.pgn_game.specs.Exports.{AreMovetextTokens}
 use Rattle.pgn_game.specs.Laws.{BeginsLine, IsMisread, NoLineIsMisread}
-use Rattle.pgn_game.specs.TextLines.{joined, tokens_of, text_of, AreLines}
+use Rattle.pgn_game.specs.TextLines.{joined, tokens_of, text_of, AreLines, IsLaid}
+use Rattle.pgn_game.specs.declared.style.Style.{Style}
 use Rattle.pgn_game.proofs.PlainTokens.{AllOf, IsInk, IsSolid, MayBegin, AllMayBegin, all_append, all_front, all_back, movetext_may}
 
 -- a byte between tokens or behind the last one of a line
@@ -15,7 +20,7 @@ no_ink b (inl is) solid = solid.0 is
 no_ink b (inr is) solid = solid.1 is
 
 -- two words up to such a byte are the same
-same_word : (token word : List ℕ) (b c : ℕ) (x y : List ℕ) → IsSolid token → IsSolid word → IsBetween b → IsBetween c → token ++ b ∷ x ≡ word ++ c ∷ y → token ≡ word
+pub same_word : (token word : List ℕ) (b c : ℕ) (x y : List ℕ) → IsSolid token → IsSolid word → IsBetween b → IsBetween c → token ++ b ∷ x ≡ word ++ c ∷ y → token ≡ word
 same_word [] [] b c x y solid other between ends is = refl
 same_word [] (d ∷ word) b c x y solid other between ends is = let first : b ≡ d = cc in absurd (no_ink b between (subst IsInk (sym first) other.0))
 same_word (d ∷ token) [] b c x y solid other between ends is = let first : d ≡ c = cc in absurd (no_ink c ends (subst IsInk first solid.0))
@@ -47,7 +52,7 @@ line_read token (next ∷ line) rest may read =
 abbrev pub HasNoFeed : List ℕ → Type 0
 HasNoFeed bytes = AllOf (λ b. b ≡ 10 → ⊥) bytes
 
-solid_feed : (bytes : List ℕ) → IsSolid bytes → HasNoFeed bytes
+pub solid_feed : (bytes : List ℕ) → IsSolid bytes → HasNoFeed bytes
 solid_feed [] solid = solid
 solid_feed (b ∷ bytes) solid = (solid.0.0, solid_feed bytes solid.1)
 
@@ -58,35 +63,57 @@ joined_feed (token ∷ next ∷ line) all =
     all_append (λ b. b ≡ 10 → ⊥) token (32 ∷ joined (next ∷ line)) (solid_feed token all.0.solid) ((λ is. omega arith), joined_feed (next ∷ line) all.1)
 
 -- so a line feed stands behind it or further on
-behind_feed : (line before rest more : List ℕ) → HasNoFeed line → line ++ 10 ∷ more ≡ before ++ 10 ∷ rest → BeginsLine more rest
+pub behind_feed : (line before rest more : List ℕ) → HasNoFeed line → line ++ 10 ∷ more ≡ before ++ 10 ∷ rest → BeginsLine more rest
 behind_feed [] [] rest more none is = inl (cc)
 behind_feed [] (c ∷ before) rest more none is = inr (before, cc)
 behind_feed (b ∷ line) [] rest more none is = let first : b ≡ 10 = cc in absurd (none.0 first)
 behind_feed (b ∷ line) (c ∷ before) rest more none is = let tail : line ++ 10 ∷ more ≡ before ++ 10 ∷ rest = cc in behind_feed line before rest more none.1 tail
 
-lines_read : (width : ℕ) (lines : List (List (List ℕ))) (rest : List ℕ) → AreLines width lines → AllMayBegin (tokens_of lines) → BeginsLine (text_of lines) rest → IsMisread rest → ⊥
-lines_read width [] rest are all (inl is) (more, inl escape) = let none : [] ≡ 37 ∷ more = is ∙ escape in absurd (cc)
-lines_read width [] rest are all (inl is) (more, inr event) = let none : [] ≡ event_line ++ more = is ∙ event in absurd (cc)
-lines_read width [] rest are all (inr (before, is)) read = absurd (none before is)
-  where
-    none : (front : List ℕ) → [] ≡ front ++ 10 ∷ rest → ⊥
-    none [] same = absurd (cc)
-    none (b ∷ front) same = absurd (cc)
-lines_read width ([] ∷ lines) rest are all begins read = absurd are.0
-lines_read width ((token ∷ line) ∷ lines) rest are all begins read =
-    by begins (λ here. lines_read width lines rest are.2 (all_back MayBegin (token ∷ line) (tokens_of lines) all) here read)
+-- a text none of whose lines is misread
+abbrev pub IsRight : List ℕ → Type 0
+IsRight text = (rest : List ℕ) → BeginsLine text rest → IsMisread rest → ⊥
+
+-- a text behind a line feed, and one behind a line that is not misread
+nothing_right : IsRight []
+nothing_right rest (inl is) (more, inl escape) = let none : [] ≡ 37 ∷ more = is ∙ escape in absurd (cc)
+nothing_right rest (inl is) (more, inr event) = let none : [] ≡ event_line ++ more = is ∙ event in absurd (cc)
+nothing_right rest (inr ([], is)) read = absurd (cc)
+nothing_right rest (inr (b ∷ before, is)) read = absurd (cc)
+
+pub line_right : (line more : List ℕ) → HasNoFeed line → (IsMisread (line ++ 10 ∷ more) → ⊥) → IsRight more → IsRight (line ++ 10 ∷ more)
+line_right line more none first later rest (inl is) read = first (subst IsMisread (sym is) read)
+line_right line more none first later rest (inr (before, is)) read = later rest (behind_feed line before rest more none is) read
+
+no_feed_read : (more : List ℕ) → IsMisread (10 ∷ more) → ⊥
+no_feed_read more (other, inl escape) = absurd (cc)
+no_feed_read more (other, inr event) = absurd (cc)
+
+pub feed_right : (more : List ℕ) → IsRight more → IsRight (10 ∷ more)
+feed_right more later = line_right [] more (record {}) (no_feed_read more) later
+
+-- the lines of tokens, and what stands behind them
+pub lines_right : (width : ℕ) (lines : List (List (List ℕ))) (tail : List ℕ) → AreLines width lines → AllMayBegin (tokens_of lines) → IsRight tail
+    → IsRight (text_of lines ++ tail)
+lines_right width [] tail are all right = right
+lines_right width ([] ∷ lines) tail are all right = absurd are.0
+lines_right width ((token ∷ line) ∷ lines) tail are all right =
+    subst IsRight (sym (append_assoc (joined (token ∷ line) ++ 10 ∷ []) (text_of lines) tail ∙ append_assoc (joined (token ∷ line)) (10 ∷ []) (text_of lines ++ tail)))
+    (line_right (joined (token ∷ line)) (text_of lines ++ tail) (joined_feed (token ∷ line) own) (line_read token line (text_of lines ++ tail) own.0)
+    (lines_right width lines tail are.2 (all_back MayBegin (token ∷ line) (tokens_of lines) all) right))
   where
     own : AllMayBegin (token ∷ line)
     own = all_front MayBegin (token ∷ line) (tokens_of lines) all
 
-    parted : text_of ((token ∷ line) ∷ lines) ≡ joined (token ∷ line) ++ 10 ∷ text_of lines
-    parted = append_assoc (joined (token ∷ line)) (10 ∷ []) (text_of lines)
-
-    by : BeginsLine (text_of ((token ∷ line) ∷ lines)) rest → (BeginsLine (text_of lines) rest → ⊥) → ⊥
-    by (inl is) later = line_read token line (text_of lines) own.0 (subst IsMisread (sym is ∙ parted) read)
-    by (inr (before, is)) later = later (behind_feed (joined (token ∷ line)) before rest (text_of lines) (joined_feed (token ∷ line) own) (sym parted ∙ is))
+-- the movetext, and what stands behind it
+pub movetext_right : (style : Style) (start : State) (items : List Item) (result : List ℕ) (tokens : List (List ℕ)) (width : ℕ) (movetext tail : List ℕ) → IsResult result
+    → AreMovetextTokens style start items result tokens → IsLaid width tokens movetext → IsRight tail → IsRight (movetext ++ tail)
+movetext_right style start items result tokens width movetext tail ends are laid right =
+    subst (λ text. IsRight (text ++ tail)) (sym laid.spells)
+    (lines_right width laid.lines tail laid.are_lines (subst AllMayBegin (sym laid.all) (movetext_may style start items result tokens ends are)) right)
 
 pub no_line_misread : NoLineIsMisread
 no_line_misread style start items result tokens width movetext rest ends are laid begins read =
-    lines_read width laid.lines rest laid.are_lines (subst AllMayBegin (sym laid.all) (movetext_may style start items result tokens ends are))
-    (subst (λ text. BeginsLine text rest) laid.spells begins) read
+    subst IsRight (append-nil movetext) (movetext_right style start items result tokens width movetext [] ends are laid nothing_right) rest begins read
+
+pub feed_alone : IsRight (10 ∷ [])
+feed_alone = feed_right [] nothing_right

@@ -15,11 +15,11 @@ use Rattle.chess.specs.declared.board.man.Wing.{Wing}
 use Rattle.chess.specs.declared.board.man.Wing.TheVariants.{KingSide, QueenSide}
 use Rattle.chess.specs.declared.moves.Move.{Move}
 use Rattle.pgn_text.specs.Games.{Item}
+use Rattle.pgn_text.specs.GameTexts.{IsResult}
 use Rattle.pgn_text.specs.Bytes.{is_white, is_empty, begins}
 use Rattle.pgn_game.specs.AllLines.{Line, LineEnd, ThenMove, ThenGlyph, ThenComment, ThenVariation, after_turn}
 use Rattle.pgn_game.specs.Comments.{in_first, cut_at_white, words_in, unbraced, later_word, closed, braced, comment_tokens}
 use Rattle.pgn_game.specs.Exports.{number_tokens, IsTurnText, kept, AreTokens, AreMovetextTokens}
-use Rattle.pgn_game.specs.Laws.{IsResult}
 use Rattle.pgn_game.specs.declared.style.Style.{Style}
 use Rattle.pgn_game.specs.declared.turn.Turn.{Turn}
 use Rattle.pgn_game.specs.declared.turn.Turn.TheVariants.{Played, Passed}
@@ -326,7 +326,7 @@ comment_may text = braced_may (words_in text) (full_solid (cut_at_white text) (p
 
 -- ---- all tokens
 
-result_may : (result : List ℕ) → IsResult result → MayBegin result
+pub result_may : (result : List ℕ) → IsResult result → MayBegin result
 result_may result (inl is) = plain_may result (subst IsPlain (sym is) ((ink 49 (omega arith), (ink 45 (omega arith), (ink 48 (omega arith), record {}))), (omega arith, omega arith)))
 result_may result (inr (inl is)) = plain_may result (subst IsPlain (sym is) ((ink 48 (omega arith), (ink 45 (omega arith), (ink 49 (omega arith), record {}))), (omega arith, omega arith)))
 result_may result (inr (inr (inl is))) =

@@ -11,12 +11,12 @@ use Rattle.pgn_text.specs.Elements.{item_of}
 use Rattle.pgn_text.specs.Games.{Item, MoveText}
 use Rattle.pgn_text.specs.GameTexts.{IsPaired}
 use Rattle.pgn_text.specs.declared.game.Element.{Element}
-use Rattle.pgn_game.specs.Faults.{Fault, BadStart, IllegalMove, AmbiguousMove, NamesNone, NamesSeveral, IsRefusedWord, IsRefusedTurn, IsMoveFault, HasLineFault, IsFault}
-use Rattle.pgn_game.specs.LineWalks.{is_inside, gone_on, first_level, Runs, Stops, RunsOn, StopsOn, AreWithin}
+use Rattle.pgn_game.specs.Faults.{Fault, BadStart, IllegalMove, AmbiguousMove, NamesNone, NamesSeveral, IsRefusedWord, IsRefusedTurn, HasLineFault, IsFault}
+use Rattle.pgn_game.specs.LineWalks.{is_inside, gone_on, first_level, Runs, Stops, Leads, RunsOn, StopsOn, AreWithin}
 use Rattle.pgn_game.specs.MainLines.{main_words, IsMainLine}
-use Rattle.pgn_game.specs.Refusals.{IsWhy, IsReached, IsRefusedFrom, IsRefusedAt}
+use Rattle.pgn_game.specs.Refusals.{played_items, IsReached, IsRefusedFrom, IsRefusedAt}
 use Rattle.pgn_game.specs.Starts.{IsStart}
-use Rattle.pgn_game.specs.RefusalWalks.{played_items, IsCounted, GoesOn, IsRefusedHere, IsSearched}
+use Rattle.pgn_game.specs.RefusalWalks.{IsCounted, GoesOn, IsRefusedHere, IsSearched}
 use Rattle.pgn_game.specs.declared.all_lines.Level.{Level}
 use Rattle.pgn_game.specs.declared.all_lines.LinesWalk.{LinesWalk}
 use Rattle.pgn_game.specs.declared.explain.Refused.{Refused}
@@ -24,9 +24,10 @@ use Rattle.pgn_game.specs.declared.replayer.Lines.{Lines}
 use Rattle.pgn_game.specs.declared.replayer.Lines.TheVariants.{Main, All}
 use Rattle.pgn_game.specs.declared.turn.Turn.{Turn}
 use Rattle.pgn_game.specs.declared.turn.Turn.TheVariants.{Played, Passed}
-use Rattle.pgn_game.proofs.MainFacts.{inside_reverse, runs_begin, stops_begin, within_begin}
+use Rattle.pgn_game.proofs.MainFacts.{inside_reverse, runs_begin, within_begin}
 use Rattle.pgn_game.proofs.OneReplay.{all_or_fault, line_or_fault, one_start, start_or_bad}
-use Rattle.pgn_game.proofs.RunFacts.{runs_played, stops_faulty}
+use Rattle.pgn_game.proofs.ReachedLines.{line_of, leads_to}
+use Rattle.pgn_game.proofs.RunFacts.{runs_played}
 
 -- ---- a word that is refused
 
@@ -57,13 +58,6 @@ refused_here walk word told some stuck =
 
 -- ---- the words of the main line, played
 
-pub main_stops : (words : List (List ℕ)) (level : Level) (fault : Fault) → Stops (map (λ word. MoveText word) words) level [] fault
-    → IsMoveFault level.now level.plies words fault
-main_stops [] level fault none = none
-main_stops (word ∷ words) level fault (inl refused) = inl refused
-main_stops (word ∷ words) level fault (inr (Played m, says, stops)) = inr (m, says, main_stops words (gone_on level (Played m)) fault stops)
-main_stops (word ∷ words) level fault (inr (Passed, says, stops)) = absurd says
-
 pub main_runs : (words : List (List ℕ)) (level : Level) (turns : List Turn) → Runs (map (λ word. MoveText word) words) level [] turns
     → (positions : List State) × (played : List Move) × IsMainLine level.now words positions played
 main_runs [] level turns runs = (level.now ∷ [], [], (refl, refl))
@@ -74,11 +68,6 @@ main_runs (word ∷ words) level turns (Passed, more, is, says, runs) = absurd s
 
 -- ---- from the start
 
-pub stops_from : (lines : Lines) (start : State) (items : List Item) (fault : Fault) → IsPaired 0 items → Stops (played_items lines items 0) (first_level start) [] fault
-    → HasLineFault lines start items fault
-stops_from Main start items fault paired stops = main_stops (main_words items 0) (first_level start) fault stops
-stops_from All start items fault paired stops = stops_faulty start items fault paired stops
-
 pub runs_from : (lines : Lines) (start : State) (items : List Item) (turns : List Turn) (fault : Fault) → IsPaired 0 items → Runs (played_items lines items 0) (first_level start) [] turns
     → HasLineFault lines start items fault → ⊥
 runs_from Main start items turns fault paired runs met =
@@ -87,11 +76,18 @@ runs_from All start items turns fault paired runs met = all_or_fault start items
 
 -- ---- the search
 
+-- nothing is played of no elements
+nothing_played : (lines : Lines) (depth : ℕ) → played_items lines [] depth ≡ []
+nothing_played Main depth = refl
+nothing_played All depth = refl
+
 pub search_begins : (lines : Lines) (start : State) (items : List Item) (walk : LinesWalk) → walk.turns.items ≡ [] → walk.outer.items ≡ [] → walk.line ≡ first_level start
     → IsSearched lines start items 0 walk 0
 search_begins lines start items walk none outside line = record {
   runs = λ more turns on. runs_begin walk start (played_items lines more 0) turns none outside line on;
-  stops = λ more fault on. stops_begin walk start (played_items lines more 0) fault outside line on;
+  leads = λ more inside last on. subst (λ xs. Leads (xs ++ more) (first_level start) [] inside last) (sym (nothing_played lines 0))
+      (subst (λ level. Leads more level [] inside last) line (subst (λ xs. Leads more walk.line (reverse xs) inside last) outside on));
+  parted = λ more. ap (λ xs. xs ++ played_items lines more 0) (sym (nothing_played lines 0));
   within = within_begin walk start outside line;
   depth_within = omega arith;
 }
@@ -110,44 +106,61 @@ within_more n walk within = (
 
 module _ (lines : Lines) (start : State) (items : List Item) (i : ℕ) (old : LinesWalk) (depth next : ℕ) (item : Item) (here : slice_get items i ≡ Some item)
     (so_far : IsSearched lines start items i old depth) (low : next ≤ depth + 1) where
+  -- what is played of the elements in front, and of one more
+  abbrev front : List Item
+  front = played_items lines (take i items) 0
+
+  one_more : (own : List Item) → played_items lines (item ∷ []) depth ≡ own → played_items lines (take (i + 1) items) 0 ≡ front ++ own
+  one_more own is =
+      ap (λ xs. played_items lines xs 0) (sym (append-nil (take (i + 1) items)) ∙ front_more items i item [] here) ∙ so_far.parted (item ∷ []) ∙ ap (λ xs. front ++ xs) is
+
   pub search_on : (new : LinesWalk) → IsCounted lines item depth next true → GoesOn old item new → IsSearched lines start items (i + 1) new next
-  search_on new counted on = record {
-    runs = λ more turns runs. subst (λ xs. Runs (played_items lines xs 0) (first_level start) [] turns) (sym (front_more items i item more here))
-        (so_far.runs (item ∷ more) turns (subst (λ xs. RunsOn old xs turns) (sym (counted.0 more)) (on.runs (played_items lines more next) turns runs)));
-    stops = λ more fault stops. subst (λ xs. Stops (played_items lines xs 0) (first_level start) [] fault) (sym (front_more items i item more here))
-        (so_far.stops (item ∷ more) fault (subst (λ xs. StopsOn old xs fault) (sym (counted.0 more)) (on.stops (played_items lines more next) fault stops)));
-    within = on.within i so_far.within;
-    depth_within = (let d : depth ≤ i = so_far.depth_within in omega arith);
-  }
+  search_on new counted on =
+      let grown : played_items lines (take (i + 1) items) 0 ≡ front ++ item ∷ [] =
+      one_more (item ∷ []) (counted.0 [] ∙ ap (λ xs. item ∷ xs) (nothing_played lines next)) in
+      record {
+        runs = λ more turns runs. subst (λ xs. Runs (played_items lines xs 0) (first_level start) [] turns) (sym (front_more items i item more here))
+            (so_far.runs (item ∷ more) turns (subst (λ xs. RunsOn old xs turns) (sym (counted.0 more)) (on.runs (played_items lines more next) turns runs)));
+        leads = λ more inside last leads. subst (λ xs. Leads xs (first_level start) [] inside last)
+            (sym (append_assoc front (item ∷ []) more) ∙ ap (λ xs. xs ++ more) (sym grown)) (so_far.leads (item ∷ more) inside last (on.leads more inside last leads));
+        parted = λ more. ap (λ xs. played_items lines xs 0) (front_more items i item more here) ∙ so_far.parted (item ∷ more)
+            ∙ ap (λ xs. front ++ xs) (counted.0 more) ∙ sym (append_assoc front (item ∷ []) (played_items lines more next))
+            ∙ ap (λ xs. xs ++ played_items lines more next) (sym grown);
+        within = on.within i so_far.within;
+        depth_within = (let d : depth ≤ i = so_far.depth_within in omega arith);
+      }
 
   pub search_past : IsCounted lines item depth next false → IsSearched lines start items (i + 1) old next
-  search_past counted = record {
-    runs = λ more turns runs. subst (λ xs. Runs (played_items lines xs 0) (first_level start) [] turns) (sym (front_more items i item more here))
-        (so_far.runs (item ∷ more) turns (subst (λ xs. RunsOn old xs turns) (sym (counted more)) runs));
-    stops = λ more fault stops. subst (λ xs. Stops (played_items lines xs 0) (first_level start) [] fault) (sym (front_more items i item more here))
-        (so_far.stops (item ∷ more) fault (subst (λ xs. StopsOn old xs fault) (sym (counted more)) stops));
-    within = within_more i old so_far.within;
-    depth_within = (let d : depth ≤ i = so_far.depth_within in omega arith);
-  }
+  search_past counted =
+      let kept : played_items lines (take (i + 1) items) 0 ≡ front = one_more [] (counted [] ∙ nothing_played lines next) ∙ append-nil front in
+      record {
+        runs = λ more turns runs. subst (λ xs. Runs (played_items lines xs 0) (first_level start) [] turns) (sym (front_more items i item more here))
+            (so_far.runs (item ∷ more) turns (subst (λ xs. RunsOn old xs turns) (sym (counted more)) runs));
+        leads = λ more inside last leads. subst (λ xs. Leads (xs ++ more) (first_level start) [] inside last) (sym kept) (so_far.leads more inside last leads);
+        parted = λ more. ap (λ xs. played_items lines xs 0) (front_more items i item more here) ∙ so_far.parted (item ∷ more)
+            ∙ ap (λ xs. front ++ xs) (counted more) ∙ ap (λ xs. xs ++ played_items lines more next) (sym kept);
+        within = within_more i old so_far.within;
+        depth_within = (let d : depth ≤ i = so_far.depth_within in omega arith);
+      }
+
+  -- what stands there is played in the line that is reached
+  reached_there : IsCounted lines item depth next true → IsReached lines start items i (is_inside old.outer.items) (line_of old.line)
+  reached_there counted = (
+    leads_to front (first_level start) [] (is_inside old.outer.items) old.line
+        (subst (λ xs. Leads xs (first_level start) [] (is_inside old.outer.items) old.line) (append-nil front)
+        (so_far.leads [] (is_inside old.outer.items) old.line (sym (inside_reverse old.outer.items), refl))),
+    (λ word. so_far.parted (MoveText word ∷ []) ∙ ap (λ xs. front ++ xs) (counted.1 word [] ∙ ap (λ xs. MoveText word ∷ xs) (nothing_played lines depth))),
+  )
 
   pub search_ends : (refused : Refused) → IsCounted lines item depth next true → IsRefusedHere old item i refused → IsRefusedFrom lines start items refused
   search_ends refused counted told = record {
     here = subst (λ k. slice_get items k ≡ Some (MoveText refused.word.now)) (sym told.element) (here ∙ ap (λ (x : Item). Some x) told.word);
     inside = is_inside old.outer.items;
-    reached = subst (λ k. IsReached lines start items k (is_inside old.outer.items) refused.position) (sym told.element)
-        (subst (λ s. IsReached lines start items i (is_inside old.outer.items) s) (sym told.position) (
-          old.line.plies,
-          (λ word more fault paired refuses. stops_from lines start (take i items ++ MoveText word ∷ more) fault paired
-              (so_far.stops (MoveText word ∷ more) fault (subst (λ xs. StopsOn old xs fault) (sym (counted.1 word more))
-              (inl (subst (λ b. IsRefusedTurn b old.line.now old.line.plies word fault) (sym (inside_reverse old.outer.items)) refuses))))),
-        ));
-    why = subst (λ s. IsWhy (is_inside old.outer.items) s refused.word.now refused.why) (sym told.position) told.why;
+    line = line_of old.line;
+    reached = subst (λ k. IsReached lines start items k (is_inside old.outer.items) (line_of old.line)) (sym told.element) (reached_there counted);
+    position = told.position;
+    why = told.why;
   }
-
--- behind the last element
-nothing_played : (lines : Lines) (depth : ℕ) → played_items lines [] depth ≡ []
-nothing_played Main depth = refl
-nothing_played All depth = refl
 
 pub search_finds_none : (lines : Lines) (start : State) (items : List Item) (walk : LinesWalk) (depth : ℕ) → IsPaired 0 items
     → IsSearched lines start items (length items) walk depth → (fault : Fault) → HasLineFault lines start items fault → ⊥

@@ -1,5 +1,5 @@
 -- What holds of every game, whatever replays it.
-use Rattle.std.specs.Prelude.{◌≡◌, ◌⊎◌, ℕ, ◌+◌, List, [], ◌∷◌, ◌++◌, length, codes, Option, Some, IfSome}
+use Rattle.std.specs.Prelude.{◌≡◌, ◌⊎◌, ℕ, ◌+◌, List, [], ◌∷◌, ◌++◌, length, Option, Some, IfSome}
 use Rattle.std.specs.List.{slice_get}
 use Rattle.chess.specs.Positions.{State}
 use Rattle.chess.specs.Moves.{after}
@@ -7,7 +7,7 @@ use Rattle.chess.specs.San.{IsOnlyNamed}
 use Rattle.chess.specs.declared.moves.Move.{Move}
 use Rattle.pgn_text.specs.Blocks.{event_line}
 use Rattle.pgn_text.specs.Games.{Item, MoveText, GlyphNumber, CommentText, VariationOpen, VariationClose}
-use Rattle.pgn_text.specs.GameTexts.{GameText, IsGameText, IsPaired, tag_in}
+use Rattle.pgn_text.specs.GameTexts.{GameText, IsGameText, IsPaired, IsResult, tag_in}
 use Rattle.pgn_text.specs.Strings.{IsContents}
 use Rattle.pgn_game.specs.AllLines.{Line, spelled, own_words}
 use Rattle.pgn_game.specs.MainLines.{main_words}
@@ -88,10 +88,6 @@ GameHasAnExport =
     (style : Style) (game : GameText) (replay : Replay) → IsGameText game → IsReplayFor style (tag_in fen_tag game.tags) game.elements replay
     → (text : List ℕ) × IsExport style game text
 
--- a result (PGN 8.2.6)
-abbrev pub IsResult : List ℕ → Type 0
-IsResult result = (result ≡ codes "1-0") ⊎ (result ≡ codes "0-1") ⊎ (result ≡ codes "1/2-1/2") ⊎ (result ≡ codes "*")
-
 -- a line of the text begins with these bytes
 abbrev pub BeginsLine : List ℕ → List ℕ → Type 0
 BeginsLine text rest = (text ≡ rest) ⊎ ((before : List ℕ) × (text ≡ before ++ 10 ∷ rest))
@@ -105,3 +101,12 @@ abbrev pub NoLineIsMisread : Type 0
 NoLineIsMisread =
     (style : Style) (start : State) (items : List Item) (result : List ℕ) (tokens : List (List ℕ)) (width : ℕ) (movetext rest : List ℕ) → IsResult result
     → AreMovetextTokens style start items result tokens → IsLaid width tokens movetext → BeginsLine movetext rest → IsMisread rest → ⊥
+
+-- the export of a game begins with an event line, no other of its lines is one, and none is an escape
+pub record IsReadAsOne (text : List ℕ) : Type 0 where
+  pub first : (more : List ℕ) × (text ≡ event_line ++ more)
+  pub only : (before rest more : List ℕ) → text ≡ before ++ 10 ∷ rest → rest ≡ event_line ++ more → ⊥
+  pub no_escape : (rest more : List ℕ) → BeginsLine text rest → rest ≡ 37 ∷ more → ⊥
+
+abbrev pub ExportIsReadAsOne : Type 0
+ExportIsReadAsOne = (style : Style) (game : GameText) (text : List ℕ) → IsGameText game → IsExport style game text → IsReadAsOne text

@@ -51,17 +51,31 @@ Stops (VariationOpen ∷ items) level outer fault = Stops items (begun level) (l
 Stops (VariationClose ∷ items) level [] fault = Stops items level [] fault
 Stops (VariationClose ∷ items) level (next ∷ outer) fault = Stops items next outer fault
 
+-- or leads to that line, which is a variation or not
+abbrev pub Leads : List Item → Level → List Level → Bool → Level → Type 0
+Leads [] level outer inside last = (inside ≡ is_inside outer) × (last ≡ level)
+Leads (MoveText word ∷ items) level outer inside last =
+    (turn : Turn) × IsTurn (is_inside outer) level.now word turn × Leads items (gone_on level turn) outer inside last
+Leads (GlyphNumber number ∷ items) level outer inside last = Leads items level outer inside last
+Leads (CommentText text ∷ items) level outer inside last = Leads items level outer inside last
+Leads (VariationOpen ∷ items) level outer inside last = Leads items (begun level) (level ∷ outer) inside last
+Leads (VariationClose ∷ items) level [] inside last = Leads items level [] inside last
+Leads (VariationClose ∷ items) level (next ∷ outer) inside last = Leads items next outer inside last
+
 -- the last position of the main line
 abbrev pub main_now : Level → List Level → State
 main_now level [] = level.now
 main_now level (next ∷ outer) = main_now next outer
 
--- what is left of the elements completes the turns, or the main line, or has the fault
+-- what is left of the elements completes the turns, or the main line, or has the fault, or leads to a line
 abbrev pub RunsOn : LinesWalk → List Item → List Turn → Type 0
 RunsOn walk items turns = (more : List Turn) × (turns ≡ walk.turns.items ++ more) × Runs items walk.line (reverse walk.outer.items) more
 
 abbrev pub StopsOn : LinesWalk → List Item → Fault → Type 0
 StopsOn walk items fault = Stops items walk.line (reverse walk.outer.items) fault
+
+abbrev pub LeadsOn : LinesWalk → List Item → Bool → Level → Type 0
+LeadsOn walk items inside last = Leads items walk.line (reverse walk.outer.items) inside last
 
 abbrev pub MainOn : LinesWalk → List Item → List State → List Move → Type 0
 MainOn walk items positions played =

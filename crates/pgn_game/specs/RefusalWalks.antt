@@ -1,24 +1,17 @@
 -- All lines, or the main line alone, while the first word is sought that is refused. Nothing but the proof of `refused_word` cites these.
-use Rattle.std.specs.Prelude.{◌≡◌, ◌⊎◌, ℕ, ◌+◌, ◌≤◌, Bool, true, false, List, [], ◌∷◌, ◌++◌, map, take}
+use Rattle.std.specs.Prelude.{◌≡◌, ◌⊎◌, ℕ, ◌+◌, ◌≤◌, Bool, true, false, List, [], ◌∷◌, ◌++◌, take}
 use Rattle.chess.specs.Positions.{State}
 use Rattle.chess.specs.San.{IsNamed}
 use Rattle.chess.specs.Squares.{Place}
 use Rattle.chess.specs.declared.moves.Move.{Move}
 use Rattle.pgn_text.specs.Games.{Item, MoveText}
-use Rattle.pgn_game.specs.Faults.{Fault}
-use Rattle.pgn_game.specs.LineWalks.{is_inside, first_level, Runs, Stops, RunsOn, StopsOn, AreWithin}
-use Rattle.pgn_game.specs.MainLines.{main_words}
-use Rattle.pgn_game.specs.Refusals.{IsWhy}
+use Rattle.pgn_game.specs.LineWalks.{is_inside, first_level, Runs, Leads, RunsOn, LeadsOn, AreWithin}
+use Rattle.pgn_game.specs.Refusals.{IsWhy, played_items}
+use Rattle.pgn_game.specs.declared.all_lines.Level.{Level}
 use Rattle.pgn_game.specs.declared.all_lines.LinesWalk.{LinesWalk}
 use Rattle.pgn_game.specs.declared.explain.Refused.{Refused}
 use Rattle.pgn_game.specs.declared.replayer.Lines.{Lines}
-use Rattle.pgn_game.specs.declared.replayer.Lines.TheVariants.{Main, All}
 use Rattle.pgn_game.specs.declared.turn.Turn.{Turn}
-
--- the elements that are played where these lines are replayed and so many variations are open: of the main line its moves
-abbrev pub played_items : Lines → List Item → ℕ → List Item
-played_items All items depth = items
-played_items Main items depth = map (λ word. MoveText word) (main_words items depth)
 
 -- the element is played, and so would each other word be in its place; or it is not
 abbrev pub IsCounted : Lines → Item → ℕ → ℕ → Bool → Type 0
@@ -30,7 +23,7 @@ IsCounted lines item old new false = (more : List Item) → played_items lines (
 -- the walk went on by the element
 pub record GoesOn (old : LinesWalk) (item : Item) (new : LinesWalk) : Type 0 where
   pub runs : (items : List Item) (turns : List Turn) → RunsOn new items turns → RunsOn old (item ∷ items) turns
-  pub stops : (items : List Item) (fault : Fault) → StopsOn new items fault → StopsOn old (item ∷ items) fault
+  pub leads : (items : List Item) (inside : Bool) (last : Level) → LeadsOn new items inside last → LeadsOn old (item ∷ items) inside last
   pub within : (n : ℕ) → AreWithin n old → AreWithin (n + 1) new
 
 -- its word is refused
@@ -44,8 +37,9 @@ pub record IsRefusedHere (old : LinesWalk) (item : Item) (index : ℕ) (refused 
 pub record IsSearched (lines : Lines) (start : State) (items : List Item) (index : ℕ) (walk : LinesWalk) (depth : ℕ) : Type 0 where
   pub runs : (more : List Item) (turns : List Turn) → RunsOn walk (played_items lines more depth) turns
       → Runs (played_items lines (take index items ++ more) 0) (first_level start) [] turns
-  pub stops : (more : List Item) (fault : Fault) → StopsOn walk (played_items lines more depth) fault
-      → Stops (played_items lines (take index items ++ more) 0) (first_level start) [] fault
+  pub leads : (more : List Item) (inside : Bool) (last : Level) → LeadsOn walk more inside last
+      → Leads (played_items lines (take index items) 0 ++ more) (first_level start) [] inside last
+  pub parted : (more : List Item) → played_items lines (take index items ++ more) 0 ≡ played_items lines (take index items) 0 ++ played_items lines more depth
   pub within : AreWithin index walk
   pub depth_within : depth ≤ index
 

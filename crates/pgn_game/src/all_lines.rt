@@ -1,5 +1,5 @@
 //! All lines, played element by element.
-ghost use Rattle.std.specs.Prelude.{◌≡◌, ◌&&◌, ◌+◌, ◌<◌, ◌≤◌, ◌++◌, ℕ, List, [], ◌∷◌, length, map, reverse, MatchResult, IfErr, IfOk, IfSome, OnOk};
+ghost use Rattle.std.specs.Prelude.{◌≡◌, Bool, ◌&&◌, ◌+◌, ◌<◌, ◌≤◌, ◌++◌, ℕ, List, [], ◌∷◌, length, map, reverse, MatchResult, IfErr, IfOk, IfSome, OnOk};
 ghost use Rattle.chess.specs.Positions.{State};
 ghost use Rattle.chess.specs.declared.moves.Move.{Move};
 ghost use Rattle.pgn_text.specs.Elements.{item_of};
@@ -9,7 +9,8 @@ ghost use Rattle.pgn_game.specs.MainLines.{main_words, IsMainLine};
 ghost use Rattle.pgn_game.specs.AllLines.{is_pass, IsTurn, after_turn, ArePlayed};
 ghost use Rattle.pgn_game.specs.Faults.{Fault, IsRefusedTurn, HaveFault};
 ghost use Rattle.pgn_game.specs.Replays.{fault_of};
-ghost use Rattle.pgn_game.specs.LineWalks.{is_inside, RunsOn, StopsOn, MainOn, HasTurned, AreWithin, Keeps, begun, first_level, main_now, Runs, Stops};
+ghost use Rattle.pgn_game.specs.declared.all_lines.Level.{Level};
+ghost use Rattle.pgn_game.specs.LineWalks.{is_inside, RunsOn, StopsOn, LeadsOn, MainOn, HasTurned, AreWithin, Keeps, begun, first_level, main_now, Runs, Stops};
 
 use crate::fault::GameFault;
 use crate::naming::play_named;
@@ -164,6 +165,7 @@ impl LinesWalk {
         requires room { self.old.line.plies < usize.MAX }
         ensures played { OnOk result ((items : List Item) (turns : List Turn) → RunsOn self.new items turns → RunsOn self.old (item_of element.entry ∷ items) turns) }
         ensures faults { OnOk result ((items : List Item) (fault : Fault) → StopsOn self.new items fault → StopsOn self.old (item_of element.entry ∷ items) fault) }
+        ensures leads { OnOk result ((items : List Item) (inside : Bool) (last : Level) → LeadsOn self.new items inside last → LeadsOn self.old (item_of element.entry ∷ items) inside last) }
         ensures stuck { IfErr result (λ fault. (items : List Item) → IfSome (fault_of fault) (StopsOn self.old (item_of element.entry ∷ items))) }
         ensures main { OnOk result ((items : List Item) (positions : List State) (played : List Move) → MainOn self.new items positions played → MainOn self.old (item_of element.entry ∷ items) positions played) }
         ensures within { OnOk result ((n : ℕ) → AreWithin n self.old → AreWithin (n + 1) self.new) }

@@ -1,8 +1,9 @@
 //! What holds of every game, whatever replays it. Each law is the contract of a function that does nothing.
 
 ghost use Rattle.pgn_game.specs.Exports.{MovetextHasOneList};
+ghost use Rattle.pgn_game.specs.Refusals.{OneLineIsReached, RefusedWordIsTheFault};
 ghost use Rattle.pgn_game.specs.TextLines.{TokensHaveAText, TokensHaveOneText};
-ghost use Rattle.pgn_game.specs.Laws.{EachMoveIsNamed, MainLineIsTheLine, EachMoveHasATurn, GameHasOneReplay, GameHasOneFault, SoundGameHasNoFault, GameHasAnAnswer, MovetextHasTokens, GameHasAnExport, GameHasOneExport, NoLineIsMisread};
+ghost use Rattle.pgn_game.specs.Laws.{EachMoveIsNamed, MainLineIsTheLine, EachMoveHasATurn, GameHasOneReplay, GameHasOneFault, SoundGameHasNoFault, GameHasAnAnswer, MovetextHasTokens, GameHasAnExport, GameHasOneExport, NoLineIsMisread, ExportIsReadAsOne};
 
 /// Whichever lines are replayed, each move of the main line is the only legal move that its word names in the position before it.
 pub fn one_legal_move()
@@ -32,6 +33,13 @@ pub fn an_answer()
     ensures { GameHasAnAnswer }
 {}
 
+/// The elements in front of one lead to one position alone; and whatever word stands there and is refused in that position is the fault of
+/// the game, whatever stands behind it.
+pub fn one_place_reached()
+    ensures line { OneLineIsReached }
+    ensures fault { RefusedWordIsTheFault }
+{}
+
 /// Tokens have a text in lines of each width, and only one.
 pub fn one_text()
     ensures some { TokensHaveAText }
@@ -54,7 +62,9 @@ pub fn one_export()
     ensures one { GameHasOneExport }
 {}
 
-/// No line of a movetext is read as an escape or as an event line, whatever its comments say.
+/// No line of a movetext is read as an escape or as an event line, whatever its comments say; and the export of a game begins with an event
+/// line, no other of its lines is one, and none is an escape.
 pub fn no_line_misread()
-    ensures { NoLineIsMisread }
+    ensures movetext { NoLineIsMisread }
+    ensures export { ExportIsReadAsOne }
 {}

@@ -28,6 +28,7 @@ pub mod InWord
 pub mod Joined
 pub mod KeptLemmas
 pub mod LeftEnds
+pub mod LastResult
 pub mod LineFronts
 pub mod Lines
 pub mod Located

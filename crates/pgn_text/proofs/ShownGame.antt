@@ -10,6 +10,7 @@ use Rattle.pgn_text.specs.Games.{IsGame, first_tag, items_of, result_of}
 use Rattle.pgn_text.specs.GameTexts.{GameText, IsGameText, ShowsGame, tag_in}
 use Rattle.pgn_text.specs.Steps.{start}
 use Rattle.pgn_text.proofs.GameLeads.{game_leads}
+use Rattle.pgn_text.proofs.LastResult.{game_result}
 use Rattle.pgn_text.proofs.Pairing.{leads_paired}
 use Rattle.pgn_text.proofs.SortedTags.{name_cmp, names_of_sorted, find-tag_in}
 use Rattle.pgn_text.proofs.TagStrings.{first_string}
@@ -58,8 +59,10 @@ some_game_text max_depth file_start before parts after at is_game = (
   record { at = at; tags = sorted_among parts; elements = items_of parts; result = result_of parts },
   record {
     ordered = names_of_sorted (sorted_among parts) (entries_sorted (from_entries {R = name_cmp} (tags_among parts)));
-    strings = λ name contents is. first_string name contents file_start before parts after is_game.stand (sym (tag_in-among name parts) ∙ is);
+    strings = λ name contents is. (first_string name contents file_start before parts after is_game.stand (sym (tag_in-among name parts) ∙ is)).0;
+    names = λ name contents is. (first_string name contents file_start before parts after is_game.stand (sym (tag_in-among name parts) ∙ is)).1;
     paired = leads_paired max_depth start parts (game_leads max_depth file_start before parts after is_game);
+    ends = game_result max_depth file_start before parts after is_game;
   },
   record { place = refl; tags = λ wanted. tag_in-among wanted parts; elements = refl; result = refl },
 )

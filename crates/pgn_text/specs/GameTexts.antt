@@ -1,8 +1,10 @@
 -- A game as its reader hands it out.
-use Rattle.std.specs.Prelude.{◌≡◌, ℕ, ◌+◌, ◌-◌, ◌<◌, List, [], ◌∷◌, map, bytes_eq, if◌then◌else◌, Option, Some, None}
+use Rattle.std.specs.Prelude.{◌≡◌, ◌⊎◌, ℕ, ◌+◌, ◌-◌, ◌<◌, List, [], ◌∷◌, map, bytes_eq, codes, if◌then◌else◌, Option, Some, None, IsTrue}
+use Rattle.std.specs.List.{list_all}
 use Rattle.std.specs.List.Sorted.{IsStrictlySortedBy}
 use Rattle.std.specs.Ordering.{nat_cmp}
 use Rattle.std.specs.Cmp.Lexicographic.{slice_cmp}
+use Rattle.pgn_text.specs.Bytes.{is_name_byte}
 use Rattle.pgn_text.specs.Parts.{Part}
 use Rattle.pgn_text.specs.Strings.{IsContents}
 use Rattle.pgn_text.specs.Games.{Item, MoveText, GlyphNumber, CommentText, VariationOpen, VariationClose, items_of, first_tag, result_of}
@@ -36,12 +38,22 @@ tag_in wanted (tag ∷ tags) = if bytes_eq wanted tag.0 then Some tag.1 else tag
 abbrev pub HoldStrings : List (List ℕ × List ℕ) → Type 0
 HoldStrings tags = (name contents : List ℕ) → tag_in name tags ≡ Some contents → IsContents contents
 
--- what holds of each game that is handed out: the names of its tags ascend in the order of their bytes, so none is there twice, its tags
--- hold contents of strings, and its variations are paired
+-- each name under which something stands is made of the bytes of names
+abbrev pub HaveNames : List (List ℕ × List ℕ) → Type 0
+HaveNames tags = (name contents : List ℕ) → tag_in name tags ≡ Some contents → IsTrue (list_all is_name_byte name)
+
+-- a result (PGN 8.2.6)
+abbrev pub IsResult : List ℕ → Type 0
+IsResult result = (result ≡ codes "1-0") ⊎ (result ≡ codes "0-1") ⊎ (result ≡ codes "1/2-1/2") ⊎ (result ≡ codes "*")
+
+-- what holds of each game that is handed out: the names of its tags ascend in the order of their bytes, so none is there twice, and are made
+-- of the bytes of names, its tags hold contents of strings, its variations are paired, and its result is one of the four
 pub record IsGameText (game : GameText) : Type 0 where
   pub ordered : IsStrictlySortedBy (slice_cmp nat_cmp) (tag_names game.tags)
   pub strings : HoldStrings game.tags
+  pub names : HaveNames game.tags
   pub paired : IsPaired 0 game.elements
+  pub ends : IsResult game.result
 
 -- the game is the one that these parts make at this place: of each name it has the first tag, and its elements and result are theirs
 pub record ShowsGame (game : GameText) (at : ℕ) (parts : List Part) : Type 0 where

@@ -83,7 +83,8 @@ impl<'a> RawGame<'a> {
         self.elements.as_slice()
     }
 
-    /// Each game that is handed out has its tags in the order of their names, each the contents of a string, and its variations paired.
+    /// Each game that is handed out has its tags in the order of their names, which are made of the bytes of names, each the contents of a
+    /// string; its variations are paired, and its result is one of the four.
     pub fn known(&self)
         ensures { IsGameText self.now }
     {

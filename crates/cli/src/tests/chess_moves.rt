@@ -301,3 +301,43 @@ fn targets_are_counted(rt: HostRuntime) -> Result<(), Fail> {
     }
     Ok(())
 }
+
+/// Whether the targets of the square are just these squares.
+fn aims_at<B: Board>(fen: &str, from: [u8; 2], wanted: &[[u8; 2]]) -> Result<bool, Fail> {
+    let targets = position::<B>(fen.as_bytes())?.targets(square(from[0], from[1])?);
+    let mut count = 0u32;
+    for name in wanted {
+        if !targets.has(square(name[0], name[1])?) {
+            return Ok(false);
+        }
+        count = count.saturating_add(1);
+    }
+    Ok(targets.count() == count)
+}
+
+#[test]
+fn targets_are_these_squares(rt: HostRuntime) -> Result<(), Fail> {
+    let rows: [(&str, [u8; 2], &[[u8; 2]]); 3] = [
+        // en passant would leave the king attacked by the rook
+        ("8/8/8/K2pP2r/8/8/8/4k3 w - d6 0 1", *b"e5", &[*b"e6"]),
+        // the rook bars castling, and can be taken
+        (
+            "4k3/8/8/8/8/8/5r2/4K2R w K - 0 1",
+            *b"e1",
+            &[*b"d1", *b"f2"],
+        ),
+        // an attack on b1 is no bar
+        (
+            "1r2k3/8/8/8/8/8/8/R3K3 w Q - 0 1",
+            *b"e1",
+            &[*b"c1", *b"d1", *b"d2", *b"e2", *b"f1", *b"f2"],
+        ),
+    ];
+    for (fen, from, wanted) in rows {
+        assert!(rt;
+            aims_at::<Mailbox>(fen, from, wanted)? && aims_at::<Bits>(fen, from, wanted)?,
+            "{fen}"
+        );
+    }
+    Ok(())
+}

@@ -42,7 +42,7 @@ type Wanted = (
 );
 
 /// Which positions meet criteria.
-const MEETS: [Wanted; 22] = [
+const MEETS: [Wanted; 27] = [
     (LIST, b"mate", b"1. f3 e5 2. g4 Qh4 0-1", AT_4, b"", 0),
     (
         LIST,
@@ -71,7 +71,24 @@ const MEETS: [Wanted; 22] = [
         b"",
         0,
     ),
+    (LIST, b"tag WhiteElo >= \"1000\"", E4_E5, b"", b"", 0),
     (LIST, b"tag White <> \"X\"", E4_E5, b"", b"", 0),
+    (
+        LIST,
+        b"tag Round < \"10\"",
+        b"[Round \"9\"]\n\n1. e4 *",
+        b"1@0 0\n1@0 1\n",
+        b"",
+        0,
+    ),
+    (
+        LIST,
+        b"tag Round < \"10\"",
+        b"[Round \"9.1\"]\n\n1. e4 *",
+        b"",
+        b"",
+        0,
+    ),
     (
         LIST,
         b"moves d4",
@@ -80,6 +97,8 @@ const MEETS: [Wanted; 22] = [
         b"",
         0,
     ),
+    (LIST, b"moves e4 *", b"1. e4 *\n1. d4 *", b"", b"", 0),
+    (LIST, b"moves Nb1xd2e", E4_E5, b"", b"", 0),
     (LIST, b"material KP8 v KP*", E4_E5, b"", b"", 0),
     (LIST, b"fen */*/*/*/4P*/*/*/*", E4_E5, BEHIND_FIRST, b"", 0),
     (
@@ -152,9 +171,12 @@ const MEETS: [Wanted; 22] = [
 ];
 
 /// Criteria that are refused, the first refusal of several, and what counts as no refusal.
-const REFUSED: [Wanted; 9] = [
+const REFUSED: [Wanted; 11] = [
     (LIST, b"check\nchek", E4_E5, b"", BAD_LINE_2, 2),
     (INDEX, b"check\nchek", E4_E5, b"", BAD_LINE_2, 2),
+    // a word for a move has 2 to 7 letters
+    (LIST, b"check\nmoves e", E4_E5, b"", BAD_LINE_2, 2),
+    (LIST, b"check\nmoves Nb1xd2ef", E4_E5, b"", BAD_LINE_2, 2),
     (
         &["--list", "--criteria", "wanted.txt", "absent.pgn"],
         b"check\nchek",

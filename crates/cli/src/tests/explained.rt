@@ -201,6 +201,9 @@ fn notes_are_made_of_large_texts(rt: HostRuntime) -> Result<(), Fail> {
     Ok(())
 }
 
+/// A game with a word that is refused in a variation, and then one in its main line.
+const TWO_REFUSED: &[u8] = b"1. e4 e5 (1... Ke7) 2. Ke3 *";
+
 /// Whether the words report on the text just this, and write nothing.
 fn is_reported(
     alloc: Global,
@@ -214,7 +217,7 @@ fn is_reported(
 
 #[test]
 fn a_note_says_why_a_word_is_refused(rt: HostRuntime) -> Result<(), Fail> {
-    let rows: [(&[&str], &[u8], &[u8]); 8] = [
+    let rows: [(&[&str], &[u8], &[u8]); 20] = [
         (
             &["--list", "--explain"],
             b"1. e4 e5 2. Ke3 *",
@@ -254,6 +257,67 @@ fn a_note_says_why_a_word_is_refused(rt: HostRuntime) -> Result<(), Fail> {
             &["--list"],
             b"1. O-O *",
             b"pgn-extract: game 1@0: illegal move O-O at ply 1\n",
+        ),
+        (
+            &["--list", "--explain"],
+            b"1. Qh5 *",
+            b"pgn-extract: game 1@0: illegal move Qh5 at ply 1\n  line 1, column 4, byte 3: Qh5: no queen can move there\n",
+        ),
+        (
+            &["--list", "--explain"],
+            b"1. Ra3 *",
+            b"pgn-extract: game 1@0: illegal move Ra3 at ply 1\n  line 1, column 4, byte 3: Ra3: no rook can move there\n",
+        ),
+        (
+            &["--list", "--explain"],
+            b"1. Bb5 *",
+            b"pgn-extract: game 1@0: illegal move Bb5 at ply 1\n  line 1, column 4, byte 3: Bb5: no bishop can move there\n",
+        ),
+        (
+            &["--list", "--explain"],
+            b"1. Nd4 *",
+            b"pgn-extract: game 1@0: illegal move Nd4 at ply 1\n  line 1, column 4, byte 3: Nd4: no knight can move there\n",
+        ),
+        (
+            &["--list", "--explain"],
+            b"1. e5 *",
+            b"pgn-extract: game 1@0: illegal move e5 at ply 1\n  line 1, column 4, byte 3: e5: no pawn can move there\n",
+        ),
+        (
+            &["--list", "--explain"],
+            b"[FEN \"4kr2/8/8/8/8/8/8/4K2R w K - 0 1\"]\n1. O-O *",
+            b"pgn-extract: game 1@0: illegal move O-O at ply 1\n  line 2, column 4, byte 43: O-O: an attack bars castling\n",
+        ),
+        (
+            &["--explain"],
+            b"1. e4 f6 2. Qh5+ g6 (2... --) *",
+            b"pgn-extract: game 1@0: illegal move -- at ply 4\n  line 1, column 27, byte 26: --: no side in check can pass\n",
+        ),
+        (
+            &["--list", "--explain"],
+            b"1. Hello *",
+            b"pgn-extract: game 1@0: illegal move Hello at ply 1\n  line 1, column 4, byte 3: Hello is no move\n",
+        ),
+        (
+            &["--explain"],
+            b"1. -- *",
+            b"pgn-extract: game 1@0: illegal move -- at ply 1\n  line 1, column 4, byte 3: -- is no move\n",
+        ),
+        // of the lines that are replayed alone a word is named
+        (
+            &["--explain"],
+            TWO_REFUSED,
+            b"pgn-extract: game 1@0: illegal move Ke7 at ply 2\n  line 1, column 16, byte 15: Ke7: no king can move there\n",
+        ),
+        (
+            &["--list", "--explain"],
+            TWO_REFUSED,
+            b"pgn-extract: game 1@0: illegal move Ke3 at ply 3\n  line 1, column 24, byte 23: Ke3: no king can move there\n",
+        ),
+        (
+            &["-V", "--explain"],
+            TWO_REFUSED,
+            b"pgn-extract: game 1@0: illegal move Ke3 at ply 3\n  line 1, column 24, byte 23: Ke3: no king can move there\n",
         ),
     ];
     for (words, text, report) in rows {

@@ -195,12 +195,19 @@ fn movetexts_are_exported_and_read_back(rt: HostRuntime) -> Result<(), Fail> {
 }
 
 /// Whole outputs, faults and which games are written.
-const ROWS: [Row; 27] = [
+const ROWS: [Row; 28] = [
     (&[], b"", b"", b"", 0),
     (
         &[],
         b"1. f3 e5 2. g4 Qh4 0-1",
         b"[Event \"?\"]\n[Site \"?\"]\n[Date \"????.??.??\"]\n[Round \"?\"]\n[White \"?\"]\n[Black \"?\"]\n[Result \"0-1\"]\n\n1. f3 e5 2. g4 Qh4# 0-1\n\n",
+        b"",
+        0,
+    ),
+    (
+        &[],
+        b"[FEN \"4k3/8/8/8/1b6/2N5/8/4K1N1 w - - 0 1\"]\n[ECO \"A00\"]\n\n1. Nge2 *",
+        b"[Event \"?\"]\n[Site \"?\"]\n[Date \"????.??.??\"]\n[Round \"?\"]\n[White \"?\"]\n[Black \"?\"]\n[Result \"*\"]\n[ECO \"A00\"]\n[FEN \"4k3/8/8/8/1b6/2N5/8/4K1N1 w - - 0 1\"]\n\n1. Ne2 *\n\n",
         b"",
         0,
     ),

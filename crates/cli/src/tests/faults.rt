@@ -413,3 +413,69 @@ fn the_pieces_that_a_reader_gives_change_nothing(rt: HostRuntime) -> Result<(), 
     }
     Ok(())
 }
+
+/// Whether a listing of the text gives these bytes, however many bytes at a time its reader gives.
+fn is_listed_in_pieces(
+    alloc: Global,
+    text: &[u8],
+    counts: (u64, u64),
+    out: &[u8],
+    err: &[u8],
+) -> bool {
+    for piece in [1, 7, 8, 8192] {
+        let reader = Pieces::new(text, piece);
+        let trial = Trial::new(alloc, &all(Mode::List), reader, Page::new(), Page::new());
+        if !trial.is_whole(counts.0, counts.1, out, err) {
+            return false;
+        }
+    }
+    true
+}
+
+#[test]
+fn texts_are_listed_in_pieces(rt: HostRuntime) -> Result<(), Fail> {
+    let rows: [(&[u8], (u64, u64), &[u8], &[u8]); 5] = [
+        (b"", (0, 0), b"", b""),
+        (
+            LOST_BRACE,
+            (2, 1),
+            b"2@25 0\n2@25 1\n",
+            b"pgn-extract: game 1@0: unreadable\n",
+        ),
+        (
+            b"\xEF\xBB\xBF[Event \"A\"]\r\n\r\n1. e4 {[%clk 0:03:00]} e5 {\r\n[%eval 0.2]} *\r\n",
+            (1, 0),
+            b"1@3 0\n1@3 1\n1@3 2\n",
+            b"",
+        ),
+        (
+            b" %x *",
+            (1, 1),
+            b"",
+            b"pgn-extract: game 1@1: unreadable\n",
+        ),
+        (
+            b"\n\xEF\xBB\xBF1. e4 *",
+            (1, 1),
+            b"",
+            b"pgn-extract: game 1@1: unreadable\n",
+        ),
+    ];
+    for (text, counts, out, err) in rows {
+        assert!(rt;
+            is_listed_in_pieces(rt.alloc(), text, counts, out, err),
+            "{text:?}"
+        );
+    }
+    Ok(())
+}
+
+#[test]
+fn a_game_behind_many_spaces_is_listed_in_pieces(rt: HostRuntime) -> Result<(), Fail> {
+    let mut text = Vec::from_slice(rt.alloc(), b"[Event \"A\"]\n\n1. e4 *")?;
+    text.resize(1_048_575, b' ')?;
+    text.extend_from_slice(b"\n[Event \"B\"]\n\n1. d4 *\n")?;
+    let out = b"1@0 0\n1@0 1\n2@1048576 0\n2@1048576 1\n";
+    assert!(rt; is_listed_in_pieces(rt.alloc(), &text, (2, 0), out, b""));
+    Ok(())
+}

@@ -155,6 +155,20 @@ fn a_block_of_the_limit_is_read(rt: HostRuntime) -> Result<(), Fail> {
 }
 
 #[test]
+fn a_game_behind_many_spaces_has_its_offset(rt: HostRuntime) -> Result<(), Fail> {
+    let text = spaced_games(rt.alloc(), 1_048_555)?;
+    let rows: [(&str, &[u8]); 2] = [
+        ("--list", b"1@0 0\n1@0 1\n2@1048576 0\n2@1048576 1\n"),
+        ("--index", b"1@0\n2@1048576\n"),
+    ];
+    for (mode, out) in rows {
+        let end = run_over(rt.alloc(), &[mode], &text)?;
+        assert!(rt; end.is(out, b"", 0), "{mode}");
+    }
+    Ok(())
+}
+
+#[test]
 fn a_block_past_the_limit_is_too_long(rt: HostRuntime) -> Result<(), Fail> {
     let text = spaced_games(rt.alloc(), 16_777_196)?;
     let end = run_over(rt.alloc(), &["--list"], &text)?;
@@ -200,5 +214,43 @@ fn variations_nest_to_a_depth(rt: HostRuntime) -> Result<(), Fail> {
         let end = run_over(rt.alloc(), &["--index"], &nested(rt.alloc(), depth)?)?;
         assert!(rt; end.is(out, err, status), "{depth}");
     }
+    Ok(())
+}
+
+/// The export of a game of one move with variations nested to the depth, where a line takes it whole.
+fn nested_export(alloc: Global, depth: usize) -> Result<Vec<u8>, AllocError> {
+    let mut text = Vec::new(alloc);
+    text.extend_from_slice(
+        b"[Event \"?\"]\n[Site \"?\"]\n[Date \"????.??.??\"]\n[Round \"?\"]\n[White \"?\"]\n[Black \"?\"]\n[Result \"*\"]\n\n1. e4",
+    )?;
+    for _ in 0..depth {
+        text.extend_from_slice(b" ( 1. e4")?;
+    }
+    for _ in 0..depth {
+        text.extend_from_slice(b" )")?;
+    }
+    text.extend_from_slice(b" *\n\n")?;
+    Ok(text)
+}
+
+#[test]
+fn nested_variations_are_exported(rt: HostRuntime) -> Result<(), Fail> {
+    for depth in [0, 1, 64, 255usize] {
+        let end = run_over(rt.alloc(), &["-w", "9999"], &nested(rt.alloc(), depth)?)?;
+        assert!(rt;
+            end.is(&nested_export(rt.alloc(), depth)?, b"", 0),
+            "{depth}"
+        );
+    }
+    Ok(())
+}
+
+#[test]
+fn nested_variations_are_exported_in_lines(rt: HostRuntime) -> Result<(), Fail> {
+    let text = nested(rt.alloc(), 64)?;
+    let end = run_over(rt.alloc(), &[], &text)?;
+    let again = run_over(rt.alloc(), &["-w", "9999"], end.out.text())?;
+    assert!(rt; end.status == 0 && end.err.text().is_empty());
+    assert!(rt; again.is(&nested_export(rt.alloc(), 64)?, b"", 0));
     Ok(())
 }

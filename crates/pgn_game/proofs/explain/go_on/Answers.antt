@@ -36,4 +36,4 @@ returns-in-Move c =
 
 pub returns-in_default : goal.returns-in_default
 returns-in_default c =
-    record { runs = c.in_default.ensures.played; stops = c.in_default.ensures.faults; within = c.in_default.ensures.within }
+    record { runs = c.in_default.ensures.played; leads = c.in_default.ensures.leads; within = c.in_default.ensures.within }

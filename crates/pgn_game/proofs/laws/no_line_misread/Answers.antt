@@ -1,6 +1,10 @@
--- The law is a lemma.
+-- The laws are lemmas.
+use Rattle.pgn_game.proofs.PlainExport.{export_read_as_one}
 use Rattle.pgn_game.proofs.PlainLines.{no_line_misread}
 use Rattle.pgn_game.proofs.laws.no_line_misread.Goals as goal
 
-pub returns : goal.returns
-returns c = no_line_misread
+pub returns-clause-movetext : goal.returns-clause-movetext
+returns-clause-movetext c = no_line_misread
+
+pub returns-clause-export : goal.returns-clause-export
+returns-clause-export c = export_read_as_one

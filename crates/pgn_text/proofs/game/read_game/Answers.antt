@@ -1,9 +1,14 @@
-use Rattle.std.proofs.Common.{map, take, drop, sym, ap, subst, ◌∙◌, refl}
+use Rattle.std.proofs.Common.{◌≡◌, ℕ, List, map, take, drop, sym, ap, subst, ◌∙◌, refl}
+use Rattle.std.specs.List.{list_all}
+use Rattle.std.specs.Prelude.{Some, IsTrue}
+use Rattle.pgn_text.specs.Bytes.{is_name_byte}
 use Rattle.pgn_text.specs.Drafts.{IsDraftOf}
-use Rattle.pgn_text.specs.Elements.{item_of}
-use Rattle.pgn_text.specs.GameTexts.{IsPaired}
+use Rattle.pgn_text.specs.Elements.{item_of, tags_of}
+use Rattle.pgn_text.specs.GameTexts.{IsPaired, IsResult, tag_in}
+use Rattle.pgn_text.specs.Strings.{IsContents}
 use Rattle.pgn_text.specs.Walk.{GameRead}
 use Rattle.pgn_text.specs.Limits.{depth_limit}
+use Rattle.pgn_text.proofs.LastResult.{game_result}
 use Rattle.pgn_text.proofs.Pairing.{tags_ascend}
 use Rattle.pgn_text.proofs.TagLemmas.{tag_in-tags_of}
 use Rattle.pgn_text.proofs.TagStrings.{first_string}
@@ -15,11 +20,17 @@ invariant_of-game c =
     let read : GameRead depth_limit c.args.file_start c.args.block.now c.args.begin c.in-Some.at c.in-Some.end found.0 found.1 = found.2 in
     let held : IsDraftOf c.read_parts.new.keeper found.0 found.1 =
     found.3 (record { ordered = c.in_ok-draft.ensures.ordered; each = c.in_ok-draft.ensures.tags; elements = ap (map item_of) c.in_ok-draft.ensures.elements }) in
+    let block = c.args.block.now in
+    let after = drop c.in-Some.end block in
+    let found_first : (name contents : List ℕ) → tag_in name (tags_of c.read_parts.new.keeper.tags) ≡ Some contents → IsContents contents × IsTrue (list_all is_name_byte name) =
+    λ name contents is. first_string name contents c.args.file_start (take c.args.begin block) read.parts after read.game.is_game.stand
+    (sym (tag_in-tags_of c.read_parts.new.keeper.tags name ∙ held.each name ∙ read.tags_kept name) ∙ is) in
     record {
       ordered = tags_ascend c.read_parts.new.keeper.tags.entries held.ordered;
-      strings = λ name contents is. first_string name contents c.args.file_start (take c.args.begin c.args.block.now) read.parts (drop c.in-Some.end c.args.block.now)
-          read.game.is_game.stand (sym (tag_in-tags_of c.read_parts.new.keeper.tags name ∙ held.each name ∙ read.tags_kept name) ∙ is);
+      strings = λ name contents is. (found_first name contents is).0;
+      names = λ name contents is. (found_first name contents is).1;
       paired = subst (IsPaired 0) (sym held.elements) read.paired;
+      ends = subst IsResult (sym read.result) (game_result depth_limit c.args.file_start (take c.args.begin block) read.parts after read.game.is_game);
     }
 
 pub returns : goal.returns

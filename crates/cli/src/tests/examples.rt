@@ -1,0 +1,93 @@
+//! The examples with which the crates' documentation opens.
+use chess::{Bits, Position, resolve};
+use pgn_criteria::Criteria;
+use pgn_game::{GameFault, Lines, Style, export, replay};
+use pgn_text::{Piece, games};
+use std::alloc::{AllocError, Global};
+use std::test::Fail;
+
+/// The example of `chess`.
+fn after_word(fen: &[u8], word: &[u8]) -> Option<Position<Bits>> {
+    let position = Position::<Bits>::from_fen(fen).ok()?;
+    let m = resolve(&position, word).ok()?;
+    Some(position.play(m))
+}
+
+/// The example of `pgn_game`.
+fn exported(alloc: Global, block: &[u8], style: &Style) -> Result<Vec<u8>, AllocError> {
+    let mut out = Vec::new(alloc);
+    for piece in games(alloc, block, true) {
+        if let Piece::Game(game) = piece? {
+            match replay(alloc, &game, Lines::All) {
+                Ok(replayed) => export(alloc, &game, &replayed, style, &mut out)?,
+                Err(GameFault::OutOfMemory) => return Err(AllocError),
+                Err(_) => {}
+            }
+        }
+    }
+    Ok(out)
+}
+
+/// The example of `pgn_criteria`.
+fn first_met(
+    alloc: Global,
+    criteria: &Criteria,
+    block: &[u8],
+) -> Result<Option<usize>, AllocError> {
+    let Some(Piece::Game(game)) = games(alloc, block, true).next().transpose()? else {
+        return Ok(None);
+    };
+    match replay(alloc, &game, Lines::Main) {
+        Ok(replayed) => Ok(criteria.first(&game, &replayed, 0, u32::MAX)),
+        Err(GameFault::OutOfMemory) => Err(AllocError),
+        Err(_) => Ok(None),
+    }
+}
+
+/// Whether the word leads to a position with this text, or to none.
+fn leads(fen: &[u8], word: &[u8], after: Option<&str>) -> bool {
+    match (after_word(fen, word), after) {
+        (Some(found), Some(text)) => found.fen().as_str() == text,
+        (None, None) => true,
+        _ => false,
+    }
+}
+
+#[test]
+fn a_word_leads_to_a_position(rt: HostRuntime) -> Result<(), Fail> {
+    let usual = b"rnbqkbnr/pppppppp/8/8/8/8/PPPPPPPP/RNBQKBNR w KQkq - 0 1";
+    let after = "rnbqkbnr/pppppppp/8/8/4P3/8/PPPP1PPP/RNBQKBNR b KQkq e3 0 1";
+    assert!(rt; leads(usual, b"e4", Some(after)));
+    assert!(rt; leads(usual, b"e5", None));
+    assert!(rt; leads(b"8/8", b"e4", None));
+    Ok(())
+}
+
+/// Everything is kept.
+const WHOLE: Style = Style {
+    comments: true,
+    glyphs: true,
+    variations: true,
+    roster_only: false,
+    width: 80,
+};
+
+#[test]
+fn the_games_of_a_block_are_exported(rt: HostRuntime) -> Result<(), Fail> {
+    let text =
+        b"[Event \"?\"]\n[Site \"?\"]\n[Date \"????.??.??\"]\n[Round \"?\"]\n[White \"?\"]\n[Black \"?\"]\n[Result \"*\"]\n\n1. e4 *\n\n[Event \"?\"]\n[Site \"?\"]\n[Date \"????.??.??\"]\n[Round \"?\"]\n[White \"?\"]\n[Black \"?\"]\n[Result \"*\"]\n\n1. d4 *\n\n";
+    let found = exported(rt.alloc(), b"1. e4 *\n1. e5 *\n1. d4 *\n", &WHOLE)?;
+    assert!(rt; found.as_slice() == text.as_slice());
+    Ok(())
+}
+
+#[test]
+fn the_first_ply_that_meets_criteria(rt: HostRuntime) -> Result<(), Fail> {
+    let Ok(criteria) = Criteria::parse(rt.alloc(), b"check") else {
+        return Err("the criteria were refused")?;
+    };
+    assert!(rt; first_met(rt.alloc(), &criteria, b"1. e4 f6 2. Qh5+ g6 *")? == Some(3));
+    assert!(rt; first_met(rt.alloc(), &criteria, b"1. e4 *")?.is_none());
+    assert!(rt; first_met(rt.alloc(), &criteria, b"1. e5 *")?.is_none());
+    Ok(())
+}
