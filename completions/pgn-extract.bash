@@ -1,6 +1,12 @@
-# Completion of pgn-extract's words in bash.
+# Completion of pgn-extract's options in bash.
 _pgn_extract() {
-    local word=${COMP_WORDS[COMP_CWORD]} before=${COMP_WORDS[COMP_CWORD - 1]}
+    local word=${COMP_WORDS[COMP_CWORD]} before=${COMP_WORDS[COMP_CWORD - 1]} options
+    # (bash parts --criteria=FILE into three)
+    if [[ $word == = ]]; then
+        word=
+    elif [[ $before == = ]]; then
+        before=${COMP_WORDS[COMP_CWORD - 2]}
+    fi
     case $before in
     --criteria)
         mapfile -t COMPREPLY < <(compgen -f -- "$word")
@@ -11,8 +17,21 @@ _pgn_extract() {
     if [[ $word == -* ]]; then
         mapfile -t COMPREPLY < <(compgen -W '--list --index --criteria --min-ply --max-ply --first -C --no-comments -N --no-glyphs
             -V --no-variations --roster -w --width --explain --summary --from --until -h --help --version' -- "$word")
+        # --list and --index exclude each other.
+        options=" ${COMP_WORDS[*]:0:COMP_CWORD} "
+        [[ $options == *' --list '* ]] && _pgn_extract_without --index
+        [[ $options == *' --index '* ]] && _pgn_extract_without --list
     else
         mapfile -t COMPREPLY < <(compgen -f -- "$word")
     fi
+    return 0
+}
+# Takes an option out of what is offered.
+_pgn_extract_without() {
+    local offered=() option
+    for option in "${COMPREPLY[@]}"; do
+        [[ $option == "$1" ]] || offered+=("$option")
+    done
+    COMPREPLY=("${offered[@]}")
 }
 complete -o filenames -F _pgn_extract pgn-extract
