@@ -1,0 +1,60 @@
+"""What is wrong with the definitions that a reader must believe."""
+from closure import name_of
+from surface import public_facts, public_functions
+from tree import Declared
+
+
+def named_directly(tree, key):
+    """The definitions that a definition names, or that a type of the code which it names is for contracts."""
+    found, seen, waiting = set(), set(), list(tree.rests_on(key))
+    while waiting:
+        item = waiting.pop()
+        if not isinstance(item, Declared):
+            found.add(item)
+        elif item not in seen:
+            seen.add(item)
+            waiting += tree.rests_on(item)
+    return found - {key}
+
+
+def private_words(tree):
+    """Each believed definition that names a private word, with that word."""
+    for key in sorted(filter(tree.is_believed, tree.definitions), key=tree.places.get):
+        for word in sorted(named_directly(tree, key), key=tree.places.get):
+            if not tree.is_believed(word):
+                yield tree.definitions[key], tree.definitions[word]
+
+
+def clauses_of_all(tree):
+    """What each public contract names, with the contract's name."""
+    traits = {it.name for it, (_, one) in tree.types.items() if one.kind == "trait"}
+    for crate in tree.crates.values():
+        for file, function in public_functions(crate):
+            for clause in function.clauses:
+                yield f"{name_of(crate, file, function)}.{clause.name or clause.kind}", tree.clause_rests_on(file, function, clause)
+        for file, owner, text in public_facts(crate, traits):
+            yield f"{crate.name}::{file.module.replace('.', '::')}::{owner}", tree.named_by_term(file, text, set())
+
+
+def private_contracts(tree):
+    """Each public contract that names a private word, with that word."""
+    for name, found in clauses_of_all(tree):
+        for word in sorted((it for it in found if not isinstance(it, Declared)), key=tree.places.get):
+            if not tree.is_believed(word):
+                yield name, tree.definitions[word]
+
+
+def in_no_closure(tree):
+    """The believed definitions that no public contract rests on."""
+    found = tree.closure(set().union(*(it for _, it in clauses_of_all(tree))))
+    return [tree.definitions[it] for it in sorted(filter(tree.is_believed, tree.definitions), key=tree.places.get) if it not in found]
+
+
+def faults(tree):
+    """What is wrong, a line each."""
+    for definition, word in private_words(tree):
+        yield f"{definition.where} is to be believed, and rests on the private word {word.where}"
+    for name, word in private_contracts(tree):
+        yield f"the public contract {name} cites the private word {word.where}"
+    for definition in in_no_closure(tree):
+        yield f"{definition.where} is to be believed, and no public contract rests on it"
