@@ -4,10 +4,8 @@ from dataclasses import dataclass, field
 from pathlib import Path
 
 from rust import cleaned, read_rust
-from sources import Source, add_import, names_in, read_source
+from sources import Source, add_import, free_names, names_in, read_source
 from words import locals_of, words_of
-
-from sources import free_names
 
 LAW_FILES = re.compile(r"Laws$")
 
@@ -32,19 +30,6 @@ class Crate:
     private: list = field(default_factory=list)
     specs: dict = field(default_factory=dict)
     code: dict = field(default_factory=dict)
-
-
-@dataclass
-class Contract:
-    """A public function or a model, with the file that it stands in."""
-    crate: str
-    file: object
-    function: object
-
-    @property
-    def name(self):
-        owner = f"{self.function.owner}." if self.function.owner else ""
-        return f"{self.crate}::{self.file.module}::{owner}{self.function.name}"
 
 
 class Tree:
