@@ -4,23 +4,10 @@ from surface import public_facts, public_functions
 from tree import Declared
 
 
-def named_directly(tree, key):
-    """The definitions that a definition names, or that a type of the code which it names is for contracts."""
-    found, seen, waiting = set(), set(), list(tree.rests_on(key))
-    while waiting:
-        item = waiting.pop()
-        if not isinstance(item, Declared):
-            found.add(item)
-        elif item not in seen:
-            seen.add(item)
-            waiting += tree.rests_on(item)
-    return found - {key}
-
-
 def private_words(tree):
     """Each believed definition that names a private word, with that word."""
     for key in sorted(filter(tree.is_believed, tree.definitions), key=tree.places.get):
-        for word in sorted(named_directly(tree, key), key=tree.places.get):
+        for word in sorted(tree.through_types(tree.rests_on(key)) - {key}, key=tree.places.get):
             if not tree.is_believed(word):
                 yield tree.definitions[key], tree.definitions[word]
 

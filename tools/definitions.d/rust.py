@@ -29,6 +29,7 @@ class Function:
     is_public: bool
     head: str
     line: int
+    size: int = 0
     clauses: list = field(default_factory=list)
     body: str = ""
 
@@ -50,6 +51,7 @@ class RustFile:
     crate: str
     module: str
     path: Path
+    text: str = ""
     uses: list = field(default_factory=list)
     public_uses: list = field(default_factory=list)
     modules: list = field(default_factory=list)
@@ -132,6 +134,7 @@ def read_rust(path, crate, module):
     """Reads a file."""
     file = RustFile(crate, module, path)
     whole = path.read_text(encoding="utf-8")
+    file.text = whole
     text = cleaned(whole)
     read_items(file, text, 0, len(text), ("", ""))
     return file
@@ -199,7 +202,7 @@ def add_ghost(file, own, context):
 def function_of(own, line, context, is_public):
     """The function of an item's text."""
     name = re.search(r"\bfn\s+(\w+)", own)[1]
-    function = Function(name, context[0], context[1], is_public or context[1] == "trait", "", line)
+    function = Function(name, context[0], context[1], is_public or context[1] == "trait", "", line, own.count("\n"))
     at, head = own.index(name), []
     while at < len(own) and own[at] != ";":
         if own[at] not in "([{":

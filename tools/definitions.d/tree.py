@@ -218,6 +218,22 @@ class Tree:
                 waiting += self.rests_on(item)
         return found
 
+    def through_types(self, items):
+        """The definitions among these items, and those that types of the code among them are for contracts."""
+        found, seen, waiting = set(), set(), list(items)
+        while waiting:
+            item = waiting.pop()
+            if not isinstance(item, Declared):
+                found.add(item)
+            elif item not in seen:
+                seen.add(item)
+                waiting += self.rests_on(item)
+        return found
+
+    def named_by_contract(self, file, function):
+        """The definitions that a contract names."""
+        return self.through_types({it for clause in function.clauses for it in self.clause_rests_on(file, function, clause)})
+
     def clause_rests_on(self, file, function, clause):
         """What a clause of a contract names, and the types of the values that it speaks of."""
         values, types = values_of(function), set()
