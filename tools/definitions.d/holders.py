@@ -75,9 +75,9 @@ def reasons_of(tree):
     return {name: it.holders for it in all_notes(tree) if not it.crate for name in it.names}
 
 
-def all_notes(tree):
-    """The notes of the source file; those on functions stand under `# called by`."""
-    path, notes, crate = tree.top / HAND, [], ""
+def all_notes(tree, name=HAND):
+    """The notes of a source file; those on functions stand under `# called by`."""
+    path, notes, crate = tree.top / name, [], ""
     lines = path.read_text(encoding="utf-8").split("\n") if path.is_file() else []
     for number, line in enumerate(lines, 1):
         if line.startswith("# "):
@@ -220,10 +220,16 @@ def faults(tree):
     for key, held in holders_of(tree).items():
         if not held.is_own and not held.users:
             yield f"nothing holds {tree.definitions[key].where}: no law, worked row, edit or caller names it, and no note in {HAND}"
+    yield from faults_of_notes(tree, HAND, notes_of(tree))
+
+
+def faults_of_notes(tree, path, notes):
+    """The notes that speak of what is not there."""
     known = names_known(tree)
-    for note in notes_of(tree):
-        for name in set(re.findall(r"`([a-z]\w*_\w+)`", re.sub(r"\([^()]*\)", "", note.holders))) - known:
-            yield f"{HAND}:{note.line} says that {name} holds something, which is not there"
+    for note in notes:
+        for name in sorted(set(re.findall(r"`([a-z]\w*_\w+)`", re.sub(r"\([^()]*\)", "", note.holders))) - known):
+            yield f"{path}:{note.line} says that {name} holds something, which is not there"
         for name in note.names:
-            if len(meant_by(tree, note, name)) != 1:
-                yield f"{HAND}:{note.line} speaks of {name}, which {note.crate} defines {len(meant_by(tree, note, name))} times to be believed (FILE.NAME says which)"
+            found = len(meant_by(tree, note, name))
+            if found != 1:
+                yield f"{path}:{note.line} speaks of {name}, which {note.crate} defines {found} times to be believed (FILE.NAME says which)"

@@ -27,6 +27,7 @@ class Definition:
     kind: str
     line: int
     is_public: bool
+    outer: str = ""
     comment: list = field(default_factory=list)
     lines: list = field(default_factory=list)
     parts: list = field(default_factory=list)
@@ -87,38 +88,38 @@ def read_source(path, crate, folder, file):
     return source
 
 
-def read_lines(source, lines):
-    """Reads lines whose statements begin in the first column; those in a `module _` are read so too."""
+def read_lines(source, lines, outer=""):
+    """Reads lines whose statements begin in the first column; those in a `module _` are read so too, with its head as what stands outside."""
     current, inner, comment = None, None, []
     for number, line in lines:
         comment = comment + [line] if line.startswith("--") and inner is None else comment
         begins = line and not line[0].isspace()
         if begins and inner:
-            read_lines(source, unindented(inner))
+            read_module(source, inner, outer)
             inner = None
         if begins and line.startswith("module "):
-            inner = []
+            inner = [(number, line)]
         elif inner is not None:
             inner.append((number, line))
         elif begins and re.match(r"(?:pub )?use ", line):
             add_import(source, line.strip())
         elif begins and not line.startswith("--"):
             current = next_definition(source, current, number, line)
+            current.outer = outer
             current.lines.append(line)
             current.comment, comment = current.comment + comment, []
         elif current and line.strip() and not line.startswith("--"):
             current.lines.append(line)
         comment = [] if begins and not line.startswith("--") else comment
     if inner:
-        read_lines(source, unindented(inner))
+        read_module(source, inner, outer)
 
 
-def unindented(lines):
-    """Lines of a `module _` without their two blanks; what belongs to its own head is left out."""
-    body = [(number, line) for number, line in lines]
-    while body and " where" in "".join(line for _, line in body[:1]) and body[0][1].lstrip().startswith(("(", "{")):
-        body.pop(0)
-    return [(number, line[2:] if line.startswith("  ") else line) for number, line in body]
+def read_module(source, lines, outer):
+    """Reads a `module _ HEAD where`, whose statements stand two blanks in."""
+    size = next(place for place, (_, line) in enumerate(lines, 1) if line.endswith(" where"))
+    head = " ".join(line.strip() for _, line in lines[:size]).removeprefix("module _").removesuffix("where")
+    read_lines(source, [(number, line.removeprefix("  ")) for number, line in lines[size:]], f"{outer} {head}")
 
 
 def next_definition(source, current, number, line):

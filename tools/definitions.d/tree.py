@@ -3,6 +3,7 @@ import re
 from dataclasses import dataclass, field
 from pathlib import Path
 
+from kinds import Kind
 from rust import cleaned, read_rust
 from sources import Source, add_import, free_names, names_in, read_source
 from words import locals_of, words_of
@@ -128,7 +129,9 @@ class Tree:
         return None
 
     def declared_at(self, parts, name):
-        """The type that a path of `declared` names, or one of its variants."""
+        """The type that a path of `declared` names, or one of its variants; a constant is none."""
+        if "TheConstants" in parts:
+            return None
         for one in [name, *reversed(parts[3:])]:
             if Declared(parts[0], one) in self.types:
                 return Declared(parts[0], one)
@@ -184,6 +187,13 @@ class Tree:
 
     def ghost_source(self, file):
         """The names that a file of code imports for its contracts."""
+        if file.path not in self.kept:
+            self.kept[file.path] = self.read_ghost_uses(file)
+        return self.kept[file.path]
+
+    @staticmethod
+    def read_ghost_uses(file):
+        """Reads the imports of a file of code for its contracts."""
         source = Source(file.crate, "src", file.module, file.path)
         for line in file.ghost_uses:
             add_import(source, "use " + " ".join(line.split()))
@@ -206,6 +216,14 @@ class Tree:
         for crate in ([file.crate] if is_own else reversed(wanted)):
             if Declared(crate, name) in self.types:
                 return Declared(crate, name)
+        return None
+
+    def model_of(self, declared):
+        """The type that contracts see in place of a type of the code, where it has a model."""
+        file, one = self.types[declared]
+        for (owner, trait), ghosts in file.models.items():
+            if owner == declared.name and trait == "Model":
+                return Kind(self.ghost_source(file), tuple(words_of(ghosts["Value"])))
         return None
 
     def closure(self, start):
@@ -232,7 +250,10 @@ class Tree:
 
     def named_by_contract(self, file, function):
         """The definitions that a contract names."""
-        return self.through_types({it for clause in function.clauses for it in self.clause_rests_on(file, function, clause)})
+        key = (file.path, function.line)
+        if key not in self.kept:
+            self.kept[key] = self.through_types({it for clause in function.clauses for it in self.clause_rests_on(file, function, clause)})
+        return self.kept[key]
 
     def clause_rests_on(self, file, function, clause):
         """What a clause of a contract names, and the types of the values that it speaks of."""

@@ -1,6 +1,7 @@
 """Cuts texts of specs, proofs and contracts into words."""
 import re
 from dataclasses import dataclass
+from functools import cache
 
 WORD = re.compile(r'--[^\n]*|"(?:\\.|[^"\\\n])*"|[(){}\[\];,.λ]|[^\s(){}\[\];,."λ]+')
 OPERATORS = {":", "=", "→", "|", "↦", "×", "_", "-", "¬", "⊥", "→"}
@@ -14,8 +15,9 @@ class Word:
     is_label: bool
 
 
+@cache
 def words_of(text):
-    """The words of a text, without comments and strings."""
+    """The words of a text, without comments and strings; not to be changed."""
     found = [it for it in WORD.finditer(text) if not it[0].startswith(("--", '"'))]
     return [Word(it[0], is_field(text, it), is_label(found, place)) for place, it in enumerate(found)]
 
