@@ -5,15 +5,18 @@ from dataclasses import dataclass
 from closure import name_of
 from surface import public_functions
 
+# The modules that call nothing for others: laws are contracts of functions that do nothing, and what calls over memory are examples of calls.
+LAWS, EXAMPLES = "laws", "memory"
 CALL = re.compile(r"(\w+::|\.)?\b(\w+)(?:::<[^()]*>)?\(")
 
 
 @dataclass(frozen=True)
 class Caller:
-    """A function that calls another: its crate, its name, and whether it has a contract."""
+    """A function that calls another: its crate, its name, whether it has a contract, and whether it is an example."""
     crate: str
     name: str
     is_proved: bool
+    is_example: bool
 
 
 @dataclass(frozen=True)
@@ -54,7 +57,12 @@ def callers_by_function(tree):
                 is_call = is_call_of_member if function.owner else is_call_of_function
                 found = [it for it in calls.by_name.get(function.name, []) if it.function is not function and is_call(calls, crate, file, function, it)]
                 by_name = {name_of(tree.crates[it.crate], it.file, it.function): it for it in found}
-                yield (crate, file, function), [Caller(it.crate, name, bool(it.function.clauses)) for name, it in sorted(by_name.items())]
+                yield (crate, file, function), [caller(name, it) for name, it in sorted(by_name.items())]
+
+
+def caller(name, call):
+    """Who makes the call."""
+    return Caller(call.crate, name, bool(call.function.clauses), call.file.module == EXAMPLES)
 
 
 def is_call_of_member(calls, crate, file, function, call):
@@ -77,7 +85,7 @@ def is_call_of_function(calls, crate, file, function, call):
 
 
 def listed(tree):
-    """Each public function that is no law, by its name, with its callers."""
+    """Each public function that is no law and no example, by its name, with its callers."""
     for (crate, file, function), callers in callers_by_function(tree):
-        if file.module != "laws":
+        if file.module not in (LAWS, EXAMPLES):
             yield name_of(crate, file, function), callers

@@ -2,7 +2,7 @@
 import re
 from dataclasses import dataclass, field
 
-from callers import callers_by_function
+from callers import EXAMPLES, LAWS, callers_by_function
 from closure import name_of
 from sources import names_in, read_source
 from surface import public_functions
@@ -101,7 +101,7 @@ def laws_by_name(tree):
     found = {}
     for crate in tree.crates.values():
         for file, function in public_functions(crate):
-            if file.module != "laws":
+            if file.module != LAWS:
                 continue
             for key in statement_of(tree, file, function):
                 found.setdefault(key, []).append(function.name)
@@ -161,10 +161,10 @@ def named_by_edit(tree, crate, text):
 
 
 def callers_by_name(tree):
-    """For each definition the public functions whose contract names it, and which a function with a contract of another crate calls."""
+    """For each definition the public functions whose contract names it, and which an example calls or a function with a contract of another crate."""
     found = {}
     for (crate, file, function), callers in callers_by_function(tree):
-        if file.module == "laws" or not any(it.is_proved and it.crate != crate.name for it in callers):
+        if file.module in (LAWS, EXAMPLES) or not any(it.is_example or it.is_proved and it.crate != crate.name for it in callers):
             continue
         for key in tree.named_by_contract(file, function):
             found.setdefault(key, []).append(name_of(crate, file, function).rpartition("::")[2])

@@ -49,9 +49,9 @@ def contracts(tree):
 
 
 def called_by(name, found):
-    """Some callers: those of other crates first, and of these the tests last."""
+    """Some callers: examples first, then those of other crates, and of these those with a contract first."""
     own = name.partition("::")[0]
-    ordered = sorted(found, key=lambda it: (it.crate == own, not it.is_proved, it.name))
+    ordered = sorted(found, key=lambda it: (not it.is_example, it.crate == own, not it.is_proved, it.name))
     more = f" and {len(ordered) - MOST} more" if len(ordered) > MOST else ""
     return ", ".join(f"`{it.name}`" for it in ordered[:MOST]) + more
 

@@ -2,6 +2,7 @@
 import re
 from dataclasses import dataclass, field
 
+from callers import CALL
 from kinds import Kind, arguments, bare, binder, components, groups, sides, signature, split
 from sources import Source, read_lines, read_source
 from words import is_name, words_of
@@ -329,9 +330,17 @@ def near_of(tree, source):
         for size in range(len(parts), 0, -1):
             file = tree.crates[source.crate].code.get(".".join(parts[:size]))
             if file:
-                found |= {it for one in file.functions for it in tree.named_by_contract(file, one)}
+                found |= named_around(tree, file)
                 break
     return found | {it for one in found for it in tree.through_types(tree.rests_on(one))}
+
+
+def named_around(tree, file):
+    """The definitions that the contracts of a file of code name, and those of the functions that it calls by a name that the crates have."""
+    called = {name for one in file.functions for _, name in CALL.findall(one.body)}
+    pairs = [(file, one) for one in file.functions]
+    pairs += [(other, one) for crate in tree.crates.values() for other in crate.code.values() for one in other.functions if one.name in called and one.is_public]
+    return {it for other, one in pairs for it in tree.named_by_contract(other, one)}
 
 
 def taken_in(tree):
