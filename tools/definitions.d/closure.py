@@ -62,14 +62,17 @@ def summary(closure):
     return f"{closure.count} lines of {len(closure.definitions)} definitions{laws}, over {len(closure.types)} types of the code"
 
 
-def print_closure(tree, names, wants_counts):
-    """Prints the closure of all clauses with these names, whole or by its counts alone."""
-    closure = closure_of(tree, [it for name in names for it in clauses_named(tree, name)])
-    if wants_counts:
-        print_counts(closure)
-    else:
-        print_whole(closure)
+def run(tree, words):
+    """Prints the closure of all clauses that the words name: whole, or by its counts alone; the status is 1 where it has more lines than are wanted."""
+    most = None
+    if "--at-most" in words:
+        at = words.index("--at-most")
+        most, words = int(words[at + 1]), words[:at] + words[at + 2:]
+    closure = closure_of(tree, [it for name in words if name != "--counts" for it in clauses_named(tree, name)])
+    if most is None:
+        (print_counts if "--counts" in words else print_whole)(closure)
     print(f"-- {summary(closure)}")
+    return 1 if most is not None and closure.count > most else 0
 
 
 def print_counts(closure):

@@ -229,7 +229,7 @@ def faults_of_notes(tree, path, notes):
     for note in notes:
         for name in sorted(set(re.findall(r"`([a-z]\w*_\w+)`", re.sub(r"\([^()]*\)", "", note.holders))) - known):
             yield f"{path}:{note.line} says that {name} holds something, which is not there"
-        for name in note.names:
+        for name in dict.fromkeys(note.names):
             found = len(meant_by(tree, note, name))
             if found != 1:
                 yield f"{path}:{note.line} speaks of {name}, which {note.crate} defines {found} times to be believed (FILE.NAME says which)"
