@@ -1,6 +1,7 @@
 """Who calls each public function."""
 import re
 from dataclasses import dataclass
+from functools import cache
 
 from closure import name_of
 from surface import public_functions
@@ -48,9 +49,14 @@ def calls_of(tree):
     return Calls(by_name, givers)
 
 
+@cache
 def callers_by_function(tree):
     """Each public function with its callers: (crate, file, function), callers."""
-    calls = calls_of(tree)
+    return list(each_with_callers(tree, calls_of(tree)))
+
+
+def each_with_callers(tree, calls):
+    """Each public function with those of the calls that are its own."""
     for crate in tree.crates.values():
         for file, function in public_functions(crate):
             if function.trait in ("", "trait"):

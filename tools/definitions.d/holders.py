@@ -1,6 +1,7 @@
 """What holds each definition: the laws, worked rows, must-fail edits and proved callers that name it, and what docs/held-by.txt says."""
 import re
 from dataclasses import dataclass, field
+from functools import cache
 
 from callers import EXAMPLES, LAWS, callers_by_function
 from closure import name_of
@@ -171,6 +172,7 @@ def callers_by_name(tree):
     return found
 
 
+@cache
 def holders_of(tree):
     """What holds each definition that is to be believed."""
     laws, rows, edits, callers = laws_by_name(tree), rows_by_name(tree), edits_by_name(tree), callers_by_name(tree)

@@ -4,7 +4,7 @@ from functools import cache
 
 from words import is_name, words_of
 
-OPENING, CLOSING = "([{", ")]}"
+OPENING, CLOSING = frozenset("([{"), frozenset(")]}")
 
 
 @dataclass(frozen=True)
@@ -41,25 +41,37 @@ def groups(words):
     return found
 
 
+def group_at(words, place):
+    """The bracket that begins at the place, with what it holds."""
+    depth = 0
+    for end in range(place, len(words)):
+        depth += (words[end].text in OPENING) - (words[end].text in CLOSING)
+        if depth == 0:
+            return words[place:end + 1]
+    return words[place:]
+
+
 def bare(words):
     """The words without brackets around all of them that bind no name and hold no tuple."""
-    while len(groups(words)) == 1 and words[0].text == "(" and all(len(split(words[1:-1], mark)) == 1 for mark in ":,"):
+    while words and words[0].text == "(" and words[-1].text == ")" and len(groups(words)) == 1 and all(len(split(words[1:-1], mark)) == 1 for mark in ":,"):
         words = words[1:-1]
     return words
 
 
 def binder(group):
     """The names and the type of `(a b : T)` or `{a b : T}`; no names where the group is none."""
-    if group[0].text not in "({" or len(group) < 4:
+    if group[0].text not in "({" or len(group) < 4 or not any(it.text == ":" for it in group):
         return [], []
     names, *rest = split(group[1:-1], ":")
     if not rest or not all(is_name(it.text) or it.text == "_" for it in names):
         return [], []
-    return [it.text for it in names], group[group.index(rest[0][0]):-1] if rest[0] else []
+    return [it.text for it in names], group[len(names) + 2:-1]
 
 
 def components(words):
     """The components of a product, `(x y : A) × B` being three; none where it is no product."""
+    if not any(it.text == "×" for it in words):
+        return []
     parts = split(bare(list(words)), "×")
     if len(parts) < 2 or len(split(bare(list(words)), "→")) > 1:
         return []

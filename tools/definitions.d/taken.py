@@ -3,7 +3,7 @@ import re
 from dataclasses import dataclass, field
 
 from callers import CALL
-from kinds import Kind, arguments, bare, binder, components, groups, sides, signature, split
+from kinds import Kind, arguments, bare, binder, components, group_at, groups, sides, signature, split
 from sources import Source, read_lines, read_source
 from words import is_name, words_of
 
@@ -264,7 +264,7 @@ def bound_in(source, words, names):
     found = dict(names)
     for place, word in enumerate(words):
         if word.text in "({":
-            bound, kind = binder(groups(words[place:])[0])
+            bound, kind = binder(group_at(words, place))
             found.update({it: Kind(source, tuple(kind)) for it in bound})
     return found
 

@@ -1,14 +1,13 @@
 """Cuts texts of specs, proofs and contracts into words."""
 import re
-from dataclasses import dataclass
 from functools import cache
+from typing import NamedTuple
 
 WORD = re.compile(r'--[^\n]*|"(?:\\.|[^"\\\n])*"|[(){}\[\];,.λ]|[^\s(){}\[\];,."λ]+')
 OPERATORS = {":", "=", "→", "|", "↦", "×", "_", "-", "¬", "⊥", "→"}
 
 
-@dataclass(frozen=True)
-class Word:
+class Word(NamedTuple):
     """A word of a text: whether it is a field of what stands before it, and whether it only labels what follows."""
     text: str
     is_field: bool
