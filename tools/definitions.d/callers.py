@@ -91,7 +91,8 @@ def is_call_of_function(calls, crate, file, function, call):
 
 
 def listed(tree):
-    """Each public function that is no law and no example, by its name, with its callers."""
+    """Each public function but for examples and for laws that want nothing of their callers, by its name, with its callers."""
     for (crate, file, function), callers in callers_by_function(tree):
-        if file.module not in (LAWS, EXAMPLES):
+        is_law = file.module == LAWS and not any(it.kind == "requires" for it in function.clauses)
+        if not is_law and file.module != EXAMPLES:
             yield name_of(crate, file, function), callers

@@ -1,5 +1,6 @@
 """What is wrong with the definitions that a reader must believe."""
 from closure import name_of
+from sources import bound_in
 from surface import public_facts, public_functions
 from tree import Declared
 
@@ -37,8 +38,19 @@ def in_no_closure(tree):
     return [tree.definitions[it] for it in sorted(filter(tree.is_believed, tree.definitions), key=tree.places.get) if it not in found]
 
 
+def bound_twice(tree):
+    """Each believed definition that binds a name which also means a definition, with that name: what it rests on can't be read off."""
+    for key in sorted(filter(tree.is_believed, tree.definitions), key=tree.places.get):
+        source = tree.sources[key[0]]
+        for name in sorted(bound_in(tree.definitions[key], lambda word, source=source: tree.is_constructor(source, word))):
+            if tree.resolve(source, name, None) not in (None, key):
+                yield tree.definitions[key], name
+
+
 def faults(tree):
     """What is wrong, a line each."""
+    for definition, name in bound_twice(tree):
+        yield f"{definition.where} binds {name}, which is a definition too: what it rests on can't be read off"
     for definition, word in private_words(tree):
         yield f"{definition.where} is to be believed, and rests on the private word {word.where}"
     for name, word in private_contracts(tree):

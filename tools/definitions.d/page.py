@@ -43,7 +43,8 @@ def rows(keys, held):
 def contracts(tree):
     """The public functions with their callers."""
     reasons = holders.reasons_of(tree)
-    yield "\n# What each public contract is called by\n\n| Function | Called by |\n|---|---|\n"
+    yield "\n# What each public contract is called by\n\nLaws want nothing of their callers, and the functions of a module `memory` are examples of calls: both are left out.\n\n"
+    yield "| Function | Called by |\n|---|---|\n"
     for name, found in callers.listed(tree):
         yield f"| `{name}` | {called_by(name, found) or reasons.get(name, '')} |\n"
 

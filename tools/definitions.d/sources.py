@@ -183,6 +183,17 @@ def names_in(definition, is_constructor):
         yield from free_names(words, hidden)
 
 
+def bound_in(definition, is_constructor):
+    """The names that a definition binds, but for its fields."""
+    names = set()
+    for place, clause in enumerate(definition.clauses):
+        words = words_of(clause)
+        names |= locals_of(words)
+        if place and definition.kind not in ("record", "data"):
+            names |= patterns_of(words, is_constructor)
+    return names - {definition.name}
+
+
 def names_of_parts(definition):
     """The names that a record or data speaks of: a field hides a name in the fields after it."""
     first = definition.parts[0].line if definition.parts else len(definition.lines)
