@@ -5,6 +5,7 @@ A pool of games is played by random legal moves from the seed, with a small play
 collection takes games of the pool in random order, each under tags of its own. Annotated games have comments, glyphs and variations too.
 It prints how many games, plies and bytes it wrote, on one line: GAMES PLIES BYTES.
 """
+import itertools
 import random
 import sys
 
@@ -215,26 +216,36 @@ def annotated(chance, line, result):
     return wrapped(tokens + [result])
 
 
+def played_games(kind, chance, size=POOL):
+    """A pool of so many games, plain or annotated: of each its plies, its result and its movetext."""
+    pool = []
+    for _ in range(size):
+        line, result = played(chance)
+        pool.append((len(line), result, plain(line, result) if kind == "plain" else annotated(chance, line, result)))
+    return pool
+
+
+def collection(chance, pool):
+    """Games of the pool in random order, each under tags of its own, without end: their plies and their texts."""
+    for number in itertools.count(1):
+        plies, result, text = chance.choice(pool)
+        tags = [("Event", "Casual game"), ("Site", "?"), ("Date", "2026.11.22"), ("Round", str(number)), ("White", f"Player {chance.randint(1, 9999)}"),
+                ("Black", f"Player {chance.randint(1, 9999)}"), ("Result", result), ("WhiteElo", str(chance.randint(1000, 2800)))]
+        yield plies, "".join(f'[{name} "{value}"]\n' for name, value in tags) + "\n" + text + "\n\n"
+
+
 def main():
     kind, megabytes, path = sys.argv[1:4]
     chance = random.Random(int(sys.argv[4]) if len(sys.argv) > 4 else 1994)
-    pool = []
-    for _ in range(POOL):
-        line, result = played(chance)
-        text = plain(line, result) if kind == "plain" else annotated(chance, line, result)
-        pool.append((len(line), result, text))
     wanted, games, plies, written = int(megabytes) * 1_000_000, 0, 0, 0
     with open(path, "w", encoding="ascii", newline="\n") as out:
-        while written < wanted:
-            games += 1
-            length, result, text = chance.choice(pool)
-            plies += length
-            tags = [("Event", "Casual game"), ("Site", "?"), ("Date", "2026.11.22"), ("Round", str(games)), ("White", f"Player {chance.randint(1, 9999)}"),
-                    ("Black", f"Player {chance.randint(1, 9999)}"), ("Result", result), ("WhiteElo", str(chance.randint(1000, 2800)))]
-            game = "".join(f'[{name} "{value}"]\n' for name, value in tags) + "\n" + text + "\n\n"
+        for length, game in collection(chance, played_games(kind, chance)):
             out.write(game)
-            written += len(game)
+            games, plies, written = games + 1, plies + length, written + len(game)
+            if written >= wanted:
+                break
     print(games, plies, written)
 
 
-main()
+if __name__ == "__main__":
+    main()

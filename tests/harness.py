@@ -1,0 +1,216 @@
+"""What the scripts of tests/ share: the program under test, runs with a time limit, made games, missing tools, the count of cases.
+
+A script is a docstring and a function over a Setup that counts its cases:
+
+    import sys
+    import harness
+
+    def try_all(setup):
+        setup.case("one game", harness.difference(setup.run(["--index"], b"1. e4 *\\n"), (0, b"1@0\\n", b"")))
+
+    if __name__ == "__main__":
+        sys.exit(harness.main(__doc__, try_all))
+
+- The program under test is what `--program` names, else the one that the gate built. No variable of the environment changes it.
+- A tool that looks for a program by PGN_EXTRACT is given the one under test: `setup.run_tool`.
+- With `--few` a script tries little of each kind, for tests/mutants.
+- The current folder is a private one, which is gone at the end.
+- What a script raises is one failed case more, and no case at all is a failure too.
+- The last line is 'N passed, M failed', with ', K skipped' where a tool is missing. The status is 0 where cases passed and none failed, else 1.
+"""
+
+import argparse
+import os
+import random
+import shutil
+import signal
+import subprocess
+import sys
+import tempfile
+import traceback
+from dataclasses import dataclass
+from pathlib import Path
+from typing import NamedTuple
+
+TOP = Path(__file__).resolve().parents[1]
+sys.path.insert(0, str(TOP / "bench"))
+import make_games  # noqa: E402
+
+BUILT = TOP / "crates/cli/out/cli"
+# The variable by which tools are given a program.
+TOOL_VARIABLE = "PGN_EXTRACT"
+# The status of a run that was ended at its time limit, as timeout(1) has it.
+OVERDUE = 124
+SEED = 1994
+# How much of a text a message shows, and how many faults of a case.
+SHOWN = 600
+FAULTS_SHOWN = 5
+
+
+class Ended(NamedTuple):
+    """How a run ended: its status (minus a signal's number, or OVERDUE), its output and its standard error."""
+
+    status: int
+    out: bytes
+    err: bytes
+
+
+def run(command, text=b"", seconds=60, **more):
+    """Runs a list of arguments over the bytes on standard input; `more` is what subprocess.Popen takes, as `env`, `stdout` or `preexec_fn`."""
+    streams = {"stdin": subprocess.PIPE, "stdout": subprocess.PIPE, "stderr": subprocess.PIPE}
+    environment = {name: value for name, value in os.environ.items() if name != TOOL_VARIABLE}
+    # (in a session of its own, so that its children end with it at the time limit)
+    with subprocess.Popen([os.fspath(it) for it in command], **{**streams, "env": environment, "start_new_session": True, **more}) as running:
+        try:
+            out, err = running.communicate(None if "stdin" in more else text, seconds)
+        except subprocess.TimeoutExpired:
+            os.killpg(running.pid, signal.SIGKILL)
+            out, err = running.communicate()
+            return Ended(OVERDUE, out or b"", err or b"")
+        except BaseException:
+            os.killpg(running.pid, signal.SIGKILL)
+            raise
+    return Ended(running.returncode, out or b"", err or b"")
+
+
+def shown(thing):
+    """A text for a message, cut in its middle where it is long."""
+    text = repr(thing)
+    return text if len(text) <= SHOWN else f"{text[: SHOWN // 2]} .. {text[-SHOWN // 2 :]}"
+
+
+def difference(found, wanted):
+    """What a message says of two things that should be equal; None where they are."""
+    return None if found == wanted else f"{shown(found)} in place of {shown(wanted)}"
+
+
+class MissingTool(Exception):
+    """A tool that has to be there is missing."""
+
+
+@dataclass
+class Setup:
+    """What a script is given: the program under test, whether to try few cases, its own options, and the count."""
+
+    program: Path
+    few: bool
+    options: argparse.Namespace
+    passed: int = 0
+    failed: int = 0
+    skipped: int = 0
+
+    def case(self, name, faults=None):
+        """Counts one case, which failed where a fault is given (a text, or several), and says whether it passed."""
+        found = [faults] if isinstance(faults, str) else [it for it in faults or () if it]
+        for fault in found[:FAULTS_SHOWN]:
+            print(f"FAILED {name}: {fault}", flush=True)
+        if len(found) > FAULTS_SHOWN:
+            print(f"FAILED {name}: and {len(found) - FAULTS_SHOWN} faults more", flush=True)
+        self.passed, self.failed = self.passed + (not found), self.failed + bool(found)
+        return not found
+
+    def run(self, arguments, text=b"", seconds=60, **more):
+        """Runs the program under test."""
+        return run([self.program, *arguments], text, seconds, **more)
+
+    def run_tool(self, command, text=b"", seconds=60, **more):
+        """Runs a tool that drives the program under test; its path is one of the repository."""
+        environment = {**more.pop("env", os.environ), TOOL_VARIABLE: str(self.program)}
+        return run([TOP / command[0], *command[1:]], text, seconds, env=environment, **more)
+
+    def has_tool(self, name, package, is_needed=False):
+        """Whether a tool is on the path. One that is missing is skipped aloud; in CI, and where it is needed everywhere, it ends the script as a failure."""
+        if shutil.which(name):
+            return True
+        if is_needed or os.environ.get("CI"):
+            raise MissingTool(f"{name} is missing: apt-get install {package}")
+        print(f"skipped: {name} is missing (apt-get install {package})", flush=True)
+        self.skipped += 1
+        return False
+
+    def library(self, source):
+        """The path of a library made from a C file of tests/."""
+        self.has_tool("cc", "gcc", is_needed=True)
+        made = Path(source).with_suffix(".so").resolve()
+        built = run(["cc", "-O1", "-shared", "-fPIC", "-o", made, TOP / "tests" / source, "-ldl"])
+        if built.status:
+            raise MissingTool(f"cc does not compile tests/{source} (apt-get install gcc libc6-dev): {shown(built.err)}")
+        return made
+
+    def tail(self):
+        """Prints the last line, and gives the status that the script ends with."""
+        print(f"{self.passed} passed, {self.failed} failed" + (f", {self.skipped} skipped" if self.skipped else ""), flush=True)
+        return 0 if self.passed and not self.failed else 1
+
+
+@dataclass(frozen=True)
+class MadeGame:
+    """A game that was made: its text, and the plies of its main line as its maker counted them."""
+
+    text: bytes
+    plies: int
+
+
+@dataclass(frozen=True)
+class MadeGames:
+    """Games that were made, and what the program has to say of the file that they are."""
+
+    games: list
+
+    def text(self):
+        return b"".join(it.text for it in self.games)
+
+    def plies(self):
+        return sum(it.plies for it in self.games)
+
+    def marks(self):
+        """The number and the offset of each game."""
+        offset = 0
+        for number, game in enumerate(self.games, 1):
+            yield number, offset
+            offset += len(game.text)
+
+    def index(self):
+        """The whole output of `--index`."""
+        return b"".join(b"%d@%d\n" % mark for mark in self.marks())
+
+    def listing(self):
+        """The whole output of `--list`."""
+        return b"".join(b"%d@%d %d\n" % (*mark, ply) for mark, game in zip(self.marks(), self.games) for ply in range(game.plies + 1))
+
+
+def made_games(kind, count, seed=SEED):
+    """So many sound games, 'plain' or 'annotated' (with comments, glyphs and variations), made from the seed by bench/make_games.py."""
+    chance = random.Random(seed)
+    pool = make_games.played_games(kind, chance, min(make_games.POOL, max(1, count // 2)))
+    return MadeGames([MadeGame(text.encode("ascii"), plies) for (plies, text), _ in zip(make_games.collection(chance, pool), range(count))])
+
+
+def read_arguments(document, add_options):
+    """The options of the command line."""
+    parser = argparse.ArgumentParser(description=document, formatter_class=argparse.RawDescriptionHelpFormatter)
+    parser.add_argument("--program", type=Path, default=BUILT, help="the program under test, in place of the one that the gate built")
+    parser.add_argument("--few", action="store_true", help="try little of each kind")
+    if add_options:
+        add_options(parser)
+    return parser.parse_args()
+
+
+def main(document, try_all, add_options=None):
+    """Runs a script's cases in a private folder, and gives the status that it ends with."""
+    options = read_arguments(document, add_options)
+    setup = Setup(options.program.resolve(), options.few, options)
+    came_from = os.getcwd()
+    with tempfile.TemporaryDirectory(prefix="pgn-tests-") as folder:
+        os.chdir(folder)
+        try:
+            if not os.access(setup.program, os.X_OK):
+                raise MissingTool(f"{setup.program} is not there: tools/build")
+            try_all(setup)
+        except MissingTool as missing:
+            setup.case("tools", str(missing))
+        except Exception:
+            setup.case("the script", traceback.format_exc())
+        finally:
+            os.chdir(came_from)
+    return setup.tail()
