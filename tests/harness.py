@@ -22,6 +22,7 @@ A script is a docstring and a function over a Setup that counts its cases:
 import argparse
 import os
 import random
+import re
 import shutil
 import signal
 import subprocess
@@ -43,7 +44,7 @@ TOOL_VARIABLE = "PGN_EXTRACT"
 OVERDUE = 124
 SEED = 1994
 # How much of a text a message shows, and how many faults of a case.
-SHOWN = 600
+SHOWN = 300
 FAULTS_SHOWN = 5
 
 
@@ -73,15 +74,19 @@ def run(command, text=b"", seconds=60, **more):
     return Ended(running.returncode, out or b"", err or b"")
 
 
-def shown(thing):
-    """A text for a message, cut in its middle where it is long."""
+def shown(thing, begin=0):
+    """A thing for a message, from a place of it on, cut where it is long."""
     text = repr(thing)
-    return text if len(text) <= SHOWN else f"{text[: SHOWN // 2]} .. {text[-SHOWN // 2 :]}"
+    return (".." if begin else "") + text[begin : begin + SHOWN] + (".." if len(text) > begin + SHOWN else "")
 
 
 def difference(found, wanted):
-    """What a message says of two things that should be equal; None where they are."""
-    return None if found == wanted else f"{shown(found)} in place of {shown(wanted)}"
+    """What a message says of two things that should be equal, from just before where they differ; None where they are."""
+    if found == wanted:
+        return None
+    same = len(os.path.commonprefix([repr(found), repr(wanted)]))
+    begin = same - SHOWN // 4 if same > SHOWN // 2 else 0
+    return f"{shown(found, begin)} in place of {shown(wanted, begin)}"
 
 
 class MissingTool(Exception):
@@ -184,6 +189,39 @@ def made_games(kind, count, seed=SEED):
     chance = random.Random(seed)
     pool = make_games.played_games(kind, chance, min(make_games.POOL, max(1, count // 2)))
     return MadeGames([MadeGame(text.encode("ascii"), plies) for (plies, text), _ in zip(make_games.collection(chance, pool), range(count))])
+
+
+# A comment, a line of a tag, a glyph, a result, a number, a parenthesis, a move or a pass.
+TOKEN = re.compile(r"(?P<comment>\{[^}]*\})|(?P<tag>^\[\w+ \".*\"\]$)|(?P<glyph>\$\d+)|(?P<result>(?:1-0|0-1|1/2-1/2|\*)(?=\s|$))|(?P<number>\d+\.+)|(?P<open>\()|(?P<close>\))|(?P<move>[A-Za-z-][\w=+#-]*)", re.MULTILINE)
+
+
+@dataclass(frozen=True)
+class Token:
+    """A token of movetext with each gap in it as one space, and in how many variations it stands; parentheses stand in their own variation."""
+
+    kind: str
+    depth: int
+    text: str
+
+
+def games_in(text):
+    """The tokens of each game in a text of PGN as exports are written, without tags and numbers: a simple reader, which shares nothing with the program."""
+    games, tokens, depth = [], [], 0
+    for found in TOKEN.finditer(text.decode("latin-1")):
+        kind = found.lastgroup
+        depth += kind == "open"
+        if kind not in ("tag", "number"):
+            tokens.append(Token(kind, depth, " ".join(found[0].split())))
+        depth -= kind == "close"
+        if kind == "result":
+            games.append(tokens)
+            tokens = []
+    return games
+
+
+def moves_of(game, deepest=None):
+    """The moves of a game, or those in at most so many variations."""
+    return [it.text for it in game if it.kind == "move" and (deepest is None or it.depth <= deepest)]
 
 
 def read_arguments(document, add_options):
