@@ -13,7 +13,7 @@ A script is a docstring and a function over a Setup that counts its cases:
 
 - The program under test is what `--program` names, else the one that the gate built. No variable of the environment changes it.
 - A tool that looks for a program by PGN_EXTRACT is given the one under test: `setup.run_tool`.
-- With `--few` a script tries little of each kind, for tests/mutants.
+- With `--few` a script tries little of each kind, for tests/mutants. A script of several sweeps has `--only SWEEP` too: `harness.run_sweeps`.
 - The current folder is a private one, which is gone at the end.
 - What a script raises is one failed case more, and no case at all is a failure too.
 - The last line is 'N passed, M failed', with ', K skipped' where a tool is missing. The status is 0 where cases passed and none failed, else 1.
@@ -114,6 +114,20 @@ class Setup:
         self.passed, self.failed = self.passed + (not found), self.failed + bool(found)
         return not found
 
+    def sweep(self, name, cases):
+        """Counts the cases of a sweep, pairs of a name and faults, and prints how many there are."""
+        tried = [self.case(f"{name}, {case}", faults) for case, faults in cases]
+        print(f"{name}: {len(tried)} tried, {tried.count(False)} failed", flush=True)
+        if not tried:
+            self.case(name, "nothing was tried")
+
+    def some(self, things, most=3):
+        """All of several things; with `--few` at most so many, spread over them, the first and the last among them."""
+        every = list(things)
+        if not self.few or len(every) <= most:
+            return every
+        return [every[place * (len(every) - 1) // (most - 1)] for place in range(most)]
+
     def run(self, arguments, text=b"", seconds=60, **more):
         """Runs the program under test."""
         return run([self.program, *arguments], text, seconds, **more)
@@ -191,6 +205,48 @@ def made_games(kind, count, seed=SEED):
     return MadeGames([MadeGame(text.encode("ascii"), plies) for (plies, text), _ in zip(make_games.collection(chance, pool), range(count))])
 
 
+def report(cause, number=1, offset=0):
+    """The line that reports a faulty game."""
+    return b"pgn-extract: game %d@%d: %s\n" % (number, offset, cause)
+
+
+def filled(tokens):
+    """Tokens in lines of at most 79 bytes."""
+    lines, line, size = [], [], 0
+    for token in tokens:
+        if line and size + 1 + len(token) > 79:
+            lines.append(b" ".join(line))
+            line, size = [], 0
+        size += len(token) + (1 if line else 0)
+        line.append(token)
+    return b"".join(it + b"\n" for it in [*lines, b" ".join(line)])
+
+
+@dataclass(frozen=True)
+class Sound:
+    """What a sound game without a result gives: the plies of its main line, its movetext as tokens, its event, and its other tags in the order of an export."""
+
+    plies: int
+    tokens: list
+    event: bytes = b"?"
+    tags: list = ()
+
+    def listing(self, number, offset):
+        """What `--list` prints of the game."""
+        return b"".join(b"%d@%d %d\n" % (number, offset, ply) for ply in range(self.plies + 1))
+
+    def export(self):
+        """What an export without options writes of the game."""
+        roster = b'[Event "%s"]\n[Site "?"]\n[Date "????.??.??"]\n[Round "?"]\n[White "?"]\n[Black "?"]\n[Result "*"]\n' % self.event
+        return roster + b"".join(self.tags) + b"\n" + filled(self.tokens) + b"\n"
+
+    def answer(self, arguments, number, offset):
+        """What the output has of the game: with `--index`, with `--list`, or of an export."""
+        if "--index" in arguments:
+            return b"%d@%d\n" % (number, offset)
+        return self.listing(number, offset) if "--list" in arguments else self.export()
+
+
 # A comment, a line of a tag, a glyph, a result, a number, a parenthesis, a move or a pass.
 TOKEN = re.compile(r"(?P<comment>\{[^}]*\})|(?P<tag>^\[\w+ \".*\"\]$)|(?P<glyph>\$\d+)|(?P<result>(?:1-0|0-1|1/2-1/2|\*)(?=\s|$))|(?P<number>\d+\.+)|(?P<open>\()|(?P<close>\))|(?P<move>[A-Za-z-][\w=+#-]*)", re.MULTILINE)
 
@@ -234,6 +290,31 @@ def read_arguments(document, add_options):
     return parser.parse_args()
 
 
+def guarded(setup, try_some):
+    """Tries some cases; what is raised there is one failed case."""
+    try:
+        try_some()
+    except MissingTool as missing:
+        setup.case("tools", str(missing))
+    except Exception:
+        setup.case("the script", traceback.format_exc())
+
+
+def run_sweeps(document, sweeps, add_options=None):
+    """`main` of a script whose cases are sweeps: by their names, functions over a Setup that yield pairs of a case's name and its faults. One of them alone is tried with `--only`."""
+
+    def add_all(parser):
+        parser.add_argument("--only", choices=sweeps, help="try one sweep alone")
+        if add_options:
+            add_options(parser)
+
+    def try_all(setup):
+        for name in [setup.options.only] if setup.options.only else sweeps:
+            guarded(setup, lambda: setup.sweep(name, sweeps[name](setup)))
+
+    return main(document, try_all, add_all)
+
+
 def main(document, try_all, add_options=None):
     """Runs a script's cases in a private folder, and gives the status that it ends with."""
     options = read_arguments(document, add_options)
@@ -242,13 +323,10 @@ def main(document, try_all, add_options=None):
     with tempfile.TemporaryDirectory(prefix="pgn-tests-") as folder:
         os.chdir(folder)
         try:
-            if not os.access(setup.program, os.X_OK):
-                raise MissingTool(f"{setup.program} is not there: tools/build")
-            try_all(setup)
-        except MissingTool as missing:
-            setup.case("tools", str(missing))
-        except Exception:
-            setup.case("the script", traceback.format_exc())
+            if os.access(setup.program, os.X_OK):
+                guarded(setup, lambda: try_all(setup))
+            else:
+                setup.case("tools", f"{setup.program} is not there: tools/build")
         finally:
             os.chdir(came_from)
     return setup.tail()
