@@ -20,6 +20,7 @@ A script is a docstring and a function over a Setup that counts its cases:
 """
 
 import argparse
+import functools
 import os
 import random
 import re
@@ -198,6 +199,7 @@ class MadeGames:
         return b"".join(b"%d@%d %d\n" % (*mark, ply) for mark, game in zip(self.marks(), self.games) for ply in range(game.plies + 1))
 
 
+@functools.cache
 def made_games(kind, count, seed=SEED):
     """So many sound games, 'plain' or 'annotated' (with comments, glyphs and variations), made from the seed by bench/make_games.py."""
     chance = random.Random(seed)
