@@ -49,6 +49,21 @@ SHOWN = 300
 FAULTS_SHOWN = 5
 
 
+# Of each example, read by eye: its sound games, the moves of their main lines and of all lines, and the games that an export reports.
+EXAMPLES = {
+    "annotated.pgn": (1, 4, 8, 0),
+    "broken.pgn": (1, 16, 16, 2),
+    "download.pgn": (2, 46, 50, 6),
+    "immortal.pgn": (2, 78, 78, 0),
+    "messy.pgn": (1, 13, 15, 0),
+    "old-mac.pgn": (2, 2, 2, 0),
+    "two-games.pgn": (2, 2, 2, 0),
+    "unplayable.pgn": (1, 5, 5, 3),
+    "untidy.pgn": (1, 4, 4, 3),
+    "utf-16.pgn": (0, 0, 0, 1),
+}
+
+
 class Ended(NamedTuple):
     """How a run ended: its status (minus a signal's number, or OVERDUE), its output and its standard error."""
 
