@@ -1,5 +1,5 @@
-/* A library to be loaded before the C library: it makes reads, writes or seeks of a program fail, or reads and writes move few bytes.
- *     FAULTS_CALL=read|write|lseek   which calls; with FAULTS_FILE=N only those on the file of this number
+/* A library to be loaded before the C library: it makes reads, writes, seeks or openings of a program fail, or reads and writes move few bytes.
+ *     FAULTS_CALL=read|write|lseek|open   which calls; with FAULTS_FILE=N only those on the file of this number
  *     FAULTS_AT=N              the N-th such call fails, counted from 1; with FAULTS_ONWARD=1 all after it too
  *     FAULTS_ERROR=E           with this error; without it the call moves nothing and answers 0
  *     FAULTS_PIECE=N           each such call moves at most N bytes
@@ -8,6 +8,8 @@
 #define _GNU_SOURCE
 #include <dlfcn.h>
 #include <errno.h>
+#include <fcntl.h>
+#include <stdarg.h>
 #include <stdio.h>
 #include <stdlib.h>
 #include <string.h>
@@ -66,6 +68,16 @@ off_t lseek(int file, off_t offset, int whence) {
     off_t place = is_fault() ? -1 : call(file, offset, whence);
     if (place > furthest) furthest = place;
     return place;
+}
+
+int open(const char *path, int flags, ...) {
+    static int (*call)(const char *, int, ...);
+    va_list more;
+    va_start(more, flags);
+    mode_t mode = flags & O_CREAT ? va_arg(more, mode_t) : 0;
+    va_end(more);
+    if (!call) call = (int (*)(const char *, int, ...))dlsym(RTLD_NEXT, "open");
+    return is_meant("open", (int)number("FAULTS_FILE", 0)) && is_fault() ? -1 : call(path, flags, mode);
 }
 
 __attribute__((destructor)) static void report(void) {
