@@ -1,18 +1,21 @@
-/* A library to be loaded before the C library: it makes reads, writes or seeks of a program fail, or reads and writes move few bytes.
- *     FAULTS_CALL=read|write|lseek   which calls; with FAULTS_FILE=N only those on the file of this number
- *     FAULTS_AT=N              the N-th such call fails, counted from 1; with FAULTS_ONWARD=1 all behind it too
+/* A library to be loaded before the C library: it makes reads, writes, seeks or openings of a program fail, or reads and writes move few bytes.
+ *     FAULTS_CALL=read|write|lseek|open   which calls; with FAULTS_FILE=N only those on the file of this number
+ *     FAULTS_AT=N              the N-th such call fails, counted from 1; with FAULTS_ONWARD=1 all after it too
  *     FAULTS_ERROR=E           with this error; without it the call moves nothing and answers 0
  *     FAULTS_PIECE=N           each such call moves at most N bytes
- *     FAULTS_LATE=FILE         at the end two numbers are written to the file: the reads behind the fault, and the writes of the same file behind it */
+ *     FAULTS_LATE=FILE         at the end three numbers are written to the file: the reads after the fault, the writes of the same file after it,
+ *                              and the furthest place that a seek of the file came to */
 #define _GNU_SOURCE
 #include <dlfcn.h>
 #include <errno.h>
+#include <fcntl.h>
+#include <stdarg.h>
 #include <stdio.h>
 #include <stdlib.h>
 #include <string.h>
 #include <unistd.h>
 
-static long seen, faults, late_reads, late_writes;
+static long seen, faults, late_reads, late_writes, furthest;
 
 /* A number of the environment, or what stands for one that is missing. */
 static long number(const char *name, long missing) {
@@ -61,13 +64,26 @@ ssize_t write(int file, const void *from, size_t size) {
 off_t lseek(int file, off_t offset, int whence) {
     static off_t (*call)(int, off_t, int);
     if (!call) call = (off_t (*)(int, off_t, int))dlsym(RTLD_NEXT, "lseek");
-    return is_meant("lseek", file) && is_fault() ? -1 : call(file, offset, whence);
+    if (!is_meant("lseek", file)) return call(file, offset, whence);
+    off_t place = is_fault() ? -1 : call(file, offset, whence);
+    if (place > furthest) furthest = place;
+    return place;
+}
+
+int open(const char *path, int flags, ...) {
+    static int (*call)(const char *, int, ...);
+    va_list more;
+    va_start(more, flags);
+    mode_t mode = flags & O_CREAT ? va_arg(more, mode_t) : 0;
+    va_end(more);
+    if (!call) call = (int (*)(const char *, int, ...))dlsym(RTLD_NEXT, "open");
+    return is_meant("open", (int)number("FAULTS_FILE", 0)) && is_fault() ? -1 : call(path, flags, mode);
 }
 
 __attribute__((destructor)) static void report(void) {
     const char *path = getenv("FAULTS_LATE");
     FILE *file = path ? fopen(path, "w") : NULL;
     if (!file) return;
-    fprintf(file, "%ld %ld\n", late_reads, late_writes);
+    fprintf(file, "%ld %ld %ld\n", late_reads, late_writes, furthest);
     fclose(file);
 }

@@ -1,5 +1,5 @@
 /* A library to be loaded before the C library: it counts the requests for memory of a program, and refuses some of them.
- *     GROWTHS_REFUSED=N    the N-th request is refused, counted from 1; with GROWTHS_ONWARD=1 all behind it too
+ *     GROWTHS_REFUSED=N    the N-th request is refused, counted from 1; with GROWTHS_ONWARD=1 all after it too
  *     GROWTHS_COUNT=FILE   at the end the number of requests is written to the file, and whether one was refused
  * The C library's own requests before `main` count too: a number means the same request in each run over the same words and bytes. */
 #define _GNU_SOURCE
