@@ -34,13 +34,14 @@ fn first_met(
     criteria: &Criteria,
     block: &[u8],
 ) -> Result<Option<usize>, AllocError> {
-    let Some(Piece::Game(game)) = games(alloc, block, true).next().transpose()? else {
-        return Ok(None);
-    };
-    match replay(alloc, &game, Lines::Main) {
-        Ok(replayed) => Ok(criteria.first(&game, &replayed, 0, u32::MAX)),
-        Err(GameFault::OutOfMemory) => Err(AllocError),
-        Err(_) => Ok(None),
+    match games(alloc, block, true).next() {
+        Some(Ok(Piece::Game(game))) => match replay(alloc, &game, Lines::Main) {
+            Ok(replayed) => Ok(criteria.first(&game, &replayed, 0, u32::MAX)),
+            Err(GameFault::OutOfMemory) => Err(AllocError),
+            Err(_) => Ok(None),
+        },
+        Some(Err(error)) => Err(error),
+        _ => Ok(None),
     }
 }
 

@@ -32,16 +32,16 @@ fn next_fails(alloc: Global) -> bool {
     matches!(blocks.next(&mut input), Ok(None))
 }
 
-/// Whether the pieces of a block end behind a refusal of memory, and behind the last of them.
+/// Whether the pieces of a block end behind a refusal of memory.
 fn games_end(alloc: Global) -> bool {
-    let mut pieces = games(alloc, ELEMENTS, true);
-    for _ in 0..2u8 {
-        let is_refused = matches!(pieces.next(), Some(Err(_)));
-        if is_refused {
-            break;
+    let mut was_refused = false;
+    for piece in games(alloc, ELEMENTS, true) {
+        if was_refused {
+            return false;
         }
+        was_refused = piece.is_err();
     }
-    pieces.next().is_none()
+    true
 }
 
 /// Whether an export that is refused memory leaves its vector as it was, and one that is not writes behind it.
