@@ -1,6 +1,6 @@
 -- What holds of the entries of every text, of its marks, and of what is reported of it.
-use Rattle.std.specs.Prelude.{◌≡◌, ◌↔◌, Bool, true, false, ℕ, ◌+◌, ◌-◌, ◌^◌, ◌<◌, ◌==◌, List, [], ◌∷◌, ◌++◌, length, take, drop, count_by, codes}
-use Rattle.pgn_text.specs.Limits.{depth_limit}
+use Rattle.std.specs.Prelude.{◌≡◌, ◌↔◌, Bool, true, false, ℕ, ◌+◌, ◌-◌, ◌^◌, ◌<◌, ◌≤◌, ◌==◌, List, [], ◌∷◌, ◌++◌, length, take, drop, count_by, codes}
+use Rattle.pgn_text.specs.Limits.{depth_limit, largest_offset}
 use Rattle.pgn_text.specs.Stops.{StopsAt}
 use Rattle.pgn_text.specs.Marks.{MarkedPiece, AreMarkedPieces}
 use Rattle.pgn_extract.specs.Listing.{Entry, AreEntries}
@@ -17,11 +17,20 @@ PiecesHaveOneListing =
     (aim : Aim) (limit max_depth number offset : ℕ) (text : List ℕ) (pieces : List MarkedPiece) → AreMarkedPieces limit max_depth offset text pieces
     → (entries : List Entry) × AreEntries aim number pieces entries × ((others : List Entry) → AreEntries aim number pieces others → others ≡ entries)
 
--- each piece of a text has a mark, which is one of them: its number, counted from 1, and its offset
+-- each piece of a text has a mark, which is one of them: its number, counted from 1, and its offset, which is within the text and no lower than
+-- the pieces before it are many
+pub record HasAMark (text : List ℕ) (before : List MarkedPiece) (piece : MarkedPiece) (behind : List MarkedPiece) : Type 0 where
+  pub among : IsMarkAmong (length before + 1) piece.offset (before ++ piece ∷ behind)
+  pub within : piece.offset < length text
+  pub few : length before ≤ piece.offset
+  -- so it is one at which a run can begin
+  pub number : length text ≤ largest_offset → length before + 1 ≤ largest_offset
+  pub offset : length text ≤ largest_offset → piece.offset ≤ largest_offset
+
 abbrev pub EachPieceHasAMark : Type 0
 EachPieceHasAMark =
-    (before : List MarkedPiece) (piece : MarkedPiece) (behind : List MarkedPiece)
-    → IsMarkAmong (length before + 1) piece.offset (before ++ piece ∷ behind)
+    (limit max_depth : ℕ) (text : List ℕ) (before : List MarkedPiece) (piece : MarkedPiece) (behind : List MarkedPiece)
+    → AreMarkedPieces limit max_depth 0 text (before ++ piece ∷ behind) → HasAMark text before piece behind
 
 -- the pieces of each text are reported in some way, whatever is to be reported
 abbrev pub TextHasAReport : Type 0

@@ -8,7 +8,7 @@ pub fn one_listing()
     ensures { PiecesHaveOneListing }
 {}
 
-/// Each piece of a text has a mark, which is one of the marks at which a run can begin.
+/// Each piece of a text has a mark, which is one of the marks, within the text, and one at which a run can begin.
 pub fn marks()
     ensures { EachPieceHasAMark }
 {}

@@ -1,13 +1,23 @@
 -- The mark is the place of the piece in the list.
-use Rattle.std.proofs.Common.{refl}
+use Rattle.std.proofs.Common.{arith, refl}
+use Rattle.pgn_text.proofs.MarkBounds.{mark_bounds}
 use Rattle.pgn_extract.proofs.laws.marks.Goals as goal
 
 pub returns : goal.returns
-returns c before piece behind = record {
-  before = before;
-  piece = piece;
-  behind = behind;
-  parted = refl;
-  numbered = refl;
-  placed = refl;
-}
+returns c limit max_depth text before piece behind each =
+    let bounds = mark_bounds limit max_depth 0 text before piece behind each in
+    let few = bounds.0 in
+    let less = bounds.1 in record {
+      among = record {
+        before = before;
+        piece = piece;
+        behind = behind;
+        parted = refl;
+        numbered = refl;
+        placed = refl;
+      };
+      within = omega arith;
+      few = omega arith;
+      number = λ size. omega arith;
+      offset = λ size. omega arith;
+    }
