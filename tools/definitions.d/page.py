@@ -1,5 +1,4 @@
 """The page docs/DEFINITIONS.md: what holds each definition, and who calls each public function."""
-import re
 
 import callers
 import holders

@@ -1,5 +1,4 @@
 """Which fields and cases lemmas, laws, examples and callers take apart."""
-import re
 from dataclasses import dataclass, field
 
 from callers import CALL

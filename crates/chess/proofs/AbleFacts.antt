@@ -9,7 +9,8 @@ use Rattle.chess.specs.Moves.{IsPawnMove, IsPawnCapture, IsSingleStep, IsDoubleS
 use Rattle.chess.specs.MoveWords.{IsMover, IsStepper, IsTaker}
 use Rattle.chess.specs.San.{Said, kind_said}
 use Rattle.chess.specs.SanWords.{IsMoveSaid, IsAsked, ChangesFile, IsAble, CanGoSaid, man_said, move_from}
-use Rattle.chess.specs.Sets.{Places, is_in, no_places, IsTakenFirst, HoldsExactly, IsHitter}
+use Rattle.chess.specs.Sets.{Places, is_in, no_places, HoldsExactly, IsHitter}
+use Rattle.chess.specs.SetWords.{IsTakenFirst}
 use Rattle.chess.specs.declared.board.man.Side.{Side}
 use Rattle.chess.specs.declared.board.man.Side.TheVariants.{White, Black}
 use Rattle.chess.specs.declared.board.man.Kind.{Kind}

@@ -6,7 +6,7 @@ use Rattle.std.proofs.lemmas.Bool.Decides.{nat_tests}
 use Rattle.std.proofs.lemmas.Nat.Bits.{bit_at_or, bit_at-lt, bit_at-pow_same, bit_at-pow_other, bit_at-zero}
 use Rattle.chess.specs.Squares.{Place, IsOnBoard, IsAhead, square_at, index_of}
 use Rattle.chess.specs.SetFacts.{square_at-index_of, index_of-below}
-use Rattle.chess.specs.Sets.{has_bit}
+use Rattle.chess.specs.SetWords.{has_bit}
 use Rattle.chess.specs.BitWords.{IsWordOf}
 use Rattle.chess.specs.Sights.{StandsBetween}
 use Rattle.chess.specs.declared.board.sights.lines_table.TheConstants.{LINES}

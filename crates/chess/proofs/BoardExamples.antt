@@ -8,7 +8,8 @@ use Rattle.chess.specs.Placements.{Placement, no_men, man_at, with_man, opposite
 use Rattle.chess.specs.Attacks.{Reaches, IsOnRay, IsForward, IsNear, IsJump, IsPawnHit, IsInReach, IsAttacked}
 use Rattle.chess.specs.Positions.{State, king_of, pawn_of, home_rank, pawn_rank, passed_rank, has_right, king_from, king_to, rook_from, rook_to, FitsEnPassant, IsSound}
 use Rattle.chess.specs.Moves.{IsPromotion, Promotes, IsBetween, one_more, fullmove_number_after, keeps_right}
-use Rattle.chess.specs.Sets.{Places, no_places, is_in, HoldsExactly, IsTakenFirst}
+use Rattle.chess.specs.Sets.{Places, no_places, is_in, HoldsExactly}
+use Rattle.chess.specs.SetWords.{IsTakenFirst}
 use Rattle.chess.specs.declared.board.man.Man.{Man}
 use Rattle.chess.specs.declared.board.man.Side.TheVariants.{White, Black}
 use Rattle.chess.specs.declared.board.man.Kind.TheVariants.{Queen, Rook, Bishop, Knight}

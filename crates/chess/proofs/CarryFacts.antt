@@ -5,7 +5,7 @@ use Rattle.std.proofs.lemmas.List.{get_or-map, length-map}
 use Rattle.std.proofs.Math.Pow.{pow-lt}
 use Rattle.chess.specs.Squares.{Place, IsOnBoard, index_of}
 use Rattle.chess.specs.Placements.{with_man}
-use Rattle.chess.specs.Sets.{has_bit}
+use Rattle.chess.specs.SetWords.{has_bit}
 use Rattle.chess.specs.SetFacts.{index_of-below}
 use Rattle.chess.specs.BitWords.{AreApart, words_men, word_at, square_word, IsCleared}
 use Rattle.chess.specs.declared.board.man.Man.{Man}

@@ -9,7 +9,7 @@ use Rattle.chess.specs.Squares.{Place, IsOnBoard, IsStraight, IsAhead, index_of,
 use Rattle.chess.specs.SetFacts.{square_at-index_of}
 use Rattle.chess.specs.Placements.{Placement, IsEmpty}
 use Rattle.chess.specs.Attacks.{IsOnRay, IsClearFor}
-use Rattle.chess.specs.Sets.{has_bit}
+use Rattle.chess.specs.SetWords.{has_bit}
 use Rattle.chess.specs.BitWords.{IsWordOf, IsNextWord, IsStraightRun, IsDiagonalRun, square_word}
 use Rattle.chess.proofs.PlaceFacts.{place_of}
 use Rattle.chess.specs.declared.board.direction.Direction.{Direction}

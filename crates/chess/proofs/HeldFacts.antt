@@ -2,7 +2,7 @@
 use Rattle.std.proofs.Common.{◌≡◌, ◌≢◌, ◌↔◌, ◌⊎◌, ◌∙◌, bit_or, bit_and, ℕ, inl, inr, ap, refl, Some}
 use Rattle.chess.specs.Squares.{Place, IsOnBoard, index_of}
 use Rattle.chess.specs.Placements.{Placement, IsHeld}
-use Rattle.chess.specs.Sets.{has_bit}
+use Rattle.chess.specs.SetWords.{has_bit}
 use Rattle.chess.specs.BitWords.{IsWordOf, IsMan, square_word}
 use Rattle.chess.specs.declared.board.man.Side.{Side}
 use Rattle.chess.specs.declared.board.man.Kind.{Kind}

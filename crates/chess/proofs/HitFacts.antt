@@ -9,7 +9,7 @@ use Rattle.chess.specs.SquareFacts.{index_of-square_at}
 use Rattle.chess.specs.SetFacts.{on_board-square_at}
 use Rattle.chess.specs.Placements.{Placement, AreOnBoard}
 use Rattle.chess.specs.Attacks.{IsAttacked, Reaches}
-use Rattle.chess.specs.Sets.{has_bit}
+use Rattle.chess.specs.SetWords.{has_bit}
 use Rattle.chess.specs.BitWords.{DoMeet, IsMan, IsHitBy, IsHitStraight, IsHitDiagonal}
 use Rattle.chess.specs.declared.board.man.Side.{Side}
 use Rattle.chess.specs.declared.board.man.Kind.{Kind}

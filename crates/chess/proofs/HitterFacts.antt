@@ -4,7 +4,8 @@ use Rattle.std.proofs.lemmas.Bool.{and_parts, and_from}
 use Rattle.chess.specs.Squares.{Place, IsOnBoard, index_of, same_square}
 use Rattle.chess.specs.Attacks.{Reaches}
 use Rattle.chess.specs.Placements.{Placement, IsEmpty, man_at}
-use Rattle.chess.specs.Sets.{Places, is_in, has_bit, no_places, HoldsExactly, IsTakenFirst}
+use Rattle.chess.specs.Sets.{Places, is_in, no_places, HoldsExactly}
+use Rattle.chess.specs.SetWords.{has_bit, IsTakenFirst}
 use Rattle.chess.specs.SetFacts.{false_of}
 use Rattle.chess.specs.BitWords.{IsWordOf, IsMan, IsRunner, IsHitStraight, IsHitDiagonal}
 use Rattle.chess.specs.MoveWords.{IsLeft, IsSifted}

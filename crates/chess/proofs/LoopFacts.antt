@@ -6,7 +6,8 @@ use Rattle.std.proofs.lemmas.Bool.{cases_eq}
 use Rattle.chess.specs.Squares.{Place, IsOnBoard, place_cmp, same_square}
 use Rattle.chess.specs.OrderFacts.{place_total, place_exact}
 use Rattle.chess.specs.SetFacts.{is_in-empty, tied, ties, false_of}
-use Rattle.chess.specs.Sets.{Places, is_in, no_places, size_of, IsTakenFirst, HoldsExactly}
+use Rattle.chess.specs.Sets.{Places, is_in, no_places, size_of, HoldsExactly}
+use Rattle.chess.specs.SetWords.{IsTakenFirst}
 use Rattle.chess.specs.MoveWords.{HasEach, IsLeft, IsSifted}
 use Rattle.chess.proofs.PlaceFacts.{cases_place, same_square-same, same_square-then, true_not_false}
 

@@ -9,7 +9,8 @@ use Rattle.chess.specs.Letters.{kind_letter, is_sign, square_text}
 use Rattle.chess.specs.SanWords.{IsAble, CanGoSaid, IsNext, HasNone, IsMoveSaid, IsCastlingOn, move_from, castling_on, man_said}
 use Rattle.chess.specs.SanAnswers.{IsAnswer, IsPlayed}
 use Rattle.chess.specs.Refusals.{IsSpokenOf}
-use Rattle.chess.specs.Sets.{Places, is_in, IsTakenFirst, HoldsExactly}
+use Rattle.chess.specs.Sets.{Places, is_in, HoldsExactly}
+use Rattle.chess.specs.SetWords.{IsTakenFirst}
 use Rattle.chess.specs.MoveWords.{IsLeft}
 use Rattle.chess.specs.declared.board.man.Man.{Man}
 use Rattle.chess.specs.declared.board.man.Kind.{Kind}

@@ -3,8 +3,7 @@ use Rattle.std.proofs.Common.{◌≡◌, ◌⊎◌, ℕ, zero, suc, ◌+◌, ◌
 use Rattle.std.proofs.lemmas.Bool.{cases_eq}
 use Rattle.std.proofs.lemmas.Bool.Decides.{nat_tests}
 use Rattle.chess.specs.Squares.{Place, IsOnBoard, square_at}
-use Rattle.chess.specs.Placements.{Placement, man_at}
-use Rattle.chess.specs.Cells.{men_of}
+use Rattle.chess.specs.Placements.{Placement, man_at, men_of}
 use Rattle.chess.specs.CellFacts.{man_at-men_of, on_board-men_of}
 use Rattle.chess.specs.SetFacts.{square_at-index_of}
 use Rattle.chess.specs.Letters.{man_letter}

@@ -9,7 +9,8 @@ use Rattle.chess.specs.Moves.{Goes}
 use Rattle.chess.specs.Letters.{file_letter, rank_digit, square_text}
 use Rattle.chess.specs.San.{IsRival, HasRival, IsDisambiguation}
 use Rattle.chess.specs.San.IsDisambiguation.{alone, by_file, by_rank, by_both}
-use Rattle.chess.specs.Sets.{Places, is_in, no_places, HoldsExactly, IsHitter, IsTakenFirst}
+use Rattle.chess.specs.Sets.{Places, is_in, no_places, HoldsExactly, IsHitter}
+use Rattle.chess.specs.SetWords.{IsTakenFirst}
 use Rattle.chess.specs.MoveWords.{HasEach}
 use Rattle.chess.specs.SanTextWords.{Appends, AreOf, HasSquare, AreRivalsSifted}
 use Rattle.chess.specs.declared.board.man.Man.{Man}

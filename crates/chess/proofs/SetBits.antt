@@ -2,7 +2,8 @@
 use Rattle.std.proofs.Common.{◌≡◌, ◌<◌, ◌*◌, ◌^◌, ◌%◌, ◌||◌, ◌&&◌, bit_and, bit_or, w64, ℕ, Bool, false, not, inl, inr, ap, sym, subst, ◌∙◌}
 use Rattle.std.specs.Int.{bit_not}
 use Rattle.chess.specs.Squares.{Place, IsOnBoard, square_at, index_of, same_square}
-use Rattle.chess.specs.Sets.{is_in, places_of, has_bit}
+use Rattle.chess.specs.Sets.{is_in}
+use Rattle.chess.specs.SetWords.{places_of, has_bit}
 use Rattle.chess.specs.SetFacts.{false_of, is_in-set_bit, is_in-clear_bit, on_board-places_of}
 use Rattle.chess.specs.CellFacts.{on_board_or_not}
 use Rattle.chess.proofs.PlaceFacts.{same_square-then}

@@ -2,7 +2,7 @@
 use Rattle.std.proofs.Common.{◌≡◌, ℕ, Bool, true, get_or, List, ◌∙◌}
 use Rattle.std.proofs.lemmas.Bool.{agree_below, agree_below_at}
 use Rattle.chess.specs.Squares.{Place, IsOnBoard, square_at, index_of}
-use Rattle.chess.specs.Sets.{has_bit}
+use Rattle.chess.specs.SetWords.{has_bit}
 use Rattle.chess.specs.SetFacts.{square_at-index_of, index_of-below}
 use Rattle.chess.proofs.LeaperFacts.{fits_word}
 

@@ -2,9 +2,8 @@
 use Rattle.std.proofs.Common.{◌≡◌, ◌<◌, ◌∙◌, ℕ, zero, suc, Bool, true, nat_eq, ap, refl, sym, arith, List, [], ◌∷◌, Option, Some, None}
 use Rattle.std.proofs.lemmas.Bool.{agree_below, agree_below_at, eqb-true, eq-eqb, ne_eqb}
 use Rattle.chess.specs.Squares.{square_at}
-use Rattle.chess.specs.Placements.{with_man}
-use Rattle.chess.specs.Sets.{has_bit}
-use Rattle.chess.specs.Cells.{first_men}
+use Rattle.chess.specs.Placements.{with_man, first_men}
+use Rattle.chess.specs.SetWords.{has_bit}
 use Rattle.chess.specs.BitWords.{AreApart, word_at, row_of, man_in, words_men}
 use Rattle.chess.specs.Start.{usual_man, usual_men}
 use Rattle.chess.specs.declared.board.man.Man.{Man}

@@ -60,10 +60,3 @@ pub record IsAttacked (p : Placement) (side : Side) (t : Place) : Type 0 where
   pub here : man_at p from ≡ Some man
   pub own : man.side ≡ side
   pub reaches : Reaches p side man.kind from t
-
--- a man of the side stands on s and attacks t
-pub record IsHitFrom (p : Placement) (side : Side) (s t : Place) : Type 0 where
-  pub man : Man
-  pub here : man_at p s ≡ Some man
-  pub own : man.side ≡ side
-  pub reaches : Reaches p side man.kind s t

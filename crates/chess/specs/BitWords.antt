@@ -1,10 +1,9 @@
 -- Words of 64 bits as squares of the board, and twelve of them as a board.
 use Rattle.std.specs.Prelude.{◌≡◌, ◌↔◌, ◌⊎◌, ◌<◌, ◌+◌, ◌*◌, ◌/◌, ◌%◌, ◌^◌, ◌||◌, ◌&&◌, ◌==◌, ltb, ℕ, zero, suc, Bool, true, false, not, if◌then◌else◌, List, get_or, Option, Some, None, bit_or, bit_xor, bit_and}
 use Rattle.chess.specs.Squares.{Place, IsOnBoard, IsStraight, IsAhead, index_of}
-use Rattle.chess.specs.Placements.{Placement, man_at}
+use Rattle.chess.specs.Placements.{Placement, man_at, men_of}
 use Rattle.chess.specs.Attacks.{IsOnRay, Reaches}
-use Rattle.chess.specs.Sets.{has_bit}
-use Rattle.chess.specs.Cells.{men_of}
+use Rattle.chess.specs.SetWords.{has_bit}
 use Rattle.chess.specs.declared.board.direction.Direction.{Direction}
 use Rattle.chess.specs.declared.board.direction.Direction.TheVariants.{North, South, East, West, NorthEast, NorthWest, SouthEast, SouthWest}
 use Rattle.chess.specs.declared.board.man.Man.{Man}

@@ -7,10 +7,10 @@ use Rattle.chess.specs.Squares.{Place, IsOnBoard, place_cmp, square_at, index_of
 use Rattle.chess.specs.SquareFacts.{index_of-square_at}
 use Rattle.chess.specs.OrderFacts.{place_total, place_exact}
 use Rattle.chess.specs.SetFacts.{square_at-index_of, index_of-below, on_board-square_at, ties, tied, false_of}
-use Rattle.chess.specs.Placements.{Placement, no_men, man_at, with_man}
+use Rattle.chess.specs.Placements.{Placement, no_men, man_at, with_man, first_men, men_of}
 use Rattle.std.specs.Prelude.{replicate}
 use Rattle.std.proofs.lemmas.List.{get_or-replicate, get_or_past, length-replicate}
-use Rattle.chess.specs.Cells.{first_men, men_of, cell_of}
+use Rattle.chess.specs.Cells.{cell_of}
 use Rattle.chess.specs.declared.board.man.Man.{Man}
 
 -- the man on the square that was changed, and on any other

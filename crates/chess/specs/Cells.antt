@@ -3,15 +3,7 @@ use Rattle.std.specs.Prelude.{ℕ, zero, suc, List, Option, None, get_or}
 use Rattle.chess.specs.Squares.{square_at}
 use Rattle.chess.specs.Placements.{Placement, no_men, with_man}
 use Rattle.chess.specs.declared.board.man.Man.{Man}
-
--- the men on the first n squares
-unfoldable pub first_men : (ℕ → Option Man) → ℕ → Placement
-first_men cell zero = no_men
-first_men cell (suc n) = with_man (first_men cell n) (square_at n) (cell n)
-
--- the men on all squares
-abbrev pub men_of : (ℕ → Option Man) → Placement
-men_of cell = first_men cell 64
+use Rattle.chess.specs.Placements.{men_of}
 
 -- the men that 64 cells hold
 abbrev pub cell_of : List (Option Man) → ℕ → Option Man

@@ -2,9 +2,10 @@
 use Rattle.std.specs.Prelude.{◌≡◌, ℕ, Bool, true, false, Option, refl}
 use Rattle.std.specs.Coded.{Coded, coded_ℕ, coded_bool, coded_option, coded×, code_by}
 use Rattle.std.specs.FinMap.{code}
-use Rattle.chess.specs.Squares.{Place, coded_place}
+use Rattle.chess.specs.Squares.{Place}
+use Rattle.chess.specs.PlaceCodes.{coded_place}
 use Rattle.chess.specs.Placements.{Placement}
-use Rattle.chess.specs.Positions.{State}
+use Rattle.chess.specs.Positions.{State, IsOnlyKing, IsSound}
 use Rattle.chess.specs.declared.board.man.Man.{Man}
 use Rattle.chess.specs.declared.board.man.Side.{Side}
 use Rattle.chess.specs.declared.board.man.Side.TheVariants.{White, Black}
@@ -72,3 +73,9 @@ coded_state = code_by (Placement × (Side × (CastlingRights × (Option Place ×
     (λ P. (P.men, (P.turn, (P.rights, (P.en_passant, (P.halfmove_clock, P.fullmove_number))))))
     (λ p. record { men = p.0; turn = p.1.0; rights = p.1.1.0; en_passant = p.1.1.1.0; halfmove_clock = p.1.1.1.1.0; fullmove_number = p.1.1.1.1.1 })
     (λ _. refl)
+
+-- what a position of the program keeps, with the squares of its kings
+pub record IsKept (P : State) (white_king black_king : Place) : Type 0 where
+  pub sound : IsSound P
+  pub white : IsOnlyKing P.men White white_king
+  pub black : IsOnlyKing P.men Black black_king

@@ -13,6 +13,8 @@ pub mod Fen
 pub mod Sets
 pub mod Laws
 -- Private words: what the code equals on the way, what its loops keep, and facts that types rest on. No public contract cites them.
+pub mod PlaceCodes
+pub mod SetWords
 pub mod BitWords
 pub mod Sights
 pub mod Cells

@@ -1,7 +1,7 @@
 -- Which man stands on which square: a map from squares to men (Laws 2.3).
-use Rattle.std.specs.Prelude.{◌≡◌, Option, Some, None}
+use Rattle.std.specs.Prelude.{◌≡◌, Option, Some, None, ℕ, zero, suc}
 use Rattle.std.specs.FinMap.{FinMap, get, insert, remove, empty}
-use Rattle.chess.specs.Squares.{Place, IsOnBoard, place_cmp}
+use Rattle.chess.specs.Squares.{Place, IsOnBoard, place_cmp, square_at}
 use Rattle.chess.specs.declared.board.man.Man.{Man}
 use Rattle.chess.specs.declared.board.man.Side.{Side}
 use Rattle.chess.specs.declared.board.man.Side.TheVariants.{White, Black}
@@ -39,3 +39,12 @@ IsHeld p side s = (man : Man) × (man_at p s ≡ Some man) × (man.side ≡ side
 -- no man stands on the square
 abbrev pub IsEmpty : Placement → Place → Type 0
 IsEmpty p s = man_at p s ≡ None
+
+-- the men on the first n squares
+unfoldable pub first_men : (ℕ → Option Man) → ℕ → Placement
+first_men cell zero = no_men
+first_men cell (suc n) = with_man (first_men cell n) (square_at n) (cell n)
+
+-- the men on all squares
+abbrev pub men_of : (ℕ → Option Man) → Placement
+men_of cell = first_men cell 64

@@ -115,9 +115,3 @@ pub record IsSound (P : State) : Type 0 where
       → (man_at P.men (king_from side) ≡ Some (king_of side)) × (man_at P.men (rook_from side wing) ≡ Some (rook_of side))
   -- an en passant square only where it fits
   pub en_passant : IfSome P.en_passant (FitsEnPassant P.men P.turn)
-
--- what a position of the program keeps, with the squares of its kings
-pub record IsKept (P : State) (white_king black_king : Place) : Type 0 where
-  pub sound : IsSound P
-  pub white : IsOnlyKing P.men White white_king
-  pub black : IsOnlyKing P.men Black black_king

@@ -11,7 +11,8 @@ use Rattle.std.proofs.lemmas.Bool.Decides.{nat_tests}
 use Rattle.chess.specs.Squares.{Place, IsOnBoard, place_cmp, square_at, index_of, same_square}
 use Rattle.chess.specs.SquareFacts.{index_of-square_at}
 use Rattle.chess.specs.OrderFacts.{place_total, place_exact}
-use Rattle.chess.specs.Sets.{Places, is_in, no_places, first_places, places_of, has_bit, size_of}
+use Rattle.chess.specs.Sets.{Places, is_in, no_places, size_of}
+use Rattle.chess.specs.SetWords.{first_places, places_of, has_bit}
 
 -- a square of the board stands at its place in order
 pub square_at-index_of : (s : Place) → IsOnBoard s → square_at (index_of s) ≡ s

@@ -1,12 +1,13 @@
 -- What men see on the empty board, and the squares between two squares.
-use Rattle.std.specs.Prelude.{◌<◌, ◌≤◌, ℕ}
+use Rattle.std.specs.Prelude.{◌<◌, ◌≤◌, ℕ, ◌≡◌, Some}
 use Rattle.chess.specs.Squares.{Place, IsOnBoard, IsStraight, IsAhead}
-use Rattle.chess.specs.Attacks.{IsNear, IsJump, IsPawnHit}
-use Rattle.chess.specs.Placements.{Placement, IsEmpty}
+use Rattle.chess.specs.Attacks.{IsNear, IsJump, IsPawnHit, Reaches}
+use Rattle.chess.specs.Placements.{Placement, IsEmpty, man_at}
 use Rattle.chess.specs.declared.board.direction.Direction.{Direction}
 use Rattle.chess.specs.declared.board.man.Side.{Side}
 use Rattle.chess.specs.declared.board.man.Kind.{Kind}
 use Rattle.chess.specs.declared.board.man.Kind.TheVariants.{King, Queen, Rook, Bishop, Knight, Pawn}
+use Rattle.chess.specs.declared.board.man.Man.{Man}
 
 -- t is some steps ahead of s along the way
 abbrev pub IsInLine : Direction → Place → Place → Type 0
@@ -28,3 +29,10 @@ StandsBetween s t u = (way : Direction) × (k : ℕ) × (j : ℕ) × IsAhead way
 -- no man stands between
 abbrev pub IsUnblocked : Placement → Place → Place → Type 0
 IsUnblocked p s t = (u : Place) → IsOnBoard u → StandsBetween s t u → IsEmpty p u
+
+-- a man of the side stands on s and attacks t
+pub record IsHitFrom (p : Placement) (side : Side) (s t : Place) : Type 0 where
+  pub man : Man
+  pub here : man_at p s ≡ Some man
+  pub own : man.side ≡ side
+  pub reaches : Reaches p side man.kind s t

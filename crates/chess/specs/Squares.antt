@@ -59,7 +59,3 @@ same_square s t = (s.file == t.file) && (s.rank == t.rank)
 -- squares in order, by file and then by rank
 abbrev pub place_cmp : Place → Place → Ordering
 place_cmp s t = ordering_then (nat_cmp s.file t.file) (nat_cmp s.rank t.rank)
-
--- a square is stored as the pair of its numbers
-abbrev pub coded_place : Coded Place
-coded_place = code_by (ℕ × ℕ) (coded× coded_ℕ coded_ℕ) (λ s. (s.file, s.rank)) (λ p. record { file = p.0; rank = p.1 }) (λ _. refl)

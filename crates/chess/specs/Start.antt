@@ -1,8 +1,7 @@
 -- The position in which games usually begin (Laws 2.3).
 use Rattle.std.specs.Prelude.{◌≡◌, ◌≤◌, ℕ, true, ◌==◌, ◌||◌, if◌then◌else◌, Option, Some, None}
 use Rattle.chess.specs.Squares.{Place, square_at}
-use Rattle.chess.specs.Placements.{Placement, man_at, AreOnBoard, IsEmpty}
-use Rattle.chess.specs.Cells.{men_of}
+use Rattle.chess.specs.Placements.{Placement, man_at, AreOnBoard, IsEmpty, men_of}
 use Rattle.chess.specs.Positions.{State, pawn_of, home_rank, pawn_rank, has_right}
 use Rattle.chess.specs.declared.board.man.Man.{Man}
 use Rattle.chess.specs.declared.board.man.Side.{Side}

@@ -24,7 +24,8 @@ pub struct Position<B: Board> {
 }
 
 impl<B: Board> Model for Position<B> {
-    ghost use Rattle.chess.specs.Positions.{State, IsKept};
+    ghost use Rattle.chess.specs.Positions.{State};
+    ghost use Rattle.chess.specs.Codes.{IsKept};
     ghost use Rattle.chess.specs.Codes.{coded_state};
 
     ghost Value = { State };

@@ -6,9 +6,8 @@ use Rattle.std.proofs.lemmas.Bool.{and_from, and_parts, cases_eq}
 use Rattle.std.proofs.lemmas.Bool.Decides.{nat_tests}
 use Rattle.std.proofs.lemmas.List.{length-take-le}
 use Rattle.std.proofs.lemmas.List.Folds.{list_all-append}
-use Rattle.pgn_text.specs.Bytes.{is_white, is_name_byte, is_not_line_feed}
+use Rattle.pgn_text.specs.Bytes.{is_white, is_name_byte, is_not_line_feed, after_run}
 use Rattle.pgn_text.specs.Limits.{depth_limit}
-use Rattle.pgn_text.specs.Reading.{after_run}
 use Rattle.pgn_text.specs.StopPlaces.{tag_name_of}
 use Rattle.pgn_text.specs.declared.agreement.Within.{Within}
 use Rattle.pgn_text.specs.declared.agreement.Within.TheVariants.{Comment, TagName, TagValue, Tags, Variation, MainLine, Game}

@@ -4,7 +4,12 @@ use Rattle.pgn_extract.specs.Blockwise.{WritesBlock, BeginsBlock, EndsBlocks, Br
 use Rattle.pgn_extract.specs.declared.outcome.RunError.{RunError}
 use Rattle.pgn_extract.specs.declared.outcome.RunError.TheVariants.{Write}
 use Rattle.pgn_extract.specs.declared.outcome.Summary.{Summary}
+use Rattle.pgn_extract.specs.Outcomes.{AppendsFront}
 use Rattle.pgn_extract.specs.Runs.{Job, Io, Passage}
+
+-- the stream grew by a beginning of these bytes
+abbrev pub AddsFront : Passage → List ℕ → Type 0
+AddsFront stream bytes = AppendsFront stream.old.bytes stream.new.bytes bytes
 
 -- the pieces of the block are reported and counted
 abbrev pub WritesPieces : Job → Passage → Passage → List ℕ → Summary → Type 0

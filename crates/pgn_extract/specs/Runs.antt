@@ -8,7 +8,7 @@ use Rattle.pgn_extract.specs.Aims.{Aim, aim_of}
 use Rattle.pgn_extract.specs.Exports.{AreExports}
 use Rattle.pgn_extract.specs.Index.{index}
 use Rattle.pgn_extract.specs.Listing.{Entry, AreEntries, entries_at_least, listing}
-use Rattle.pgn_extract.specs.Outcomes.{AppendsFront, Writes, WritesComplete, BeginsAll}
+use Rattle.pgn_extract.specs.Outcomes.{Writes, WritesComplete, BeginsAll}
 use Rattle.pgn_extract.specs.Resuming.{IsMarkAmong, WritesRest}
 use Rattle.pgn_extract.specs.Verdicts.{Verdict, is_faulty}
 use Rattle.pgn_extract.specs.declared.outcome.RunError.{RunError}
@@ -82,13 +82,9 @@ ArePieces job whole pieces = AreMarkedPieces job.limit job.max_depth job.offset 
 abbrev pub Adds : Passage → List ℕ → Type 0
 Adds stream bytes = Appends stream.old.bytes stream.new.bytes bytes
 
--- by a beginning of them
-abbrev pub AddsFront : Passage → List ℕ → Type 0
-AddsFront stream bytes = AppendsFront stream.old.bytes stream.new.bytes bytes
-
 -- the pieces are reported so, and the output and standard error grew by what is reported
-abbrev pub IsWritten : Job → Io → List MarkedPiece → List Verdict → Type 0
-IsWritten job io pieces verdicts = Writes job.aim io.out.old.bytes io.out.new.bytes io.err.old.bytes io.err.new.bytes job.number pieces verdicts
+abbrev pub AreWritten : Job → Io → List MarkedPiece → List Verdict → Type 0
+AreWritten job io pieces verdicts = Writes job.aim io.out.old.bytes io.out.new.bytes io.err.old.bytes io.err.new.bytes job.number pieces verdicts
 
 -- At `Ok`: all pieces are reported and counted, the input is not too long, and both writers are flushed.
 pub record Completes (job : Job) (io : Io) (whole : List ℕ) (summary : Summary) : Type 0 where
@@ -96,7 +92,7 @@ pub record Completes (job : Job) (io : Io) (whole : List ℕ) (summary : Summary
   pub pieces : List MarkedPiece
   pub each : ArePieces job whole pieces
   pub verdicts : List Verdict
-  pub written : IsWritten job io pieces verdicts
+  pub written : AreWritten job io pieces verdicts
   pub games : summary.games ≡ length pieces
   pub faulty : summary.faulty ≡ count_by is_faulty verdicts
 

@@ -4,8 +4,8 @@ ghost use Rattle.std.specs.Io.KnownBytes.{Keeps};
 ghost use Rattle.pgn_text.specs.Limits.{block_limit, largest_offset};
 ghost use Rattle.pgn_text.specs.Windows.{Shows};
 ghost use Rattle.pgn_extract.specs.Blockwise.{IsShown};
-ghost use Rattle.pgn_extract.specs.RunParts.{BeginsPieces, Broken, Finished, WriteFaultsAre, WritesPieces};
-ghost use Rattle.pgn_extract.specs.Runs.{Adds, AddsFront, FaultsAre, IsReady, IsRun, io_of, job_at, job_of, passage};
+ghost use Rattle.pgn_extract.specs.RunParts.{AddsFront, BeginsPieces, Broken, Finished, WriteFaultsAre, WritesPieces};
+ghost use Rattle.pgn_extract.specs.Runs.{Adds, FaultsAre, IsReady, IsRun, io_of, job_at, job_of, passage};
 
 use crate::notes::{first_line, line_behind};
 use crate::outcome::{RunError, Summary, of_read};

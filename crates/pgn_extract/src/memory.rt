@@ -8,7 +8,6 @@ ghost use Rattle.pgn_extract.specs.Exports.{AreExports};
 ghost use Rattle.pgn_extract.specs.Index.{index};
 ghost use Rattle.pgn_extract.specs.Listing.{Entry, AreEntries, entries_at_least, listing};
 ghost use Rattle.pgn_extract.specs.Resuming.{IsMarkAmong, verdicts_at_least};
-ghost use Rattle.pgn_extract.specs.Runs.{ArePieces, IsReady, job_of};
 ghost use Rattle.pgn_extract.specs.Verdicts.{Verdict, AreVerdicts, IsSameReport, fault_lines, is_faulty, output_text};
 
 use crate::extract::run;
@@ -29,7 +28,7 @@ pub fn index_text(alloc: Global, text: &[u8], settings: &Settings) -> Result<Wri
     requires number { (1 ≤ settings.now.number) × (settings.now.number ≤ 2 ^ 62) }
     requires offset { settings.now.offset ≤ largest_offset }
     requires mode { settings.now.mode ≡ Mode.Index }
-    ensures { IfOk result (λ written. (pieces : List MarkedPiece) × ArePieces (job_of settings.now) text.now pieces
+    ensures { IfOk result (λ written. (pieces : List MarkedPiece) × AreMarkedPieces block_limit depth_limit settings.now.offset (drop settings.now.offset text.now) pieces
         × (written.out.items ≡ index settings.now.number pieces)) }
 {
     run_over(alloc, text, settings)
@@ -40,7 +39,7 @@ pub fn list_text(alloc: Global, text: &[u8], settings: &Settings) -> Result<Writ
     requires number { (1 ≤ settings.now.number) × (settings.now.number ≤ 2 ^ 62) }
     requires offset { settings.now.offset ≤ largest_offset }
     requires mode { settings.now.mode ≡ Mode.List }
-    ensures { IfOk result (λ written. (pieces : List MarkedPiece) × (entries : List Entry) × ArePieces (job_of settings.now) text.now pieces
+    ensures { IfOk result (λ written. (pieces : List MarkedPiece) × (entries : List Entry) × AreMarkedPieces block_limit depth_limit settings.now.offset (drop settings.now.offset text.now) pieces
         × AreEntries (aim_of settings.now) settings.now.number pieces entries × (written.out.items ≡ listing entries)) }
 {
     run_over(alloc, text, settings)
@@ -51,7 +50,7 @@ pub fn export_text(alloc: Global, text: &[u8], settings: &Settings) -> Result<Wr
     requires number { (1 ≤ settings.now.number) × (settings.now.number ≤ 2 ^ 62) }
     requires offset { settings.now.offset ≤ largest_offset }
     requires mode { settings.now.mode ≡ Mode.Export }
-    ensures { IfOk result (λ written. (pieces : List MarkedPiece) × ArePieces (job_of settings.now) text.now pieces
+    ensures { IfOk result (λ written. (pieces : List MarkedPiece) × AreMarkedPieces block_limit depth_limit settings.now.offset (drop settings.now.offset text.now) pieces
         × AreExports (aim_of settings.now) pieces written.out.items) }
 {
     run_over(alloc, text, settings)
@@ -61,11 +60,11 @@ pub fn export_text(alloc: Global, text: &[u8], settings: &Settings) -> Result<Wr
 fn run_over(alloc: Global, text: &[u8], settings: &Settings) -> Result<Written, RunError>
     requires number { (1 ≤ settings.now.number) × (settings.now.number ≤ 2 ^ 62) }
     requires offset { settings.now.offset ≤ largest_offset }
-    ensures indexes { IfOk result (λ written. settings.now.mode ≡ Mode.Index → (pieces : List MarkedPiece) × ArePieces (job_of settings.now) text.now pieces
+    ensures indexes { IfOk result (λ written. settings.now.mode ≡ Mode.Index → (pieces : List MarkedPiece) × AreMarkedPieces block_limit depth_limit settings.now.offset (drop settings.now.offset text.now) pieces
         × (written.out.items ≡ index settings.now.number pieces)) }
     ensures lists { IfOk result (λ written. settings.now.mode ≡ Mode.List → (pieces : List MarkedPiece) × (entries : List Entry)
-        × ArePieces (job_of settings.now) text.now pieces × AreEntries (aim_of settings.now) settings.now.number pieces entries × (written.out.items ≡ listing entries)) }
-    ensures exports { IfOk result (λ written. settings.now.mode ≡ Mode.Export → (pieces : List MarkedPiece) × ArePieces (job_of settings.now) text.now pieces
+        × AreMarkedPieces block_limit depth_limit settings.now.offset (drop settings.now.offset text.now) pieces × AreEntries (aim_of settings.now) settings.now.number pieces entries × (written.out.items ≡ listing entries)) }
+    ensures exports { IfOk result (λ written. settings.now.mode ≡ Mode.Export → (pieces : List MarkedPiece) × AreMarkedPieces block_limit depth_limit settings.now.offset (drop settings.now.offset text.now) pieces
         × AreExports (aim_of settings.now) pieces written.out.items) }
 {
     let mut input = Tally::new(text);
@@ -88,9 +87,12 @@ pub fn report_text<'a>(
     err: &mut Tally<Vec<u8>>,
     settings: &Settings,
 ) -> Result<Summary, RunError>
-    requires { IsReady (job_of settings.now) input.old out.old err.old }
+    requires sound { (input.old.faulted ≡ false) × (out.old.faulted ≡ false) × (err.old.faulted ≡ false) }
+    requires fresh { input.old.moved ≡ 0 }
+    requires number { (1 ≤ settings.now.number) × (settings.now.number ≤ 2 ^ 62) }
+    requires offset { settings.now.offset ≤ largest_offset }
     ensures reported { IfOk result (λ summary. (pieces : List MarkedPiece) × (verdicts : List Verdict)
-        × ArePieces (job_of settings.now) input.old.inner.now pieces × AreVerdicts (aim_of settings.now) settings.now.number pieces verdicts
+        × AreMarkedPieces block_limit depth_limit settings.now.offset (drop settings.now.offset input.old.inner.now) pieces × AreVerdicts (aim_of settings.now) settings.now.number pieces verdicts
         × (out.new.inner.items ≡ out.old.inner.items ++ output_text verdicts) × (err.new.inner.items ≡ err.old.inner.items ++ fault_lines verdicts)
         × (summary.games ≡ length pieces) × (summary.faulty ≡ count_by is_faulty verdicts)) }
     ensures size { OnOk result (length input.old.inner.now ≤ largest_offset) }
@@ -111,7 +113,10 @@ pub fn resume_text<'a>(
     err: &mut Tally<Vec<u8>>,
     settings: &Settings,
 ) -> Result<Summary, RunError>
-    requires { IsReady (job_of settings.now) input.old out.old err.old }
+    requires sound { (input.old.faulted ≡ false) × (out.old.faulted ≡ false) × (err.old.faulted ≡ false) }
+    requires fresh { input.old.moved ≡ 0 }
+    requires number { (1 ≤ settings.now.number) × (settings.now.number ≤ 2 ^ 62) }
+    requires offset { settings.now.offset ≤ largest_offset }
     ensures rest { OnOk result ((pieces : List MarkedPiece) → AreMarkedPieces block_limit depth_limit 0 input.old.inner.now pieces
         → IsMarkAmong settings.now.number settings.now.offset pieces → (all : List Verdict) → AreVerdicts (aim_of settings.now) 1 pieces all
         → (own : List Verdict) × IsSameReport (aim_of settings.now) own (verdicts_at_least settings.now.number 1 all)
@@ -131,7 +136,10 @@ pub fn report_some<'a>(
     err: &mut Tally<Vec<u8>>,
     settings: &Settings,
 ) -> Result<Summary, RunError>
-    requires { IsReady (job_of settings.now) input.old out.old err.old }
+    requires sound { (input.old.faulted ≡ false) × (out.old.faulted ≡ false) × (err.old.faulted ≡ false) }
+    requires fresh { input.old.moved ≡ 0 }
+    requires number { (1 ≤ settings.now.number) × (settings.now.number ≤ 2 ^ 62) }
+    requires offset { settings.now.offset ≤ largest_offset }
     // A read failed: the pieces of the complete blocks that were read are reported, and nothing else.
     ensures read { IfErr result (λ error. error ≡ RunError.Read → (pieces : List MarkedPiece) × (verdicts : List Verdict)
         × AreCompletePieces block_limit depth_limit settings.now.offset (drop settings.now.offset (take input.new.moved input.old.inner.now)) pieces
@@ -139,11 +147,11 @@ pub fn report_some<'a>(
         × (out.new.inner.items ≡ out.old.inner.items ++ output_text verdicts) × (err.new.inner.items ≡ err.old.inner.items ++ fault_lines verdicts)) }
     // A write failed: each writer took a beginning of what is to be reported.
     ensures write { IfErr result (λ error. error ≡ RunError.Write → (pieces : List MarkedPiece) × (verdicts : List Verdict) × (n : ℕ) × (m : ℕ)
-        × ArePieces (job_of settings.now) input.old.inner.now pieces × AreVerdicts (aim_of settings.now) settings.now.number pieces verdicts
+        × AreMarkedPieces block_limit depth_limit settings.now.offset (drop settings.now.offset input.old.inner.now) pieces × AreVerdicts (aim_of settings.now) settings.now.number pieces verdicts
         × (out.new.inner.items ≡ out.old.inner.items ++ take n (output_text verdicts)) × (err.new.inner.items ≡ err.old.inner.items ++ take m (fault_lines verdicts))) }
     // Memory ran out: so did each.
     ensures memory { IfErr result (λ error. error ≡ RunError.OutOfMemory → (pieces : List MarkedPiece) × (verdicts : List Verdict) × (n : ℕ) × (m : ℕ)
-        × ArePieces (job_of settings.now) input.old.inner.now pieces × AreVerdicts (aim_of settings.now) settings.now.number pieces verdicts
+        × AreMarkedPieces block_limit depth_limit settings.now.offset (drop settings.now.offset input.old.inner.now) pieces × AreVerdicts (aim_of settings.now) settings.now.number pieces verdicts
         × (out.new.inner.items ≡ out.old.inner.items ++ take n (output_text verdicts)) × (err.new.inner.items ≡ err.old.inner.items ++ take m (fault_lines verdicts))) }
     // The input is longer than can be read: the complete blocks up to there are reported, and nothing else.
     ensures too_long { IfErr result (λ error. error ≡ RunError.InputTooLong → largest_offset < length input.old.inner.now) }

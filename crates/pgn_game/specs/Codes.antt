@@ -1,7 +1,8 @@
 -- Replays are stored as tuples of lists, so that a type may have one as its value.
 use Rattle.std.specs.Prelude.{◌≡◌, Bool, true, false, List, Option, Some, None, refl}
 use Rattle.std.specs.Coded.{Coded, coded_bool, coded_list, coded_option, coded×, code_by}
-use Rattle.chess.specs.Squares.{Place, coded_place}
+use Rattle.chess.specs.Squares.{Place}
+use Rattle.chess.specs.PlaceCodes.{coded_place}
 use Rattle.chess.specs.Positions.{State}
 use Rattle.chess.specs.Codes.{coded_state, coded_kind}
 use Rattle.chess.specs.declared.board.man.Kind.{Kind}

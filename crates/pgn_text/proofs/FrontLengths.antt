@@ -4,7 +4,7 @@ use Rattle.std.specs.Prelude.{◌==◌}
 use Rattle.std.proofs.Math.ListN.{drop_of_length-le}
 use Rattle.std.proofs.lemmas.Bool.{cases_Bool}
 use Rattle.pgn_text.specs.PartFronts.{front_length, no_byte}
-use Rattle.pgn_text.specs.Reading.{run_of}
+use Rattle.pgn_text.specs.Bytes.{run_of}
 
 -- the word alone, and bytes behind it, as far as the word does not stand whole
 pub front_short : (test : ℕ → Bool) (word text : List ℕ) → front_length no_byte word text < length word

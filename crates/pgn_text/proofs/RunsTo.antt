@@ -1,7 +1,7 @@
 -- Longest runs between places of a block.
 use Rattle.std.proofs.Common.{◌≡◌, ℕ, ◌+◌, ◌-◌, ◌<◌, ◌≤◌, Bool, true, false, List, length, take, drop, get_or, sym, ap, ◌∙◌, arith, length-drop, drop-drop}
 use Rattle.std.proofs.lemmas.List.{get_or-drop}
-use Rattle.pgn_text.specs.Reading.{run_of}
+use Rattle.pgn_text.specs.Bytes.{run_of}
 use Rattle.pgn_text.specs.Tokens.{RunTo}
 use Rattle.pgn_text.proofs.Runs.{run_length_is, take_run, drop_run}
 

@@ -12,7 +12,8 @@ use Rattle.pgn_text.specs.Bytes.{is_letter, begins}
 use Rattle.pgn_text.specs.Parts.{Part, ByteOrderMark, White, Brace, Line, EscapeLine, Tag, Word, Star, Dot, Glyph, Marks, Open, Close}
 use Rattle.pgn_text.specs.Games.{first_tag, is_move_text, is_number, is_result_word}
 use Rattle.pgn_text.specs.Reading.{kept, kept_word, named_kept, KeptMove, KeptNumber, KeptResult, KeptStray}
-use Rattle.pgn_text.specs.Elements.{tag_at, tag_of, tags_of}
+use Rattle.pgn_text.specs.Elements.{tag_of, tags_of}
+use Rattle.pgn_text.specs.TagOrder.{tag_at}
 use Rattle.pgn_text.specs.GameTexts.{tag_in}
 
 -- equal bytes are one text

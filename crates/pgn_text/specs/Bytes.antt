@@ -1,5 +1,5 @@
 -- Classes of bytes, and what a longest run is. A byte is a number below 256; letters and digits are those of ASCII.
-use Rattle.std.specs.Prelude.{ℕ, Bool, true, false, not, ◌&&◌, ◌||◌, ◌==◌, ◌-◌, nat_le, List, [], ◌∷◌, length, slice_index}
+use Rattle.std.specs.Prelude.{ℕ, Bool, true, false, not, ◌&&◌, ◌||◌, ◌==◌, ◌-◌, nat_le, List, [], ◌∷◌, length, slice_index, if◌then◌else◌}
 
 -- the number is a byte
 abbrev pub is_byte : ℕ → Bool
@@ -63,3 +63,13 @@ stops test (b ∷ rest) = not (test b)
 abbrev pub begins : (ℕ → Bool) → List ℕ → Bool
 begins test [] = false
 begins test (b ∷ rest) = test b
+
+-- the longest front whose bytes pass the test
+abbrev pub run_of : (ℕ → Bool) → List ℕ → List ℕ
+run_of test [] = []
+run_of test (b ∷ rest) = if test b then b ∷ run_of test rest else []
+
+-- what follows the longest front whose bytes pass the test
+abbrev pub after_run : (ℕ → Bool) → List ℕ → List ℕ
+after_run test [] = []
+after_run test (b ∷ rest) = if test b then after_run test rest else b ∷ rest

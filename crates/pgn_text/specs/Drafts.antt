@@ -1,6 +1,7 @@
 -- What a draft holds.
 use Rattle.std.specs.Prelude.{◌≡◌, ℕ, List, Option, map}
-use Rattle.pgn_text.specs.Elements.{AreOrdered, item_of, tag_at}
+use Rattle.pgn_text.specs.Elements.{item_of}
+use Rattle.pgn_text.specs.TagOrder.{AreOrdered, tag_at}
 use Rattle.pgn_text.specs.Games.{Item}
 use Rattle.pgn_text.specs.declared.draft.Draft.{Draft}
 

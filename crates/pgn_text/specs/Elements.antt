@@ -16,10 +16,6 @@ item_of (Comment text) = CommentText text.now
 item_of Open = VariationOpen
 item_of Close = VariationClose
 
--- the contents that the map of tags has under the wanted name
-abbrev pub tag_at : BTreeMap (Bor (List ℕ)) (Bor (List ℕ)) → List ℕ → Option (List ℕ)
-tag_at tags wanted = option_map (λ contents. contents.now) (get_by (λ name. slice_cmp nat_cmp wanted name.now) tags)
-
 -- a tag's name and contents, by their bytes
 abbrev pub tag_of : Bor (List ℕ) × Bor (List ℕ) → List ℕ × List ℕ
 tag_of tag = (tag.0.now, tag.1.now)
@@ -27,7 +23,3 @@ tag_of tag = (tag.0.now, tag.1.now)
 -- the tags of a map, by their bytes
 abbrev pub tags_of : BTreeMap (Bor (List ℕ)) (Bor (List ℕ)) → List (List ℕ × List ℕ)
 tags_of tags = map tag_of tags.entries
-
--- the names of a map of tags ascend
-abbrev pub AreOrdered : BTreeMap (Bor (List ℕ)) (Bor (List ℕ)) → Type 0
-AreOrdered tags = IsOrdered (λ x y. slice_cmp nat_cmp x.now y.now) tags

@@ -23,6 +23,7 @@ pub mod StopPlaces
 pub mod PartPlaces
 pub mod AnswerLaws
 -- Private words: functions on lists that the code equals, and what its loops keep. No public contract cites them.
+pub mod TagOrder
 pub mod Agreement
 pub mod Cuts
 pub mod Drafts

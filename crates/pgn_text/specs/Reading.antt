@@ -6,16 +6,7 @@ use Rattle.pgn_text.specs.Bytes.{is_white, is_digit, is_name_byte, is_word_byte,
 use Rattle.pgn_text.specs.Parts.{Part, ByteOrderMark, White, Brace, Line, EscapeLine, Tag, Word, Star, Dot, Glyph, Marks, Open, Close, Standing, number_of}
 use Rattle.pgn_text.specs.Games.{is_number, is_result_word, is_move_text, Item, MoveText, GlyphNumber, CommentText, VariationOpen, VariationClose, glyphs_of_marks}
 use Rattle.pgn_text.specs.Steps.{State, in_movetext}
-
--- the longest front whose bytes pass the test
-abbrev pub run_of : (ℕ → Bool) → List ℕ → List ℕ
-run_of test [] = []
-run_of test (b ∷ rest) = if test b then b ∷ run_of test rest else []
-
--- what follows the longest front whose bytes pass the test
-abbrev pub after_run : (ℕ → Bool) → List ℕ → List ℕ
-after_run test [] = []
-after_run test (b ∷ rest) = if test b then after_run test rest else b ∷ rest
+use Rattle.pgn_text.specs.Bytes.{run_of, after_run}
 
 -- a byte that stands for itself in a string, wherever no backslash stands before it
 abbrev pub is_single : ℕ → Bool

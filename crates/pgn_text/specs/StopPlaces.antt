@@ -1,9 +1,8 @@
 -- What the place where a text stops agreeing with games stands in.
 use Rattle.std.specs.Prelude.{◌≡◌, ℕ, Bool, true, false, not, ◌||◌, ◌==◌, ◌+◌, ◌<◌, List, [], ◌∷◌, ◌++◌, length, take, drop, IsTrue}
 use Rattle.std.specs.List.{list_all, list_any}
-use Rattle.pgn_text.specs.Bytes.{is_white, is_name_byte, is_not_brace, begins}
+use Rattle.pgn_text.specs.Bytes.{is_white, is_name_byte, is_not_brace, begins, run_of, after_run}
 use Rattle.pgn_text.specs.Parts.{Part, Stands, AllStand, standing_of, spelled_part, spelled}
-use Rattle.pgn_text.specs.Reading.{run_of, after_run}
 use Rattle.pgn_text.specs.Games.{is_gap_part, is_tag, is_result, is_meant, depth_after}
 use Rattle.pgn_text.specs.declared.agreement.Within.{Within}
 use Rattle.pgn_text.specs.declared.agreement.Within.TheVariants.{Comment, TagName, TagValue, Tags, Variation, MainLine, Game}

@@ -1,9 +1,9 @@
 -- The values of the lexer's types, as the definitions of `Reading` see them.
 use Rattle.std.specs.Prelude.{◌≡◌, ◌≤◌, ◌-◌, ℕ, Bool, false, List, length, take, drop, Option, Some, None, MatchOption}
 use Rattle.std.specs.Borrow.{Bor}
-use Rattle.pgn_text.specs.Bytes.{is_white, is_digit, is_letter, is_name_byte, is_word_byte, is_mark}
+use Rattle.pgn_text.specs.Bytes.{is_white, is_digit, is_letter, is_name_byte, is_word_byte, is_mark, run_of, after_run}
 use Rattle.pgn_text.specs.Parts.{Standing as StandingOf}
-use Rattle.pgn_text.specs.Reading.{run_of, after_run, is_single, contents_front, Kept, KeptGap, KeptComment, KeptTag, KeptMove, KeptNumber, KeptResult, KeptStray, KeptDot, KeptGlyph, KeptMarks, KeptOpen, KeptClose}
+use Rattle.pgn_text.specs.Reading.{is_single, contents_front, Kept, KeptGap, KeptComment, KeptTag, KeptMove, KeptNumber, KeptResult, KeptStray, KeptDot, KeptGlyph, KeptMarks, KeptOpen, KeptClose}
 use Rattle.pgn_text.specs.Steps.{State}
 use Rattle.pgn_text.specs.declared.class.Class.{Class}
 use Rattle.pgn_text.specs.declared.class.Class.TheVariants.{White, Digit, Letter, Name, Word, Mark, Single}

@@ -1,8 +1,7 @@
 //! Classes of bytes, and the longest front of a text within one.
 
 ghost use Rattle.std.specs.Prelude.{◌≡◌, ◌≤◌, not, length, position};
-ghost use Rattle.pgn_text.specs.Bytes.{is_plain as is_plain_byte};
-ghost use Rattle.pgn_text.specs.Reading.{run_of, after_run};
+ghost use Rattle.pgn_text.specs.Bytes.{is_plain as is_plain_byte, run_of, after_run};
 ghost use Rattle.pgn_text.specs.Tokens.{flag_of, test_of, RunTo};
 
 /// A class of bytes.

@@ -3,7 +3,8 @@ ghost use Rattle.std.specs.Prelude.{◌≡◌, ◌↔◌, ◌<◌, ◌≤◌, Is
 ghost use Rattle.chess.specs.declared.board.direction.Direction.{Direction};
 ghost use Rattle.chess.specs.Squares.{IsStraight, gap};
 ghost use Rattle.chess.specs.Placements.{man_at};
-ghost use Rattle.chess.specs.Attacks.{IsOnRay, IsClearFor, IsNear, IsJump, IsPawnHit, Reaches, IsForward, IsHitFrom};
+ghost use Rattle.chess.specs.Attacks.{IsOnRay, IsClearFor, IsNear, IsJump, IsPawnHit, Reaches, IsForward};
+ghost use Rattle.chess.specs.Sights.{IsHitFrom};
 ghost use Rattle.chess.specs.Sets.{HoldsExactly, IsHitter};
 ghost use Rattle.chess.specs.Cells.{cells_men, cell_of};
 ghost use Rattle.chess.specs.CellFacts.{on_board-men_of};

@@ -1,7 +1,8 @@
 //! Sets of squares.
 ghost use Rattle.std.specs.Prelude.{◌≡◌, ◌&&◌, ◌||◌, ◌↔◌, ◌<◌, ◌≤◌, IsTrue, IsSome, Some, None, true};
 ghost use Rattle.chess.specs.Squares.{Place, IsOnBoard, same_square, index_of};
-ghost use Rattle.chess.specs.Sets.{is_in, has_bit, no_places, size_of, HoldsExactly, IsTakenFirst};
+ghost use Rattle.chess.specs.Sets.{is_in, no_places, size_of, HoldsExactly};
+ghost use Rattle.chess.specs.SetWords.{has_bit, IsTakenFirst};
 
 use crate::board::Square;
 use std::marker::Model;
@@ -20,7 +21,8 @@ pub struct SquareSet {
 
 impl Model for SquareSet {
     ghost use Rattle.std.specs.Prelude.{◌<◌, ◌^◌};
-    ghost use Rattle.chess.specs.Sets.{Places, coded_places, places_of, has_bit};
+    ghost use Rattle.chess.specs.Sets.{Places};
+    ghost use Rattle.chess.specs.SetWords.{coded_places, places_of, has_bit};
 
     ghost Value = { Places };
 

@@ -3,7 +3,8 @@ ghost use Rattle.std.specs.Prelude.{◌≡◌, ◌↔◌, ◌<◌, IsTrue, true,
 ghost use Rattle.chess.specs.Squares.{Place, IsOnBoard, index_of};
 ghost use Rattle.chess.specs.Placements.{Placement, IsEmpty};
 ghost use Rattle.chess.specs.Attacks.{Reaches};
-ghost use Rattle.chess.specs.Sets.{has_bit, HoldsExactly};
+ghost use Rattle.chess.specs.Sets.{HoldsExactly};
+ghost use Rattle.chess.specs.SetWords.{has_bit};
 ghost use Rattle.chess.specs.BitWords.{IsWordOf, sight_row_of};
 ghost use Rattle.chess.specs.Sights.{IsInSight, IsUnblocked, StandsBetween};
 

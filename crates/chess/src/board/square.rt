@@ -12,7 +12,8 @@ pub struct Square {
 
 impl Model for Square {
     ghost use Rattle.std.specs.Prelude.{◌<◌};
-    ghost use Rattle.chess.specs.Squares.{Place, coded_place, square_at, index_of};
+    ghost use Rattle.chess.specs.Squares.{Place, square_at, index_of};
+    ghost use Rattle.chess.specs.PlaceCodes.{coded_place};
     ghost use Rattle.chess.specs.SquareFacts.{index_of-square_at};
 
     ghost Value = { Place };

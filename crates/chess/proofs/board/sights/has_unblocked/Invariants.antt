@@ -1,6 +1,7 @@
 use Rattle.std.proofs.Common.{◌≡◌, true}
 use Rattle.chess.specs.Squares.{index_of}
-use Rattle.chess.specs.Sets.{has_bit, size_of}
+use Rattle.chess.specs.Sets.{size_of}
+use Rattle.chess.specs.SetWords.{has_bit}
 use Rattle.chess.specs.MoveWords.{IsLeft}
 use Rattle.chess.proofs.HitterFacts.{IsOpenFrom}
 use Rattle.chess.proofs.board.sights.has_unblocked.Given as goal

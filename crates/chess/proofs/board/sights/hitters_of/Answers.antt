@@ -1,6 +1,6 @@
 use Rattle.std.proofs.Common.{subst, Option}
 use Rattle.chess.specs.Squares.{Place}
-use Rattle.chess.specs.Sets.{IsTakenFirst}
+use Rattle.chess.specs.SetWords.{IsTakenFirst}
 use Rattle.chess.proofs.LoopFacts.{fewer}
 use Rattle.chess.proofs.HitterFacts.{searched_start, searched_more, searched_none, hitters_are}
 use Rattle.chess.proofs.board.sights.hitters_of.Goals as goal

@@ -1,6 +1,6 @@
 use Rattle.std.proofs.Common.{◌≡◌, ◌∙◌, ap, sym, get_or, []}
 use Rattle.chess.specs.Squares.{index_of}
-use Rattle.chess.specs.Sets.{has_bit}
+use Rattle.chess.specs.SetWords.{has_bit}
 use Rattle.chess.specs.BitWords.{sight_row_of}
 use Rattle.chess.specs.declared.board.sights.hits_table.TheConstants.{HITS}
 use Rattle.chess.proofs.TableFacts.{table_bit}

@@ -1,7 +1,7 @@
 use Rattle.std.proofs.Common.{◌≡◌, ap, sym, subst, refl, option_map, Option, None, Ok, Err}
 use Rattle.chess.specs.Squares.{Place}
 use Rattle.chess.specs.Moves.{IsPseudoLegal, IsLegal}
-use Rattle.chess.specs.Sets.{IsTakenFirst}
+use Rattle.chess.specs.SetWords.{IsTakenFirst}
 use Rattle.chess.specs.SanWords.{said_by, IsMoveSaid}
 use Rattle.chess.specs.declared.moves.Move.{Move}
 use Rattle.chess.specs.declared.move_text.SanError.TheVariants.{None as NoMove}

@@ -1,6 +1,6 @@
 use Rattle.std.proofs.Common.{◌≡◌, subst, true, false, Option}
 use Rattle.chess.specs.Squares.{Place}
-use Rattle.chess.specs.Sets.{IsTakenFirst}
+use Rattle.chess.specs.SetWords.{IsTakenFirst}
 use Rattle.chess.specs.Moves.{CanGo}
 use Rattle.chess.proofs.PlaceFacts.{true_not_false}
 use Rattle.chess.proofs.LoopFacts.{fewer, left_more, left_none}

@@ -1,5 +1,6 @@
 use Rattle.std.proofs.Common.{◌≡◌, sym, subst}
-use Rattle.chess.specs.Positions.{State, IsKept}
+use Rattle.chess.specs.Positions.{State}
+use Rattle.chess.specs.Codes.{IsKept}
 use Rattle.chess.specs.Moves.{after}
 use Rattle.chess.proofs.SoundFacts.{after_sound}
 use Rattle.chess.proofs.position.Position.settle.Goals as goal

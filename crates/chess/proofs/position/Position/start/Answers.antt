@@ -1,7 +1,8 @@
 use Rattle.std.proofs.Common.{sym, subst}
 use Rattle.chess.specs.Squares.{Place}
 use Rattle.chess.specs.Placements.{Placement}
-use Rattle.chess.specs.Positions.{State, IsKept, IsSound, king_from}
+use Rattle.chess.specs.Positions.{State, IsSound, king_from}
+use Rattle.chess.specs.Codes.{IsKept}
 use Rattle.chess.specs.Start.{usual}
 use Rattle.chess.specs.declared.board.man.Side.TheVariants.{White}
 use Rattle.chess.proofs.StartFacts.{usual_kept}

@@ -1,6 +1,6 @@
 use Rattle.std.proofs.Common.{subst, Option}
 use Rattle.chess.specs.Squares.{Place}
-use Rattle.chess.specs.Sets.{IsTakenFirst}
+use Rattle.chess.specs.SetWords.{IsTakenFirst}
 use Rattle.chess.specs.Moves.{CanGo}
 use Rattle.chess.proofs.LoopFacts.{fewer, sifted_start, sifted_more, sifted_none}
 use Rattle.chess.proofs.position.Position.targets.Goals as goal

@@ -2,7 +2,8 @@ use Rattle.std.proofs.Common.{◌≡◌, ◌∙◌, None, ap, sym, subst}
 use Rattle.chess.specs.Squares.{Place}
 use Rattle.chess.specs.Placements.{Placement, with_man, opposite}
 use Rattle.chess.specs.Attacks.{IsAttacked}
-use Rattle.chess.specs.Positions.{State, IsKept, IsOnlyKing, IsCheck}
+use Rattle.chess.specs.Positions.{State, IsOnlyKing, IsCheck}
+use Rattle.chess.specs.Codes.{IsKept}
 use Rattle.chess.specs.Moves.{after, men_after, taken, arriving, with_rook}
 use Rattle.chess.proofs.PlaceFacts.{true_not_false}
 use Rattle.chess.proofs.SoundFacts.{after_sound}

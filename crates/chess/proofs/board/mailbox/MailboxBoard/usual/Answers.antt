@@ -1,7 +1,6 @@
 use Rattle.std.proofs.Common.{◌≡◌, ◌∙◌, ap, sym, arith}
 use Rattle.chess.specs.Squares.{Place, square_at}
-use Rattle.chess.specs.Placements.{with_man}
-use Rattle.chess.specs.Cells.{first_men}
+use Rattle.chess.specs.Placements.{with_man, first_men}
 use Rattle.chess.specs.Start.{usual_man}
 use Rattle.chess.proofs.StartFacts.{usual_none, usual_next}
 use Rattle.chess.proofs.board.mailbox.MailboxBoard.usual.Goals as goal

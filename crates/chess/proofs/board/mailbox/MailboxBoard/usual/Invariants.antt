@@ -1,6 +1,7 @@
 use Rattle.std.proofs.Common.{◌≡◌}
 use Rattle.chess.specs.Squares.{square_at}
-use Rattle.chess.specs.Cells.{first_men, cells_men}
+use Rattle.chess.specs.Cells.{cells_men}
+use Rattle.chess.specs.Placements.{first_men}
 use Rattle.chess.specs.Start.{usual_man}
 use Rattle.chess.proofs.board.mailbox.MailboxBoard.usual.Given as goal
 

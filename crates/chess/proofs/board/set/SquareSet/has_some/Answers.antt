@@ -5,7 +5,8 @@ use Rattle.std.proofs.lemmas.Nat.Bits.{bit_at-zero, bit_at-trailing_zeros}
 use Rattle.std.specs.Int.{trailing_zeros}
 use Rattle.chess.specs.SquareFacts.{index_of-square_at}
 use Rattle.chess.specs.Squares.{Place, IsOnBoard, index_of, square_at}
-use Rattle.chess.specs.Sets.{is_in, has_bit}
+use Rattle.chess.specs.Sets.{is_in}
+use Rattle.chess.specs.SetWords.{has_bit}
 use Rattle.chess.specs.SetFacts.{is_in-places_of}
 use Rattle.chess.proofs.PlaceFacts.{true_not_false}
 use Rattle.chess.proofs.board.set.SquareSet.has_some.Goals as goal

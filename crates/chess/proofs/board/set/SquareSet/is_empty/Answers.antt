@@ -1,6 +1,6 @@
 use Rattle.std.proofs.Common.{arith, sym, ap, ◌∙◌, ◌≡◌}
 use Rattle.std.proofs.lemmas.Bool.Decides.{nat_tests}
-use Rattle.chess.specs.Sets.{places_of, has_bit}
+use Rattle.chess.specs.SetWords.{places_of, has_bit}
 use Rattle.chess.specs.SetFacts.{empty_word, not_empty_word}
 use Rattle.chess.proofs.board.set.SquareSet.is_empty.Goals as goal
 use Rattle.std.proofs.lemmas.Bool.{cases_eq}

@@ -1,5 +1,5 @@
 use Rattle.std.proofs.Common.{◌∙◌, sym}
-use Rattle.chess.specs.Sets.{has_bit}
+use Rattle.chess.specs.SetWords.{has_bit}
 use Rattle.chess.specs.SetFacts.{is_in-places_of, on_board-places_of}
 use Rattle.chess.proofs.board.set.SquareSet.of_word.Goals as goal
 

@@ -1,5 +1,6 @@
 use Rattle.std.proofs.Common.{◌∙◌, sym, ap}
-use Rattle.chess.specs.Sets.{has_bit, is_in}
+use Rattle.chess.specs.Sets.{is_in}
+use Rattle.chess.specs.SetWords.{has_bit}
 use Rattle.chess.specs.SetFacts.{is_in-places_of}
 use Rattle.chess.proofs.board.set.SquareSet.word.Goals as goal
 
