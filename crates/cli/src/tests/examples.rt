@@ -1,8 +1,9 @@
 //! The examples with which the crates' documentation opens.
+use super::support::first_game;
 use chess::{Bits, Position, resolve};
 use pgn_criteria::Criteria;
 use pgn_game::{GameFault, Lines, Style, export, replay};
-use pgn_text::{Piece, games};
+use pgn_text::{Piece, RawGame, games};
 use std::alloc::{AllocError, Global};
 use std::test::Fail;
 
@@ -29,20 +30,32 @@ fn exported(alloc: Global, block: &[u8], style: &Style) -> Result<Vec<u8>, Alloc
 }
 
 /// The example of `pgn_criteria`.
-fn first_met(
+fn first_met<'a>(
     alloc: Global,
-    criteria: &Criteria,
-    block: &[u8],
+    criteria: &'a Criteria,
+    game: &RawGame<'a>,
 ) -> Result<Option<usize>, AllocError> {
-    match games(alloc, block, true).next() {
-        Some(Ok(Piece::Game(game))) => match replay(alloc, &game, Lines::Main) {
-            Ok(replayed) => Ok(criteria.first(&game, &replayed, 0, u32::MAX)),
-            Err(GameFault::OutOfMemory) => Err(AllocError),
-            Err(_) => Ok(None),
-        },
-        Some(Err(error)) => Err(error),
-        _ => Ok(None),
+    match replay(alloc, game, Lines::Main) {
+        Ok(replayed) => Ok(criteria.first(game, &replayed, 0, u32::MAX)),
+        Err(GameFault::OutOfMemory) => Err(AllocError),
+        Err(_) => Ok(None),
     }
+}
+
+/// Whether that example answers so of a block's first game.
+fn is_first_met(
+    alloc: Global,
+    criteria: &[u8],
+    block: &[u8],
+    wanted: Option<usize>,
+) -> Result<bool, Fail> {
+    let Ok(criteria) = Criteria::parse(alloc, criteria) else {
+        return Err("the criteria were refused")?;
+    };
+    let Some(game) = first_game(alloc, block)? else {
+        return Ok(false);
+    };
+    Ok(first_met(alloc, &criteria, &game)? == wanted)
 }
 
 /// Whether the word leads to a position with this text, or to none.
@@ -84,11 +97,8 @@ fn the_games_of_a_block_are_exported(rt: HostRuntime) -> Result<(), Fail> {
 
 #[test]
 fn the_first_ply_that_meets_criteria(rt: HostRuntime) -> Result<(), Fail> {
-    let Ok(criteria) = Criteria::parse(rt.alloc(), b"check") else {
-        return Err("the criteria were refused")?;
-    };
-    assert!(rt; first_met(rt.alloc(), &criteria, b"1. e4 f6 2. Qh5+ g6 *")? == Some(3));
-    assert!(rt; first_met(rt.alloc(), &criteria, b"1. e4 *")?.is_none());
-    assert!(rt; first_met(rt.alloc(), &criteria, b"1. e5 *")?.is_none());
+    assert!(rt; is_first_met(rt.alloc(), b"check", b"1. e4 f6 2. Qh5+ g6 *", Some(3))?);
+    assert!(rt; is_first_met(rt.alloc(), b"check", b"1. e4 *", None)?);
+    assert!(rt; is_first_met(rt.alloc(), b"check", b"1. e5 *", None)?);
     Ok(())
 }
