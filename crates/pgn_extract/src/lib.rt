@@ -1,5 +1,16 @@
 //! `pgn-extract` as a library: `run` writes the exports, the listing or the index of a file of chess games, and `program` is the command-line tool
 //! over words and files that are handed in.
+//!
+//! The listing of a text in memory, as lines `N@O P`; the contract of `list_text` is the listing theorem:
+//!
+//! ```text
+//! fn listed(alloc: Global, text: &[u8], settings: &Settings) -> Result<Vec<u8>, RunError> {
+//!     let Written { out, err: _ } = list_text(alloc, text, settings)?;
+//!     Ok(out)
+//! }
+//! ```
+//!
+//! The module `memory` has such a proved example for each fact of the contract of `run`.
 #![tactic(auto)]
 
 mod command;

@@ -1,7 +1,11 @@
 //! The examples with which the crates' documentation opens.
+ghost use Rattle.std.specs.Prelude.{◌≡◌, ◌≤◌, ◌^◌};
+
 use super::support::first_game;
 use chess::{Bits, Position, resolve};
 use pgn_criteria::Criteria;
+use pgn_extract::memory::{Written, list_text};
+use pgn_extract::{Mode, RunError, Settings};
 use pgn_game::{GameFault, Lines, Style, export, replay};
 use pgn_text::{Piece, RawGame, games};
 use std::alloc::{AllocError, Global};
@@ -58,6 +62,35 @@ fn is_first_met(
     Ok(first_met(alloc, &criteria, &game)? == wanted)
 }
 
+/// The example of `pgn_extract`.
+fn listed(alloc: Global, text: &[u8], settings: &Settings) -> Result<Vec<u8>, RunError>
+    requires number { (1 ≤ settings.now.number) × (settings.now.number ≤ 2 ^ 62) }
+    requires offset { settings.now.offset ≤ 2 ^ 62 }
+    requires mode { settings.now.mode ≡ Mode.List }
+{
+    let Written { out, err: _ } = list_text(alloc, text, settings)?;
+    Ok(out)
+}
+
+/// Whether that example lists these lines.
+fn is_listed(alloc: Global, text: &[u8], first: bool, wanted: &[u8]) -> bool {
+    let settings = Settings {
+        mode: Mode::List,
+        criteria: None,
+        min_ply: 1,
+        max_ply: u32::MAX,
+        first,
+        style: WHOLE,
+        explain: false,
+        number: 1,
+        offset: 0,
+    };
+    match listed(alloc, text, &settings) {
+        Ok(out) => out.as_slice() == wanted,
+        Err(_) => false,
+    }
+}
+
 /// Whether the word leads to a position with this text, or to none.
 fn leads(fen: &[u8], word: &[u8], after: Option<&str>) -> bool {
     match (after_word(fen, word), after) {
@@ -100,5 +133,13 @@ fn the_first_ply_that_meets_criteria(rt: HostRuntime) -> Result<(), Fail> {
     assert!(rt; is_first_met(rt.alloc(), b"check", b"1. e4 f6 2. Qh5+ g6 *", Some(3))?);
     assert!(rt; is_first_met(rt.alloc(), b"check", b"1. e4 *", None)?);
     assert!(rt; is_first_met(rt.alloc(), b"check", b"1. e5 *", None)?);
+    Ok(())
+}
+
+#[test]
+fn a_text_in_memory_is_listed(rt: HostRuntime) -> Result<(), Fail> {
+    let text = b"1. e4 e5 *\n1. e5 *\n1. d4 *\n";
+    assert!(rt; is_listed(rt.alloc(), text, false, b"1@0 1\n1@0 2\n3@19 1\n"));
+    assert!(rt; is_listed(rt.alloc(), text, true, b"1@0 1\n3@19 1\n"));
     Ok(())
 }
