@@ -1,7 +1,6 @@
 -- A placement given square by square, as a board holds it.
-use Rattle.std.specs.Prelude.{ℕ, zero, suc, List, Option, None, get_or}
-use Rattle.chess.specs.Squares.{square_at}
-use Rattle.chess.specs.Placements.{Placement, no_men, with_man}
+use Rattle.std.specs.Prelude.{ℕ, List, Option, None, get_or}
+use Rattle.chess.specs.Placements.{Placement}
 use Rattle.chess.specs.declared.board.man.Man.{Man}
 use Rattle.chess.specs.Placements.{men_of}
 

@@ -1,10 +1,7 @@
 -- Sets of squares.
-use Rattle.std.specs.Prelude.{◌≡◌, ◌≤◌, ◌↔◌, ◌==◌, ◌&&◌, ℕ, zero, suc, Bool, true, not, if◌then◌else◌, Option, Some, None}
-use Rattle.std.specs.Coded.{Coded}
-use Rattle.std.specs.Int.{bit_at}
-use Rattle.std.specs.FinSet.{FinSet, empty, insert, contains, len, code}
-use Rattle.chess.specs.Squares.{Place, IsOnBoard, place_cmp, square_at, index_of, same_square}
-use Rattle.chess.specs.PlaceCodes.{coded_place}
+use Rattle.std.specs.Prelude.{◌≡◌, ◌↔◌, ℕ, Bool, true, Some}
+use Rattle.std.specs.FinSet.{FinSet, empty, contains, len}
+use Rattle.chess.specs.Squares.{Place, IsOnBoard, place_cmp}
 use Rattle.chess.specs.Placements.{Placement, man_at}
 use Rattle.chess.specs.Attacks.{IsInReach, Reaches}
 use Rattle.chess.specs.declared.board.man.Man.{Man}

@@ -1,10 +1,9 @@
 -- Squares of the board and the ways across it (Laws 2.1 to 2.4).
-use Rattle.std.specs.Prelude.{◌≡◌, ℕ, ◌+◌, ◌-◌, ◌*◌, ◌/◌, ◌%◌, ◌≤◌, Bool, ◌&&◌, ◌==◌, refl}
+use Rattle.std.specs.Prelude.{◌≡◌, ℕ, ◌+◌, ◌-◌, ◌*◌, ◌/◌, ◌%◌, ◌≤◌, Bool, ◌&&◌, ◌==◌}
 use Rattle.std.specs.Ordering.{nat_cmp, ordering_then}
 use Rattle.std.specs.declared.cmp.Ordering.{Ordering}
 use Rattle.chess.specs.declared.board.direction.Direction.{Direction}
 use Rattle.chess.specs.declared.board.direction.Direction.TheVariants.{North, South, East, West, NorthEast, NorthWest, SouthEast, SouthWest}
-use Rattle.std.specs.Coded.{Coded, coded_ℕ, coded×, code_by}
 
 -- a file and a rank: file 1 is a, rank 1 is White's home rank
 pub record Place : Type 0 where

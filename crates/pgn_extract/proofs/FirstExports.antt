@@ -1,9 +1,9 @@
 -- What is exported is the same whether the first of each game is asked for or all: a game has an entry exactly where it has a first.
-use Rattle.std.proofs.Common.{◌≡◌, ◌⊎◌, ℕ, zero, suc, ◌+◌, ◌<◌, ◌≤◌, Bool, true, false, List, [], ◌∷◌, length, refl, arith, inl, inr}
+use Rattle.std.proofs.Common.{ℕ, zero, suc, ◌+◌, ◌<◌, true, false, List, [], ◌∷◌, length, arith, inl, inr}
 use Rattle.pgn_text.specs.Marks.{PieceKind, ReadableGame, UnreadableRest, TooLongBlock, MarkedPiece}
 use Rattle.pgn_text.specs.Parts.{Part}
 use Rattle.pgn_game.specs.Replays.{Replay}
-use Rattle.pgn_extract.specs.Aims.{Aim, IsEntry, IsWanted}
+use Rattle.pgn_extract.specs.Aims.{Aim, IsWanted}
 use Rattle.pgn_extract.specs.Exports.{AreExports, HasEntry, IsGameExport, IsPieceExport, IsWritten, faulty, sound, with_entry, without_entry, written_lines}
 use Rattle.pgn_extract.specs.GameReports.{IsReplayOf}
 use Rattle.pgn_extract.specs.Laws.{FirstChangesNoExport, with_first}

@@ -1,5 +1,5 @@
 -- What is reported of the two parts of a text, cut at a mark, is what is reported of the whole.
-use Rattle.std.proofs.Common.{◌≡◌, ℕ, ◌+◌, ◌-◌, false, List, ◌∷◌, ◌++◌, length, take, drop, sym, ap, ◌∙◌, subst, arith}
+use Rattle.std.proofs.Common.{◌≡◌, ◌+◌, ◌-◌, List, ◌∷◌, length, take, drop, sym, ap, ◌∙◌, subst, arith}
 use Rattle.pgn_text.specs.Marks.{MarkedPiece, AreMarkedPieces}
 use Rattle.pgn_text.proofs.FrontText.{front_of_text}
 use Rattle.pgn_text.proofs.MarkedPieces.{one_marked_pieces}
