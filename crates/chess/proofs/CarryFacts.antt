@@ -19,7 +19,7 @@ without words s = map (λ w. bit_and w (bit_not w64 (square_word s))) words
 square_fits : (s : Place) → IsOnBoard s → square_word s < 2 ^ 64
 square_fits s on = pow-lt (index_of-below s on)
 
-is_without : (words : List ℕ) (s : Place) → length words ≡ 12 → IsOnBoard s → IsCleared words (without words s) (square_word s)
+pub is_without : (words : List ℕ) (s : Place) → length words ≡ 12 → IsOnBoard s → IsCleared words (without words s) (square_word s)
 is_without words s size on k i less in_word =
     ap (λ w. has_bit w i) (get_or-map (λ w. bit_and w (bit_not w64 (square_word s))) words k 0 0 (omega arith))
     ∙ cleared_bit (word_at words k) (square_word s) i (square_fits s on) in_word

@@ -12,10 +12,13 @@ use Rattle.chess.proofs.FillFacts.{bit_of_both, no_bit}
 each_bit : agree_below (has_bit 18446744073709551615) (λ _. true) 64 ≡ true
 each_bit = refl
 
+pub all_bits : (s : Place) → IsOnBoard s → has_bit 18446744073709551615 (index_of s) ≡ true
+all_bits s on = agree_below_at (has_bit 18446744073709551615) (λ _. true) 64 (index_of s) each_bit (index_of-below s on)
+
 pub all_squares : (set : Places) → HoldsExactly (λ s. has_bit 18446744073709551615 (index_of s) ≡ true) set → HoldsExactly (λ s. IsOnBoard s) set
 all_squares set found s = (
   (λ h. let on = ((found s).0 h).0 in (on, on)),
-  (λ h. (found s).1 (h.0, agree_below_at (has_bit 18446744073709551615) (λ _. true) 64 (index_of s) each_bit (index_of-below s h.0))),
+  (λ h. (found s).1 (h.0, all_bits s h.0)),
 )
 
 abbrev pub file_word : ℕ → ℕ

@@ -13,6 +13,7 @@ pub mod GoesFacts
 pub mod AfterFacts
 pub mod KingFacts
 pub mod SoundFacts
+pub mod CheckFacts
 pub mod WayFacts
 pub mod SetBits
 pub mod SizeFacts
@@ -24,6 +25,8 @@ pub mod TableFacts
 pub mod HitsTable
 pub mod BetweenTable
 pub mod HitterFacts
+pub mod LeftFacts
+pub mod SlideFacts
 pub mod FileFacts
 pub mod StartFacts
 pub mod UsualFacts

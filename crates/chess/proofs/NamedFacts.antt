@@ -6,7 +6,7 @@ use Rattle.chess.specs.Positions.{State}
 use Rattle.chess.specs.Moves.{IsPseudoLegal, IsLegal, Goes, Castles, after}
 use Rattle.chess.specs.San.{Said, Spells, IsCastlingText, Agrees, IsNamed, IsOnlyNamed, letter_text, file_text, rank_text, IsFileOrRank}
 use Rattle.chess.specs.Letters.{kind_letter, is_sign, square_text}
-use Rattle.chess.specs.SanWords.{IsAble, CanGoSaid, IsNext, HasNone, IsMoveSaid, IsCastlingOn, move_from, castling_on, man_said}
+use Rattle.chess.specs.SanWords.{said_by, IsReadSaid, IsAble, CanGoSaid, IsNext, HasNone, IsMoveSaid, IsCastlingOn, move_from, castling_on, man_said}
 use Rattle.chess.specs.SanAnswers.{IsAnswer, IsPlayed}
 use Rattle.chess.specs.Refusals.{IsSpokenOf}
 use Rattle.chess.specs.Sets.{Places, is_in, HoldsExactly}
@@ -18,6 +18,7 @@ use Rattle.chess.specs.declared.board.man.Kind.TheVariants.{King, Queen, Rook, B
 use Rattle.chess.specs.declared.board.man.Wing.{Wing}
 use Rattle.chess.specs.declared.moves.Move.{Move}
 use Rattle.chess.specs.declared.move_text.SanError.{SanError}
+use Rattle.chess.specs.declared.move_text.read.said.SaidMove.{SaidMove}
 use Rattle.chess.specs.declared.move_text.SanError.TheVariants as errors
 use Rattle.chess.proofs.PlaceFacts.{cases_place, same_square-same, true_not_false, same_side, man_of}
 use Rattle.chess.proofs.LoopFacts.{left_more}
@@ -276,6 +277,13 @@ named_castling P x wing read result texts is answer =
 pub named_none : (P : State) (x : List ℕ) (read : Option Wing) (said : Option Said) → AreCastling x read → read ≡ None
     → AreSaid x said → said ≡ None → (m : Move) → IsNamed P x m → ⊥
 named_none P x read said texts is spelled none m named = by_none P x read said m texts is spelled none named.by
+
+-- a text that says a move is not that of castling
+pub read_no_castling : (x : List ℕ) (r : SaidMove) → IsReadSaid x (Some r) → AreCastling x None
+read_no_castling x r read wing = (
+  (λ text. absurd (not_both x wing (said_by r) text ((read (said_by r)).1 refl))),
+  (λ e. absurd (cc)),
+)
 
 pub named_said : (P : State) (x : List ℕ) (read : Option Wing) (said : Option Said) (own : Said) (result : Result Move SanError)
     → AreCastling x read → read ≡ None → AreSaid x said → said ≡ Some own

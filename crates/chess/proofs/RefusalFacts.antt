@@ -1,14 +1,16 @@
 -- Why a text names no legal move; and the move from a square that it names.
-use Rattle.std.proofs.Common.{◌≡◌, ℕ, inl, inr, refl, ap, sym, subst, ◌∙◌, Option, Some, None, List}
+use Rattle.std.proofs.Common.{◌≡◌, ◌≢◌, ℕ, inl, inr, refl, ap, sym, subst, ◌∙◌, Option, Some, None, List}
 use Rattle.chess.specs.Squares.{Place, IsOnBoard}
 use Rattle.chess.specs.Placements.{AreOnBoard}
 use Rattle.chess.specs.Positions.{State, IsCheck}
-use Rattle.chess.specs.Moves.{IsPseudoLegal, IsLegal, IsUnbarred, men_after}
-use Rattle.chess.specs.San.{Said, IsNamed}
-use Rattle.chess.specs.Refusals.{IsRefusal, IsFrom}
-use Rattle.chess.specs.RefusalWords.{IsCastlingRefusal, IsSaidRefusal}
-use Rattle.chess.specs.SanWords.{IsAble, CanGoSaid, IsMoveSaid, IsCastlingOn, move_from, castling_on}
+use Rattle.chess.specs.Moves.{Goes, IsPseudoLegal, IsLegal, IsUnbarred, Promotes, men_after}
+use Rattle.chess.specs.San.{Said, IsNamed, kind_said}
+use Rattle.chess.specs.Refusals.{IsRefusal, IsFrom, CanGoAs, becoming}
+use Rattle.chess.specs.RefusalWords.{IsCastlingRefusal, IsSaidRefusal, IsFitting, NoneAble}
+use Rattle.chess.specs.SanWords.{IsAble, CanGoSaid, IsMoveSaid, IsCastlingOn, man_said, move_from, castling_on}
 use Rattle.chess.specs.Sets.{Places, is_in, no_places, HoldsExactly}
+use Rattle.chess.specs.declared.board.man.Kind.{Kind}
+use Rattle.chess.specs.declared.board.man.Kind.TheVariants.{King, Queen, Rook, Bishop, Knight, Pawn}
 use Rattle.chess.specs.declared.board.man.Wing.{Wing}
 use Rattle.chess.specs.declared.moves.Move.{Move}
 use Rattle.chess.specs.declared.move_text.refusal.Refusal.{Refusal}
@@ -17,7 +19,7 @@ use Rattle.chess.proofs.AfterFacts.{after_on_board}
 use Rattle.chess.proofs.LegalSettled.{settled_check}
 use Rattle.chess.proofs.LoopFacts.{not_in}
 use Rattle.chess.proofs.NamedFacts.{AreCastling, AreSaid, agreed_able, agrees_able, able_said, said_move, castling_is, castling_only, no_wing, by_castling, by_said}
-use Rattle.chess.proofs.PlaceFacts.{true_not_false}
+use Rattle.chess.proofs.PlaceFacts.{same_kind, true_not_false}
 
 -- ---- why none is legal
 
@@ -49,15 +51,26 @@ unsafe P m on_board rules plain fails = elim (settled_check (men_after P m) P.tu
   | inr safe ↦ absurd (fails (record { pseudo_legal = rules; safe = safe; unbarred = subst (IsUnbarred P) (sym plain) tt }))
 ]
 
+-- where no man is able none goes so by its own rules, and where one is it does
+none_goes : (P : State) (said : Said) → NoneAble P said → CanGoAs P said → ⊥
+none_goes P said able goes = able goes.0.from goes.1.from (agreed_able P said goes.0 goes.1 goes.2)
+
+some_goes : (P : State) (said : Said) (s : Place) → IsAble P said s → CanGoAs P said
+some_goes P said s able = (move_from said s, able.rules, agrees_able P said s able)
+
 -- a text that says something else
 pub said_refused : (P : State) (x : List ℕ) (read : Option Wing) (said : Option Said) (own : Said) (found : Refusal) → AreOnBoard P.men
     → AreCastling x read → read ≡ None → AreSaid x said → said ≡ Some own → ((m : Move) → IsNamed P x m → ⊥) → IsSaidRefusal P own found → IsRefusal P x found
-said_refused P x read said own WrongPromotion on_board texts is spelled some none wrong = (own, (spelled own).1 some, wrong)
-said_refused P x read said own NoneCan on_board texts is spelled some none (right, able) = (
+said_refused P x read said own WrongPromotion on_board texts is spelled some none (none_able, other) = (
   own,
   (spelled own).1 some,
-  right,
-  (λ m meant. able m.from meant.0.from (agreed_able P own m meant.0 (by_said P x read said own m texts is spelled some meant.1))),
+  none_goes P own none_able,
+  (other.0, some_goes P (becoming other.0 own) other.1 other.2),
+)
+said_refused P x read said own NoneCan on_board texts is spelled some none able = (
+  own,
+  (spelled own).1 some,
+  (λ promote. none_goes P (becoming promote own) (able promote)),
 )
 said_refused P x read said own LeavesKingAttacked on_board texts is spelled some none (s, able) = (
   own,
@@ -71,7 +84,44 @@ said_refused P x read said own NoMoveText on_board texts is spelled some none fa
 said_refused P x read said own NoCastling on_board texts is spelled some none fails = absurd fails
 said_refused P x read said own CastlingAttacked on_board texts is spelled some none fails = absurd fails
 
+-- what goes with one promotion goes with one that fits
+goes_fitting : (P : State) (said : Said) (s : Place) (fit : Option Kind) (kind : Kind)
+    → (kind ≡ Pawn → Promotes P.turn said.target fit) × (kind ≢ Pawn → fit ≡ None)
+    → Goes P (move_from said s) kind → Goes P (move_from (becoming fit said) s) kind
+goes_fitting P said s fit Pawn fits goes = (goes.0, goes.1, fits.0 refl)
+goes_fitting P said s fit King fits goes = (fits.1 (λ e. cc), goes.1)
+goes_fitting P said s fit Queen fits goes = (goes.0, fits.1 (λ e. cc), goes.2)
+goes_fitting P said s fit Rook fits goes = (goes.0, fits.1 (λ e. cc), goes.2)
+goes_fitting P said s fit Bishop fits goes = (goes.0, fits.1 (λ e. cc), goes.2)
+goes_fitting P said s fit Knight fits goes = (goes.0, fits.1 (λ e. cc), goes.2)
+
+-- a man that is able with some promotion is able with one that fits
+pub fitting_able : (P : State) (said : Said) (fit promote : Option Kind) (s : Place) → IsFitting P said fit → IsAble P (becoming promote said) s
+    → IsAble P (becoming fit said) s
+fitting_able P said fit promote s fits able =
+    let other = becoming promote said in
+    let goes : Goes P (move_from other s) (kind_said said.letter) =
+    subst (Goes P (move_from other s)) (same_kind able.rules.man (man_said P other) (sym able.rules.here ∙ able.here)) able.rules.goes in
+    record {
+      here = able.here;
+      asked = able.asked;
+      stays = able.stays;
+      rules = record {
+        from = able.rules.from;
+        to = able.rules.to;
+        man = man_said P said;
+        here = able.here;
+        own = refl;
+        free = able.rules.free;
+        goes = goes_fitting P other s fit (kind_said said.letter) fits goes;
+      };
+    }
+
 -- no man is able where the set of those that are is empty; else some man is
+pub none_fitting : (P : State) (said : Said) (fit : Option Kind) → IsFitting P said fit → NoneAble P (becoming fit said)
+    → (promote : Option Kind) → NoneAble P (becoming promote said)
+none_fitting P said fit fits none promote s on able = none s on (fitting_able P said fit promote s fits able)
+
 pub none_able : (P : State) (said : Said) (able : Places) → HoldsExactly (IsAble P said) able → able ≡ no_places → (s : Place) → IsOnBoard s → IsAble P said s → ⊥
 none_able P said able are none s on here = true_not_false (is_in able s) ((are s).1 (on, here)) (not_in able s none)
 

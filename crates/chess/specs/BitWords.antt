@@ -1,7 +1,7 @@
 -- Words of 64 bits as squares of the board, and twelve of them as a board.
 use Rattle.std.specs.Prelude.{◌≡◌, ◌↔◌, ◌⊎◌, ◌<◌, ◌+◌, ◌*◌, ◌/◌, ◌%◌, ◌^◌, ◌||◌, ◌&&◌, ◌==◌, ltb, ℕ, zero, suc, Bool, true, false, not, if◌then◌else◌, List, get_or, Option, Some, None, bit_or, bit_xor, bit_and}
 use Rattle.chess.specs.Squares.{Place, IsOnBoard, IsStraight, IsAhead, index_of}
-use Rattle.chess.specs.Placements.{Placement, man_at, men_of}
+use Rattle.chess.specs.Placements.{Placement, man_at, men_of, AreOnBoard}
 use Rattle.chess.specs.Attacks.{IsOnRay, Reaches}
 use Rattle.chess.specs.SetWords.{has_bit}
 use Rattle.chess.specs.declared.board.direction.Direction.{Direction}
@@ -81,10 +81,25 @@ IsCleared old new squares = (k i : ℕ) → k < 12 → i < 64 → has_bit (word_
 abbrev pub IsBitSet : List ℕ → List ℕ → ℕ → ℕ → Type 0
 IsBitSet old new row at = (k i : ℕ) → k < 12 → i < 64 → has_bit (word_at new k) i ≡ ((k == row && i == at) || has_bit (word_at old k) i)
 
+-- two squares of one of them are turned over, and all else is as it was
+abbrev pub IsSlid : List ℕ → List ℕ → ℕ → ℕ → ℕ → Type 0
+IsSlid old new row from to = (k i : ℕ) → k < 12 → i < 64
+    → has_bit (word_at new k) i ≡ (if k == row && (i == from || i == to) then not (has_bit (word_at old k) i) else has_bit (word_at old k) i)
+
 -- it is the man's word, if there is one
 abbrev pub is_row : Option Man → ℕ → Bool
 is_row None k = false
 is_row (Some man) k = k == row_of man
+
+-- a man of the side and kind stands on s
+abbrev pub IsMan : Placement → Side → Kind → Place → Type 0
+IsMan p side other s = man_at p s ≡ Some (record { side = side; kind = other })
+
+-- of the side's men those on the squares of a word are left, each where it stood, and no other man of the side is there
+pub record AreLeft (old new : Placement) (side : Side) (left : ℕ) : Type 0 where
+  pub on_board : AreOnBoard new
+  pub same : (other : Kind) (s : Place) → IsOnBoard s
+      → IsMan new side other s ↔ ((has_bit left (index_of s) ≡ true) × IsMan old side other s)
 
 -- ---- steps
 
@@ -151,10 +166,6 @@ IsDiagonalRun p s t = (way : Direction) × (¬ IsStraight way) × IsOnRay p way 
 -- the two words have a square in common
 abbrev pub DoMeet : ℕ → ℕ → Type 0
 DoMeet a b = (s : Place) × IsOnBoard s × (has_bit a (index_of s) ≡ true) × (has_bit b (index_of s) ≡ true)
-
--- a man of the side and kind stands on s
-abbrev pub IsMan : Placement → Side → Kind → Place → Type 0
-IsMan p side other s = man_at p s ≡ Some (record { side = side; kind = other })
 
 -- a man of the side and kind attacks t
 abbrev pub IsHitBy : Placement → Side → Kind → Place → Type 0

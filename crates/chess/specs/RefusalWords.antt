@@ -1,10 +1,13 @@
 -- Words for the parts of the search for a refusal.
+use Rattle.std.specs.Prelude.{◌≡◌, ◌≢◌, Option, None}
 use Rattle.chess.specs.Squares.{Place, IsOnBoard}
 use Rattle.chess.specs.Positions.{State}
-use Rattle.chess.specs.Moves.{IsPseudoLegal}
-use Rattle.chess.specs.San.{Said}
+use Rattle.chess.specs.Moves.{IsPseudoLegal, Promotes}
+use Rattle.chess.specs.San.{Said, kind_said}
 use Rattle.chess.specs.SanWords.{castling_on, IsAble}
-use Rattle.chess.specs.Refusals.{IsWrongPromotion}
+use Rattle.chess.specs.Refusals.{becoming}
+use Rattle.chess.specs.declared.board.man.Kind.{Kind}
+use Rattle.chess.specs.declared.board.man.Kind.TheVariants.{Pawn}
 use Rattle.chess.specs.declared.board.man.Wing.{Wing}
 use Rattle.chess.specs.declared.move_text.refusal.Refusal.{Refusal}
 use Rattle.chess.specs.declared.move_text.refusal.Refusal.TheVariants.{NoMoveText, NoCastling, CastlingAttacked, WrongPromotion, NoneCan, LeavesKingAttacked}
@@ -18,10 +21,19 @@ IsCastlingRefusal P wing WrongPromotion = ⊥
 IsCastlingRefusal P wing NoneCan = ⊥
 IsCastlingRefusal P wing LeavesKingAttacked = ⊥
 
--- why no legal move agrees with what is said: no man is able, or some man is
+-- no man is able to go as is said; some man is
+abbrev pub NoneAble : State → Said → Type 0
+NoneAble P said = (s : Place) → IsOnBoard s → IsAble P said s → ⊥
+
+-- the promotion, or none, that the rules ask of a man of that kind on the square that it comes to (of a pawn's promotions one)
+abbrev pub IsFitting : State → Said → Option Kind → Type 0
+IsFitting P said fit =
+    (kind_said said.letter ≡ Pawn → Promotes P.turn said.target fit) × (kind_said said.letter ≢ Pawn → fit ≡ None)
+
+-- why no legal move agrees with what is said: some man is able, or none is but one would be with another promotion, or none would
 abbrev pub IsSaidRefusal : State → Said → Refusal → Type 0
-IsSaidRefusal P said WrongPromotion = IsWrongPromotion P said
-IsSaidRefusal P said NoneCan = (IsWrongPromotion P said → ⊥) × ((s : Place) → IsOnBoard s → IsAble P said s → ⊥)
+IsSaidRefusal P said WrongPromotion = NoneAble P said × ((promote : Option Kind) × (s : Place) × IsAble P (becoming promote said) s)
+IsSaidRefusal P said NoneCan = (promote : Option Kind) → NoneAble P (becoming promote said)
 IsSaidRefusal P said LeavesKingAttacked = (s : Place) × IsAble P said s
 IsSaidRefusal P said NoMoveText = ⊥
 IsSaidRefusal P said NoCastling = ⊥

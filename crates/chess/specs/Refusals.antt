@@ -2,9 +2,9 @@
 use Rattle.std.specs.Prelude.{◌≡◌, ◌⊎◌, ℕ, List, Option, Some, MatchOption}
 use Rattle.chess.specs.Squares.{Place}
 use Rattle.chess.specs.Positions.{State, IsCheck}
-use Rattle.chess.specs.Moves.{Promotes, IsPseudoLegal, men_after}
-use Rattle.chess.specs.San.{Said, Spells, IsCastlingText, Agrees, kind_said}
-use Rattle.chess.specs.declared.board.man.Kind.TheVariants.{Pawn}
+use Rattle.chess.specs.Moves.{IsPseudoLegal, men_after}
+use Rattle.chess.specs.San.{Said, Spells, IsCastlingText, Agrees}
+use Rattle.chess.specs.declared.board.man.Kind.{Kind}
 use Rattle.chess.specs.declared.board.man.Wing.{Wing}
 use Rattle.chess.specs.declared.moves.Move.{Move}
 use Rattle.chess.specs.declared.move_text.refusal.Refusal.{Refusal}
@@ -22,9 +22,13 @@ IsMeant P x m = IsPseudoLegal P m × IsSpokenOf P x m
 abbrev pub IsSomeCastlingText : List ℕ → Type 0
 IsSomeCastlingText x = (wing : Wing) × IsCastlingText wing x
 
--- a pawn is spoken of, and it may not become that, or become nothing, on the square that it comes to
-abbrev pub IsWrongPromotion : State → Said → Type 0
-IsWrongPromotion P said = (kind_said said.letter ≡ Pawn) × (Promotes P.turn said.target said.promote → ⊥)
+-- the same is said but for what the man becomes
+abbrev pub becoming : Option Kind → Said → Said
+becoming promote said = record said { promote = promote }
+
+-- a man goes as is said by its own rules
+abbrev pub CanGoAs : State → Said → Type 0
+CanGoAs P said = (m : Move) × IsPseudoLegal P m × Agrees P said m
 
 -- of a text that names no legal move: why it names none
 abbrev pub IsRefusal : State → List ℕ → Refusal → Type 0
@@ -34,9 +38,11 @@ IsRefusal P x NoMoveText = (IsSomeCastlingText x → ⊥) × ((said : Said) → 
 IsRefusal P x NoCastling = IsSomeCastlingText x × ((m : Move) → IsMeant P x m → ⊥)
 -- neither is so: an attack bars it
 IsRefusal P x CastlingAttacked = IsSomeCastlingText x × ((m : Move) × IsMeant P x m)
-IsRefusal P x WrongPromotion = (said : Said) × Spells x said × IsWrongPromotion P said
--- no man that is spoken of goes so
-IsRefusal P x NoneCan = (said : Said) × Spells x said × (IsWrongPromotion P said → ⊥) × ((m : Move) → IsMeant P x m → ⊥)
+-- no man that is spoken of goes so, but one would if it became something else, or nothing
+IsRefusal P x WrongPromotion =
+    (said : Said) × Spells x said × (CanGoAs P said → ⊥) × ((promote : Option Kind) × CanGoAs P (becoming promote said))
+-- no man that is spoken of goes so, whatever it becomes
+IsRefusal P x NoneCan = (said : Said) × Spells x said × ((promote : Option Kind) → CanGoAs P (becoming promote said) → ⊥)
 -- some man goes so, and each that does leaves its king attacked
 IsRefusal P x LeavesKingAttacked =
     (said : Said) × Spells x said × ((m : Move) × IsMeant P x m) × ((m : Move) → IsMeant P x m → IsCheck (men_after P m) P.turn)

@@ -1,5 +1,6 @@
 -- What the reader of move texts knows on its way: the bytes of a text by their classes, from its end.
-use Rattle.std.specs.Prelude.{◌≡◌, ◌↔◌, ◌⊎◌, ◌≢◌, ℕ, ◌-◌, Bool, true, ◌||◌, ◌&&◌, ◌==◌, ltb, if◌then◌else◌, List, [], ◌∷◌, Option, Some, None, IfSome, MatchOption, is_some, option_map}
+use Rattle.std.specs.Prelude.{◌≡◌, ◌↔◌, ◌⊎◌, ◌≢◌, ℕ, ◌-◌, Bool, true, ◌||◌, ◌&&◌, ◌==◌, ltb, if◌then◌else◌, List, [], ◌∷◌, ◌++◌, IsTrue, Option, Some, None, IfSome, MatchOption, is_some, option_map}
+use Rattle.std.specs.List.{list_all}
 use Rattle.chess.specs.Squares.{Place, IsOnBoard}
 use Rattle.chess.specs.Placements.{man_at}
 use Rattle.chess.specs.Positions.{State, king_from, king_to}
@@ -103,6 +104,21 @@ SaysPlainly letter file rank r = IfSome letter (λ b. is_of KindLetter b ≡ tru
       target = record { file = file - 96; rank = rank - 48 };
       promote = None;
     })
+
+-- a file and a target are such bytes, and say this of a pawn that takes
+abbrev pub SaysPawnTakes : ℕ → ℕ → ℕ → SaidMove → Type 0
+SaysPawnTakes from file rank r = (is_of FileLetter from ≡ true) × (is_of FileLetter file ≡ true) × (is_of Digit rank ≡ true)
+    × (said_by r ≡ record {
+      letter = None;
+      file = Some (from - 96);
+      rank = None;
+      target = record { file = file - 96; rank = rank - 48 };
+      promote = None;
+    })
+
+-- the first text is the second with marks of check and mate behind it
+abbrev pub IsBeforeMarks : List ℕ → List ℕ → Type 0
+IsBeforeMarks x y = (marks : List ℕ) × IsTrue (list_all is_check_mark marks) × (x ≡ y ++ marks)
 
 -- the move of a man on s that the text speaks of
 abbrev pub move_from : Said → Place → Move

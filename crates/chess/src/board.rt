@@ -1,6 +1,6 @@
 //! What a board is: a map from squares to men.
-ghost use Rattle.std.specs.Prelude.{◌≡◌, ◌↔◌, IsTrue, None};
-ghost use Rattle.chess.specs.Placements.{Placement, no_men, man_at, with_man, AreOnBoard, IsEmpty, IsHeld};
+ghost use Rattle.std.specs.Prelude.{◌≡◌, ◌↔◌, IsTrue, None, Some};
+ghost use Rattle.chess.specs.Placements.{Placement, no_men, man_at, with_man, opposite, AreOnBoard, IsEmpty, IsHeld};
 ghost use Rattle.chess.specs.Attacks.{IsAttacked};
 ghost use Rattle.chess.specs.Start.{usual_men};
 ghost use Rattle.chess.specs.Sets.{IsReachOf, IsSquaresOf, HoldsExactly, IsHitter};
@@ -58,6 +58,17 @@ pub trait Board: Copy {
     /// Whether some man of the side attacks the square (Laws 3.1.2).
     fn attacked(&self, square: Square, side: Side) -> bool
         ensures { IsTrue result ↔ IsAttacked (men self.now) side square };
+
+    /// Whether some man of the other side attacks the square once that man is carried so, as `carry` does it. The board stays as it is.
+    fn attacked_after(
+        &self,
+        square: Square,
+        man: Man,
+        from: Square,
+        taken: Square,
+        to: Square,
+    ) -> bool
+        ensures { IsTrue result ↔ IsAttacked (with_man (with_man (with_man (men self.now) taken None) from None) to (Some man)) (opposite man.side) square };
 
     /// The squares that the man on the square attacks; the empty set where there is none (Laws 3.2 to 3.8).
     fn reach(&self, square: Square) -> SquareSet

@@ -1,9 +1,9 @@
 //! The board over words of 64 bits.
 ghost use Rattle.std.specs.Prelude.{◌≡◌, ◌↔◌, ◌⊎◌, ◌<◌, IsTrue, None, replicate};
 ghost use Rattle.chess.specs.Squares.{IsOnBoard, index_of};
-ghost use Rattle.chess.specs.Placements.{with_man, man_at, IsHeld, IsEmpty};
+ghost use Rattle.chess.specs.Placements.{Placement, with_man, man_at, IsHeld, IsEmpty};
 ghost use Rattle.chess.specs.Attacks.{IsAttacked};
-ghost use Rattle.chess.specs.BitWords.{AreApart, IsWordOf, IsCleared, IsBitSet, IsMan, IsRunner, IsHitBy, IsHitStraight, IsHitDiagonal, words_men, man_in, man_of_row, number_of_kind, row_of};
+ghost use Rattle.chess.specs.BitWords.{AreApart, AreLeft, IsWordOf, IsCleared, IsBitSet, IsSlid, IsMan, IsRunner, IsHitBy, IsHitStraight, IsHitDiagonal, words_men, man_in, man_of_row, number_of_kind, row_of};
 ghost use Rattle.chess.specs.Sights.{IsInSight};
 ghost use Rattle.chess.specs.Start.{usual_men};
 ghost use Rattle.chess.specs.CellFacts.{on_board-men_of};
@@ -12,7 +12,7 @@ ghost use Rattle.chess.specs.declared.board.man.Kind.TheVariants.{King, Knight, 
 #[cfg(test)]
 mod tests;
 
-use crate::board::fills::{meet, reached, word_of};
+use crate::board::fills::{reached, word_of};
 use crate::board::sights::{has_unblocked, hitters_of, sighting};
 use crate::board::{Board, Kind, Man, Side, Square, SquareSet};
 
@@ -50,7 +50,7 @@ impl Board for Bits {
         carried(&mut self.words, man, from, taken, to);
     }
 
-    #[inline(never)]
+    #[inline(always)]
     fn is_empty(&self, square: Square) -> bool {
         occupied(&self.words) & word_of(square) == 0
     }
@@ -61,7 +61,21 @@ impl Board for Bits {
     }
 
     fn attacked(&self, square: Square, side: Side) -> bool {
-        is_hit(&self.words, square, side)
+        is_hit(&self.words, square, side, u64::MAX, occupied(&self.words))
+    }
+
+    #[inline(always)]
+    fn attacked_after(
+        &self,
+        square: Square,
+        man: Man,
+        from: Square,
+        taken: Square,
+        to: Square,
+    ) -> bool {
+        let left = !(word_of(taken) | word_of(from) | word_of(to));
+        let occupied = (occupied(&self.words) & left) | word_of(to);
+        is_hit(&self.words, square, man.side.opposite(), left, occupied)
     }
 
     fn reach(&self, square: Square) -> SquareSet {
@@ -75,7 +89,7 @@ impl Board for Bits {
         SquareSet::of_word(squares_with(&self.words, man.side, man.kind))
     }
 
-    #[inline(never)]
+    #[inline(always)]
     fn hitters(&self, man: Man, target: Square, among: SquareSet) -> SquareSet {
         let own = squares_with(&self.words, man.side, man.kind) & among.word();
         hitters_of(man, target, own, occupied(&self.words))
@@ -204,9 +218,35 @@ fn place(words: &mut [u64; 12], square: Square, man: Option<Man>)
     set(words, square, man);
 }
 
-/// Takes the men off two squares, and puts the man, or none, on a third. No other square changes.
+/// Takes the men off two squares, and puts the man, or none, on a third. No other square changes. A man who takes none goes by his own
+/// word alone.
 #[inline(always)]
 fn carried(words: &mut [u64; 12], man: Option<Man>, from: Square, taken: Square, to: Square)
+    requires { AreApart words.old }
+    ensures apart { AreApart words.new }
+    ensures men { words_men words.new ≡ with_man (with_man (with_man (words_men words.old) taken None) from None) to man }
+{
+    if let Some(man) = man
+        && occupied(words) & (word_of(taken) | word_of(to)) == 0
+        && squares_with(words, man.side, man.kind) & word_of(from) != 0
+    {
+        slide(words, man, from, to);
+        return;
+    }
+    replace(words, man, from, taken, to);
+}
+
+/// Moves the man from the one square to the other: each square of the two is in his word where it was not.
+#[inline(always)]
+fn slide(words: &mut [u64; 12], man: Man, from: Square, to: Square)
+    ensures { IsSlid words.old words.new (row_of man) (index_of from) (index_of to) }
+{
+    words[row(man) as usize] ^= word_of(from) | word_of(to);
+}
+
+/// Takes the men off two squares, and puts the man, or none, on a third. No other square changes.
+#[inline(never)]
+fn replace(words: &mut [u64; 12], man: Option<Man>, from: Square, taken: Square, to: Square)
     requires { AreApart words.old }
     ensures apart { AreApart words.new }
     ensures men { words_men words.new ≡ with_man (with_man (with_man (words_men words.old) taken None) from None) to man }
@@ -271,90 +311,94 @@ fn squares_of_runners(words: &[u64; 12], side: Side, kind: Kind) -> u64
     squares_with(words, side, Kind::Queen) | squares_with(words, side, kind)
 }
 
-/// Whether a knight of the side attacks the square.
+/// The squares of a man, of those left, from which it attacks the square on the empty board.
 #[inline(always)]
-fn is_hit_by_knight(words: &[u64; 12], square: Square, side: Side) -> bool
+fn seers(words: &[u64; 12], man: Man, square: Square, left: u64) -> u64
     requires { AreApart words.now }
-    ensures { IsTrue result ↔ IsHitBy (words_men words.now) side Knight square }
+    ensures { (p : Placement) → AreLeft (words_men words.now) p man.side left
+        → IsWordOf (λ s. IsMan p man.side man.kind s × IsInSight man.side man.kind s square) result }
 {
-    let knight = Man {
-        side,
-        kind: Kind::Knight,
-    };
-    meet(
-        squares_with(words, side, Kind::Knight),
-        sighting(knight, square),
-    )
+    left & squares_with(words, man.side, man.kind) & sighting(man, square)
 }
 
-/// Whether a king of the side attacks the square.
+/// The squares of the side's queens, and of another kind of its men, of those left, from which that kind attacks the square on the empty
+/// board.
 #[inline(always)]
-fn is_hit_by_king(words: &[u64; 12], square: Square, side: Side) -> bool
+fn runners_in_sight(words: &[u64; 12], square: Square, side: Side, kind: Kind, left: u64) -> u64
     requires { AreApart words.now }
-    ensures { IsTrue result ↔ IsHitBy (words_men words.now) side King square }
+    ensures { (p : Placement) → AreLeft (words_men words.now) p side left
+        → IsWordOf (λ s. IsRunner p side kind s × IsInSight side kind s square) result }
 {
-    let king = Man {
-        side,
-        kind: Kind::King,
-    };
-    meet(
-        squares_with(words, side, Kind::King),
-        sighting(king, square),
-    )
+    left & squares_of_runners(words, side, kind) & sighting(Man { side, kind }, square)
 }
 
-/// Whether a pawn of the side attacks the square.
+/// Whether a knight, a king or a pawn of the side, of those left, attacks the square.
 #[inline(always)]
-fn is_hit_by_pawn(words: &[u64; 12], square: Square, side: Side) -> bool
+fn is_hit_nearby(words: &[u64; 12], square: Square, side: Side, left: u64) -> bool
     requires { AreApart words.now }
-    ensures { IsTrue result ↔ IsHitBy (words_men words.now) side Pawn square }
+    ensures { (p : Placement) → AreLeft (words_men words.now) p side left
+        → IsTrue result ↔ (IsHitBy p side Knight square ⊎ (IsHitBy p side King square ⊎ IsHitBy p side Pawn square)) }
 {
-    let pawn = Man {
-        side,
-        kind: Kind::Pawn,
-    };
-    meet(
-        squares_with(words, side, Kind::Pawn),
-        sighting(pawn, square),
-    )
+    let knights = seers(
+        words,
+        Man {
+            side,
+            kind: Kind::Knight,
+        },
+        square,
+        left,
+    );
+    let kings = seers(
+        words,
+        Man {
+            side,
+            kind: Kind::King,
+        },
+        square,
+        left,
+    );
+    let pawns = seers(
+        words,
+        Man {
+            side,
+            kind: Kind::Pawn,
+        },
+        square,
+        left,
+    );
+    SquareSet::of_word(knights | kings | pawns).has_some()
 }
 
-/// The squares of the side's queens, and of another kind of its men, from which that kind attacks the square on the empty board.
+/// Whether a queen, a rook or a bishop of the side, of those left, attacks the square along a line.
 #[inline(always)]
-fn runners_in_sight(words: &[u64; 12], square: Square, side: Side, kind: Kind) -> u64
+fn is_hit_along_line(
+    words: &[u64; 12],
+    square: Square,
+    side: Side,
+    left: u64,
+    occupied: u64,
+) -> bool
     requires { AreApart words.now }
-    ensures { IsWordOf (λ s. IsRunner (words_men words.now) side kind s × IsInSight side kind s square) result }
+    ensures { (p : Placement) → AreLeft (words_men words.now) p side left → IsWordOf (λ s. ¬ IsEmpty p s) occupied
+        → IsTrue result ↔ (IsHitStraight p side square ⊎ IsHitDiagonal p side square) }
 {
-    squares_of_runners(words, side, kind) & sighting(Man { side, kind }, square)
-}
-
-/// Whether a queen, a rook or a bishop of the side attacks the square along a line.
-#[inline(always)]
-fn is_hit_along_line(words: &[u64; 12], square: Square, side: Side) -> bool
-    requires { AreApart words.now }
-    ensures { IsTrue result ↔ (IsHitStraight (words_men words.now) side square ⊎ IsHitDiagonal (words_men words.now) side square) }
-{
-    let seen = runners_in_sight(words, square, side, Kind::Rook)
-        | runners_in_sight(words, square, side, Kind::Bishop);
+    let seen = runners_in_sight(words, square, side, Kind::Rook, left)
+        | runners_in_sight(words, square, side, Kind::Bishop, left);
     if seen == 0 {
         return false;
     }
-    has_unblocked(seen, square, occupied(words))
+    has_unblocked(seen, square, occupied)
 }
 
-/// Whether some man of the side attacks the square.
-fn is_hit(words: &[u64; 12], square: Square, side: Side) -> bool
+/// Whether some man of the side, of those left, attacks the square, where men stand on the occupied squares.
+#[inline(always)]
+fn is_hit(words: &[u64; 12], square: Square, side: Side, left: u64, occupied: u64) -> bool
     requires { AreApart words.now }
-    ensures { IsTrue result ↔ IsAttacked (words_men words.now) side square }
+    ensures { (p : Placement) → AreLeft (words_men words.now) p side left → IsWordOf (λ s. ¬ IsEmpty p s) occupied
+        → IsTrue result ↔ IsAttacked p side square }
 {
-    if is_hit_by_knight(words, square, side) {
+    if is_hit_nearby(words, square, side, left) {
         return true;
     }
-    if is_hit_by_king(words, square, side) {
-        return true;
-    }
-    if is_hit_by_pawn(words, square, side) {
-        return true;
-    }
-    is_hit_along_line(words, square, side)
+    is_hit_along_line(words, square, side, left, occupied)
 }

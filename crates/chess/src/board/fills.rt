@@ -1,9 +1,9 @@
 //! Words of 64 bits as squares: steps, and the squares that men attack.
-ghost use Rattle.std.specs.Prelude.{◌≡◌, ◌↔◌, IsTrue};
+ghost use Rattle.std.specs.Prelude.{◌≡◌};
 ghost use Rattle.chess.specs.Squares.{Place, IsOnBoard};
 ghost use Rattle.chess.specs.Placements.{Placement, IsEmpty};
 ghost use Rattle.chess.specs.Attacks.{IsOnRay, IsNear, IsJump, IsPawnHit, Reaches};
-ghost use Rattle.chess.specs.BitWords.{IsWordOf, DoMeet, IsNextWord, IsStraightRun, IsDiagonalRun, square_word, step_word, two_steps_word, beside_word, upright_word, forward_way};
+ghost use Rattle.chess.specs.BitWords.{IsWordOf, IsNextWord, IsStraightRun, IsDiagonalRun, square_word, step_word, two_steps_word, beside_word, upright_word, forward_way};
 
 use crate::board::{Direction, Kind, Man, Side, Square};
 
@@ -14,6 +14,7 @@ const NOT_FILE_H: u64 = 0x7F7F_7F7F_7F7F_7F7F;
 const NOT_FILE_A: u64 = 0xFEFE_FEFE_FEFE_FEFE;
 
 /// The word of one square.
+#[inline(always)]
 pub(crate) fn word_of(square: Square) -> u64
     ensures word { result ≡ square_word square }
     ensures on_board { IsOnBoard square }
@@ -145,11 +146,4 @@ pub(crate) fn reached(man: Man, square: Square, empty: u64) -> u64
         Kind::Knight => jumps(square),
         Kind::Pawn => pawn_hits(square, man.side),
     }
-}
-
-/// Whether the two words have a square in common.
-pub(crate) fn meet(a: u64, b: u64) -> bool
-    ensures { IsTrue result ↔ DoMeet a b }
-{
-    a & b != 0
 }

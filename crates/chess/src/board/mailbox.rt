@@ -69,6 +69,19 @@ impl Board for Mailbox {
         false
     }
 
+    fn attacked_after(
+        &self,
+        square: Square,
+        man: Man,
+        from: Square,
+        taken: Square,
+        to: Square,
+    ) -> bool {
+        let mut after = *self;
+        after.carry(Some(man), from, taken, to);
+        after.attacked(square, man.side.opposite())
+    }
+
     fn reach(&self, square: Square) -> SquareSet {
         match self.man(square) {
             Some(man) => self.reached(man, square),

@@ -35,6 +35,7 @@ impl Model for SquareSet {
 
 impl SquareSet {
     /// The set without squares.
+    #[inline(always)]
     pub fn new() -> Self
         ensures { result ≡ no_places }
     {
@@ -42,6 +43,7 @@ impl SquareSet {
     }
 
     /// The set of the squares of a word: bit 0 is a1, bit 1 is b1, and so on to h1, a2 and h8.
+    #[inline(always)]
     pub(crate) fn of_word(word: u64) -> Self
         ensures { HoldsExactly (λ (s : Place). has_bit word (index_of s) ≡ true) result }
     {
@@ -95,6 +97,7 @@ impl SquareSet {
     }
 
     /// Puts a square into the set.
+    #[inline(always)]
     pub fn insert(&mut self, square: Square)
         ensures { (s : Place) → is_in self.new s ≡ (same_square square s || is_in self.old s) }
     {
@@ -102,6 +105,7 @@ impl SquareSet {
     }
 
     /// Puts a square into the set if that is so.
+    #[inline(always)]
     pub(crate) fn insert_if(&mut self, square: Square, is_so: bool)
         ensures { (s : Place) → is_in self.new s ≡ ((is_so && same_square square s) || is_in self.old s) }
     {
@@ -111,6 +115,7 @@ impl SquareSet {
     }
 
     /// Whether the square is in the set.
+    #[inline(always)]
     pub fn has(&self, square: Square) -> bool
         ensures { result ≡ is_in self.now square }
     {
@@ -125,6 +130,7 @@ impl SquareSet {
     }
 
     /// Whether some square is in the set: the contrary of `is_empty`, said of a square that is there.
+    #[inline(always)]
     pub(crate) fn has_some(&self) -> bool
         ensures { IsTrue result ↔ ((s : Place) × IsOnBoard s × (is_in self.now s ≡ true)) }
     {
@@ -147,6 +153,7 @@ impl SquareSet {
     }
 
     /// Takes out the first square in the order a1, b1 to h1, a2 and so on: `None` where there is none.
+    #[inline(always)]
     pub(crate) fn take_first(&mut self) -> Option<Square>
         ensures { IsTakenFirst self.old self.new result }
     {

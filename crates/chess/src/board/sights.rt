@@ -59,7 +59,7 @@ fn is_unblocked(from: Square, to: Square, occupied: u64) -> bool
 }
 
 /// Those of the squares from which such a man attacks the target, where men stand on the occupied squares.
-#[inline]
+#[inline(always)]
 pub(crate) fn hitters_of(man: Man, target: Square, own: u64, occupied: u64) -> SquareSet
     ensures { (p : Placement) → IsWordOf (λ s. ¬ IsEmpty p s) occupied
         → HoldsExactly (λ s. (has_bit own (index_of s) ≡ true) × Reaches p man.side man.kind s target) result }

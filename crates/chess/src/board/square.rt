@@ -31,6 +31,7 @@ impl Model for Square {
 
 impl Square {
     /// The square on a file (1 is the a-file) and a rank: `None` exactly where a number is not from 1 to 8.
+    #[inline(always)]
     pub fn new(file: u8, rank: u8) -> Option<Self>
         ensures { MatchOption result (¬ IsOnBoard (record { file = file; rank = rank }))
             (λ s. (s ≡ record { file = file; rank = rank }) × IsOnBoard s) }
@@ -55,6 +56,7 @@ impl Square {
     }
 
     /// The number of its file, from 1 for the a-file to 8.
+    #[inline(always)]
     pub fn file(&self) -> u8
         ensures number { result ≡ self.now.file }
         ensures on_board { IsOnBoard self.now }
@@ -63,6 +65,7 @@ impl Square {
     }
 
     /// The number of its rank, from 1 for White's home rank to 8.
+    #[inline(always)]
     pub fn rank(&self) -> u8
         ensures number { result ≡ self.now.rank }
         ensures on_board { IsOnBoard self.now }
@@ -71,6 +74,7 @@ impl Square {
     }
 
     /// The square that stands at this place in the order a1, b1 to h1, a2 and so on.
+    #[inline(always)]
     pub fn of_index(index: u8) -> Self
         requires { index < 64 }
         ensures square { result ≡ square_at index }
@@ -80,6 +84,7 @@ impl Square {
     }
 
     /// Its place in that order.
+    #[inline(always)]
     pub(crate) fn index(self) -> u8
         ensures place { result ≡ index_of self }
         ensures on_board { IsOnBoard self }

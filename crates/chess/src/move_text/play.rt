@@ -1,17 +1,20 @@
 //! Moves played by their texts (PGN 8.2.3).
-ghost use Rattle.std.specs.Prelude.{◌≡◌, ◌≢◌, ◌↔◌, IfOk, OnErr, IsErrOf};
+ghost use Rattle.std.specs.Prelude.{◌≡◌, ◌≢◌, ◌↔◌, IfOk, OnErr, IsErrOf, Some};
 ghost use Rattle.chess.specs.Moves.{after, IsLegal};
 ghost use Rattle.chess.specs.San.{IsNamed, IsOnlyNamed};
 ghost use Rattle.chess.specs.SanAnswers.{IsAnswer, IsPlayed};
-ghost use Rattle.chess.specs.SanWords.{said_by, IsMoveSaid};
+ghost use Rattle.chess.specs.SanWords.{said_by, IsMoveSaid, IsReadSaid, IsAble};
+ghost use Rattle.chess.specs.Sets.{HoldsExactly};
 ghost use Rattle.chess.specs.declared.moves.Move.{Move};
 ghost use Rattle.chess.specs.declared.move_text.SanError.{SanError};
 
-use crate::board::{Board, Man};
+use crate::board::{Board, Kind, Man, SquareSet};
 use crate::move_text::SanError;
-use crate::move_text::read::able::able_men;
+use crate::move_text::read::able::{able_pawns, able_pieces};
 use crate::move_text::read::only_named;
-use crate::move_text::read::said::{begins_castling, read_said};
+use crate::move_text::read::said::{
+    SaidMove, before_mark, begins_castling, pawn_takes, plainly_said, read_said,
+};
 use crate::moves::Move;
 use crate::position::Position;
 
@@ -27,9 +30,39 @@ pub fn play_word<B: Board>(position: &mut Position<B>, text: &[u8]) -> Result<Mo
     only_played(position, text)
 }
 
-/// Plays the only legal move that the text names: where only one man comes into question, he is carried at once.
+/// Plays the only legal move that the text names: the most frequent forms are told by their length and played at once.
 #[inline(always)]
 fn only_played<B: Board>(position: &mut Position<B>, text: &[u8]) -> Result<Move, SanError>
+    ensures answer { IsAnswer (IsNamed position.old text.now) result }
+    ensures played { IsPlayed position.old position.new result }
+{
+    match before_mark(text) {
+        [file, rank] => {
+            if let Some(said) = plainly_said(None, *file, *rank) {
+                return play_said(position, text, &said);
+            }
+        }
+        [letter, file, rank] => {
+            if let Some(said) = plainly_said(Some(*letter), *file, *rank) {
+                return play_said(position, text, &said);
+            }
+        }
+        [from, sign, file, rank] if *sign == b'x' => {
+            if let Some(said) = pawn_takes(*from, *file, *rank) {
+                return play_said(position, text, &said);
+            }
+            if let Some(said) = plainly_said(Some(*from), *file, *rank) {
+                return play_said(position, text, &said);
+            }
+        }
+        _ => {}
+    }
+    play_read(position, text)
+}
+
+/// Plays the only legal move that the text names, of whatever form it is.
+#[inline(never)]
+fn play_read<B: Board>(position: &mut Position<B>, text: &[u8]) -> Result<Move, SanError>
     ensures answer { IsAnswer (IsNamed position.old text.now) result }
     ensures played { IsPlayed position.old position.new result }
 {
@@ -39,7 +72,41 @@ fn only_played<B: Board>(position: &mut Position<B>, text: &[u8]) -> Result<Move
     let Some(said) = read_said(text) else {
         return Err(SanError::None);
     };
-    let mut able = able_men(position, &said);
+    play_said(position, text, &said)
+}
+
+/// Plays the only legal move that the text names, where it is read: pawns and pieces apart, so that each has code of its own.
+#[inline(always)]
+fn play_said<B: Board>(
+    position: &mut Position<B>,
+    text: &[u8],
+    said: &SaidMove,
+) -> Result<Move, SanError>
+    requires { IsReadSaid text.now (Some said.now) }
+    ensures answer { IsAnswer (IsNamed position.old text.now) result }
+    ensures played { IsPlayed position.old position.new result }
+{
+    if said.kind() == Kind::Pawn {
+        let able = able_pawns(position, said);
+        return play_able(position, text, said, able);
+    }
+    let able = able_pieces(position, said);
+    play_able(position, text, said, able)
+}
+
+/// Plays the only legal move that the text names, where the men are known that may make it: one alone is carried at once.
+#[inline(always)]
+fn play_able<B: Board>(
+    position: &mut Position<B>,
+    text: &[u8],
+    said: &SaidMove,
+    mut able: SquareSet,
+) -> Result<Move, SanError>
+    requires read { IsReadSaid text.now (Some said.now) }
+    requires able { HoldsExactly (IsAble position.old (said_by said.now)) able }
+    ensures answer { IsAnswer (IsNamed position.old text.now) result }
+    ensures played { IsPlayed position.old position.new result }
+{
     let Some(from) = able.take_first() else {
         return Err(SanError::None);
     };
@@ -51,7 +118,7 @@ fn only_played<B: Board>(position: &mut Position<B>, text: &[u8]) -> Result<Move
         kind: said.kind(),
     };
     let m = said.from(from);
-    if !position.try_move(Some(man), &m) {
+    if !position.try_move(man, &m) {
         return Err(SanError::None);
     }
     Ok(m)

@@ -1,9 +1,8 @@
 //! Why a text names no legal move, and the moves that it names, square by square (PGN 8.2.3).
-ghost use Rattle.std.specs.Prelude.{◌↔◌, IsTrue};
 ghost use Rattle.chess.specs.San.{IsNamed};
-ghost use Rattle.chess.specs.Refusals.{IsRefusal, IsWrongPromotion, IsFrom};
+ghost use Rattle.chess.specs.Refusals.{IsRefusal, IsFrom};
 ghost use Rattle.chess.specs.SanWords.{said_by, IsCastlingOn, IsMoveSaid};
-ghost use Rattle.chess.specs.RefusalWords.{IsCastlingRefusal, IsSaidRefusal};
+ghost use Rattle.chess.specs.RefusalWords.{IsCastlingRefusal, IsSaidRefusal, IsFitting};
 ghost use Rattle.chess.specs.declared.moves.Move.{Move};
 
 use crate::board::{Board, Kind, Square, Wing};
@@ -24,9 +23,9 @@ pub enum Refusal {
     NoCastling,
     /// It is castling, and nothing but an attack bars it.
     CastlingAttacked,
-    /// A pawn may not become that, or may not stay a pawn, on the square that it comes to.
+    /// No man that it speaks of goes so, but one would if it became something else, or nothing.
     WrongPromotion,
-    /// No man that it speaks of goes so.
+    /// No man that it speaks of goes so, whatever it becomes.
     NoneCan,
     /// Some man goes so, but its king is attacked then.
     LeavesKingAttacked,
@@ -61,20 +60,28 @@ fn castling_refusal<B: Board>(position: &Position<B>, wing: Wing) -> Refusal
 fn said_refusal<B: Board>(position: &Position<B>, said: &SaidMove) -> Refusal
     ensures { IsSaidRefusal position.now (said_by said.now) result }
 {
-    if is_wrong_promotion(position, said) {
-        return Refusal::WrongPromotion;
-    }
     if able_men(position, said).has_some() {
         return Refusal::LeavesKingAttacked;
+    }
+    let fitting = SaidMove {
+        promote: fitting_promotion(position, said),
+        ..*said
+    };
+    if able_men(position, &fitting).has_some() {
+        return Refusal::WrongPromotion;
     }
     Refusal::NoneCan
 }
 
-/// Whether a pawn is spoken of that may not become that, or may not stay a pawn, on the square that it comes to.
-fn is_wrong_promotion<B: Board>(position: &Position<B>, said: &SaidMove) -> bool
-    ensures { IsTrue result ↔ IsWrongPromotion position.now (said_by said.now) }
+/// A promotion, or none, that the rules ask of the man spoken of on the square that it comes to.
+fn fitting_promotion<B: Board>(position: &Position<B>, said: &SaidMove) -> Option<Kind>
+    ensures { IsFitting position.now (said_by said.now) result }
 {
-    said.kind() == Kind::Pawn && !promotes(position.side(), said.target, said.promote)
+    let queen = Some(Kind::Queen);
+    if said.kind() == Kind::Pawn && promotes(position.side(), said.target, queen) {
+        return queen;
+    }
+    None
 }
 
 /// The legal move from the square that the text names: there is one at most.

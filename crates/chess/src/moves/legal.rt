@@ -89,6 +89,9 @@ impl<B: Board> Position<B> {
         requires { IsPseudoLegal self.now m.now }
         ensures { IsTrue result ↔ IsCheck (men_after self.now m.now) self.now.turn }
     {
+        if m.castle.is_none() {
+            return self.exposes_king(self.at(m.from).unwrap(), m);
+        }
         let side = self.side();
         let king = self.king_after(m, side);
         self.board_after(m).attacked(king, side.opposite())

@@ -1,7 +1,7 @@
 //! The position after a move (Laws 3.7, 3.8; PGN 16.1.3.3 to 16.1.3.6).
-ghost use Rattle.std.specs.Prelude.{◌≡◌, ◌↔◌, ◌⊎◌, IsTrue, None, if◌then◌else◌};
+ghost use Rattle.std.specs.Prelude.{◌≡◌, ◌↔◌, ◌⊎◌, IsTrue, None, Some, if◌then◌else◌};
 ghost use Rattle.chess.specs.Squares.{same_square};
-ghost use Rattle.chess.specs.Positions.{IsSound, IsOnlyKing, king_from, rook_from};
+ghost use Rattle.chess.specs.Positions.{IsSound, IsOnlyKing, IsCheck, king_from, rook_from};
 ghost use Rattle.chess.specs.Moves.{is_pawn, is_en_passant, taken, arriving, men_after, keeps_right, rights_after, en_passant_after, one_more, halfmove_clock_after, fullmove_number_after, after, IsPseudoLegal, IsLegal};
 ghost use Rattle.chess.specs.Placements.{man_at, opposite};
 
@@ -209,6 +209,20 @@ impl<B: Board> Position<B> {
         requires { IsLegal self.old m.now }
         ensures { self.new ≡ after self.old m.now }
     {
+        if m.castle.is_some() {
+            self.make_castling(m);
+            return;
+        }
+        let man = self.at(m.from).unwrap();
+        self.advance(man, m);
+    }
+
+    /// Makes a legal move in place, also one that moves two men.
+    #[cold]
+    fn make_castling(&mut self, m: &Move)
+        requires { IsLegal self.old m.now }
+        ensures { self.new ≡ after self.old m.now }
+    {
         let man = self.at(m.from);
         let board = self.board_after_of(man, m);
         self.settle(man, m, board);
@@ -240,31 +254,72 @@ impl<B: Board> Position<B> {
         self.black_king = black_king;
     }
 
+    /// What that man, who moves, is on arrival: himself, or what the pawn becomes.
+    #[inline(always)]
+    fn becoming(&self, man: Man, m: &Move) -> Man
+        requires { man_at self.now.men m.now.from ≡ Some man }
+        ensures { Some result ≡ arriving self.now m.now.promote m.now.from }
+    {
+        match m.promote {
+            None => man,
+            Some(kind) => Man {
+                side: self.side(),
+                kind,
+            },
+        }
+    }
+
+    /// Whether the own king is attacked after the move of that man, which is no castling.
+    #[inline(always)]
+    pub(crate) fn exposes_king(&self, man: Man, m: &Move) -> bool
+        requires man { man_at self.now.men m.now.from ≡ Some man }
+        requires pseudo_legal { IsPseudoLegal self.now m.now }
+        requires plain { m.now.castle ≡ None }
+        ensures { IsTrue result ↔ IsCheck (men_after self.now m.now) self.now.turn }
+    {
+        self.known();
+        let king = self.king_after(m, self.side());
+        let taken = self.taken_by(Some(man), m);
+        let arriving = self.becoming(man, m);
+        self.board
+            .attacked_after(king, arriving, m.from, taken, m.to)
+    }
+
     /// Makes the move of that man in place if it leaves the own king unattacked.
     #[inline(always)]
-    pub(crate) fn try_move(&mut self, man: Option<Man>, m: &Move) -> bool
-        requires man { man ≡ man_at self.old.men m.now.from }
+    pub(crate) fn try_move(&mut self, man: Man, m: &Move) -> bool
+        requires man { man_at self.old.men m.now.from ≡ Some man }
         requires pseudo_legal { IsPseudoLegal self.old m.now }
         requires plain { m.now.castle ≡ None }
         ensures legal { IsTrue result ↔ IsLegal self.old m.now }
         ensures moved { self.new ≡ (if result then after self.old m.now else self.old) }
     {
+        if self.exposes_king(man, m) {
+            return false;
+        }
+        self.advance(man, m);
+        true
+    }
+
+    /// Makes a legal move of that man, which is no castling, in place.
+    #[inline(always)]
+    fn advance(&mut self, man: Man, m: &Move)
+        requires man { man_at self.old.men m.now.from ≡ Some man }
+        requires legal { IsLegal self.old m.now }
+        requires plain { m.now.castle ≡ None }
+        ensures { self.new ≡ after self.old m.now }
+    {
         self.known();
-        let before = self.board();
-        let king = self.king_after(m, self.side());
         let turn = self.turn_after();
         let rights = self.rights_after(m);
-        let en_passant = self.en_passant_after(man, m);
-        let halfmove_clock = self.halfmove_clock_after(man, m);
+        let en_passant = self.en_passant_after(Some(man), m);
+        let halfmove_clock = self.halfmove_clock_after(Some(man), m);
         let fullmove_number = self.fullmove_number_after();
         let white_king = self.king_after(m, Side::White);
         let black_king = self.king_after(m, Side::Black);
-        let (arriving, taken) = (self.arriving(man, m), self.taken_by(man, m));
-        self.board.carry(arriving, m.from, taken, m.to);
-        if self.board.attacked(king, turn) {
-            self.board = before;
-            return false;
-        }
+        let taken = self.taken_by(Some(man), m);
+        let arriving = self.becoming(man, m);
+        self.board.carry(Some(arriving), m.from, taken, m.to);
         self.turn = turn;
         self.rights = rights;
         self.en_passant = en_passant;
@@ -272,7 +327,6 @@ impl<B: Board> Position<B> {
         self.fullmove_number = fullmove_number;
         self.white_king = white_king;
         self.black_king = black_king;
-        true
     }
 
     /// The position after a legal move.

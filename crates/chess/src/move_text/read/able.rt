@@ -26,7 +26,7 @@ pub(crate) fn able_men<B: Board>(position: &Position<B>, said: &SaidMove) -> Squ
 
 /// The squares of the pieces that may make the move that is said.
 #[inline(always)]
-fn able_pieces<B: Board>(position: &Position<B>, said: &SaidMove) -> SquareSet
+pub(crate) fn able_pieces<B: Board>(position: &Position<B>, said: &SaidMove) -> SquareSet
     requires { kind_said said.now.letter ≢ Pawn }
     ensures { HoldsExactly (IsAble position.now (said_by said.now)) result }
 {
@@ -43,7 +43,7 @@ fn able_pieces<B: Board>(position: &Position<B>, said: &SaidMove) -> SquareSet
 
 /// The squares of the pawns that may make the move that is said.
 #[inline(always)]
-fn able_pawns<B: Board>(position: &Position<B>, said: &SaidMove) -> SquareSet
+pub(crate) fn able_pawns<B: Board>(position: &Position<B>, said: &SaidMove) -> SquareSet
     requires { kind_said said.now.letter ≡ Pawn }
     ensures { HoldsExactly (IsAble position.now (said_by said.now)) result }
 {

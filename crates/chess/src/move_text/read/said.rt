@@ -1,7 +1,7 @@
 //! What a move text says, read from its end (PGN 8.2.3).
 ghost use Rattle.std.specs.Prelude.{◌≡◌, ◌↔◌, ◌⊎◌, reverse, Some, None, IfSome, MatchOption, IsTrue};
 ghost use Rattle.chess.specs.San.{IsCastlingText};
-ghost use Rattle.chess.specs.SanWords.{IsReadSaid, SaysPlainly, IsWholeLetter, IsCastlingStem, kind_given, number_given, kind_of, is_of, last_of, before_last, unmarked, before_equals, stem, behind_target_rank, behind_sign, behind_rank, behind_file};
+ghost use Rattle.chess.specs.SanWords.{IsReadSaid, SaysPlainly, SaysPawnTakes, IsBeforeMarks, IsWholeLetter, IsCastlingStem, kind_given, number_given, kind_of, is_of, last_of, before_last, unmarked, before_equals, stem, behind_target_rank, behind_sign, behind_rank, behind_file};
 ghost use Rattle.chess.specs.declared.board.man.Wing.{Wing};
 ghost use Rattle.chess.specs.declared.move_text.read.said.ByteClass.TheVariants.{Digit, FileLetter, PromotionLetter};
 
@@ -162,7 +162,7 @@ fn number_given(byte: Option<u8>, zero: u8) -> Option<u8>
 
 /// What a letter or none, a file and a rank say together, if that is what the bytes are.
 #[inline(always)]
-fn plainly_said(letter: Option<u8>, file: u8, rank: u8) -> Option<SaidMove>
+pub(crate) fn plainly_said(letter: Option<u8>, file: u8, rank: u8) -> Option<SaidMove>
     ensures { MatchOption result (Unit {0}) (SaysPlainly letter file rank) }
 {
     if let Some(byte) = letter
@@ -181,6 +181,38 @@ fn plainly_said(letter: Option<u8>, file: u8, rank: u8) -> Option<SaidMove>
         target,
         promote: None,
     })
+}
+
+/// What a pawn's capture says, from the file that it leaves and the target's bytes, if that is what the bytes are.
+#[inline(always)]
+pub(crate) fn pawn_takes(from: u8, file: u8, rank: u8) -> Option<SaidMove>
+    ensures { MatchOption result (Unit {0}) (SaysPawnTakes from file rank) }
+{
+    if !is_of(ByteClass::FileLetter, from) {
+        return None;
+    }
+    if !is_of(ByteClass::FileLetter, file) || !is_of(ByteClass::Digit, rank) {
+        return None;
+    }
+    let target = Square::new(file.saturating_sub(b'`'), rank.saturating_sub(b'0'))?;
+    Some(SaidMove {
+        letter: None,
+        file: Some(from.saturating_sub(b'`')),
+        rank: None,
+        target,
+        promote: None,
+    })
+}
+
+/// The text before one mark of check or mate, where it ends in one.
+#[inline(always)]
+pub(crate) fn before_mark(text: &[u8]) -> &[u8]
+    ensures { IsBeforeMarks text.now result.now }
+{
+    match text {
+        [before @ .., b'+'] | [before @ .., b'#'] => before,
+        _ => text,
+    }
 }
 
 /// What the text says, if it is a target alone or a letter and a target, as most texts are; else it may be a move text of another form.

@@ -1,25 +1,35 @@
-use Rattle.std.proofs.Common.{inl, inr}
-use Rattle.chess.specs.CellFacts.{on_board-men_of}
-use Rattle.chess.specs.BitWords.{words_men, man_in}
+use Rattle.std.proofs.Common.{inl, inr, refl}
+use Rattle.chess.specs.declared.board.man.Kind.TheVariants.{King, Knight, Pawn}
 use Rattle.chess.proofs.PlaceFacts.{true_not_false}
-use Rattle.chess.proofs.HitFacts.{attacked_straight, attacked_diagonal, hit_at_all}
+use Rattle.chess.proofs.HitFacts.{attacked_of, attacked_straight, attacked_diagonal, hit_at_all}
 use Rattle.chess.proofs.board.bits.is_hit.Goals as goal
 
+pub returns-then-is_hit_nearby : goal.returns-then-is_hit_nearby
+returns-then-is_hit_nearby c p h men = (
+  (λ e. elim ((c.is_hit_nearby.ensures p h).0 c.if-is_hit_nearby.true) [
+    | inl knight ↦ attacked_of p c.args.side Knight c.args.square knight
+    | inr other ↦ elim other [
+      | inl king ↦ attacked_of p c.args.side King c.args.square king
+      | inr pawn ↦ attacked_of p c.args.side Pawn c.args.square pawn
+    ]
+  ]),
+  (λ h. refl),
+)
+
 pub returns : goal.returns
-returns c =
-    let men = words_men c.args.words.now in (
-      (λ e. elim (c.is_hit_along_line.ensures.0 e) [
-        | inl straight ↦ attacked_straight men c.args.side c.args.square straight
-        | inr diagonal ↦ attacked_diagonal men c.args.side c.args.square diagonal
-      ]),
-      (λ h. elim (hit_at_all men c.args.side c.args.square (on_board-men_of (man_in c.args.words.now)) h) [
-        | inl knight ↦ absurd (true_not_false _ (c.is_hit_by_knight.ensures.1 knight) c.if-is_hit_by_knight.false)
-        | inr other ↦ elim other [
-          | inl king ↦ absurd (true_not_false _ (c.is_hit_by_king.ensures.1 king) c.if-is_hit_by_king.false)
-          | inr other ↦ elim other [
-            | inl pawn ↦ absurd (true_not_false _ (c.is_hit_by_pawn.ensures.1 pawn) c.if-is_hit_by_pawn.false)
-            | inr line ↦ c.is_hit_along_line.ensures.1 line
-          ]
-        ]
-      ]),
-    )
+returns c p h men = (
+  (λ e. elim ((c.is_hit_along_line.ensures p h men).0 e) [
+    | inl straight ↦ attacked_straight p c.args.side c.args.square straight
+    | inr diagonal ↦ attacked_diagonal p c.args.side c.args.square diagonal
+  ]),
+  (λ hit. elim (hit_at_all p c.args.side c.args.square h.on_board hit) [
+    | inl knight ↦ absurd (true_not_false _ ((c.is_hit_nearby.ensures p h).1 (inl knight)) c.if-is_hit_nearby.false)
+    | inr other ↦ elim other [
+      | inl king ↦ absurd (true_not_false _ ((c.is_hit_nearby.ensures p h).1 (inr (inl king))) c.if-is_hit_nearby.false)
+      | inr other ↦ elim other [
+        | inl pawn ↦ absurd (true_not_false _ ((c.is_hit_nearby.ensures p h).1 (inr (inr pawn))) c.if-is_hit_nearby.false)
+        | inr line ↦ (c.is_hit_along_line.ensures p h men).1 line
+      ]
+    ]
+  ]),
+)

@@ -1,64 +1,21 @@
-use Rattle.std.proofs.Common.{◌≡◌, ap, sym, subst, refl, option_map, Option, None, Ok, Err}
-use Rattle.chess.specs.Squares.{Place}
-use Rattle.chess.specs.Moves.{IsPseudoLegal, IsLegal}
-use Rattle.chess.specs.SetWords.{IsTakenFirst}
-use Rattle.chess.specs.SanWords.{said_by, IsMoveSaid}
-use Rattle.chess.specs.declared.moves.Move.{Move}
-use Rattle.chess.specs.declared.move_text.SanError.TheVariants.{None as NoMove}
-use Rattle.chess.proofs.PlaceFacts.{true_not_false}
-use Rattle.chess.proofs.LoopFacts.{taken_none}
-use Rattle.chess.proofs.CastlingTextFacts.{no_castling}
-use Rattle.chess.proofs.NamedFacts.{named_none, named_said}
-use Rattle.chess.proofs.AbleFacts.{none_said, not_said, the_said}
+use Rattle.chess.proofs.PlainTexts.{two_marked, three_marked, piece_takes, pawn_takes}
 use Rattle.chess.proofs.move_text.play.only_played.Goals as goal
 
-pub returns-in_default-clause-answer : goal.returns-in_default-clause-answer
-returns-in_default-clause-answer g c =
-    named_none c.args.position.now c.args.text.now None (option_map said_by c.read_said.result)
-    (no_castling c.args.text.now c.begins_castling.result c.begins_castling.ensures c.if-begins_castling.false) refl
-    c.read_said.ensures (ap (option_map said_by) c.in_default.is)
+pub play_said-requires : goal.play_said-requires
+play_said-requires g c =
+    two_marked c.args.text.now c.before_mark.result.now c.in-Some.said c.before_mark.ensures c.in-len2.len_at_least c.in-len2.len_below c.in-Some.ensures
 
-pub returns-in_default-take_first-clause-answer : goal.returns-in_default-take_first-clause-answer
-returns-in_default-take_first-clause-answer g c =
-    let P = c.args.position.now in
-    let said = said_by c.in-Some.said in
-    named_said P c.args.text.now None (option_map said_by c.read_said.result) said (Err NoMove)
-    (no_castling c.args.text.now c.begins_castling.result c.begins_castling.ensures c.if-begins_castling.false) refl
-    c.read_said.ensures (ap (option_map said_by) c.in-Some.is)
-    (none_said P said c.able_men-able.result c.able_men-able.ensures
-    (taken_none c.able_men-able.result c.take_first.new.self c.take_first.result c.take_first.ensures c.in_default-take_first.is))
+pub play_said-requires-in-Some-plainly_said : goal.play_said-requires-in-Some-plainly_said
+play_said-requires-in-Some-plainly_said g c =
+    three_marked c.args.text.now c.before_mark.result.now c.in-Some-plainly_said.said c.before_mark.ensures c.in-len3.len_at_least c.in-len3.len_below
+    c.in-Some-plainly_said.ensures
 
-pub try_move-requires-clause-pseudo_legal : goal.try_move-requires-clause-pseudo_legal
-try_move-requires-clause-pseudo_legal g c =
-    let taken = subst (λ (o : Option Place). IsTakenFirst c.able_men-able.result c.take_first.new.self o) c.in-Some-take_first.is c.take_first.ensures in
-    subst (IsPseudoLegal c.args.position.now) (sym c.from-m.ensures) ((c.able_men-able.ensures c.in-Some-take_first.from).0 taken.1).1.rules
+pub play_said-requires-in-Some-pawn_takes : goal.play_said-requires-in-Some-pawn_takes
+play_said-requires-in-Some-pawn_takes g c =
+    pawn_takes c.args.text.now c.before_mark.result.now c.in-Some-pawn_takes.said c.before_mark.ensures c.in-len4.len_at_least c.in-len4.len_below
+    c.if-sign-eq120.true c.in-Some-pawn_takes.ensures
 
-pub try_move-requires-clause-man : goal.try_move-requires-clause-man
-try_move-requires-clause-man g c =
-    let taken = subst (λ (o : Option Place). IsTakenFirst c.able_men-able.result c.take_first.new.self o) c.in-Some-take_first.is c.take_first.ensures in
-    sym (rw (c.from-m.ensures, c.side.ensures, c.kind.ensures) ((c.able_men-able.ensures c.in-Some-take_first.from).0 taken.1).1.here)
-
-pub returns-then-not-try_move-clause-answer : goal.returns-then-not-try_move-clause-answer
-returns-then-not-try_move-clause-answer g c =
-    let P = c.args.position.now in
-    let said = said_by c.in-Some.said in
-    named_said P c.args.text.now None (option_map said_by c.read_said.result) said (Err NoMove)
-    (no_castling c.args.text.now c.begins_castling.result c.begins_castling.ensures c.if-begins_castling.false) refl
-    c.read_said.ensures (ap (option_map said_by) c.in-Some.is)
-    (not_said P said c.able_men-able.result c.take_first.new.self c.in-Some-take_first.from c.able_men-able.ensures
-    (subst (λ (o : Option Place). IsTakenFirst c.able_men-able.result c.take_first.new.self o) c.in-Some-take_first.is c.take_first.ensures)
-    (λ some. true_not_false c.has_some.result (c.has_some.ensures.1 some) c.if-has_some.false)
-    (λ legal. true_not_false c.try_move.result (c.try_move.ensures.legal.1 (subst (IsLegal P) (sym c.from-m.ensures) legal)) c.if-not-try_move.true))
-
-pub returns-clause-answer : goal.returns-clause-answer
-returns-clause-answer g c =
-    let P = c.args.position.now in
-    let said = said_by c.in-Some.said in
-    named_said P c.args.text.now None (option_map said_by c.read_said.result) said (Ok c.from-m.result)
-    (no_castling c.args.text.now c.begins_castling.result c.begins_castling.ensures c.if-begins_castling.false) refl
-    c.read_said.ensures (ap (option_map said_by) c.in-Some.is)
-    (subst (λ (m : Move). IsMoveSaid P said m × ((n : Move) → IsMoveSaid P said n → n ≡ m)) (sym c.from-m.ensures)
-    (the_said P said c.able_men-able.result c.take_first.new.self c.in-Some-take_first.from c.able_men-able.ensures
-    (subst (λ (o : Option Place). IsTakenFirst c.able_men-able.result c.take_first.new.self o) c.in-Some-take_first.is c.take_first.ensures)
-    (λ some. true_not_false c.has_some.result (c.has_some.ensures.1 some) c.if-has_some.false)
-    (subst (IsLegal P) c.from-m.ensures (c.try_move.ensures.legal.0 c.if-not-try_move.false))))
+pub play_said-requires-in-Some-plainly_said-2 : goal.play_said-requires-in-Some-plainly_said-2
+play_said-requires-in-Some-plainly_said-2 g c =
+    piece_takes c.args.text.now c.before_mark.result.now c.in-Some-plainly_said-2.said c.before_mark.ensures c.in-len4.len_at_least c.in-len4.len_below
+    c.if-sign-eq120.true c.in-Some-plainly_said-2.ensures

@@ -1,0 +1,212 @@
+-- The men that are left where a man is carried from a square to another, by the words of those squares.
+use Rattle.std.proofs.Common.{◌≡◌, ◌↔◌, ◌⊎◌, ◌∙◌, ◌<◌, ◌^◌, w64, ℕ, Bool, true, false, not, inl, inr, ap, refl, sym, subst, bit_and, bit_or, Some, None, IsTrue}
+use Rattle.std.specs.Int.{bit_not}
+use Rattle.std.proofs.lemmas.Bool.{and_parts, and_from}
+use Rattle.chess.specs.Squares.{Place, IsOnBoard, index_of}
+use Rattle.chess.specs.SetWords.{has_bit}
+use Rattle.chess.specs.SetFacts.{index_of-below}
+use Rattle.chess.specs.Sets.{Places, is_in, HoldsExactly}
+use Rattle.chess.specs.Placements.{Placement, man_at, with_man, opposite, AreOnBoard, IsEmpty}
+use Rattle.chess.specs.Sights.{IsInSight}
+use Rattle.chess.specs.CellFacts.{man_at-same, man_at-other}
+use Rattle.chess.specs.BitWords.{IsWordOf, IsMan, IsRunner, AreLeft, IsHitBy, square_word}
+use Rattle.chess.specs.declared.board.man.Man.{Man}
+use Rattle.chess.specs.declared.board.man.Side.{Side}
+use Rattle.chess.specs.declared.board.man.Side.TheVariants.{White, Black}
+use Rattle.chess.specs.declared.board.man.Kind.{Kind}
+use Rattle.chess.specs.declared.board.man.Kind.TheVariants.{King, Queen, Knight, Pawn}
+use Rattle.chess.proofs.PlaceFacts.{cases_place, same_side, some_not_none}
+use Rattle.chess.proofs.FillFacts.{bit_of_square, has_own_bit, bit_of_both, either_word}
+use Rattle.chess.proofs.BitFacts.{bit_of_rest}
+use Rattle.chess.proofs.HitterFacts.{runners_seen}
+
+-- ---- words of squares
+
+-- the word of one square
+pub own_word : (s : Place) → IsOnBoard s → IsWordOf (λ t. t ≡ s) (square_word s)
+own_word s on t there = (bit_of_square s t on there, (λ e. subst (λ (u : Place). has_bit (square_word s) (index_of u) ≡ true) (sym e) (has_own_bit s)))
+
+not_true : (b : Bool) → (b ≡ true → ⊥) → not b ≡ true
+not_true true h = absurd (h refl)
+not_true false h = refl
+
+true_not : (b : Bool) → not b ≡ true → b ≡ true → ⊥
+true_not true e f = let clash : false ≡ true = e in cc
+true_not false e f = let clash : false ≡ true = f in cc
+
+-- the squares that have not the fact
+pub rest_word : (A : Place → Type 0) (word : ℕ) → word < 2 ^ 64 → IsWordOf A word → IsWordOf (λ s. A s → ⊥) (bit_not w64 word)
+rest_word A word fits are s on =
+    let rest = bit_of_rest word (index_of s) fits (index_of-below s on) in (
+      (λ e fact. true_not (has_bit word (index_of s)) (sym rest ∙ e) ((are s on).1 fact)),
+      (λ fails. rest ∙ not_true (has_bit word (index_of s)) (λ e. fails ((are s on).0 e))),
+    )
+
+-- ---- the men of a side that are left
+
+pub men_left : (old new : Placement) (side : Side) (left : ℕ) → AreLeft old new side left → (other : Kind) (mine : ℕ)
+    → IsWordOf (IsMan old side other) mine → IsWordOf (IsMan new side other) (bit_and left mine)
+men_left old new side left h other mine are s on =
+    let bits = bit_of_both left mine (index_of s) in (
+      (λ e. let both = and_parts _ _ (sym bits ∙ e) in (h.same other s on).1 (both.0, (are s on).0 both.1)),
+      (λ here. let parts = (h.same other s on).0 here in bits ∙ and_from _ _ parts.0 ((are s on).1 parts.1)),
+    )
+
+pub runners_left : (old new : Placement) (side : Side) (left : ℕ) → AreLeft old new side left → (other : Kind) (mine : ℕ)
+    → IsWordOf (IsRunner old side other) mine → IsWordOf (IsRunner new side other) (bit_and left mine)
+runners_left old new side left h other mine are s on =
+    let bits = bit_of_both left mine (index_of s) in (
+      (λ e.
+          let both = and_parts _ _ (sym bits ∙ e) in
+          elim ((are s on).0 both.1) [
+            | inl queen ↦ inl ((h.same Queen s on).1 (both.0, queen))
+            | inr runner ↦ inr ((h.same other s on).1 (both.0, runner))
+          ]),
+      (λ here. elim here [
+        | inl queen ↦ let parts = (h.same Queen s on).0 queen in bits ∙ and_from _ _ parts.0 ((are s on).1 (inl parts.1))
+        | inr runner ↦ let parts = (h.same other s on).0 runner in bits ∙ and_from _ _ parts.0 ((are s on).1 (inr parts.1))
+      ]),
+    )
+
+-- a man of a kind sees the square
+abbrev pub IsSeer : Placement → Side → Kind → Place → Place → Type 0
+IsSeer p side other t s = IsMan p side other s × IsInSight side other s t
+
+-- a square of the words of knights, kings and pawns that see the square is an attack
+pub hit_nearby : (p : Placement) (side : Side) (t : Place) (word : ℕ) (set : Places) (r : Bool)
+    → IsWordOf (λ s. (IsSeer p side Knight t s ⊎ IsSeer p side King t s) ⊎ IsSeer p side Pawn t s) word
+    → HoldsExactly (λ s. has_bit word (index_of s) ≡ true) set → IsTrue r ↔ ((s : Place) × IsOnBoard s × (is_in set s ≡ true))
+    → IsTrue r ↔ (IsHitBy p side Knight t ⊎ (IsHitBy p side King t ⊎ IsHitBy p side Pawn t))
+hit_nearby p side t word set r are all some = (
+  (λ e.
+      let one = some.0 e in
+      elim ((are one.0 one.1).0 ((all one.0).0 one.2).1) [
+        | inl near ↦ elim near [
+          | inl knight ↦ inl (one.0, one.1, knight.0, knight.1)
+          | inr king ↦ inr (inl (one.0, one.1, king.0, king.1))
+        ]
+        | inr pawn ↦ inr (inr (one.0, one.1, pawn.0, pawn.1))
+      ]),
+  (λ h. elim h [
+    | inl k ↦ some.1 (k.0, k.1, (all k.0).1 (k.1, (are k.0 k.1).1 (inl (inl (k.2, k.3)))))
+    | inr others ↦ elim others [
+      | inl k ↦ some.1 (k.0, k.1, (all k.0).1 (k.1, (are k.0 k.1).1 (inl (inr (k.2, k.3)))))
+      | inr k ↦ some.1 (k.0, k.1, (all k.0).1 (k.1, (are k.0 k.1).1 (inr (k.2, k.3))))
+    ]
+  ]),
+)
+
+-- ---- where nothing has changed
+
+pub all_left : (p : Placement) (side : Side) (left : ℕ) → AreOnBoard p → ((s : Place) → IsOnBoard s → has_bit left (index_of s) ≡ true) → AreLeft p p side left
+all_left p side left on all = record {
+  on_board = on;
+  same = λ other s there. ((λ here. (all s there, here)), (λ h. h.1));
+}
+
+-- ---- where a man is carried
+
+abbrev pub carried_so : Placement → Man → Place → Place → Place → Placement
+carried_so p man from taken to = with_man (with_man (with_man p taken None) from None) to (Some man)
+
+abbrev pub IsGone : Place → Place → Place → Place → Type 0
+IsGone from taken to s = ((s ≡ taken) ⊎ (s ≡ from)) ⊎ (s ≡ to)
+
+-- who stands on a square then
+abbrev StandsThen : Placement → Man → Place → Place → Place → Place → Type 0
+StandsThen p man from taken to s =
+    ((s ≡ to) × (man_at (carried_so p man from taken to) s ≡ Some man))
+    ⊎ (((s ≡ to → ⊥) × IsGone from taken to s × IsEmpty (carried_so p man from taken to) s)
+    ⊎ ((IsGone from taken to s → ⊥) × (man_at (carried_so p man from taken to) s ≡ man_at p s)))
+
+stands_then : (p : Placement) (man : Man) (from taken to s : Place) → StandsThen p man from taken to s
+stands_then p man from taken to s =
+    let first = with_man p taken None in
+    let mid = with_man first from None in elim (cases_place s to) [
+      | inl at_to ↦
+          inl (at_to, ap (man_at (carried_so p man from taken to)) at_to ∙ man_at-same mid to (Some man))
+      | inr off_to ↦
+          let now = man_at-other mid to s (Some man) off_to in
+          elim (cases_place s from) [
+            | inl at_from ↦ inr (inl (off_to, inl (inr at_from), now ∙ ap (man_at mid) at_from ∙ man_at-same first from None))
+            | inr off_from ↦
+                let before = now ∙ man_at-other first from s None off_from in
+                elim (cases_place s taken) [
+                  | inl at_taken ↦ inr (inl (off_to, inl (inl at_taken), before ∙ ap (man_at first) at_taken ∙ man_at-same p taken None))
+                  | inr off_taken ↦ inr (inr (
+                    (λ gone. elim gone [
+                      | inl either ↦ elim either [ inl e ↦ off_taken e | inr e ↦ off_from e ]
+                      | inr e ↦ off_to e
+                    ]),
+                    before ∙ man_at-other p taken s None off_taken,
+                  ))
+                ]
+          ]
+    ]
+
+not_own : (side : Side) → side ≡ opposite side → ⊥
+not_own White e = let f : White ≡ Black = e in cc
+not_own Black e = let f : Black ≡ White = e in cc
+
+on_board_then : (p : Placement) (man : Man) (from taken to : Place) → AreOnBoard p → IsOnBoard to → AreOnBoard (carried_so p man from taken to)
+on_board_then p man from taken to on on_to s other here = elim (stands_then p man from taken to s) [
+  | inl at_to ↦ subst IsOnBoard (sym at_to.0) on_to
+  | inr more ↦ elim more [
+    | inl gone ↦ absurd (some_not_none _ other gone.2 here)
+    | inr stays ↦ on s other (sym stays.1 ∙ here)
+  ]
+]
+
+pub left_then : (p : Placement) (man : Man) (from taken to : Place) (left : ℕ) → AreOnBoard p → IsOnBoard to
+    → IsWordOf (λ s. IsGone from taken to s → ⊥) left → AreLeft p (carried_so p man from taken to) (opposite man.side) left
+left_then p man from taken to left on on_to are = record {
+  on_board = on_board_then p man from taken to on on_to;
+  same = λ other s there. (
+    (λ here. elim (stands_then p man from taken to s) [
+      | inl at_to ↦ absurd (not_own man.side (same_side man (record { side = opposite man.side; kind = other }) (sym at_to.1 ∙ here)))
+      | inr more ↦ elim more [
+        | inl gone ↦ absurd (some_not_none _ _ gone.2 here)
+        | inr stays ↦ ((are s there).1 stays.0, sym stays.1 ∙ here)
+      ]
+    ]),
+    (λ h. elim (stands_then p man from taken to s) [
+      | inl at_to ↦ absurd ((are s there).0 h.0 (inr at_to.0))
+      | inr more ↦ elim more [
+        | inl gone ↦ absurd ((are s there).0 h.0 gone.1)
+        | inr stays ↦ stays.1 ∙ h.1
+      ]
+    ]),
+  );
+}
+
+pub men_then : (p : Placement) (man : Man) (from taken to : Place) (left all : ℕ) → IsOnBoard to → IsWordOf (λ s. IsGone from taken to s → ⊥) left
+    → IsWordOf (λ s. ¬ IsEmpty p s) all → IsWordOf (λ s. ¬ IsEmpty (carried_so p man from taken to) s) (bit_or (bit_and all left) (square_word to))
+men_then p man from taken to left all on_to are men s there =
+    let word = either_word _ (λ t. t ≡ to) (bit_and all left) (square_word to) (runners_seen _ _ all left men are) (own_word to on_to) s there in (
+      (λ e none. elim (stands_then p man from taken to s) [
+        | inl at_to ↦ some_not_none _ man none at_to.1
+        | inr more ↦ elim (word.0 e) [
+          | inl stayed ↦ elim more [
+            | inl gone ↦ stayed.1 gone.1
+            | inr stays ↦ stayed.0 (sym stays.1 ∙ none)
+          ]
+          | inr at_to ↦ elim more [ inl gone ↦ gone.0 at_to | inr stays ↦ stays.0 (inr at_to) ]
+        ]
+      ]),
+      (λ some. elim (stands_then p man from taken to s) [
+        | inl at_to ↦ word.1 (inr at_to.0)
+        | inr more ↦ elim more [
+          | inl gone ↦ absurd (some gone.2)
+          | inr stays ↦ word.1 (inl ((λ none. some (stays.1 ∙ none)), stays.0))
+        ]
+      ]),
+    )
+
+-- the squares that are left, of the three that are not
+pub gone_word : (from taken to : Place) (a b c : ℕ) → IsOnBoard from → IsOnBoard taken → IsOnBoard to → a ≡ square_word taken → b ≡ square_word from
+    → c ≡ square_word to → IsWordOf (IsGone from taken to) (bit_or (bit_or a b) c)
+gone_word from taken to a b c on_from on_taken on_to e f g =
+    let one : (w : ℕ) (s : Place) → IsOnBoard s → w ≡ square_word s → IsWordOf (λ t. t ≡ s) w =
+    λ w s on is. subst (IsWordOf (λ (t : Place). t ≡ s)) (sym is) (own_word s on) in
+    either_word _ (λ t. t ≡ to) (bit_or a b) c
+    (either_word (λ t. t ≡ taken) (λ t. t ≡ from) a b (one a taken on_taken e) (one b from on_from f)) (one c to on_to g)

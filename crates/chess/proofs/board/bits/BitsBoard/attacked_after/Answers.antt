@@ -1,0 +1,33 @@
+use Rattle.std.proofs.Common.{◌<◌, ◌^◌, ◌↔◌, ℕ, w64, bit_or, bit_and, sym, subst, IsTrue}
+use Rattle.std.specs.Int.{bit_not}
+use Rattle.std.proofs.lemmas.Nat.{or_lt}
+use Rattle.chess.specs.Attacks.{IsAttacked}
+use Rattle.chess.specs.CellFacts.{on_board-men_of}
+use Rattle.chess.specs.Placements.{IsEmpty}
+use Rattle.chess.specs.BitWords.{IsWordOf, AreLeft, words_men, man_in}
+use Rattle.chess.specs.declared.board.man.Side.{Side}
+use Rattle.chess.proofs.LeftFacts.{carried_so, IsGone, gone_word, rest_word, left_then, men_then}
+use Rattle.chess.proofs.board.bits.BitsBoard.attacked_after.Goals as goal
+
+pub returns : goal.returns
+returns c =
+    let men = words_men c.args.self.now.words in
+    let from = c.args.from in
+    let taken = c.args.taken in
+    let to = c.args.to in
+    let gone = bit_or (bit_or c.word_of.result c.word_of-2.result) c.word_of-3.result in
+    let fits : gone < 2 ^ 64 =
+    or_lt 64 (bit_or c.word_of.result c.word_of-2.result) c.word_of-3.result
+    (or_lt 64 c.word_of.result c.word_of-2.result c.word_of.type_inv c.word_of-2.type_inv) c.word_of-3.type_inv in
+    let left =
+    rest_word (IsGone from taken to) gone fits
+    (gone_word from taken to c.word_of.result c.word_of-2.result c.word_of-3.result c.word_of-2.ensures.on_board c.word_of.ensures.on_board
+    c.word_of-3.ensures.on_board c.word_of.ensures.word c.word_of-2.ensures.word c.word_of-3.ensures.word) in
+    let rest = bit_not w64 gone in
+    let p = carried_so men c.args.man from taken to in
+    subst (λ (side : Side). IsTrue c.is_hit.result ↔ IsAttacked p side c.args.square) c.opposite.ensures
+    (c.is_hit.ensures p
+    (subst (λ (side : Side). AreLeft men p side rest) (sym c.opposite.ensures)
+    (left_then men c.args.man from taken to rest (on_board-men_of (man_in c.args.self.now.words)) c.word_of-3.ensures.on_board left))
+    (subst (λ (w : ℕ). IsWordOf (λ s. ¬ IsEmpty p s) (bit_or (bit_and c.occupied.result rest) w)) (sym c.word_of-4.ensures.word)
+    (men_then men c.args.man from taken to rest c.occupied.result c.word_of-3.ensures.on_board left c.occupied.ensures)))

@@ -1,0 +1,38 @@
+use Rattle.std.proofs.Common.{◌≡◌, ◌∙◌, ap, sym, subst}
+use Rattle.chess.specs.Positions.{State}
+use Rattle.chess.specs.Codes.{IsKept}
+use Rattle.chess.specs.Moves.{after, men_after}
+use Rattle.chess.proofs.CheckFacts.{men_plainly}
+use Rattle.chess.proofs.SoundFacts.{after_sound}
+use Rattle.chess.proofs.position.Position.advance.Goals as goal
+
+pub invariant_of-self : goal.invariant_of-self
+invariant_of-self g c =
+    let P = c.args.self.now in
+    let m = c.args.m.now in
+    let old : g.B.Board.men c.self.inside.board ≡ P.men = ap (λ (Q : State). Q.men) c.self.view_is in
+    let men : g.B.Board.men c.carry.new.self ≡ men_after P m =
+    c.carry.ensures ∙ men_plainly P m c.becoming-arriving.result c.taken_by-taken.result (g.B.Board.men c.self.inside.board) c.requires.plain old c.becoming-arriving.ensures c.taken_by-taken.ensures in
+    let shown : record {
+      men = g.B.Board.men c.carry.new.self;
+      turn = c.turn_after-turn.result;
+      rights = c.rights_after-rights.result;
+      en_passant = c.en_passant_after-en_passant.result;
+      halfmove_clock = c.halfmove_clock_after-halfmove_clock.result;
+      fullmove_number = c.fullmove_number_after-fullmove_number.result;
+    }
+    ≡ after P m =
+    λ i. record {
+      men = men i;
+      turn = c.turn_after-turn.ensures i;
+      rights = c.rights_after-rights.ensures i;
+      en_passant = c.en_passant_after-en_passant.ensures i;
+      halfmove_clock = c.halfmove_clock_after-halfmove_clock.ensures i;
+      fullmove_number = c.fullmove_number_after-fullmove_number.ensures i;
+    } in
+    subst (λ (Q : State). IsKept Q c.king_after-white_king.result c.king_after-black_king.result) (sym shown)
+    (record {
+      sound = after_sound P m (record { sound = c.known.ensures; rules = c.requires.legal.pseudo_legal }) c.requires.legal.safe;
+      white = c.king_after-white_king.ensures;
+      black = c.king_after-black_king.ensures;
+    })
