@@ -6,7 +6,7 @@ use Rattle.std.specs.List.{slice_get}
 use Rattle.chess.specs.Positions.{State}
 use Rattle.pgn_game.specs.Replays.{Replay}
 use Rattle.pgn_criteria.specs.Meeting.{Tags, Holds, AllHold, SomeHold, Meets, IsFirst}
-use Rattle.pgn_criteria.specs.Stages.{OfGame, AllOfGame, OfPosition, AllOfPosition, AllOfStage, stage_of, IsFirstBefore}
+use Rattle.pgn_criteria.specs.Stages.{OfGame, AllOfGame, OfPosition, AllOfPosition, AllOfStage, stage_of, on_positions, FitsAt, IsFirstBefore}
 use Rattle.pgn_criteria.specs.declared.meets.Stage.{Stage}
 use Rattle.pgn_criteria.specs.declared.meets.Stage.TheVariants.{Men, Attacks, Replies}
 use Rattle.pgn_criteria.specs.declared.condition.Condition.{Condition}
@@ -99,6 +99,68 @@ position_of tags replay plies conditions P here met =
     let same : met.position ≡ P = cc (met.here, here) in
     subst (λ p. AllOfPosition p conditions) same ((all_parted tags replay met.position conditions).0 (one_holds tags replay met.position conditions met.hold)).1
 
+-- what is looked for before a ply, where what the conditions say of the game is so
+pub fits_first : (tags : Tags) (replay : Replay) (conditions : List (Condition (List ℕ))) (from end : ℕ) (found : Option ℕ) → AllOfGame tags replay conditions
+    → IsFirstBefore (FitsAt replay conditions) from end found → IsFirstBefore (λ plies. Meets tags replay plies (conditions ∷ [])) from end found
+fits_first tags replay conditions from end None of_game first = λ n low less met.
+    first n low less (met.position, met.here, position_of tags replay n conditions met.position met.here met)
+fits_first tags replay conditions from end (Some n) of_game (low, less, fits, least) = (
+  low,
+  less,
+  one_meets tags replay n conditions fits.0 fits.1 of_game fits.2,
+  λ m above under met. least m above under (met.position, met.here, position_of tags replay m conditions met.position met.here met),
+)
+
+-- where it is not so, there is none
+pub no_first : (tags : Tags) (replay : Replay) (conditions : List (Condition (List ℕ))) (from end : ℕ) (r : Bool) → r ≡ false → (IsTrue r ↔ AllOfGame tags replay conditions)
+    → IsFirstBefore (λ plies. Meets tags replay plies (conditions ∷ [])) from end None
+no_first tags replay conditions from end r fails told n low less met =
+    let so : IsTrue r = told.1 (game_of tags replay n conditions met) in absurd (cc)
+
+-- the conditions that speak of positions hold where what all say of positions is so
+pub positions_hold : (tags : Tags) (replay : Replay) (P : State) (conditions : List (Condition (List ℕ)))
+    → AllHold tags replay P (on_positions conditions) ↔ AllOfPosition P conditions
+positions_hold tags replay P [] = (λ hold. tt, λ all. tt)
+positions_hold tags replay P (Tag name relation contents ∷ more) =
+    let there = positions_hold tags replay P more in (λ hold. (tt, there.0 hold), λ all. there.1 all.1)
+positions_hold tags replay P (Fen pattern ∷ more) =
+    let there = positions_hold tags replay P more in (λ hold. (hold.0, there.0 hold.1), λ all. (all.0, there.1 all.1))
+positions_hold tags replay P (Material white black ∷ more) =
+    let there = positions_hold tags replay P more in (λ hold. (hold.0, there.0 hold.1), λ all. (all.0, there.1 all.1))
+positions_hold tags replay P (Moves words ∷ more) =
+    let there = positions_hold tags replay P more in (λ hold. (tt, there.0 hold), λ all. there.1 all.1)
+positions_hold tags replay P (Turn side ∷ more) =
+    let there = positions_hold tags replay P more in (λ hold. (hold.0, there.0 hold.1), λ all. (all.0, there.1 all.1))
+positions_hold tags replay P (Check ∷ more) =
+    let there = positions_hold tags replay P more in (λ hold. (hold.0, there.0 hold.1), λ all. (all.0, there.1 all.1))
+positions_hold tags replay P (Mate ∷ more) =
+    let there = positions_hold tags replay P more in (λ hold. (hold.0, there.0 hold.1), λ all. (all.0, there.1 all.1))
+positions_hold tags replay P (Stalemate ∷ more) =
+    let there = positions_hold tags replay P more in (λ hold. (hold.0, there.0 hold.1), λ all. (all.0, there.1 all.1))
+
+pub told_positions : (tags : Tags) (replay : Replay) (P : State) (conditions : List (Condition (List ℕ))) (r : Bool) → (IsTrue r ↔ AllOfPosition P conditions)
+    → IsTrue r ↔ AllHold tags replay P (on_positions conditions)
+told_positions tags replay P conditions r told =
+    let same = positions_hold tags replay P conditions in (λ t. same.1 (told.0 t), λ hold. told.1 (same.0 hold))
+
+-- a search for one alternative is a search for its conditions on positions
+pub only_first : (tags : Tags) (replay : Replay) (conditions : List (Condition (List ℕ))) (min max : ℕ) (found : Option ℕ)
+    → IsFirstBefore (FitsAt replay conditions) min (max + 1) found → IsFirst (λ plies. Meets tags replay plies (on_positions conditions ∷ [])) min max found
+only_first tags replay conditions min max found first = go found first
+  where
+    fits : (plies : ℕ) → Meets tags replay plies (on_positions conditions ∷ []) → FitsAt replay conditions plies
+    fits plies met =
+        (met.position, met.here, (positions_hold tags replay met.position conditions).0 (one_holds tags replay met.position (on_positions conditions) met.hold))
+
+    go : (found : Option ℕ) → IsFirstBefore (FitsAt replay conditions) min (max + 1) found → IsFirst (λ plies. Meets tags replay plies (on_positions conditions ∷ [])) min max found
+    go None none = λ n low high met. none n low (omega arith) (fits n met)
+    go (Some n) (low, less, here, least) = (
+      low,
+      omega arith,
+      record { position = here.0; here = here.1; hold = inl ((positions_hold tags replay here.0 conditions).1 here.2) },
+      λ m above under met. least m above under (fits m met),
+    )
+
 -- alternatives and one more
 hold_before : (tags : Tags) (replay : Replay) (P : State) (before : List (List (Condition (List ℕ)))) (more : List (List (Condition (List ℕ))))
     → SomeHold tags replay P before → SomeHold tags replay P (before ++ more)
@@ -155,3 +217,49 @@ next_best tags replay before more min max best found first here = go best found 
           let past = here.1 in
           elim (either m met) [ inl old ↦ first.3 m low (omega arith) old | inr new ↦ here.3 m low less new ],
     )
+
+-- one more alternative of which what it says of the game is so is kept by what it says of positions, and one of which it is not so is dropped
+pub kept_one : (tags : Tags) (replay : Replay) (P : State) (before rest : List (List (Condition (List ℕ)))) (own : List (Condition (List ℕ))) → AllOfGame tags replay own
+    → SomeHold tags replay P ((before ++ on_positions own ∷ []) ++ rest) ↔ SomeHold tags replay P (before ++ own ∷ rest)
+kept_one tags replay P before rest own of_game =
+    let parts = all_parted tags replay P own in
+    let same = positions_hold tags replay P own in (
+      λ hold. elim (hold_either tags replay P (before ++ on_positions own ∷ []) rest hold) [
+        | inl front ↦ elim (hold_either tags replay P before (on_positions own ∷ []) front) [
+          | inl old ↦ hold_before tags replay P before (own ∷ rest) old
+          | inr here ↦ hold_behind tags replay P before (own ∷ rest) (inl (parts.1 (of_game, same.0 (one_holds tags replay P (on_positions own) here))))
+        ]
+        | inr there ↦ hold_behind tags replay P before (own ∷ rest) (inr there)
+      ],
+      λ hold. elim (hold_either tags replay P before (own ∷ rest) hold) [
+        | inl old ↦ hold_before tags replay P (before ++ on_positions own ∷ []) rest (hold_before tags replay P before (on_positions own ∷ []) old)
+        | inr more ↦ elim more [
+          | inl here ↦ hold_before tags replay P (before ++ on_positions own ∷ []) rest (hold_behind tags replay P before (on_positions own ∷ []) (inl (same.1 (parts.0 here).1)))
+          | inr there ↦ hold_behind tags replay P (before ++ on_positions own ∷ []) rest there
+        ]
+      ],
+    )
+
+pub dropped_one : (tags : Tags) (replay : Replay) (P : State) (before rest : List (List (Condition (List ℕ)))) (own : List (Condition (List ℕ))) (r : Bool) → r ≡ false
+    → (IsTrue r ↔ AllOfGame tags replay own) → SomeHold tags replay P (before ++ rest) ↔ SomeHold tags replay P (before ++ own ∷ rest)
+dropped_one tags replay P before rest own r fails told = (
+  λ hold. elim (hold_either tags replay P before rest hold) [
+    | inl old ↦ hold_before tags replay P before (own ∷ rest) old
+    | inr there ↦ hold_behind tags replay P before (own ∷ rest) (inr there)
+  ],
+  λ hold. elim (hold_either tags replay P before (own ∷ rest) hold) [
+    | inl old ↦ hold_before tags replay P before rest old
+    | inr more ↦ elim more [
+      | inl here ↦ let so : IsTrue r = told.1 ((all_parted tags replay P own).0 here).0 in absurd (cc)
+      | inr there ↦ hold_behind tags replay P before rest there
+    ]
+  ],
+)
+
+-- the same plies meet alternatives that hold of the same positions
+pub same_plies : (tags : Tags) (replay : Replay) (alternatives others : List (List (Condition (List ℕ))))
+    → ((P : State) → SomeHold tags replay P alternatives ↔ SomeHold tags replay P others) → (ply : ℕ) → Meets tags replay ply alternatives ↔ Meets tags replay ply others
+same_plies tags replay alternatives others same ply = (
+  λ met. record { position = met.position; here = met.here; hold = (same met.position).0 met.hold },
+  λ met. record { position = met.position; here = met.here; hold = (same met.position).1 met.hold },
+)

@@ -81,6 +81,22 @@ abbrev pub AllOfPosition : State → List (Condition (List ℕ)) → Type 0
 AllOfPosition P [] = Unit {0}
 AllOfPosition P (condition ∷ more) = OfPosition P condition × AllOfPosition P more
 
+-- the conditions that speak of positions
+abbrev pub on_positions : List (Condition (List ℕ)) → List (Condition (List ℕ))
+on_positions [] = []
+on_positions (Tag name relation contents ∷ more) = on_positions more
+on_positions (Fen pattern ∷ more) = Fen pattern ∷ on_positions more
+on_positions (Material white black ∷ more) = Material white black ∷ on_positions more
+on_positions (Moves words ∷ more) = on_positions more
+on_positions (Turn side ∷ more) = Turn side ∷ on_positions more
+on_positions (Check ∷ more) = Check ∷ on_positions more
+on_positions (Mate ∷ more) = Mate ∷ on_positions more
+on_positions (Stalemate ∷ more) = Stalemate ∷ on_positions more
+
+-- what they say of the position behind so many plies is so
+abbrev pub FitsAt : Replay → List (Condition (List ℕ)) → ℕ → Type 0
+FitsAt replay conditions plies = (P : State) × (slice_get replay.positions plies ≡ Some P) × AllOfPosition P conditions
+
 -- at which stage it is tried, and what the conditions of a stage say
 abbrev pub stage_of : Condition (List ℕ) → Stage
 stage_of (Tag name relation contents) = Game

@@ -36,11 +36,13 @@ fn replayed(alloc: Global, game: &RawGame) -> Result<Replayed, Fail>
     }
 }
 
-/// Whether these plies of the game, and no others, meet the criteria, each alone and one after the other from the first.
+/// Whether these plies of the game, and no others, meet the criteria. Each is asked alone. Then they are looked for one after the other,
+/// in the criteria and by a search.
 fn are_met(alloc: Global, criteria: &[u8], block: &[u8], plies: &[usize]) -> Result<bool, Fail> {
     let criteria = read(alloc, criteria)?;
     let game = first_game(alloc, block)?;
     let replayed = replayed(alloc, &game)?;
+    let search = criteria.search(alloc, &game, &replayed)?;
     let mut min = 0u32;
     for ply in 0..=replayed.plies() {
         if criteria.meets(&game, &replayed, ply) != plies.contains(&ply) {
@@ -51,23 +53,33 @@ fn are_met(alloc: Global, criteria: &[u8], block: &[u8], plies: &[usize]) -> Res
         if criteria.first(&game, &replayed, min, u32::MAX) != Some(*ply) {
             return Ok(false);
         }
+        if search.first(&replayed, min, u32::MAX) != Some(*ply) {
+            return Ok(false);
+        }
         min = u32::try_from(*ply).unwrap_or(u32::MAX).saturating_add(1);
+    }
+    if search.first(&replayed, min, u32::MAX).is_some() {
+        return Ok(false);
     }
     Ok(criteria.first(&game, &replayed, min, u32::MAX).is_none())
 }
 
-/// The first ply of the game within the bounds that meets the criteria.
+/// The first ply of the game within the bounds that meets the criteria, looked for in the criteria and by a search.
 fn first_within(
     alloc: Global,
     criteria: &[u8],
     block: &[u8],
     min: u32,
     max: u32,
-) -> Result<Option<usize>, Fail> {
+) -> Result<[Option<usize>; 2], Fail> {
     let criteria = read(alloc, criteria)?;
     let game = first_game(alloc, block)?;
     let replayed = replayed(alloc, &game)?;
-    Ok(criteria.first(&game, &replayed, min, max))
+    let search = criteria.search(alloc, &game, &replayed)?;
+    Ok([
+        criteria.first(&game, &replayed, min, max),
+        search.first(&replayed, min, max),
+    ])
 }
 
 const SHORT: &[u8] = b"1. e4 e5 *";
@@ -84,7 +96,7 @@ const ENDING: &[u8] =
 #[test]
 fn conditions_hold_at_their_plies(rt: HostRuntime) -> Result<(), Fail> {
     let alloc = rt.alloc();
-    let rows: [(&[u8], &[u8], &[usize]); 48] = [
+    let rows: [(&[u8], &[u8], &[usize]); 75] = [
         (b"", SHORT, &[0, 1, 2]),
         (b"# x", SHORT, &[0, 1, 2]),
         (b"or", SHORT, &[0, 1, 2]),
@@ -102,6 +114,14 @@ fn conditions_hold_at_their_plies(rt: HostRuntime) -> Result<(), Fail> {
         (b"or\nturn black", SHORT, &[0, 1, 2]),
         (b"turn black\nor", SHORT, &[0, 1, 2]),
         (b"mate\nor\nturn black\ncheck", MATE, &[7]),
+        (b"mate\nor\nturn white", MATE, &[0, 2, 4, 6, 7]),
+        (b"turn white\nor\nmate", MATE, &[0, 2, 4, 6, 7]),
+        (b"stalemate\nor\nmoves d4\nor\nturn black", SHORT, &[1]),
+        (b"turn black\nor\nmoves e4\nturn white", SHORT, &[0, 1, 2]),
+        (b"moves d4\nor\ntag White = \"x\"", SHORT, &[]),
+        (b"turn white\nmoves d4\nor\nturn black", SHORT, &[1]),
+        (b"moves e4 e5\nor\nturn black", SHORT, &[0, 1, 2]),
+        (b"tag Round = \"9\"\nturn black\nor\nmate", ENDING, &[1]),
         (b"tag Round < \"10\"", ENDING, &[0, 1]),
         (b"tag Round < \"9\"", ENDING, &[]),
         (b"tag White = \"O\\\"Neil\"", ENDING, &[0, 1]),
@@ -141,6 +161,33 @@ fn conditions_hold_at_their_plies(rt: HostRuntime) -> Result<(), Fail> {
         (b"fen r*r/p*p/*/*/*/*/*/R*KBNR", SHORT, &[0, 1, 2]),
         (b"fen */*/*/*/*/*/P*P/*Q*K*", SHORT, &[0, 1, 2]),
         (b"fen */*/*/*/*/*/*/4K3", SHORT, &[]),
+        (b"fen */*/*/*/????P???/*/*/*", SHORT, &[1, 2]),
+        (b"fen */*/*/*/4!3/*/*/*", SHORT, &[1, 2]),
+        (b"fen */*/*/*/4A*/*/*/*", SHORT, &[1, 2]),
+        (b"fen */*/*/*/4a*/*/*/*", SHORT, &[]),
+        (b"fen */aaaaaaaa/*/*/*/*/*/*", SHORT, &[0, 1]),
+        (b"fen */*/*/*/*/*/PPPP1PPP/*", SHORT, &[1, 2]),
+        (b"fen */*/*/*/*/*/PPPP1PPP/*\nturn white", SHORT, &[2]),
+        (
+            b"fen */*/*/*/*/*/PPPP1PPP/*\nfen */*/*/4p3/*/*/*/*",
+            SHORT,
+            &[2],
+        ),
+        (b"fen */*/*/*/*/*/PPPPPPPPP*/*", SHORT, &[]),
+        (b"fen */*/*/*/*/*/PPPP*PPPPP/*", SHORT, &[]),
+        (b"fen */*/*/*/*/*/PPPP*PPPP/*", SHORT, &[0]),
+        (b"fen */*/*/*/8*/*/*/*", SHORT, &[0]),
+        (b"fen */*/*/*/4*3/*/*/*", SHORT, &[0, 1, 2]),
+        (b"fen */*/*/*/5*3/*/*/*", SHORT, &[0]),
+        (b"fen ?*/*?/*/*/*/*/*/*", SHORT, &[0, 1, 2]),
+        (b"fen 7/*/*/*/*/*/*/*", SHORT, &[]),
+        (b"fen */*/*/*/*P*/*/*/*", SHORT, &[1, 2]),
+        (b"tag White = \"x\"\nfen */*/*/*/*/*/*/*", SHORT, &[]),
+        (
+            b"fen rnbqkbnr/pppppppp/8/8/8/8/PPPPPPPP/RNBQKBNR\nor\nmate",
+            SHORT,
+            &[0],
+        ),
     ];
     for (criteria, block, plies) in rows {
         assert!(rt;
@@ -154,7 +201,7 @@ fn conditions_hold_at_their_plies(rt: HostRuntime) -> Result<(), Fail> {
 #[test]
 fn the_first_stands_within_its_bounds(rt: HostRuntime) -> Result<(), Fail> {
     let alloc = rt.alloc();
-    let rows: [(&[u8], u32, u32, Option<usize>); 9] = [
+    let rows: [(&[u8], u32, u32, Option<usize>); 13] = [
         (b"", 0, 9, Some(0)),
         (b"", 1, 9, Some(1)),
         (b"", 2, 1, None),
@@ -164,11 +211,15 @@ fn the_first_stands_within_its_bounds(rt: HostRuntime) -> Result<(), Fail> {
         (b"turn white", 1, u32::MAX, Some(2)),
         (b"turn white", 1, 1, None),
         (b"turn black\nor\nturn white", 0, 9, Some(0)),
+        (b"mate\nor\nturn black", 0, 9, Some(1)),
+        (b"mate\nor\nturn black", 2, 9, None),
+        (b"turn black\nor\nturn white", 1, 1, Some(1)),
+        (b"moves d4\nor\nturn white", 1, 2, Some(2)),
     ];
     for (criteria, min, max, expected) in rows {
         assert_eq!(rt;
             first_within(alloc, criteria, SHORT, min, max)?,
-            expected,
+            [expected, expected],
             "{criteria:?} from {min} to {max}"
         );
     }

@@ -25,7 +25,8 @@ fn is_too_long(alloc: Global, text: &[u8]) -> bool {
 fn spells(alloc: Global, text: &[u8], alternatives: usize, conditions: usize) -> bool {
     match Criteria::parse(alloc, text) {
         Ok(criteria) => match criteria.alternatives.last() {
-            Some(last) => criteria.alternatives.len() == alternatives && last.len() == conditions,
+            Some(last) => criteria.alternatives.len() == alternatives
+                && last.conditions.len() == conditions,
             None => false,
         },
         Err(_) => false,

@@ -1,5 +1,4 @@
 use Rattle.std.proofs.Common.{◌≡◌, ◌∷◌, ◌++◌, [], ℕ, List, map, sym, ap, ◌∙◌, subst, Vec, Global}
-use Rattle.std.proofs.lemmas.List.{map-append}
 use Rattle.pgn_criteria.specs.Lines.{SpellsCriteria}
 use Rattle.pgn_criteria.specs.Stages.{seen}
 use Rattle.pgn_criteria.specs.declared.condition.Condition.{Condition}
@@ -11,7 +10,7 @@ conditions a = map (seen (λ bytes. bytes.items)) a.items
 
 pub loop-last-init : goal.loop-last-init
 loop-last-init c =
-    subst (λ (x : List (Vec (Condition (Vec ℕ Global)) Global)). IsBuilt c.args.text.now c.args.text.now (map conditions x) (conditions c.new-last.result)) (sym c.new-alternatives.ensures.items)
+    subst (λ (x : List (List (Condition (List ℕ)))). IsBuilt c.args.text.now c.args.text.now x (conditions c.new-last.result)) (sym c.new-alternatives.ensures.items)
     (subst (λ (x : List (Condition (Vec ℕ Global))). IsBuilt c.args.text.now c.args.text.now [] (map (seen (λ bytes. bytes.items)) x)) (sym c.new-last.ensures.items)
     (built_start c.args.text.now c.requires))
 
@@ -22,22 +21,22 @@ loop-last-smaller c =
 
 pub add_line-requires : goal.add_line-requires
 add_line-requires c =
-    built_next c.args.text.now c.loop-last.rest.now c.next_part.result.0.now (map conditions c.loop-last.alternatives.items) (conditions c.loop-last.last) c.loop-last.invariant
+    built_next c.args.text.now c.loop-last.rest.now c.next_part.result.0.now c.loop-last.alternatives.items (conditions c.loop-last.last) c.loop-last.invariant
     (first_part (λ behind. behind.now) c.loop-last.rest.now c.next_part.result.0.now c.next_part.result.1 c.next_part.ensures)
 
 pub loop-last-preserved : goal.loop-last-preserved
 loop-last-preserved c =
     let parts = rw c.in-Some.is at c.next_part.ensures in
     let added = c.in_ok-add_line.ensures in
-    built_more c.args.text.now c.loop-last.rest.now c.next_part.result.0.now c.in-Some.behind.now (map conditions c.loop-last.alternatives.items) (conditions c.loop-last.last)
-    (map conditions c.add_line.new.alternatives.items) (conditions c.add_line.new.last) c.loop-last.invariant (record { own = added.0; is = added.1; same = added.2 }) parts
+    built_more c.args.text.now c.loop-last.rest.now c.next_part.result.0.now c.in-Some.behind.now c.loop-last.alternatives.items (conditions c.loop-last.last)
+    c.add_line.new.alternatives.items (conditions c.add_line.new.last) c.loop-last.invariant (record { own = added.0; is = added.1; same = added.2 }) parts
 
 pub returns-in_default : goal.returns-in_default
 returns-in_default c =
     let added = c.in_ok-add_line.ensures in
     let parts = rw c.in_default.is at c.next_part.ensures in
-    let view : map conditions c.push.new.self.items ≡ map conditions c.add_line.new.alternatives.items ++ (conditions c.add_line.new.last ∷ []) =
-    ap (map conditions) c.in_ok-push.ensures.items ∙ map-append conditions c.add_line.new.alternatives.items (c.add_line.new.last ∷ []) in
+    let view : c.push.new.self.items ≡ c.add_line.new.alternatives.items ++ (conditions c.add_line.new.last ∷ []) =
+    c.in_ok-push.ensures.items ∙ ap (λ a. c.add_line.new.alternatives.items ++ (a ∷ [])) c.in_ok-own.ensures in
     subst (SpellsCriteria c.args.text.now) (sym view)
-    (built_end c.args.text.now c.loop-last.rest.now c.next_part.result.0.now (map conditions c.loop-last.alternatives.items) (conditions c.loop-last.last)
-    (map conditions c.add_line.new.alternatives.items) (conditions c.add_line.new.last) c.loop-last.invariant (record { own = added.0; is = added.1; same = added.2 }) parts)
+    (built_end c.args.text.now c.loop-last.rest.now c.next_part.result.0.now c.loop-last.alternatives.items (conditions c.loop-last.last)
+    c.add_line.new.alternatives.items (conditions c.add_line.new.last) c.loop-last.invariant (record { own = added.0; is = added.1; same = added.2 }) parts)

@@ -4,7 +4,7 @@ use Rattle.pgn_criteria.proofs.ParseFacts.{IsBuilt}
 use Rattle.pgn_criteria.proofs.parse.build.Given as goal
 
 abbrev pub invariant-loop-last : goal.invariant-loop-last
-invariant-loop-last l = IsBuilt l.text l.rest (map (λ a. map (seen (λ bytes. bytes.items)) a.items) l.alternatives.items) (map (seen (λ bytes. bytes.items)) l.last.items)
+invariant-loop-last l = IsBuilt l.text l.rest l.alternatives.items (map (seen (λ bytes. bytes.items)) l.last.items)
 
 abbrev pub decreases-loop-last : goal.decreases-loop-last
 decreases-loop-last l = length l.rest

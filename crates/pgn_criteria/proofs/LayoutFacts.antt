@@ -1,0 +1,187 @@
+-- What patterns ask of squares, as it is laid out.
+use Rattle.std.proofs.Common.{◌≡◌, ◌↔◌, ◌≤◌, ◌<◌, ◌+◌, ◌-◌, ℕ, zero, suc, Bool, true, false, List, [], ◌∷◌, ◌++◌, length, take, drop, get_or, Option, Some, None, IsTrue, refl, sym, ap, ◌∙◌, subst, arith, inl, inr, length-drop}
+use Rattle.std.specs.Prelude.{◌||◌, ◌⊎◌}
+use Rattle.std.proofs.Math.ListN.{get_or-append}
+use Rattle.std.proofs.lemmas.Bool.{cases_lt}
+use Rattle.std.proofs.lemmas.List.{get_or-drop, take-append-drop, drop-drop, length-take}
+use Rattle.chess.specs.Fen.{row}
+use Rattle.chess.specs.Squares.{Place, same_square}
+use Rattle.chess.specs.Placements.{Placement, man_at}
+use Rattle.chess.specs.Positions.{State}
+use Rattle.chess.specs.Sets.{is_in}
+use Rattle.chess.specs.declared.board.man.Man.{Man}
+use Rattle.chess.proofs.PlaceFacts.{same_square-then, same_square-same}
+use Rattle.pgn_criteria.specs.Patterns.{CanBeSplit}
+use Rattle.pgn_criteria.specs.Items.{IsOf, EachOf, item_of}
+use Rattle.pgn_criteria.specs.Layouts.{AllStand, AreEmpty, EachFrom, Lays}
+use Rattle.pgn_criteria.specs.declared.layout.Asked.{Asked}
+use Rattle.pgn_criteria.specs.declared.layout.Layout.{Layout}
+use Rattle.pgn_criteria.specs.declared.rank.Class.{Class}
+use Rattle.pgn_criteria.specs.declared.rank.Item.TheVariants.{Run, Many}
+use Rattle.pgn_criteria.proofs.ItemFacts.{item_exact}
+use Rattle.pgn_criteria.proofs.NeedFacts.{behind_own, left_behind, left_at_end}
+
+-- nothing is laid out yet
+pub lays_start : (whole : State → Type 0) (old : Layout) → Lays whole whole old old true
+lays_start whole old = record { needed = λ P laid all. (laid, all); enough = λ so P laid all. (laid, all) }
+
+-- one fact more
+pub lays_step : (whole rest fact more : State → Type 0) (a b c : Layout) (r s t : Bool) → Lays whole rest a b r → Lays fact (λ P. Unit {0}) b c s
+    → ((P : State) → rest P ↔ (fact P × more P)) → (IsTrue t → IsTrue r × IsTrue s) → Lays whole more a c t
+lays_step whole rest fact more a b c r s t first next parts both = record {
+  needed = λ P laid all.
+      let one = first.needed P laid all in
+      let two = (parts P).0 one.1 in
+      ((next.needed P one.0 two.0).0, two.1);
+  enough = λ so P laid left.
+      let two = next.enough (both so).1 P laid tt in
+      first.enough (both so).0 P two.0 ((parts P).1 (two.1, left));
+}
+
+-- what is left says the same
+pub lays_same : (whole rest more : State → Type 0) (a b : Layout) (r : Bool) → Lays whole rest a b r → ((P : State) → rest P ↔ more P) → Lays whole more a b r
+lays_same whole rest more a b r first same = record {
+  needed = λ P laid all. let one = first.needed P laid all in (one.0, (same P).0 one.1);
+  enough = λ so P laid left. first.enough so P laid ((same P).1 left);
+}
+
+-- nothing is left, or it is not all
+pub lays_end : (whole rest : State → Type 0) (a b : Layout) (r s : Bool) → Lays whole rest a b r → (IsTrue s → IsTrue r × ((P : State) → rest P)) → Lays whole (λ P. Unit {0}) a b s
+lays_end whole rest a b r s first ends = record {
+  needed = λ P laid all. ((first.needed P laid all).0, tt);
+  enough = λ so P laid left. first.enough (ends so).0 P laid ((ends so).1 P);
+}
+
+-- a square more on which something must stand
+pub stand_more : (men : Placement) (all : List Asked) (one : Asked) → AllStand men (all ++ one ∷ []) ↔ (AllStand men all × IsOf one.class (man_at men one.square))
+stand_more men [] one = (λ stand. (tt, stand.0), λ both. (both.1, tt))
+stand_more men (first ∷ more) one =
+    let there = stand_more men more one in
+    (λ stand. ((stand.0, (there.0 stand.1).0), (there.0 stand.1).1), λ both. (both.0.0, there.1 (both.0.1, both.1)))
+
+pub lays_asked : (old new : Layout) (class : Class) (square : Place) (one : Asked) → one.class ≡ class → one.square ≡ square → new.asked.items ≡ old.asked.items ++ one ∷ [] → new.empty ≡ old.empty
+    → Lays (λ P. IsOf class (man_at P.men square)) (λ P. Unit {0}) old new true
+lays_asked old new class square one is at items empty = record {
+  needed = λ P laid here. (
+    (
+      subst (AllStand P.men) (sym items) ((stand_more P.men old.asked.items one).1 (laid.0, subst (λ c. IsOf c (man_at P.men one.square)) (sym is) (subst (λ s. IsOf class (man_at P.men s)) (sym at) here))),
+      subst (AreEmpty P.men) (sym empty) laid.1,
+    ),
+    tt,
+  );
+  enough = λ so P laid left.
+      let both = (stand_more P.men old.asked.items one).0 (subst (AllStand P.men) items laid.0) in (
+        (both.0, subst (AreEmpty P.men) empty laid.1),
+        subst (λ s. IsOf class (man_at P.men s)) at (subst (λ c. IsOf c (man_at P.men one.square)) is both.1),
+      );
+}
+
+-- a square more that must be empty
+either_true : (a b : Bool) → (a || b) ≡ true → (a ≡ true) ⊎ (b ≡ true)
+either_true true b e = inl refl
+either_true false b e = inr e
+
+first_true : (a b : Bool) → a ≡ true → (a || b) ≡ true
+first_true true b e = refl
+first_true false b e = absurd (cc)
+
+second_true : (a b : Bool) → b ≡ true → (a || b) ≡ true
+second_true true b e = refl
+second_true false b e = e
+
+pub lays_empty : (old new : Layout) (square : Place) → ((s : Place) → is_in new.empty s ≡ (same_square square s || is_in old.empty s)) → new.asked.items ≡ old.asked.items
+    → Lays (λ P. man_at P.men square ≡ None) (λ P. Unit {0}) old new true
+lays_empty old new square told items = record {
+  needed = λ P laid here. (
+    (
+      subst (AllStand P.men) (sym items) laid.0,
+      λ s is. elim (either_true (same_square square s) (is_in old.empty s) (sym (told s) ∙ is)) [
+        | inl same ↦ subst (λ t. man_at P.men t ≡ None) (same_square-then square s same) here
+        | inr before ↦ laid.1 s before
+      ],
+    ),
+    tt,
+  );
+  enough = λ so P laid left. (
+    (subst (AllStand P.men) items laid.0, λ s is. laid.1 s (told s ∙ second_true (same_square square s) (is_in old.empty s) is)),
+    laid.1 square (told square ∙ first_true (same_square square square) (is_in old.empty square) (same_square-same square square refl)),
+  );
+}
+
+-- one square of a run, and those behind it
+pub each_step : (men : Placement) (class : Class) (rank before step count : ℕ) → step < count
+    → EachFrom men class rank before step count ↔ (IsOf class (man_at men (record { file = before + step + 1; rank = rank })) × EachFrom men class rank before (step + 1) count)
+each_step men class rank before step count less = (
+  λ each. (each step (omega arith) less, λ k low high. each k (omega arith) high),
+  λ both k low high. elim (cases_lt step k) [
+    | inl behind ↦ both.1 k (omega arith) high
+    | inr here ↦ let same : step ≡ k = omega arith in subst (λ n. IsOf class (man_at men (record { file = before + n + 1; rank = rank }))) same both.0
+  ],
+)
+
+-- squares of a rank
+get_row : (men : Placement) (rank n : ℕ) → n ≤ 7 → get_or (row men rank) n None ≡ man_at men (record { file = n + 1; rank = rank })
+get_row men rank zero low = refl
+get_row men rank (suc zero) low = refl
+get_row men rank (suc (suc zero)) low = refl
+get_row men rank (suc (suc (suc zero))) low = refl
+get_row men rank (suc (suc (suc (suc zero)))) low = refl
+get_row men rank (suc (suc (suc (suc (suc zero))))) low = refl
+get_row men rank (suc (suc (suc (suc (suc (suc zero)))))) low = refl
+get_row men rank (suc (suc (suc (suc (suc (suc (suc zero))))))) low = refl
+get_row men rank (suc (suc (suc (suc (suc (suc (suc (suc n)))))))) low = absurd (omega arith)
+
+each_at : (class : Class) (own : List (Option Man)) (k : ℕ) → k < length own → EachOf class own → IsOf class (get_or own k None)
+each_at class [] k less each = absurd (omega arith)
+each_at class (square ∷ more) zero less each = each.0
+each_at class (square ∷ more) (suc k) less each = each_at class more k (omega arith) each.1
+
+each_of : (class : Class) (squares : List (Option Man)) (n : ℕ) → n ≤ length squares → ((k : ℕ) → k < n → IsOf class (get_or squares k None)) → EachOf class (take n squares)
+each_of class squares zero low each = tt
+each_of class [] (suc n) low each = absurd (omega arith)
+each_of class (square ∷ more) (suc n) low each = (each 0 (omega arith), each_of class more n (omega arith) (λ k less. each (suc k) (omega arith)))
+
+-- an item of a fixed size takes squares that are known
+pub run_split : (men : Placement) (rank taken count b : ℕ) (class : Class) (behind : List ℕ) → item_of b ≡ Some (Run class count) → taken + count ≤ 8
+    → CanBeSplit (b ∷ behind) (drop taken (row men rank)) ↔ (EachFrom men class rank taken 0 count × CanBeSplit behind (drop (taken + count) (row men rank)))
+run_split men rank taken count b class behind is room = (
+  λ split.
+      let fits = (item_exact b (Run class count) is split.0).0 split.3 in (
+        λ k low less.
+            let at = ap (λ x. get_or x k None) split.2 ∙ get_or-append split.0 split.1 None k (omega (arith, fits.0)) in
+            subst (IsOf class) (sym at ∙ get_or-drop taken (row men rank) k None ∙ get_row men rank (taken + k) (omega arith))
+            (each_at class split.0 k (omega (arith, fits.0)) fits.1),
+        subst (CanBeSplit behind) (sym (behind_own (row men rank) taken count split.0 split.1 split.2 fits.0)) split.4,
+      ),
+  λ both.
+      let squares = drop taken (row men rank) in
+      let size : count ≤ length squares = omega (arith, length-drop taken (row men rank)) in (
+        take count squares,
+        drop (taken + count) (row men rank),
+        sym (take-append-drop count squares) ∙ ap (λ x. take count squares ++ x) (drop-drop count taken (row men rank)),
+        (item_exact b (Run class count) is (take count squares)).1 (
+          omega (arith, length-take count squares),
+          each_of class squares count size
+              (λ k less. subst (IsOf class) (sym (get_or-drop taken (row men rank) k None ∙ get_row men rank (taken + k) (omega arith))) (both.0 k (omega arith) less)),
+        ),
+        both.1,
+      ),
+)
+
+-- the last * leaves what the items behind it take
+pub many_split : (men : Placement) (rank taken size b : ℕ) (behind : List ℕ) → item_of b ≡ Some Many → size ≤ 8 → taken ≤ 8 - size
+    → ((own : List (Option Man)) → CanBeSplit behind own → length own ≡ size)
+    → CanBeSplit (b ∷ behind) (drop taken (row men rank)) ↔ CanBeSplit behind (drop (8 - size) (row men rank))
+many_split men rank taken size b behind is small low sized = (
+  λ split. left_at_end (row men rank) behind size refl small sized (left_behind (row men rank) b behind (taken, omega arith, split)),
+  λ split.
+      let squares = drop taken (row men rank) in
+      let n = 8 - size - taken in
+      let at : taken + n ≡ 8 - size = omega arith in (
+        take n squares,
+        drop (8 - size) (row men rank),
+        sym (take-append-drop n squares) ∙ ap (λ x. take n squares ++ x) (drop-drop n taken (row men rank) ∙ ap (λ k. drop k (row men rank)) at),
+        (item_exact b Many is (take n squares)).1 tt,
+        split,
+      ),
+)

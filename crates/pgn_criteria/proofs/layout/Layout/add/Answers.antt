@@ -1,0 +1,6 @@
+use Rattle.std.proofs.Common.{refl}
+use Rattle.pgn_criteria.proofs.LayoutFacts.{lays_asked}
+use Rattle.pgn_criteria.proofs.layout.Layout.add.Goals as goal
+
+pub returns-in_ok-push-in_default : goal.returns-in_ok-push-in_default
+returns-in_ok-push-in_default c = lays_asked _ _ c.args.class c.args.square _ refl refl c.in_ok-push-in_default.ensures.items refl

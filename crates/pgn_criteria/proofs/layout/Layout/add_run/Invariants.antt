@@ -1,0 +1,7 @@
+use Rattle.std.proofs.Common.{true}
+use Rattle.pgn_criteria.specs.Layouts.{EachFrom, Lays}
+use Rattle.pgn_criteria.proofs.layout.Layout.add_run.Given as goal
+
+abbrev pub invariant-loop-step : goal.invariant-loop-step
+invariant-loop-step l =
+    Lays (λ P. EachFrom P.men l.class l.rank l.before 0 l.count) (λ P. EachFrom P.men l.class l.rank l.before l.step l.count) l.fn.self l.self true

@@ -1,0 +1,11 @@
+use Rattle.std.proofs.Common.{◌≡◌, true, false, sym, ap, ◌∙◌, subst}
+use Rattle.chess.specs.Sets.{is_in}
+use Rattle.chess.specs.SetFacts.{is_in-empty}
+use Rattle.pgn_criteria.specs.Layouts.{AllStand}
+use Rattle.pgn_criteria.proofs.layout.Layout.new.Goals as goal
+
+pub returns : goal.returns
+returns c men = (
+  subst (AllStand men) (sym c.new.ensures.items) tt,
+  λ s here. let clash : true ≡ false = sym here ∙ ap (λ set. is_in set s) c.new-2.ensures ∙ is_in-empty s in cc,
+)

@@ -1,0 +1,35 @@
+use Rattle.std.proofs.Common.{◌≡◌, ◌+◌, [], length, drop, map, subst, ap, ◌∙◌, arith}
+use Rattle.std.proofs.Math.Seq.{drop-length}
+use Rattle.pgn_criteria.specs.Meeting.{SomeHold}
+use Rattle.pgn_criteria.specs.Stages.{on_positions}
+use Rattle.pgn_criteria.proofs.MeetFacts.{some_found, some_left, alternatives_from}
+use Rattle.pgn_criteria.proofs.StageFacts.{told_positions}
+use Rattle.pgn_criteria.proofs.search.Search.is_met.Goals as goal
+
+pub returns-then-is_met : goal.returns-then-is_met
+returns-then-is_met c tags replay =
+    let all = c.deref-alternative-items.result.now in
+    let i = c.loop-alternative.alternative-index in
+    let own = c.alternative-item.result in
+    let P = c.args.position.now in
+    some_found tags replay P (map (λ a. on_positions a.now) (drop i all)) (map (λ a. on_positions a.now) (drop (i + 1) all)) (on_positions own.now) c.is_met.result c.args.self.now
+    (ap (map (λ a. on_positions a.now)) (alternatives_from all i own c.loop-alternative-test.true c.alternative-item.is)) c.if-is_met.true
+    (told_positions tags replay P own.now c.is_met.result c.is_met.ensures) (c.loop-alternative.invariant tags replay)
+
+pub loop-alternative-preserved : goal.loop-alternative-preserved
+loop-alternative-preserved c tags replay =
+    let all = c.deref-alternative-items.result.now in
+    let i = c.loop-alternative.alternative-index in
+    let own = c.alternative-item.result in
+    let P = c.args.position.now in
+    some_left tags replay P (map (λ a. on_positions a.now) (drop i all)) (map (λ a. on_positions a.now) (drop (i + 1) all)) (on_positions own.now) c.is_met.result c.args.self.now
+    (ap (map (λ a. on_positions a.now)) (alternatives_from all i own c.loop-alternative-test.true c.alternative-item.is)) c.if-is_met.false
+    (told_positions tags replay P own.now c.is_met.result c.is_met.ensures) (c.loop-alternative.invariant tags replay)
+
+pub returns : goal.returns
+returns c tags replay =
+    let all = c.deref-alternative-items.result.now in
+    let end : c.loop-alternative.alternative-index ≡ length all = omega arith in
+    let none : map (λ a. on_positions a.now) (drop c.loop-alternative.alternative-index all) ≡ [] =
+    ap (λ n. map (λ a. on_positions a.now) (drop n all)) end ∙ ap (map (λ a. on_positions a.now)) (drop-length all) in
+    (λ t. absurd (cc), λ hold. absurd (subst (SomeHold tags replay c.args.position.now) none ((c.loop-alternative.invariant tags replay).1 hold)))

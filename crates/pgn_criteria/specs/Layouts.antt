@@ -1,0 +1,50 @@
+-- What patterns ask of squares that they name, as it is laid out.
+use Rattle.std.specs.Prelude.{◌≡◌, ◌↔◌, ◌<◌, ◌≤◌, ◌+◌, ℕ, Bool, true, List, [], ◌∷◌, Some, None, IsTrue}
+use Rattle.chess.specs.Squares.{Place, IsOnBoard}
+use Rattle.chess.specs.Placements.{Placement, man_at}
+use Rattle.chess.specs.Positions.{State}
+use Rattle.chess.specs.Sets.{Places, is_in}
+use Rattle.chess.specs.declared.board.man.Side.{Side}
+use Rattle.chess.specs.declared.board.man.Kind.{Kind}
+use Rattle.pgn_criteria.specs.Items.{IsOf}
+use Rattle.pgn_criteria.specs.Stages.{AllOfPosition}
+use Rattle.pgn_criteria.specs.declared.condition.Condition.{Condition}
+use Rattle.pgn_criteria.specs.declared.rank.Class.{Class}
+use Rattle.pgn_criteria.specs.declared.layout.Asked.{Asked}
+use Rattle.pgn_criteria.specs.declared.layout.Layout.{Layout}
+
+-- on each of the squares stands what must stand there
+abbrev pub AllStand : Placement → List Asked → Type 0
+AllStand men [] = Unit {0}
+AllStand men (asked ∷ more) = IsOf asked.class (man_at men asked.square) × AllStand men more
+
+-- no man stands on the squares
+abbrev pub AreEmpty : Placement → Places → Type 0
+AreEmpty men empty = (s : Place) → is_in empty s ≡ true → man_at men s ≡ None
+
+-- the men stand as is laid out
+abbrev pub Laid : Placement → Layout → Type 0
+Laid men layout = AllStand men layout.asked.items × AreEmpty men layout.empty
+
+-- the second set is that of the other squares of the board
+abbrev pub IsRest : Places → Places → Type 0
+IsRest empty free = (s : Place) → IsOnBoard s → (is_in free s ≡ true) ↔ (is_in empty s ≡ true → ⊥)
+
+-- of so many squares of a rank, after so many, those from this number on are of the class
+abbrev pub EachFrom : Placement → Class → ℕ → ℕ → ℕ → ℕ → Type 0
+EachFrom men class rank before step count =
+    (k : ℕ) → step ≤ k → k < count → IsOf class (man_at men (record { file = before + k + 1; rank = rank }))
+
+-- what is new in a layout follows from a fact, of which the rest stays. Where it is all, the layout and the rest give the fact
+pub record Lays (whole rest : State → Type 0) (old new : Layout) (all : Bool) : Type 0 where
+  pub needed : (P : State) → Laid P.men old → whole P → Laid P.men new × rest P
+  pub enough : IsTrue all → (P : State) → Laid P.men new → rest P → Laid P.men old × whole P
+
+-- the man of that kind stands on squares of the set alone
+unfoldable pub KindWithin : Placement → Places → Side → Kind → Type 0
+KindWithin men free side kind = (s : Place) → man_at men s ≡ Some (record { side = side; kind = kind }) → is_in free s ≡ true
+
+-- what is laid out of conditions follows from them. Where it is all, it gives what they say of positions
+abbrev pub IsLaidOut : List (Condition (List ℕ)) → Layout → Bool → Type 0
+IsLaidOut conditions layout all =
+    ((P : State) → AllOfPosition P conditions → Laid P.men layout) × (IsTrue all → (P : State) → Laid P.men layout → AllOfPosition P conditions)

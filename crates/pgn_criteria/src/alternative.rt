@@ -1,0 +1,102 @@
+//! Alternatives of criteria.
+ghost use Rattle.std.specs.Prelude.{◌≡◌, ◌↔◌, List, map, IsTrue, IfOk};
+ghost use Rattle.pgn_text.specs.GameTexts.{tag_in};
+ghost use Rattle.pgn_criteria.specs.Layouts.{Lays};
+ghost use Rattle.pgn_criteria.specs.Stages.{AreLegal, AreGood, AllOfGame, OfPosition, AllOfPosition, seen};
+
+use crate::condition::Condition;
+use crate::layout::Layout;
+use crate::meets::{are_of_game, are_of_position};
+use chess::SquareSet;
+use pgn_game::{GamePosition, Replayed};
+use pgn_text::RawGame;
+use std::alloc::{AllocError, Global};
+use std::marker::Model;
+
+/// Conditions that are to hold together. Contracts see the conditions.
+#[derive(Drop)]
+pub struct Alternative {
+    pub(crate) conditions: Vec<Condition<Vec<u8>>>,
+    /// What the patterns among them ask of squares, and where men may stand then.
+    layout: Layout,
+    free: SquareSet,
+    /// Whether that is all that they say of positions.
+    is_laid_out: bool,
+}
+
+impl Model for Alternative {
+    ghost use Rattle.std.specs.Prelude.{ℕ, List, map};
+    ghost use Rattle.pgn_criteria.specs.declared.condition.Condition.{Condition};
+    ghost use Rattle.pgn_criteria.specs.Layouts.{IsRest, IsLaidOut};
+    ghost use Rattle.pgn_criteria.specs.Stages.{seen};
+
+    ghost Value = { List (Condition (List ℕ)) };
+
+    ghost view = { λ a. map (seen (λ text. text.items)) a.conditions.items };
+
+    ghost invariant = { λ a. record {
+      rest : IsRest a.layout.empty a.free;
+      laid : IsLaidOut (map (seen (λ text. text.items)) a.conditions.items) a.layout a.is_laid_out;
+    } };
+}
+
+/// Lays out what a condition asks of squares, if it is a pattern. Answers whether that is all that it says of positions.
+fn lay_out(layout: &mut Layout, condition: &Condition<Vec<u8>>) -> Result<bool, AllocError>
+    ensures { IfOk result (Lays (λ P. OfPosition P (seen (λ text. text.items) condition.now)) (λ P. Unit {0}) layout.old layout.new) }
+{
+    match condition {
+        Condition::Fen(pattern) => layout.add_pattern(pattern),
+        Condition::Tag { .. } => Ok(true),
+        Condition::Moves(_) => Ok(true),
+        _ => Ok(false),
+    }
+}
+
+/// Lays out what conditions ask of squares. Answers whether that is all that they say of positions.
+fn lay_out_all(layout: &mut Layout, conditions: &[Condition<Vec<u8>>]) -> Result<bool, AllocError>
+    ensures { IfOk result (Lays (λ P. AllOfPosition P (map (seen (λ text. text.items)) conditions.now)) (λ P. Unit {0}) layout.old layout.new) }
+{
+    let mut is_all = true;
+    for condition in conditions {
+        is_all = lay_out(layout, condition)? && is_all;
+    }
+    Ok(is_all)
+}
+
+impl Alternative {
+    /// The alternative with these conditions.
+    pub(crate) fn new(
+        alloc: Global,
+        conditions: Vec<Condition<Vec<u8>>>,
+    ) -> Result<Self, AllocError>
+        ensures { IfOk result (λ own. own ≡ map (seen (λ text. text.items)) conditions.items) }
+    {
+        let mut layout = Layout::new(alloc);
+        let is_laid_out = lay_out_all(&mut layout, &conditions)?;
+        let free = layout.free();
+        Ok(Alternative {
+            conditions,
+            layout,
+            free,
+            is_laid_out,
+        })
+    }
+
+    /// Whether what the conditions say of the game alone is so.
+    pub(crate) fn is_of_game<'a>(&'a self, game: &RawGame<'a>, replayed: &Replayed) -> bool
+        requires good { AreGood self.now }
+        requires legal { AreLegal replayed.now }
+        ensures { IsTrue result ↔ AllOfGame (λ name. tag_in name game.now.tags) replayed.now self.now }
+    {
+        are_of_game(&self.conditions, game, replayed)
+    }
+
+    /// Whether what the conditions say of the position is so. What is laid out is looked at first.
+    #[inline(always)]
+    pub(crate) fn is_met(&self, position: &GamePosition) -> bool
+        ensures { IsTrue result ↔ AllOfPosition position.now self.now }
+    {
+        self.layout.is_met(&self.free, position)
+            && (self.is_laid_out || are_of_position(&self.conditions, position))
+    }
+}
