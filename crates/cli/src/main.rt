@@ -1,4 +1,4 @@
-//! The program `pgn-extract`: gathers the words, hands over the real files, and ends with the status
+//! The program `pgn-extract`: gathers the arguments, hands over the real files, and ends with the status
 //! that `pgn_extract::program` answers.
 #![tactic(auto)]
 
@@ -22,19 +22,19 @@ fn end_with(rt: &impl Eprint, line: &str, status: u8) -> ExitCode {
     ExitCode::from(status)
 }
 
-/// The words of the command line, the program's name first.
-fn gather_words(rt: &HostRuntime, alloc: Global) -> io::Result<Vec<String>> {
+/// The arguments, the program's name first.
+fn gather_arguments(rt: &HostRuntime, alloc: Global) -> io::Result<Vec<String>> {
     Ok(env::args(rt)?.collect(alloc)?)
 }
 
 fn main(rt: HostRuntime) -> ExitCode {
     let alloc = rt.alloc();
-    let words = match gather_words(&rt, alloc) {
-        Ok(words) => words,
+    let arguments = match gather_arguments(&rt, alloc) {
+        Ok(arguments) => arguments,
         Err(error) if error.kind() == ErrorKind::OutOfMemory => {
             return end_with(&rt, messages::OUT_OF_MEMORY, FAILED);
         }
-        Err(_) => return end_with(&rt, messages::WORDS_ARE_NO_TEXT, REFUSED),
+        Err(_) => return end_with(&rt, messages::ARGUMENTS_ARE_NO_TEXT, REFUSED),
     };
     let Ok(buffered) = BufWriter::with_capacity(alloc, OUTPUT_BUFFER, rt.stdout()) else {
         return end_with(&rt, messages::OUT_OF_MEMORY, FAILED);
@@ -42,9 +42,9 @@ fn main(rt: HostRuntime) -> ExitCode {
     let mut out = Tally::new(buffered);
     let mut err = Tally::new(rt.stderr());
     let mut files = RealFiles::new(rt);
-    let status = program(alloc, words, &mut files, &mut out, &mut err);
+    let status = program(alloc, arguments, &mut files, &mut out, &mut err);
     if out.faulted() {
-        // What is gathered behind a write that failed stays unwritten.
+        // What is gathered after a write that failed stays unwritten.
         mem::forget(out);
     }
     ExitCode::from(status)

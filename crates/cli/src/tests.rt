@@ -7,6 +7,7 @@ mod chess_fen;
 mod chess_moves;
 mod chess_rows;
 mod chess_texts;
+mod choices;
 mod criteria;
 mod examples;
 mod explained;

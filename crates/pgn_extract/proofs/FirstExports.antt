@@ -4,11 +4,12 @@ use Rattle.pgn_text.specs.Marks.{PieceKind, ReadableGame, UnreadableRest, TooLon
 use Rattle.pgn_text.specs.Parts.{Part}
 use Rattle.pgn_game.specs.Replays.{Replay}
 use Rattle.pgn_extract.specs.Aims.{Aim, IsWanted}
-use Rattle.pgn_extract.specs.Exports.{AreExports, HasEntry, IsGameExport, IsPieceExport, IsWritten, faulty, sound, with_entry, without_entry, written_lines}
+use Rattle.pgn_extract.specs.Exports.{AreExports, HasEntry, IsGameExport, IsPieceExport, IsWritten, faulty, sound, selected, unselected, written_lines}
 use Rattle.pgn_extract.specs.GameReports.{IsReplayOf}
 use Rattle.pgn_extract.specs.Laws.{FirstChangesNoExport, with_first}
 use Rattle.pgn_extract.specs.Listing.{tags_in}
 use Rattle.pgn_extract.proofs.Decided.{all_decided}
+use Rattle.pgn_extract.proofs.Exported.{selected_by}
 use Rattle.pgn_extract.proofs.SomeReport.{none_before}
 
 module _ (aim : Aim) (parts : List Part) (replay : Replay) (is : IsReplayOf (written_lines aim) parts replay) where
@@ -29,12 +30,12 @@ module _ (aim : Aim) (parts : List Part) (replay : Replay) (is : IsReplayOf (wri
   first_of_all (ply, less, entry) = (ply, less, (entry.0, λ only. absurd (cc)))
 
   written_all : (text : List ℕ) → IsWritten (with_first true aim) parts replay text → IsWritten (with_first false aim) parts replay text
-  written_all text (with_entry has export) = with_entry (first_of_all has) export
-  written_all text (without_entry none empty) = without_entry (λ has. none (some_first has)) empty
+  written_all text (selected has own) = selected (selected_by aim.select _ _ first_of_all some_first has) own
+  written_all text (unselected none empty) = unselected (λ has. none (selected_by aim.select _ _ some_first first_of_all has)) empty
 
   written_first : (text : List ℕ) → IsWritten (with_first false aim) parts replay text → IsWritten (with_first true aim) parts replay text
-  written_first text (with_entry has export) = with_entry (some_first has) export
-  written_first text (without_entry none empty) = without_entry (λ has. none (first_of_all has)) empty
+  written_first text (selected has own) = selected (selected_by aim.select _ _ some_first first_of_all has) own
+  written_first text (unselected none empty) = unselected (λ has. none (selected_by aim.select _ _ first_of_all some_first has)) empty
 
 module _ (aim : Aim) where
   game_all : (parts : List Part) (text : List ℕ) → IsGameExport (with_first true aim) parts text → IsGameExport (with_first false aim) parts text

@@ -1,5 +1,5 @@
 -- One piece reported: a game by the index, by the listing of its replay or by its fault, or bytes that are no game.
-use Rattle.std.proofs.Common.{◌≡◌, ℕ, ◌+◌, Bool, true, false, List, ◌++◌, Vec, Global, refl, sym, ap, ◌∙◌, subst, arith, codes, inl, inr}
+use Rattle.std.proofs.Common.{◌≡◌, ℕ, ◌+◌, Bool, true, false, List, [], ◌++◌, Vec, Global, refl, sym, ap, ◌∙◌, subst, arith, codes, inl, inr}
 use Rattle.std.proofs.lemmas.List.{append-nil}
 use Rattle.std.specs.Prelude.{Option, if◌then◌else◌}
 use Rattle.pgn_text.specs.GameTexts.{GameText, IsGameText, ShowsGame, tag_in}
@@ -19,17 +19,19 @@ use Rattle.pgn_game.specs.Replays.{Replay, IsReplay}
 use Rattle.pgn_game.specs.declared.replayer.Lines.{Lines}
 use Rattle.pgn_game.specs.declared.replayer.Lines.TheVariants.{Main}
 use Rattle.pgn_game.specs.Starts.{fen_tag}
-use Rattle.pgn_extract.specs.Blockwise.{AddsVerdict, AddsListed, AddsExported, AddsGame, IsGameWritten, AddsMark, IsPieceOf, AddsPiece, NamesBlockStop, IsBlockVerdict, IsMarkVerdict}
+use Rattle.pgn_extract.specs.Blockwise.{AddsVerdict, AddsListed, AddsExported, AddsGame, IsGivenText, IsGameWritten, AddsMark, IsPieceOf, AddsPiece, NamesBlockStop, IsBlockVerdict, IsMarkVerdict}
 use Rattle.pgn_extract.specs.Index.{fault_text, mark_line}
 use Rattle.pgn_extract.specs.Listing.{Entry, listing, tags_in}
 use Rattle.pgn_extract.specs.GameReports.{entries_from, AreListed, cause_text, IsReplayOf, IsFaultOf}
-use Rattle.pgn_extract.specs.Exports.{written_lines, IsWritten, with_entry, without_entry}
+use Rattle.pgn_extract.specs.Exports.{written_lines, HasEntry, IsTextOf, IsWritten, selected, unselected, as_it_stands, faulty_text}
 use Rattle.pgn_extract.specs.Notes.{IsNote, NamesByte, NamesStop}
 use Rattle.pgn_extract.specs.Verdicts.{Verdict, SoundGame, FaultyGame, output_of, fault_line_of, is_faulty, IsVerdictIn, IsGameVerdict, IsUnreadableVerdict}
 use Rattle.pgn_extract.specs.declared.report.Report.{Report}
 use Rattle.pgn_criteria.specs.Meeting.{Tags}
 use Rattle.pgn_extract.specs.Aims.{Aim, IsEntry}
 use Rattle.pgn_extract.proofs.Chosen.{chosen_by}
+use Rattle.pgn_extract.proofs.Exported.{selected_by}
+use Rattle.pgn_extract.proofs.RestOfBlock.{rest_of_block}
 use Rattle.pgn_extract.proofs.SameTags.{entry_same}
 use Rattle.pgn_extract.specs.declared.settings.Mode.TheVariants as modes
 
@@ -77,9 +79,9 @@ listed_replay aim {old} {new} {number} {offset} {game} replay entries is these a
 -- or its fault
 pub listed_fault : (aim : Aim) {old new : Report} {number offset : ℕ} {game : GameText} (fault : Fault) (note : List ℕ)
     → IsFault Main (tag_in fen_tag game.tags) game.elements fault → IsNote aim.explain note
-    → AddsVerdict old new (FaultyGame (fault_text number offset (cause_text fault)) note) 0 → AddsListed aim old new number offset game
+    → AddsVerdict old new (FaultyGame [] (fault_text number offset (cause_text fault)) note) 0 → AddsListed aim old new number offset game
 listed_fault aim {old} {new} {number} {offset} {game} fault note is noted adds at parts shows =
-    (FaultyGame (fault_text number offset (cause_text fault)) note, (fault, shown_fault Main shows fault is, refl, noted), adds)
+    (FaultyGame [] (fault_text number offset (cause_text fault)) note, (fault, shown_fault Main shows fault is, refl, noted, refl), adds)
 
 -- by the export, what is written of it
 pub exported_replay : (aim : Aim) {old new : Report} {number offset : ℕ} {game : GameText} → IsGameText game → (replay : Replay) (text : List ℕ)
@@ -91,19 +93,44 @@ exported_replay aim {old} {new} {number} {offset} {game} is_game replay text is 
     own : Tags
     own = λ name. tag_in name game.tags
 
+    has : HasEntry aim own replay → HasEntry aim (tags_in parts) replay
+    has (ply, within, entry) = (ply, within, entry_same own (tags_in parts) shows.tags replay aim ply entry)
+
+    had : HasEntry aim (tags_in parts) replay → HasEntry aim own replay
+    had (ply, within, entry) = (ply, within, entry_same (tags_in parts) own (λ name. sym (shows.tags name)) replay aim ply entry)
+
+    text_of : (as_is : Bool) → IsGivenText as_is aim.style game text → IsTextOf as_is aim.style parts text
+    text_of false export =
+        (game, is_game, record { place = refl; text = shows.text; tags = shows.tags; elements = shows.elements; result = shows.result }, export)
+    text_of true is = is ∙ ap as_it_stands shows.text
+
     of_parts : IsGameWritten aim game replay text → IsWritten aim parts replay text
-    of_parts (inl (has, export)) =
-        with_entry (has.0, has.1, entry_same own (tags_in parts) shows.tags replay aim has.0 has.2)
-        (game, is_game, record { place = refl; tags = shows.tags; elements = shows.elements; result = shows.result }, export)
+    of_parts (inl (is, given)) = selected (selected_by aim.select (HasEntry aim own replay) (HasEntry aim (tags_in parts) replay) has had is) (text_of aim.as_is given)
     of_parts (inr (none, empty)) =
-        without_entry (λ has. none (has.0, has.1, entry_same (tags_in parts) own (λ name. sym (shows.tags name)) replay aim has.0 has.2)) empty
+        unselected (λ is. none (selected_by aim.select (HasEntry aim (tags_in parts) replay) (HasEntry aim own replay) had has is)) empty
+
+-- after bytes that go to the output a fault is reported
+verdict_behind : {old mid new : Report} (text line note : List ℕ) → AddsOutput old mid text → AddsVerdict mid new (FaultyGame [] line note) 0
+    → AddsVerdict old new (FaultyGame text line note) 0
+verdict_behind {old} {mid} {new} text line note put adds = record {
+  output = adds.output ∙ append-nil mid.output.items ∙ put.output;
+  faults = adds.faults ∙ ap (λ t. t ++ (line ++ note)) put.faults;
+  games = adds.games ∙ ap (λ n. n + 0) put.games;
+  faulty = adds.faulty ∙ ap (λ n. n + 1) put.faulty;
+}
 
 -- or its fault
-pub exported_fault : (aim : Aim) {old new : Report} {number offset : ℕ} {game : GameText} (fault : Fault) (note : List ℕ)
+pub exported_fault : (aim : Aim) {old mid new : Report} {number offset : ℕ} {game : GameText} (fault : Fault) (note : List ℕ)
     → IsFault (written_lines aim) (tag_in fen_tag game.tags) game.elements fault → IsNote aim.explain note
-    → AddsVerdict old new (FaultyGame (fault_text number offset (cause_text fault)) note) 0 → AddsExported aim old new number offset game
-exported_fault aim {old} {new} {number} {offset} {game} fault note is noted adds at parts shows =
-    (FaultyGame (fault_text number offset (cause_text fault)) note, (fault, shown_fault (written_lines aim) shows fault is, refl, noted), adds)
+    → AddsOutput old mid (faulty_text modes.Export aim.select game.text)
+    → AddsVerdict mid new (FaultyGame [] (fault_text number offset (cause_text fault)) note) 0 → AddsExported aim old new number offset game
+exported_fault aim {old} {mid} {new} {number} {offset} {game} fault note is noted put adds at parts shows =
+    let text = faulty_text modes.Export aim.select game.text in
+    let line = fault_text number offset (cause_text fault) in (
+      FaultyGame text line note,
+      (fault, shown_fault (written_lines aim) shows fault is, refl, noted, ap (faulty_text modes.Export aim.select) shows.text),
+      verdict_behind text line note put adds,
+    )
 
 -- by the index, its mark
 pub game_indexed : {old new : Report} (aim : Aim) (number offset : ℕ) (game : GameText) → aim.mode ≡ modes.Index → AddsOutput old new (mark_line number offset)
@@ -163,19 +190,26 @@ stop_alone true offset block at bytes note (before, behind, are) (place, (agreei
     (agreeing, stops_alone depth_limit offset block before at bytes behind agreeing are stops, subst (λ (n : ℕ). NamesByte n note) same names)
 
 -- the verdict on bytes of a block that are no game is that on the piece at the same place
-pub unreadable_there : (explain : Bool) (number offset : ℕ) (block : List ℕ) (place at : ℕ) (bytes : List ℕ) (verdict : Verdict) → place ≡ at
-    → IsPieceOf offset block (spec.Unreadable at bytes) → IsBlockVerdict explain number offset block place verdict
-    → IsUnreadableVerdict explain (offset + at) bytes (fault_text number (offset + at) (codes "unreadable")) verdict
-unreadable_there explain number offset block place at bytes verdict is among by =
-    alone (subst (λ (p : ℕ). IsBlockVerdict explain number offset block p verdict) is by)
+pub unreadable_there : (aim : Aim) (number offset : ℕ) (block : List ℕ) (place at : ℕ) (bytes : List ℕ) (verdict : Verdict) → place ≡ at
+    → IsPieceOf offset block (spec.Unreadable at bytes) → IsBlockVerdict aim number offset block place verdict
+    → IsUnreadableVerdict aim (offset + at) bytes (fault_text number (offset + at) (codes "unreadable")) verdict
+unreadable_there aim number offset block place at bytes verdict is among by =
+    alone (subst (λ (p : ℕ). IsBlockVerdict aim number offset block p verdict) is by)
   where
-    alone : IsBlockVerdict explain number offset block at verdict
-        → IsUnreadableVerdict explain (offset + at) bytes (fault_text number (offset + at) (codes "unreadable")) verdict
-    alone (note, noted, names, says) = (note, noted, stop_alone explain offset block at bytes note among names, says)
+    line : List ℕ
+    line = fault_text number (offset + at) (codes "unreadable")
+
+    alone : IsBlockVerdict aim number offset block at verdict → IsUnreadableVerdict aim (offset + at) bytes line verdict
+    alone (note, noted, names, says) = (
+      note,
+      noted,
+      stop_alone aim.explain offset block at bytes note among names,
+      says ∙ ap (λ (b : List ℕ). FaultyGame (faulty_text aim.mode aim.select b) line note) (rest_of_block offset block at bytes among),
+    )
 
 -- a piece that is no game is counted, and reported
 pub piece_unreadable : (aim : Aim) {old mid new : Report} (number offset : ℕ) (block : List ℕ) (piece : Piece) (place : ℕ) (verdict : Verdict)
-    → piece ≡ given.Unreadable place → IsBlockVerdict aim.explain number offset block place verdict → AddsVerdict mid new verdict 0
+    → piece ≡ given.Unreadable place → IsBlockVerdict aim number offset block place verdict → AddsVerdict mid new verdict 0
     → mid.output ≡ old.output → mid.faults ≡ old.faults → mid.games ≡ old.games + 1 → mid.faulty ≡ old.faulty
     → AddsPiece aim old new number offset block piece
 piece_unreadable aim {old} {mid} {new} number offset block piece place verdict is_none by adds output faults games faulty shown is among =
@@ -186,29 +220,29 @@ piece_unreadable aim {old} {mid} {new} number offset block piece place verdict i
     shows (spec.Game at parts) is among = absurd is
     shows (spec.Unreadable at bytes) is among = (
       verdict,
-      unreadable_there aim.explain number offset block place at bytes verdict is among by,
+      unreadable_there aim number offset block place at bytes verdict is among by,
       counted_first verdict adds output faults games faulty,
     )
 
 -- the mark of a piece that is a game is counted, and reported
-pub mark_game : (explain : Bool) {old new : Report} (number offset : ℕ) (block : List ℕ) (place : ℕ) (mark : Mark) → mark ≡ marks.Game place
+pub mark_game : (aim : Aim) {old new : Report} (number offset : ℕ) (block : List ℕ) (place : ℕ) (mark : Mark) → mark ≡ marks.Game place
     → new.output.items ≡ old.output.items ++ mark_line number (offset + place)
     → new.faults.items ≡ old.faults.items → new.games ≡ old.games + 1 → new.faulty ≡ old.faulty
-    → (verdict : Verdict) × IsMarkVerdict explain number offset block mark verdict × AddsVerdict old new verdict 1
-mark_game explain {old} {new} number offset block place mark is output faults games faulty =
+    → (verdict : Verdict) × IsMarkVerdict aim number offset block mark verdict × AddsVerdict old new verdict 1
+mark_game aim {old} {new} number offset block place mark is output faults games faulty =
     let verdict = SoundGame (mark_line number (offset + place)) in (
       verdict,
-      subst (λ m. IsMarkVerdict explain number offset block m verdict) (sym is) refl,
+      subst (λ m. IsMarkVerdict aim number offset block m verdict) (sym is) refl,
       record { output = output; faults = faults ∙ sym (append-nil old.faults.items); games = games; faulty = faulty ∙ omega arith },
     )
 
 -- and that of one that is none
-pub mark_unreadable : (explain : Bool) {old mid new : Report} (number offset : ℕ) (block : List ℕ) (place : ℕ) (mark : Mark) (verdict : Verdict)
-    → mark ≡ marks.Unreadable place → IsBlockVerdict explain number offset block place verdict → AddsVerdict mid new verdict 0
+pub mark_unreadable : (aim : Aim) {old mid new : Report} (number offset : ℕ) (block : List ℕ) (place : ℕ) (mark : Mark) (verdict : Verdict)
+    → mark ≡ marks.Unreadable place → IsBlockVerdict aim number offset block place verdict → AddsVerdict mid new verdict 0
     → mid.output ≡ old.output → mid.faults ≡ old.faults → mid.games ≡ old.games + 1 → mid.faulty ≡ old.faulty
-    → (verdict : Verdict) × IsMarkVerdict explain number offset block mark verdict × AddsVerdict old new verdict 1
-mark_unreadable explain number offset block place mark verdict is by adds output faults games faulty = (
+    → (verdict : Verdict) × IsMarkVerdict aim number offset block mark verdict × AddsVerdict old new verdict 1
+mark_unreadable aim number offset block place mark verdict is by adds output faults games faulty = (
   verdict,
-  subst (λ m. IsMarkVerdict explain number offset block m verdict) (sym is) by,
+  subst (λ m. IsMarkVerdict aim number offset block m verdict) (sym is) by,
   counted_first verdict adds output faults games faulty,
 )

@@ -22,13 +22,13 @@ use Rattle.pgn_extract.proofs.VerdictFacts.{reports_more}
 -- what is reported of a mark is the index's verdict on the piece
 mark_is_verdict : (aim : Aim) (number offset : ℕ) (block : List ℕ) (mark : Mark) (shown : spec.Piece) (verdict : Verdict)
     → aim.mode ≡ modes.Index → IsMark mark shown → IsPieceOf offset block shown
-    → IsMarkVerdict aim.explain number offset block mark verdict → IsVerdict aim number (marked offset shown) verdict
+    → IsMarkVerdict aim number offset block mark verdict → IsVerdict aim number (marked offset shown) verdict
 mark_is_verdict aim number offset block (Game place) (spec.Game at parts) verdict index is among by =
     subst (λ m. IsVerdictIn m aim number (offset + at) parts verdict) (sym index) (by ∙ ap (λ n. SoundGame (mark_line number (offset + n))) is)
 mark_is_verdict aim number offset block (Game place) (spec.Unreadable at bytes) verdict index is among by = absurd is
 mark_is_verdict aim number offset block (Unreadable place) (spec.Game at parts) verdict index is among by = absurd is
 mark_is_verdict aim number offset block (Unreadable place) (spec.Unreadable at bytes) verdict index is among by =
-    unreadable_there aim.explain number offset block place at bytes verdict is among by
+    unreadable_there aim number offset block place at bytes verdict is among by
 
 -- a verdict counts as one faulty piece at most
 faulty_once : (faulty : Bool) → (if faulty then 1 else 0) ≤ 1
@@ -50,7 +50,7 @@ module _ {aim : Aim} {start now : Left} {report : Report} {number offset : ℕ} 
   -- one more mark
   pub indexed_more : {next : Left} {report' : Report} {here : ℕ} (block : List ℕ) (mark : Mark)
       → start ≡ record { block = block; file_start = offset == 0; at = 0; failed = false } → aim.mode ≡ modes.Index → TakesMark depth_limit now next mark
-      → here ≡ number + report.games → (verdict : Verdict) × IsMarkVerdict aim.explain here offset block mark verdict × AddsVerdict report report' verdict 1
+      → here ≡ number + report.games → (verdict : Verdict) × IsMarkVerdict aim here offset block mark verdict × AddsVerdict report report' verdict 1
       → Indexed aim start next report' number offset
   indexed_more {next} {report'} {here} block mark begins index takes is (verdict, by, adds) = record {
     done = l.done ++ takes.shown ∷ [];

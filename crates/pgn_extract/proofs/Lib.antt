@@ -14,9 +14,11 @@ pub mod JoinedParts
 pub mod Listed
 pub mod OneExports
 pub mod OneListing
+pub mod OneOfThree
 pub mod OneReport
 pub mod OneVerdict
 pub mod Picks
+pub mod RestOfBlock
 pub mod Resumed
 pub mod RunProgress
 pub mod SameTags

@@ -5,7 +5,7 @@ use Rattle.pgn_text.specs.Parts.{Part}
 use Rattle.pgn_extract.specs.Index.{index, index_line}
 use Rattle.pgn_extract.specs.Listing.{Entry, entry_line, listing}
 use Rattle.pgn_extract.specs.EntryRows.{AreGameEntries, sound, faulty, ArePieceEntries, AreEntryRows}
-use Rattle.pgn_extract.specs.Exports.{IsGameExport, sound as exported, faulty as unexported, IsPieceExport, AreExports}
+use Rattle.pgn_extract.specs.Exports.{IsGameExport, sound as exported, faulty as unexported, IsPieceExport, AreExports, faulty_text}
 use Rattle.pgn_extract.specs.Runs.{Job, Io, Adds, Completes, Indexes, Exports}
 use Rattle.pgn_extract.specs.Verdicts.{Verdict, SoundGame, FaultyGame, output_of, output_text, IsListed, IsExported, IsVerdictIn, IsPieceVerdict, AreVerdicts}
 use Rattle.pgn_extract.specs.declared.outcome.Summary.{Summary}
@@ -21,13 +21,14 @@ listing-append (x ∷ xs) ys = ap (λ t. entry_line x ++ t) (listing-append xs y
 of_game : (aim : Aim) (verdict : Verdict) (number offset : ℕ) (parts : List Part) → IsListed aim verdict number offset parts
     → (own : List Entry) × AreGameEntries aim number offset parts own × (output_of verdict ≡ listing own)
 of_game aim (SoundGame text) number offset parts (replay, entries, is, these, here) = (entries, sound replay is these, here)
-of_game aim (FaultyGame line note) number offset parts (fault, is, here, noted) = ([], faulty fault is refl, refl)
+of_game aim (FaultyGame text line note) number offset parts (fault, is, here, noted, empty) = ([], faulty fault is refl, empty)
 
 -- a piece's entries
 of_piece : (kind : PieceKind) (aim : Aim) → aim.mode ≡ modes.List → (number offset : ℕ) (verdict : Verdict) → IsPieceVerdict kind aim number offset verdict
     → (own : List Entry) × ArePieceEntries aim kind number offset own × (output_of verdict ≡ listing own)
 of_piece (ReadableGame parts) aim lists number offset verdict is = of_game aim verdict number offset parts (subst (λ m. IsVerdictIn m aim number offset parts verdict) lists is)
-of_piece (UnreadableRest bytes) aim lists number offset verdict (note, noted, names, is) = ([], refl, ap output_of is)
+of_piece (UnreadableRest bytes) aim lists number offset verdict (note, noted, names, is) =
+    ([], refl, ap output_of is ∙ ap (λ m. faulty_text m aim.select bytes) lists)
 of_piece TooLongBlock aim lists number offset verdict (note, noted, is) = ([], refl, ap output_of is)
 
 -- the entries of pieces in a row
@@ -45,14 +46,15 @@ of_pieces aim lists number (piece ∷ more) verdicts (verdict, rest, parted, is,
 -- a game's export
 export_of_game : (aim : Aim) (verdict : Verdict) (number offset : ℕ) (parts : List Part) → IsExported aim verdict number offset parts → IsGameExport aim parts (output_of verdict)
 export_of_game aim (SoundGame text) number offset parts (replay, is, written) = exported replay is written
-export_of_game aim (FaultyGame line note) number offset parts (fault, is, here, noted) = unexported fault is refl
+export_of_game aim (FaultyGame text line note) number offset parts (fault, is, here, noted, written) = unexported fault is written
 
 -- a piece's export
 export_of_piece : (kind : PieceKind) (aim : Aim) → aim.mode ≡ modes.Export → (number offset : ℕ) (verdict : Verdict) → IsPieceVerdict kind aim number offset verdict
     → IsPieceExport aim kind (output_of verdict)
 export_of_piece (ReadableGame parts) aim exports number offset verdict is =
     export_of_game aim verdict number offset parts (subst (λ m. IsVerdictIn m aim number offset parts verdict) exports is)
-export_of_piece (UnreadableRest bytes) aim exports number offset verdict (note, noted, names, is) = ap output_of is
+export_of_piece (UnreadableRest bytes) aim exports number offset verdict (note, noted, names, is) =
+    ap output_of is ∙ ap (λ m. faulty_text m aim.select bytes) exports
 export_of_piece TooLongBlock aim exports number offset verdict (note, noted, is) = ap output_of is
 
 -- the exports of pieces in a row
@@ -71,7 +73,8 @@ exports_of_pieces aim exports number (piece ∷ more) verdicts (verdict, rest, p
 indexed_piece : (kind : PieceKind) (aim : Aim) → aim.mode ≡ modes.Index → (number offset : ℕ) (verdict : Verdict) → IsPieceVerdict kind aim number offset verdict
     → output_of verdict ≡ index_line number (record { offset = offset; kind = kind })
 indexed_piece (ReadableGame parts) aim indexes number offset verdict is = ap output_of (subst (λ m. IsVerdictIn m aim number offset parts verdict) indexes is)
-indexed_piece (UnreadableRest bytes) aim indexes number offset verdict (note, noted, names, is) = ap output_of is
+indexed_piece (UnreadableRest bytes) aim indexes number offset verdict (note, noted, names, is) =
+    ap output_of is ∙ ap (λ m. faulty_text m aim.select bytes) indexes
 indexed_piece TooLongBlock aim indexes number offset verdict (note, noted, is) = ap output_of is
 
 -- the index of pieces in a row

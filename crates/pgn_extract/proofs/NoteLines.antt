@@ -156,7 +156,7 @@ stop_note explain asked origin block begin note is =
 -- a note on a block over the limit
 pub too_long_note : (explain : Bool) → explain ≡ true → (size limit : ℕ) → IsNote explain (indented (too_long_text size limit ∷ []))
 too_long_note explain asked size limit =
-    let last = codes "; games are parted at lines that begin with [Event \"" in
+    let last = codes "; games are parted at lines that begin with [Event \" (a compressed file needs zcat)" in
     subst (λ e. IsNote e (indented (too_long_text size limit ∷ []))) (sym asked) (
       too_long_text size limit ∷ [],
       (
@@ -232,9 +232,10 @@ names_stop true origin block begin note fits is =
     let named = subst (NamesByte (origin.offset + is.place)) (sym whole) (subst (λ n. NamesByte (origin.offset + n) shaped) size names) in
     (is.place, is.stops, named)
 
--- a line that begins with a place, where nothing stood before it
-pub placed_line : {old new : List ℕ} (line : Option ℕ) (byte : ℕ) (front : List ℕ) → old ≡ [] → new ≡ old ++ place_in line byte front → IsLine new
-placed_line line byte front none is = subst IsLine (sym (is ∙ ap (λ xs. xs ++ place_in line byte front) none)) (place_line line byte front)
+-- a label and a number keep a line one
+pub number_kept : (old new label : List ℕ) (n : ℕ) → IsLine label → new ≡ old ++ (label ++ decimal n) → IsLine old → IsLine new
+number_kept old new label n own is line =
+    subst IsLine (sym is) (line_join old (label ++ decimal n) line (line_join label (decimal n) own (decimal_line n)))
 
 -- one line is a note
 pub line_note : (line : List ℕ) → IsLine line → IsNote true (indented (line ∷ []))

@@ -172,6 +172,8 @@ listing_aim aim = record {
   min_ply = aim.min_ply;
   max_ply = aim.max_ply;
   first = aim.first;
+  select = aim.select;
+  as_is = aim.as_is;
   style = aim.style;
   explain = aim.explain;
 }

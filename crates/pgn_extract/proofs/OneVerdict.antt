@@ -1,5 +1,5 @@
 -- A piece is reported in one way in a mode, but for its note: its game has one replay or one fault, and one export.
-use Rattle.std.proofs.Common.{◌≡◌, ℕ, ◌+◌, false, List, [], ◌∷◌, map, sym, ap, ◌∙◌, subst, refl, codes}
+use Rattle.std.proofs.Common.{◌≡◌, ℕ, ◌+◌, Bool, true, false, List, [], ◌∷◌, map, sym, ap, ◌∙◌, subst, refl, codes}
 use Rattle.pgn_text.specs.Games.{items_of, first_tag}
 use Rattle.pgn_text.specs.Marks.{PieceKind, ReadableGame, UnreadableRest, TooLongBlock, MarkedPiece}
 use Rattle.pgn_text.specs.Parts.{Part}
@@ -7,8 +7,9 @@ use Rattle.pgn_game.specs.Faults.{Fault}
 use Rattle.pgn_game.specs.Laws.{GameHasOneReplay, GameHasOneFault, SoundGameHasNoFault}
 use Rattle.pgn_game.specs.Replays.{Replay}
 use Rattle.pgn_game.specs.declared.replayer.Lines.TheVariants.{Main}
+use Rattle.pgn_game.specs.declared.style.Style.{Style}
 use Rattle.pgn_game.specs.Starts.{fen_tag}
-use Rattle.pgn_extract.specs.Exports.{written_lines, IsWritten, with_entry, without_entry}
+use Rattle.pgn_extract.specs.Exports.{written_lines, IsTextOf, IsWritten, selected, unselected, faulty_text}
 use Rattle.pgn_extract.specs.Index.{fault_text}
 use Rattle.pgn_extract.specs.Listing.{listing, tags_in}
 use Rattle.pgn_extract.specs.GameReports.{entries_from, AreListed, cause_text}
@@ -20,20 +21,27 @@ use Rattle.pgn_extract.proofs.GameExport.{PartsHaveOneExport}
 use Rattle.pgn_extract.specs.declared.settings.Mode.{Mode}
 use Rattle.pgn_extract.specs.declared.settings.Mode.TheVariants as modes
 
+-- the text of a game, where its parts have one export
+one_text : PartsHaveOneExport → (as_is : Bool) (style : Style) (parts : List Part) (x y : List ℕ)
+    → IsTextOf as_is style parts x → IsTextOf as_is style parts y → x ≡ y
+one_text one_export false style parts x y first second = one_export style parts x y first second
+one_text one_export true style parts x y first second = first ∙ sym second
+
 -- what is written of a game, where its parts have one export
 pub one_written : PartsHaveOneExport → (aim : Aim) (parts : List Part) (replay : Replay) (x y : List ℕ)
     → IsWritten aim parts replay x → IsWritten aim parts replay y → x ≡ y
-one_written one_export aim parts replay x y (with_entry has first) (with_entry also second) = one_export aim.style parts x y first second
-one_written one_export aim parts replay x y (with_entry has first) (without_entry none second) = absurd (none has)
-one_written one_export aim parts replay x y (without_entry none first) (with_entry has second) = absurd (none has)
-one_written one_export aim parts replay x y (without_entry none first) (without_entry also second) = first ∙ sym second
+one_written one_export aim parts replay x y (selected is first) (selected also second) = one_text one_export aim.as_is aim.style parts x y first second
+one_written one_export aim parts replay x y (selected is first) (unselected none second) = absurd (none is)
+one_written one_export aim parts replay x y (unselected none first) (selected is second) = absurd (none is)
+one_written one_export aim parts replay x y (unselected none first) (unselected also second) = first ∙ sym second
 
 -- a piece that one line reports
-one_line : (aim : Aim) (line : List ℕ) (a b : Verdict) → IsReportedBy aim line a → IsReportedBy aim line b → without_note a ≡ without_note b
-one_line aim line a b (first, is, x) (second, also, y) = ap without_note x ∙ sym (ap without_note y)
+one_line : (aim : Aim) (text line : List ℕ) (a b : Verdict) → IsReportedBy aim text line a → IsReportedBy aim text line b → without_note a ≡ without_note b
+one_line aim text line a b (first, is, x) (second, also, y) = ap without_note x ∙ sym (ap without_note y)
 
--- bytes that are no game are reported by their line and a note
-reported_by : (aim : Aim) (offset : ℕ) (bytes line : List ℕ) (v : Verdict) → IsUnreadableVerdict aim.explain offset bytes line v → IsReportedBy aim line v
+-- bytes that are no game are reported by themselves, their line and a note
+reported_by : (aim : Aim) (offset : ℕ) (bytes line : List ℕ) (v : Verdict) → IsUnreadableVerdict aim offset bytes line v
+    → IsReportedBy aim (faulty_text aim.mode aim.select bytes) line v
 reported_by aim offset bytes line v (note, noted, names, is) = (note, noted, is)
 
 module _ (one_replay : GameHasOneReplay) (one_fault : GameHasOneFault) (no_fault : SoundGameHasNoFault) (one_export : PartsHaveOneExport) where
@@ -45,22 +53,23 @@ module _ (one_replay : GameHasOneReplay) (one_fault : GameHasOneFault) (no_fault
       one_chosen (λ entry. IsEntry aim (tags_in parts) first entry.ply) (entries_from number offset 0 first.positions) xs ys these
       (subst (λ (r : Replay). AreListed aim number offset (tags_in parts) r ys) of those) in
       ap SoundGame (text ∙ ap listing same ∙ sym other)
-  one_listed aim (SoundGame x) (FaultyGame y v) number offset parts (first, xs, is, these, text) (second, also, other, note) = absurd (no_fault Main (first_tag fen_tag parts) (items_of parts) second (first, is) also)
-  one_listed aim (FaultyGame x u) (SoundGame y) number offset parts (first, is, text, note) (second, ys, also, those, other) = absurd (no_fault Main (first_tag fen_tag parts) (items_of parts) first (second, also) is)
-  one_listed aim (FaultyGame x u) (FaultyGame y v) number offset parts (first, is, text, note) (second, also, other, noted) =
-      ap (λ (l : List ℕ). FaultyGame l []) (text ∙ ap (λ (f : Fault). fault_text number offset (cause_text f)) (one_fault Main (first_tag fen_tag parts) (items_of parts) first second is also) ∙ sym other)
+  one_listed aim (SoundGame x) (FaultyGame z y v) number offset parts (first, xs, is, these, text) (second, also, other, note, out) = absurd (no_fault Main (first_tag fen_tag parts) (items_of parts) second (first, is) also)
+  one_listed aim (FaultyGame w x u) (SoundGame y) number offset parts (first, is, text, note, out) (second, ys, also, those, other) = absurd (no_fault Main (first_tag fen_tag parts) (items_of parts) first (second, also) is)
+  one_listed aim (FaultyGame w x u) (FaultyGame z y v) number offset parts (first, is, text, note, out) (second, also, other, noted, written) =
+      ap (λ (t : List ℕ). FaultyGame t x []) (out ∙ sym written) ∙ ap (λ (l : List ℕ). FaultyGame z l []) (text ∙ ap (λ (f : Fault). fault_text number offset (cause_text f)) (one_fault Main (first_tag fen_tag parts) (items_of parts) first second is also) ∙ sym other)
 
   -- a game in the export
   one_exported : (aim : Aim) (a b : Verdict) (number offset : ℕ) (parts : List Part) → IsExported aim a number offset parts → IsExported aim b number offset parts → without_note a ≡ without_note b
   one_exported aim (SoundGame x) (SoundGame y) number offset parts (first, is, text) (second, also, other) =
       let of : second ≡ first = one_replay (written_lines aim) (first_tag fen_tag parts) (items_of parts) second first also is in
       ap SoundGame (one_written one_export aim parts first x y text (subst (λ (r : Replay). IsWritten aim parts r y) of other))
-  one_exported aim (SoundGame x) (FaultyGame y v) number offset parts (first, is, text) (second, also, other, note) =
+  one_exported aim (SoundGame x) (FaultyGame z y v) number offset parts (first, is, text) (second, also, other, note, out) =
       absurd (no_fault (written_lines aim) (first_tag fen_tag parts) (items_of parts) second (first, is) also)
-  one_exported aim (FaultyGame x u) (SoundGame y) number offset parts (first, is, text, note) (second, also, other) =
+  one_exported aim (FaultyGame w x u) (SoundGame y) number offset parts (first, is, text, note, out) (second, also, other) =
       absurd (no_fault (written_lines aim) (first_tag fen_tag parts) (items_of parts) first (second, also) is)
-  one_exported aim (FaultyGame x u) (FaultyGame y v) number offset parts (first, is, text, note) (second, also, other, noted) =
-      ap (λ (l : List ℕ). FaultyGame l [])
+  one_exported aim (FaultyGame w x u) (FaultyGame z y v) number offset parts (first, is, text, note, out) (second, also, other, noted, written) =
+      ap (λ (t : List ℕ). FaultyGame t x []) (out ∙ sym written)
+      ∙ ap (λ (l : List ℕ). FaultyGame z l [])
       (text ∙ ap (λ (f : Fault). fault_text number offset (cause_text f)) (one_fault (written_lines aim) (first_tag fen_tag parts) (items_of parts) first second is also) ∙ sym other)
 
   -- a game in a mode
@@ -73,8 +82,8 @@ module _ (one_replay : GameHasOneReplay) (one_fault : GameHasOneFault) (no_fault
   one_verdict : (kind : PieceKind) (aim : Aim) (number offset : ℕ) (a b : Verdict) → IsPieceVerdict kind aim number offset a → IsPieceVerdict kind aim number offset b → without_note a ≡ without_note b
   one_verdict (ReadableGame parts) aim number offset a b x y = one_in aim.mode aim number offset parts a b x y
   one_verdict (UnreadableRest bytes) aim number offset a b x y =
-      one_line aim (fault_text number offset (codes "unreadable")) a b (reported_by aim offset bytes _ a x) (reported_by aim offset bytes _ b y)
-  one_verdict TooLongBlock aim number offset a b x y = one_line aim (fault_text number offset (codes "too long")) a b x y
+      one_line aim (faulty_text aim.mode aim.select bytes) (fault_text number offset (codes "unreadable")) a b (reported_by aim offset bytes _ a x) (reported_by aim offset bytes _ b y)
+  one_verdict TooLongBlock aim number offset a b x y = one_line aim [] (fault_text number offset (codes "too long")) a b x y
 
   -- pieces in a row
   pub all_one_verdict : (aim : Aim) (number : ℕ) (pieces : List MarkedPiece) (xs ys : List Verdict) → AreVerdicts aim number pieces xs → AreVerdicts aim number pieces ys
@@ -91,14 +100,14 @@ module _ (aim : Aim) (plain : aim.explain ≡ false) where
 
   bare_listed : (v : Verdict) (number offset : ℕ) (parts : List Part) → IsListed aim v number offset parts → without_note v ≡ v
   bare_listed (SoundGame text) number offset parts is = refl
-  bare_listed (FaultyGame line note) number offset parts (fault, is, text, noted) = ap (FaultyGame line) (sym (no_note note noted))
+  bare_listed (FaultyGame text line note) number offset parts (fault, is, here, noted, out) = ap (FaultyGame text line) (sym (no_note note noted))
 
   bare_exported : (v : Verdict) (number offset : ℕ) (parts : List Part) → IsExported aim v number offset parts → without_note v ≡ v
   bare_exported (SoundGame text) number offset parts is = refl
-  bare_exported (FaultyGame line note) number offset parts (fault, is, text, noted) = ap (FaultyGame line) (sym (no_note note noted))
+  bare_exported (FaultyGame text line note) number offset parts (fault, is, here, noted, out) = ap (FaultyGame text line) (sym (no_note note noted))
 
-  bare_line : (v : Verdict) (line : List ℕ) → IsReportedBy aim line v → without_note v ≡ v
-  bare_line v line (note, noted, is) = ap without_note is ∙ ap (FaultyGame line) (sym (no_note note noted)) ∙ sym is
+  bare_line : (v : Verdict) (text line : List ℕ) → IsReportedBy aim text line v → without_note v ≡ v
+  bare_line v text line (note, noted, is) = ap without_note is ∙ ap (FaultyGame text line) (sym (no_note note noted)) ∙ sym is
 
   bare_in : (mode : Mode) (number offset : ℕ) (parts : List Part) (v : Verdict) → IsVerdictIn mode aim number offset parts v → without_note v ≡ v
   bare_in modes.Index number offset parts v is = ap without_note is ∙ sym is
@@ -108,8 +117,8 @@ module _ (aim : Aim) (plain : aim.explain ≡ false) where
   bare_piece : (kind : PieceKind) (number offset : ℕ) (v : Verdict) → IsPieceVerdict kind aim number offset v → without_note v ≡ v
   bare_piece (ReadableGame parts) number offset v is = bare_in aim.mode number offset parts v is
   bare_piece (UnreadableRest bytes) number offset v is =
-      bare_line v (fault_text number offset (codes "unreadable")) (reported_by aim offset bytes _ v is)
-  bare_piece TooLongBlock number offset v is = bare_line v (fault_text number offset (codes "too long")) is
+      bare_line v (faulty_text aim.mode aim.select bytes) (fault_text number offset (codes "unreadable")) (reported_by aim offset bytes _ v is)
+  bare_piece TooLongBlock number offset v is = bare_line v [] (fault_text number offset (codes "too long")) is
 
   pub bare_verdicts : (number : ℕ) (pieces : List MarkedPiece) (verdicts : List Verdict) → AreVerdicts aim number pieces verdicts → map without_note verdicts ≡ verdicts
   bare_verdicts number [] verdicts none = ap (map without_note) none ∙ sym none

@@ -1,5 +1,5 @@
 -- The entries of a game, picked one after the other from the least ply on that is wanted.
-use Rattle.std.proofs.Common.{◌≡◌, ◌⊎◌, ℕ, zero, suc, ◌+◌, ◌-◌, ◌<◌, ◌≤◌, true, false, List, [], ◌∷◌, ◌++◌, length, drop, Option, Some, None, refl, sym, ap, ◌∙◌, subst, arith, append_assoc, inl, inr}
+use Rattle.std.proofs.Common.{◌≡◌, ◌↔◌, ◌⊎◌, ℕ, zero, suc, ◌+◌, ◌-◌, ◌<◌, ◌≤◌, true, false, List, [], ◌∷◌, ◌++◌, length, drop, Option, Some, None, refl, sym, ap, ◌∙◌, subst, arith, append_assoc, inl, inr}
 use Rattle.std.proofs.lemmas.List.{append-nil}
 use Rattle.std.proofs.lemmas.Bool.{cases_lt, both_ways}
 use Rattle.std.proofs.lemmas.Option.{slice_get_within}
@@ -220,3 +220,21 @@ pub first_of : (tags : Tags) (replay : Replay) (criteria : Option (List (List (C
 first_of tags replay criteria alternatives from max found is h =
     subst (λ (c : Option (List (List (Condition (List ℕ))))). IsFirst (λ ply. (ply < length replay.positions) × IsMet c tags replay ply) from max found) (sym is)
     (first_met tags replay alternatives from max found h)
+
+-- what is looked for in place of criteria that are given
+pub same_met : (tags : Tags) (replay : Replay) (criteria : Option (List (List (Condition (List ℕ))))) (alternatives others : List (List (Condition (List ℕ)))) (ply : ℕ)
+    → criteria ≡ Some alternatives → (Meets tags replay ply others ↔ Meets tags replay ply alternatives) → IsMet (Some others) tags replay ply ↔ IsMet criteria tags replay ply
+same_met tags replay criteria alternatives others ply is same =
+    subst (λ (c : Option (List (List (Condition (List ℕ))))). Meets tags replay ply others ↔ IsMet c tags replay ply) (sym is) same
+
+-- the first ply is the same by a fact that says the same
+pub same_first : (tags : Tags) (replay : Replay) (criteria others : Option (List (List (Condition (List ℕ))))) (from max : ℕ) (found : Option ℕ)
+    → ((ply : ℕ) → IsMet others tags replay ply ↔ IsMet criteria tags replay ply) → IsFirst (λ ply. (ply < length replay.positions) × IsMet others tags replay ply) from max found
+    → IsFirst (λ ply. (ply < length replay.positions) × IsMet criteria tags replay ply) from max found
+same_first tags replay criteria others from max None same fails = λ n low high fact. fails n low high (fact.0, (same n).1 fact.1)
+same_first tags replay criteria others from max (Some n) same (low, high, fact, least) = (
+  low,
+  high,
+  (fact.0, (same n).0 fact.1),
+  λ m above less met. least m above less (met.0, (same m).1 met.1),
+)

@@ -1,6 +1,6 @@
 -- The pieces of a text are reported in some way: each of its games has a replay or a fault, since its FEN tag has the contents of a string,
 -- and each sound one has an export.
-use Rattle.std.proofs.Common.{◌≡◌, ◌⊎◌, ℕ, zero, suc, arith, ◌+◌, ◌<◌, ◌≤◌, ◌==◌, Bool, List, [], ◌∷◌, ◌++◌, map, length, Option, Some, None, IfSome, refl, sym, ◌∙◌, subst, inl, inr, codes}
+use Rattle.std.proofs.Common.{◌≡◌, ◌⊎◌, ℕ, zero, suc, arith, ◌+◌, ◌<◌, ◌≤◌, ◌==◌, Bool, true, false, List, [], ◌∷◌, ◌++◌, map, length, Option, Some, None, IfSome, refl, sym, ◌∙◌, subst, inl, inr, codes}
 use Rattle.std.proofs.lemmas.Bool.{cases_lt, cases_Bool, both_ways}
 use Rattle.pgn_text.specs.Games.{items_of, first_tag}
 use Rattle.pgn_text.specs.Marks.{PieceKind, ReadableGame, UnreadableRest, TooLongBlock, MarkedPiece, marked, AreOfBlock, over, within, AreOfBlocks, AreMarkedPieces}
@@ -17,7 +17,7 @@ use Rattle.pgn_game.specs.Starts.{fen_tag}
 use Rattle.pgn_extract.specs.Index.{fault_text, mark_line}
 use Rattle.pgn_extract.specs.Listing.{listing, tags_in}
 use Rattle.pgn_extract.specs.GameReports.{entries_from, cause_text, IsReplayOf, IsFaultOf}
-use Rattle.pgn_extract.specs.Exports.{written_lines, HasEntry, IsWritten, with_entry, without_entry}
+use Rattle.pgn_extract.specs.Exports.{written_lines, HasEntry, IsTextOf, IsWritten, selected, unselected, as_it_stands, faulty_text}
 use Rattle.pgn_extract.specs.Verdicts.{Verdict, SoundGame, FaultyGame, IsVerdictIn, IsReportedBy, IsPieceVerdict, AreVerdicts, IsUnreadableVerdict}
 use Rattle.pgn_game.specs.Replays.{Replay}
 use Rattle.pgn_criteria.specs.Meeting.{Tags}
@@ -26,6 +26,7 @@ use Rattle.pgn_extract.specs.Laws.{TextHasAReport}
 use Rattle.pgn_extract.proofs.Chosen.{some_chosen}
 use Rattle.pgn_extract.proofs.Decided.{IsDecided, all_decided}
 use Rattle.pgn_extract.proofs.ExactEntries.{of_positions}
+use Rattle.pgn_extract.proofs.Exported.{selected_or_not}
 use Rattle.pgn_extract.proofs.GameExport.{some_export_of_parts}
 use Rattle.pgn_extract.proofs.NoteLines.{empty_note, some_stop_note}
 use Rattle.pgn_extract.specs.declared.settings.Mode.{Mode}
@@ -43,7 +44,7 @@ AreMade (piece ∷ more) = IsMade piece.kind × AreMade more
 
 made_of : (parts : List Part) → (game : GameText) × IsGameText game × ShowsGame game 0 parts → IsMade (ReadableGame parts)
 made_of parts (game, is_game, shows) =
-    (game, is_game, record { place = refl; tags = shows.tags; elements = shows.elements; result = shows.result })
+    (game, is_game, record { place = refl; text = shows.text; tags = shows.tags; elements = shows.elements; result = shows.result })
 
 pieces_made : (max_depth : ℕ) (file_start : Bool) (before : List ℕ) (pieces : List Piece) (text : List ℕ) (offset : ℕ)
     → ArePieces max_depth file_start before pieces text → AreMade (map (marked offset) pieces)
@@ -152,14 +153,23 @@ module _ (aim : Aim) (decided : IsDecided aim) (number offset : ℕ) (parts : Li
   listed_or_not lines replay is ply short =
       entry_or_not aim (tags_in parts) replay ply (λ n less. decided lines parts replay is n (omega arith))
 
-  written : (replay : Replay) → IsReplayOf (written_lines aim) parts replay → (text : List ℕ) × IsWritten aim parts replay text
-  written replay is =
+  -- so a sound game has an entry or none
+  has_or_not : (replay : Replay) → IsReplayOf (written_lines aim) parts replay → HasEntry aim (tags_in parts) replay ⊎ (HasEntry aim (tags_in parts) replay → ⊥)
+  has_or_not replay is =
       elim (entry_or_none aim (tags_in parts) replay (length replay.positions) (omega arith) (listed_or_not (written_lines aim) replay is)) [
-        | inl has ↦
-            let export = some_export_of_parts aim.style parts made.0 made.1 made.2 replay is in
-            (export.0, with_entry has export.1)
-        | inr none ↦ ([], without_entry (λ has. none has.0 has.1 has.2) refl)
+        | inl has ↦ inl has
+        | inr none ↦ inr (λ has. none has.0 has.1 has.2)
       ]
+
+  some_text : (as_is : Bool) (replay : Replay) → IsReplayOf (written_lines aim) parts replay → (text : List ℕ) × IsTextOf as_is aim.style parts text
+  some_text false replay is = some_export_of_parts aim.style parts made.0 made.1 made.2 replay is
+  some_text true replay is = (as_it_stands (spelled parts), refl)
+
+  written : (replay : Replay) → IsReplayOf (written_lines aim) parts replay → (text : List ℕ) × IsWritten aim parts replay text
+  written replay is = elim (selected_or_not aim.select (HasEntry aim (tags_in parts) replay) (has_or_not replay is)) [
+    | inl has ↦ let own = some_text aim.as_is replay is in (own.0, selected has own.1)
+    | inr none ↦ ([], unselected none refl)
+  ]
 
   game_reported : (mode : Mode) → (verdict : Verdict) × IsVerdictIn mode aim number offset parts verdict
   game_reported modes.Index = (SoundGame (mark_line number offset), refl)
@@ -172,26 +182,28 @@ module _ (aim : Aim) (decided : IsDecided aim) (number offset : ℕ) (parts : Li
         let high = (of_positions number offset 0 sound.0.positions entry has).high in
         listed_or_not Main sound.0 sound.1 entry.ply (omega arith)) in
         (SoundGame (listing some.0), (sound.0, some.0, sound.1, some.1, refl))
-    | inr faulty ↦ (FaultyGame (fault_text number offset (cause_text faulty.0)) [], (faulty.0, faulty.1, refl, empty_note aim.explain))
+    | inr faulty ↦ (FaultyGame [] (fault_text number offset (cause_text faulty.0)) [], (faulty.0, faulty.1, refl, empty_note aim.explain, refl))
   ]
   game_reported modes.Export = elim (answers parts made (written_lines aim)) [
     | inl sound ↦ let text = written sound.0 sound.1 in (SoundGame text.0, (sound.0, sound.1, text.1))
-    | inr faulty ↦ (FaultyGame (fault_text number offset (cause_text faulty.0)) [], (faulty.0, faulty.1, refl, empty_note aim.explain))
+    | inr faulty ↦
+        let text = faulty_text modes.Export aim.select (spelled parts) in
+        (FaultyGame text (fault_text number offset (cause_text faulty.0)) [], (faulty.0, faulty.1, refl, empty_note aim.explain, refl))
   ]
 
-by_line : (aim : Aim) (line : List ℕ) → (verdict : Verdict) × IsReportedBy aim line verdict
-by_line aim line = (FaultyGame line [], ([], empty_note aim.explain, refl))
+by_line : (aim : Aim) (line : List ℕ) → (verdict : Verdict) × IsReportedBy aim [] line verdict
+by_line aim line = (FaultyGame [] line [], ([], empty_note aim.explain, refl))
 
-unreadable_reported : (explain : Bool) (offset : ℕ) (bytes line : List ℕ) → (verdict : Verdict) × IsUnreadableVerdict explain offset bytes line verdict
-unreadable_reported explain offset bytes line =
-    let some = some_stop_note explain offset bytes in
-    (FaultyGame line some.0, (some.0, some.1, some.2, refl))
+unreadable_reported : (aim : Aim) (offset : ℕ) (bytes line : List ℕ) → (verdict : Verdict) × IsUnreadableVerdict aim offset bytes line verdict
+unreadable_reported aim offset bytes line =
+    let some = some_stop_note aim.explain offset bytes in
+    (FaultyGame (faulty_text aim.mode aim.select bytes) line some.0, (some.0, some.1, some.2, refl))
 
 piece_reported : (kind : PieceKind) (aim : Aim) → IsDecided aim → (number offset : ℕ) → IsMade kind
     → (verdict : Verdict) × IsPieceVerdict kind aim number offset verdict
 piece_reported (ReadableGame parts) aim decided number offset made = game_reported aim decided number offset parts made aim.mode
 piece_reported (UnreadableRest bytes) aim decided number offset made =
-    unreadable_reported aim.explain offset bytes (fault_text number offset (codes "unreadable"))
+    unreadable_reported aim offset bytes (fault_text number offset (codes "unreadable"))
 piece_reported TooLongBlock aim decided number offset made = by_line aim (fault_text number offset (codes "too long"))
 
 all_reported : (aim : Aim) → IsDecided aim → (number : ℕ) (pieces : List MarkedPiece) → AreMade pieces

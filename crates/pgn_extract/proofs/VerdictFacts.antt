@@ -53,7 +53,7 @@ count_by-join xs ys = fold-append (λ (n : ℕ) (x : Verdict). n + (if is_faulty
 bare_output : (xs : List Verdict) → output_text (map without_note xs) ≡ output_text xs
 bare_output [] = refl
 bare_output (SoundGame text ∷ xs) = ap (λ t. text ++ t) (bare_output xs)
-bare_output (FaultyGame line note ∷ xs) = bare_output xs
+bare_output (FaultyGame text line note ∷ xs) = ap (λ t. text ++ t) (bare_output xs)
 
 pub same_output : (xs ys : List Verdict) → map without_note xs ≡ map without_note ys → output_text xs ≡ output_text ys
 same_output xs ys same = sym (bare_output xs) ∙ ap output_text same ∙ bare_output ys
@@ -61,7 +61,7 @@ same_output xs ys same = sym (bare_output xs) ∙ ap output_text same ∙ bare_o
 -- and they do not count
 bare_faulty : (x : Verdict) → is_faulty (without_note x) ≡ is_faulty x
 bare_faulty (SoundGame text) = refl
-bare_faulty (FaultyGame line note) = refl
+bare_faulty (FaultyGame text line note) = refl
 
 bare_count : (a : ℕ) (xs : List Verdict)
     → fold (λ (n : ℕ) (x : Verdict). n + (if is_faulty x then 1 else 0)) a (map without_note xs) ≡ fold (λ (n : ℕ) (x : Verdict). n + (if is_faulty x then 1 else 0)) a xs
@@ -98,8 +98,8 @@ pub reports_too_long : (aim : Aim) (report : Report) (number offset : ℕ) (note
 reports_too_long aim report number offset note noted output faults games faulty =
     let line = fault_text number offset (codes "too long") in
     record {
-      verdicts = FaultyGame line note ∷ [];
-      each = (FaultyGame line note, [], refl, (note, noted, refl), refl);
+      verdicts = FaultyGame [] line note ∷ [];
+      each = (FaultyGame [] line note, [], refl, (note, noted, refl), refl);
       output = output;
       faults = faults ∙ sym (append-nil (line ++ note));
       same = refl;

@@ -5,6 +5,7 @@ use Rattle.pgn_game.specs.declared.style.Style.{Style}
 use Rattle.pgn_criteria.specs.Meeting.{Tags, Meets}
 use Rattle.pgn_criteria.specs.declared.condition.Condition.{Condition}
 use Rattle.pgn_extract.specs.declared.settings.Mode.{Mode}
+use Rattle.pgn_extract.specs.declared.settings.Select.{Select}
 use Rattle.pgn_extract.specs.declared.settings.Settings.{Settings}
 
 -- what is to be reported of each piece; the criteria are alternatives of conditions
@@ -14,6 +15,8 @@ pub record Aim : Type 0 where
   pub min_ply : ℕ
   pub max_ply : ℕ
   pub first : Bool
+  pub select : Select
+  pub as_is : Bool
   pub style : Style
   pub explain : Bool
 
@@ -25,6 +28,8 @@ aim_of settings = record {
   min_ply = settings.min_ply;
   max_ply = settings.max_ply;
   first = settings.first;
+  select = settings.select;
+  as_is = settings.as_is;
   style = settings.style;
   explain = settings.explain;
 }

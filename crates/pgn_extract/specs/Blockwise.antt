@@ -1,10 +1,11 @@
 -- What the parts of a run do with the bytes dropped, with one block and with the blocks in a row: the words between the code and
 -- those of `Outcomes`.
-use Rattle.std.specs.Prelude.{◌≡◌, ◌⊎◌, ℕ, ◌+◌, ◌<◌, ◌≤◌, Bool, true, false, List, [], ◌∷◌, ◌++◌, length, count_by, Option, IfSome, codes, if◌then◌else◌, ◌==◌}
+use Rattle.std.specs.Prelude.{◌≡◌, ◌⊎◌, ℕ, ◌+◌, ◌<◌, ◌≤◌, Bool, true, false, List, [], ◌∷◌, ◌++◌, length, drop, count_by, Option, IfSome, codes, if◌then◌else◌, ◌==◌}
 use Rattle.pgn_text.specs.GameTexts.{GameText, ShowsGame, tag_in}
 use Rattle.pgn_game.specs.Exports.{IsExport}
 use Rattle.pgn_game.specs.Replays.{Replay}
-use Rattle.pgn_extract.specs.Exports.{HasEntry}
+use Rattle.pgn_game.specs.declared.style.Style.{Style}
+use Rattle.pgn_extract.specs.Exports.{HasEntry, IsSelected, as_it_stands, faulty_text}
 use Rattle.pgn_text.specs.Left.{IsPiece}
 use Rattle.pgn_text.specs.Limits.{depth_limit, largest_offset}
 use Rattle.pgn_text.specs.Marks.{TooLongBlock, MarkedPiece, marked, AreOfBlock, AreMarkedPieces}
@@ -69,11 +70,19 @@ AddsPlies aim number offset plies old new =
     (tags : Tags) (replay : Replay) → length replay.positions ≡ plies + 1
     → (entries : List Entry) × AreListed aim number offset tags replay entries × (new ≡ old ++ listing entries)
 
--- what is written of the game that is given: its export where it has an entry, and else nothing
+-- the text of the game that is given: its export, or the game as it stands
+abbrev pub IsGivenText : Bool → Style → GameText → List ℕ → Type 0
+IsGivenText false style game text = IsExport style game text
+IsGivenText true style game text = text ≡ as_it_stands game.text
+
+-- the sound game that is given is selected
+abbrev pub IsGameSelected : Aim → GameText → Replay → Type 0
+IsGameSelected aim game replay = IsSelected aim.select (HasEntry aim (λ name. tag_in name game.tags) replay)
+
+-- what is written of the game that is given: its text where it is selected, and else nothing
 abbrev pub IsGameWritten : Aim → GameText → Replay → List ℕ → Type 0
 IsGameWritten aim game replay text =
-    (HasEntry aim (λ name. tag_in name game.tags) replay × IsExport aim.style game text)
-    ⊎ ((HasEntry aim (λ name. tag_in name game.tags) replay → ⊥) × (text ≡ []))
+    (IsGameSelected aim game replay × IsGivenText aim.as_is aim.style game text) ⊎ ((IsGameSelected aim game replay → ⊥) × (text ≡ []))
 
 -- the same of what the export reports
 abbrev pub AddsExported : Aim → Report → Report → ℕ → ℕ → GameText → Type 0
@@ -106,15 +115,15 @@ NamesBlockStop true offset block begin note =
     (place : ℕ) × StopsBlockAt depth_limit (offset == 0) block begin place × NamesByte (offset + place) note
 
 -- bytes of the block from the place `begin` on that are no game are reported so
-abbrev pub IsBlockVerdict : Bool → ℕ → ℕ → List ℕ → ℕ → Verdict → Type 0
-IsBlockVerdict explain number offset block begin verdict =
-    (note : List ℕ) × IsNote explain note × NamesBlockStop explain offset block begin note
-    × (verdict ≡ FaultyGame (fault_text number (offset + begin) (codes "unreadable")) note)
+abbrev pub IsBlockVerdict : Aim → ℕ → ℕ → List ℕ → ℕ → Verdict → Type 0
+IsBlockVerdict aim number offset block begin verdict =
+    (note : List ℕ) × IsNote aim.explain note × NamesBlockStop aim.explain offset block begin note
+    × (verdict ≡ FaultyGame (faulty_text aim.mode aim.select (drop begin block)) (fault_text number (offset + begin) (codes "unreadable")) note)
 
 -- so the index reports the piece whose mark is given, in the block that begins at the offset
-abbrev pub IsMarkVerdict : Bool → ℕ → ℕ → List ℕ → Mark → Verdict → Type 0
-IsMarkVerdict explain number offset block (mark.Game place) verdict = verdict ≡ SoundGame (mark_line number (offset + place))
-IsMarkVerdict explain number offset block (mark.Unreadable place) verdict = IsBlockVerdict explain number offset block place verdict
+abbrev pub IsMarkVerdict : Aim → ℕ → ℕ → List ℕ → Mark → Verdict → Type 0
+IsMarkVerdict aim number offset block (mark.Game place) verdict = verdict ≡ SoundGame (mark_line number (offset + place))
+IsMarkVerdict aim number offset block (mark.Unreadable place) verdict = IsBlockVerdict aim number offset block place verdict
 
 -- the report is of the pieces of the block
 pub record ReportsBlock (aim : Aim) (report : Report) (limit max_depth number offset : ℕ) (block : List ℕ) : Type 0 where

@@ -2,14 +2,17 @@
 use Rattle.std.specs.Prelude.{◌≡◌, ◌↔◌, Bool, true, false, ℕ, ◌+◌, ◌-◌, ◌^◌, ◌<◌, ◌≤◌, ◌==◌, List, [], ◌∷◌, ◌++◌, length, take, drop, count_by, codes}
 use Rattle.pgn_text.specs.Limits.{depth_limit, largest_offset}
 use Rattle.pgn_text.specs.Stops.{StopsAt}
-use Rattle.pgn_text.specs.Marks.{MarkedPiece, AreMarkedPieces}
+use Rattle.pgn_text.specs.Marks.{PieceKind, ReadableGame, UnreadableRest, TooLongBlock, MarkedPiece, AreMarkedPieces}
+use Rattle.pgn_text.specs.Parts.{spelled}
 use Rattle.pgn_extract.specs.Listing.{Entry, AreEntries}
-use Rattle.pgn_extract.specs.Exports.{AreExports}
+use Rattle.pgn_extract.specs.Exports.{as_it_stands, IsPieceExport, AreExports}
 use Rattle.pgn_extract.specs.Notes.{IsLinePlace, IsNote, NamesByte, NamesStop}
 use Rattle.pgn_extract.specs.Resuming.{IsMarkAmong}
 use Rattle.pgn_extract.specs.Verdicts.{Verdict, AreVerdicts, IsSameReport, output_text, fault_lines, is_faulty}
 use Rattle.pgn_extract.specs.Aims.{Aim}
 use Rattle.pgn_extract.specs.declared.settings.Mode.TheVariants as modes
+use Rattle.pgn_extract.specs.declared.settings.Select.{Select}
+use Rattle.pgn_extract.specs.declared.settings.Select.TheVariants.{Matching, Others, Faulty}
 
 -- the pieces of each text have entries, which are one list
 abbrev pub PiecesHaveOneListing : Type 0
@@ -69,6 +72,8 @@ with_first first aim = record {
   min_ply = aim.min_ply;
   max_ply = aim.max_ply;
   first = first;
+  select = aim.select;
+  as_is = aim.as_is;
   style = aim.style;
   explain = aim.explain;
 }
@@ -77,6 +82,39 @@ with_first first aim = record {
 abbrev pub FirstChangesNoExport : Type 0
 FirstChangesNoExport =
     (aim : Aim) (pieces : List MarkedPiece) (text : List ℕ) → (AreExports (with_first true aim) pieces text ↔ AreExports (with_first false aim) pieces text)
+
+-- the aim that selects these games, each to be written as it stands
+abbrev pub as_they_stand : Select → Aim → Aim
+as_they_stand select aim = record {
+  mode = aim.mode;
+  criteria = aim.criteria;
+  min_ply = aim.min_ply;
+  max_ply = aim.max_ply;
+  first = aim.first;
+  select = select;
+  as_is = true;
+  style = aim.style;
+  explain = aim.explain;
+}
+
+-- a piece as it stands in an export: of a block over the limit nothing is kept
+abbrev pub piece_as_it_stands : PieceKind → List ℕ
+piece_as_it_stands (ReadableGame parts) = as_it_stands (spelled parts)
+piece_as_it_stands (UnreadableRest bytes) = as_it_stands bytes
+piece_as_it_stands TooLongBlock = []
+
+-- one of the three is the text, and the two others are empty
+pub data IsInOneOf (text first second third : List ℕ) : Type 0 where
+  in_first : first ≡ text → second ≡ [] → third ≡ [] → IsInOneOf text first second third
+  in_second : first ≡ [] → second ≡ text → third ≡ [] → IsInOneOf text first second third
+  in_third : first ≡ [] → second ≡ [] → third ≡ text → IsInOneOf text first second third
+
+-- of the games with an entry, those without one and the faulty ones, each written as it stands, just one export has a piece, and all of it
+abbrev pub PieceIsInOneExport : Type 0
+PieceIsInOneExport =
+    (aim : Aim) (kind : PieceKind) (matching others faulty : List ℕ) → IsPieceExport (as_they_stand Matching aim) kind matching
+    → IsPieceExport (as_they_stand Others aim) kind others → IsPieceExport (as_they_stand Faulty aim) kind faulty
+    → IsInOneOf (piece_as_it_stands kind) matching others faulty
 
 -- a note names one byte at most, and so the note on bytes that are no game names that at which they stop agreeing with games
 abbrev pub NoteNamesTheStop : Type 0

@@ -82,7 +82,7 @@ pub record IsStopNote (origin : Origin) (block : List ℕ) (begin : ℕ) (note :
 -- what is said of a block of this size over the limit
 abbrev pub too_long_text : ℕ → ℕ → List ℕ
 too_long_text size limit =
-    decimal size ++ codes " bytes, over the limit of " ++ decimal limit ++ codes "; games are parted at lines that begin with [Event \""
+    decimal size ++ codes " bytes, over the limit of " ++ decimal limit ++ codes "; games are parted at lines that begin with [Event \" (a compressed file needs zcat)"
 
 -- what begins at a place begins before the end of a block of this length
 abbrev pub IsWithinBlock : ℕ → Within → Type 0

@@ -1,8 +1,8 @@
-//! The words of the command line, read by `clap`.
+//! The arguments of the command line, read by `clap`.
 use clap::{Arg, ArgAction, Command, Error, value_parser};
 use std::alloc::{AllocError, Global};
 
-/// What the words ask for, as texts.
+/// What the arguments ask for, as texts.
 #[derive(Debug, Drop)]
 pub struct Request<'a> {
     /// `--index` was given.
@@ -27,6 +27,12 @@ pub struct Request<'a> {
     pub max_ply: u32,
     /// `--first` was given.
     pub first: bool,
+    /// `--others` was given.
+    pub others: bool,
+    /// `--faulty` was given.
+    pub faulty: bool,
+    /// `--as-is` was given.
+    pub as_is: bool,
     /// `--explain` was given.
     pub explain: bool,
     /// `--summary` was given.
@@ -42,24 +48,40 @@ pub struct Request<'a> {
 /// The width of lines without `-w`.
 pub const DEFAULT_WIDTH: u16 = 79;
 
-/// The version of the program, and the kit that proved it.
+/// The version of the program, and the toolchain that proved it.
 pub const VERSION: &str = "1.0.0 (proved with rattle-kit-13b logic dac8208d650f15bf)";
 
 const ABOUT: &str =
-    "Reads chess games in Portable Game Notation (PGN), plays their moves, and writes each sound game\n\
-    in the standard's form; or lists the positions that are looked for, or where each game begins.";
+    "Reads chess games in Portable Game Notation (PGN), plays their moves, and writes\n\
+    each sound game in the standard's form; or lists the positions that are looked\n\
+    for, or where each game begins.";
 
-const AFTER_HELP: &str = "Examples:\n  \
-    pgn-extract games.pgn > clean.pgn                                # the sound games, in clean form\n  \
-    pgn-extract -CNV --roster games.pgn > bare.pgn                   # their roster and main line alone\n  \
-    echo mate > mate.txt; pgn-extract --criteria mate.txt games.pgn  # the games that end in mate\n  \
-    pgn-extract --list --first --min-ply 80 games.pgn                # the games of 80 plies and more\n  \
-    gzip -dc games.pgn.gz | pgn-extract --index | tail -n 1          # the last game's number and offset\n\
+const AFTER_HELP: &str =
+    "Criteria, a condition a line; all of them hold (man pgn-extract-criteria):\n  \
+    tag White = \"Carlsen, M\"   the value of a tag; also <> < <= > >=\n  \
+    fen */*/*/*/*/*/*PPP/*RK1  the men as FEN writes them; ? one square, ! a man,\n                             \
+    A a man of White, a one of Black, * any squares\n  \
+    material KRP* v KRP*       each side's men: P* any number, R2+ two or more\n  \
+    moves e4 c5 * d6           how the main line begins; * is any one move\n  \
+    turn black                 who is to move; other lines: check, mate, stalemate\n  \
+    or                         between two alternatives: one is enough\n  \
+    # a comment                nothing\n\
     \n\
-    A game that cannot be read or played is reported on standard error, and is not written.\n\
-    Status: 0 no game was faulty, 1 a game was faulty, 2 the words or the criteria were refused or a\n\
-    file could not be opened, 3 the run failed. The manual: man pgn-extract; the criteria:\n\
-    man pgn-extract-criteria.";
+    Examples:\n  \
+    pgn-extract games.pgn > clean.pgn                 # the sound games, cleaned\n  \
+    pgn-extract -CNV --roster games.pgn               # roster, and bare moves\n  \
+    echo mate > mate.txt                              # criteria: one condition\n  \
+    pgn-extract --criteria mate.txt games.pgn         # the games that end in mate\n  \
+    pgn-extract --list --criteria mate.txt games.pgn  # where they do: N@O P\n  \
+    pgn-extract --others --criteria mate.txt games.pgn  # all others\n  \
+    pgn-extract --faulty games.pgn > faulty.pgn       # the faulty ones, unchanged\n  \
+    pgn-extract --list --first --min-ply 80 games.pgn # games of 80 plies and more\n  \
+    gzip -dc games.pgn.gz | pgn-extract --index       # each game's mark: N@O\n\
+    \n\
+    A game that cannot be read or played is reported on standard error, and is\n\
+    written with --faulty alone. Status: 0 no game was faulty, 1 a game was faulty,\n\
+    2 the arguments or the criteria were refused or a file could not be opened,\n\
+    3 the run failed. The manual: man pgn-extract.";
 
 /// An option without a value.
 fn flag<'a>(alloc: Global, name: &'a str, help: &'a str) -> Arg<'a> {
@@ -89,7 +111,8 @@ fn mode_options<'a>(alloc: Global, command: Command<'a>) -> Result<Command<'a>, 
         .arg(flag(
             alloc,
             "list",
-            "N@O P for each position looked for: the number and offset of its game, its ply",
+            "N@O P for each position looked for: the number\n\
+             and offset of its game, and its ply",
         ))?
         .arg(flag(
             alloc,
@@ -106,25 +129,46 @@ fn search_options<'a>(alloc: Global, command: Command<'a>) -> Result<Command<'a>
             alloc,
             "criteria",
             "FILE",
-            "Only those that meet the criteria in FILE [default: all]",
+            "Only those that meet the criteria in FILE\n\
+             [default: all]",
         ))?
         .arg(ply_option(
             alloc,
             "min-ply",
-            "None before ply N; ply 0 is the position before the first move [default: 0]",
+            "None before ply N; ply 0 is the position before\n\
+             the first move [default: 0]",
         ))?
         .arg(ply_option(alloc, "max-ply", "None after ply N [default: 4294967295]"))?
         .arg(flag(alloc, "first", "List only the first of each game"))
 }
 
+/// The options for which games are written, and whether as they stand.
+fn choice_options<'a>(alloc: Global, command: Command<'a>) -> Result<Command<'a>, AllocError> {
+    command
+        .next_help_heading("Games that are written")
+        .arg(flag(
+            alloc,
+            "others",
+            "Those without a position looked for, not those with",
+        ))?
+        .arg(flag(
+            alloc,
+            "faulty",
+            "The faulty ones, as they stand, not the sound ones",
+        ))?
+        .arg(flag(alloc, "as-is", "Write each as it stands in the input"))
+}
+
 /// The options for how games are written.
 fn style_options<'a>(alloc: Global, command: Command<'a>) -> Result<Command<'a>, AllocError> {
-    let no_variations = "Leave variations out; then the main line alone must be sound";
+    let no_variations = "Leave variations out; then the main line alone\n\
+         must be sound";
     let width = text_option(
         alloc,
         "width",
         "N",
-        "Fill lines of moves up to N bytes, 1 to 9999 [default: 79]",
+        "Fill lines of moves up to N bytes, 1 to 9999\n\
+         [default: 79]",
     );
     command
         .next_help_heading("Games as they are written")
@@ -134,7 +178,8 @@ fn style_options<'a>(alloc: Global, command: Command<'a>) -> Result<Command<'a>,
         .arg(flag(
             alloc,
             "roster",
-            "Keep only the seven tags of the roster, and FEN and SetUp of a game with FEN",
+            "Keep only the seven tags of the roster, and FEN and\n\
+             SetUp of a game with FEN",
         ))?
         .arg(
             width
@@ -150,12 +195,14 @@ fn report_options<'a>(alloc: Global, command: Command<'a>) -> Result<Command<'a>
         .arg(flag(
             alloc,
             "explain",
-            "Say behind the line of each faulty game where it stops being one, and why",
+            "Say after the line of each faulty game where it stops\n\
+             being one, and why",
         ))?
         .arg(flag(
             alloc,
             "summary",
-            "Say at the end how many games were read, and how many were faulty",
+            "Say at the end how many games were read, and how many\n\
+             were faulty",
         ))
 }
 
@@ -167,13 +214,15 @@ fn input_options<'a>(alloc: Global, command: Command<'a>) -> Result<Command<'a>,
             alloc,
             "from",
             "N@O",
-            "Begin at the game with this mark, as another run printed it [default: 1@0]",
+            "Begin at the game with this mark, as another run printed\n\
+             it [default: 1@0]",
         ))?
         .arg(text_option(
             alloc,
             "until",
             "N@O",
-            "End before the game with this mark [default: the end of the input]",
+            "End before the game with this mark\n\
+             [default: the end of the input]",
         ))
 }
 
@@ -187,7 +236,7 @@ fn help_options<'a>(alloc: Global, command: Command<'a>) -> Result<Command<'a>, 
     let version = Arg::new(alloc, "version")
         .long("version")
         .action(ArgAction::Version)
-        .help("Print the version, and the kit that proved it");
+        .help("Print the version, and the toolchain that proved it");
     command.next_help_heading("Help").arg(help)?.arg(version)
 }
 
@@ -204,14 +253,15 @@ fn make_command<'a>(alloc: Global) -> Result<Command<'a>, AllocError> {
         .arg(file)?;
     let command = mode_options(alloc, command)?;
     let command = search_options(alloc, command)?;
+    let command = choice_options(alloc, command)?;
     let command = style_options(alloc, command)?;
     let command = report_options(alloc, command)?;
     help_options(alloc, input_options(alloc, command)?)
 }
 
-/// Reads the words, of which the first is the program's name.
-pub fn read_words<'a>(alloc: Global, words: &'a [String]) -> Result<Request<'a>, Error> {
-    let matches = make_command(alloc)?.try_get_matches_from(words)?;
+/// Reads the arguments, of which the first is the program's name.
+pub fn read_arguments<'a>(alloc: Global, arguments: &'a [String]) -> Result<Request<'a>, Error> {
+    let matches = make_command(alloc)?.try_get_matches_from(arguments)?;
     Ok(Request {
         index: matches.get_flag("index"),
         list: matches.get_flag("list"),
@@ -224,6 +274,9 @@ pub fn read_words<'a>(alloc: Global, words: &'a [String]) -> Result<Request<'a>,
         min_ply: matches.get_one("min-ply").unwrap_or(0),
         max_ply: matches.get_one("max-ply").unwrap_or(u32::MAX),
         first: matches.get_flag("first"),
+        others: matches.get_flag("others"),
+        faulty: matches.get_flag("faulty"),
+        as_is: matches.get_flag("as-is"),
         explain: matches.get_flag("explain"),
         summary: matches.get_flag("summary"),
         from: matches.get_str("from"),

@@ -1,6 +1,6 @@
 //! What holds of every text, whatever lists or reports it. Each law is the contract of a function that does nothing.
 
-ghost use Rattle.pgn_extract.specs.Laws.{PiecesHaveOneListing, EachPieceHasAMark, TextHasAReport, TextHasOneReport, ExportsAreWritten, TextHasOneExport, FirstChangesNoExport, NoteNamesTheStop, NoNotes, PartsJoin, PartsAreReported};
+ghost use Rattle.pgn_extract.specs.Laws.{PiecesHaveOneListing, EachPieceHasAMark, TextHasAReport, TextHasOneReport, ExportsAreWritten, TextHasOneExport, FirstChangesNoExport, PieceIsInOneExport, NoteNamesTheStop, NoNotes, PartsJoin, PartsAreReported};
 
 /// The pieces of each text have entries, and these are one list: the plies of its sound games that are within the bounds and whose position
 /// meets the criteria, or the least such of each game, each once, in the order of the games and their plies.
@@ -28,6 +28,11 @@ pub fn one_export()
 /// The exports are the same whether the first entry of each game is asked for or all.
 pub fn first_changes_no_export()
     ensures { FirstChangesNoExport }
+{}
+
+/// Each piece is in just one of three exports, as it stands: of the games with an entry, of those without one, and of the faulty ones.
+pub fn each_piece_in_one_export()
+    ensures { PieceIsInOneExport }
 {}
 
 /// The note on bytes that are no game names just the byte at which they stop agreeing with games; and what is no note.

@@ -35,5 +35,5 @@ mod tool;
 
 pub use extract::{run, run_skipping};
 pub use outcome::{RunError, Summary};
-pub use settings::{Mode, Settings};
+pub use settings::{Mode, Select, Settings};
 pub use tool::{Files, program};

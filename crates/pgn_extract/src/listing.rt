@@ -1,9 +1,9 @@
 //! Which entries of a game are listed.
-ghost use Rattle.std.specs.Prelude.{◌≡◌, ◌↔◌, ℕ, ◌<◌, ◌≤◌, ◌++◌, List, length, None, OnOk};
+ghost use Rattle.std.specs.Prelude.{◌≡◌, ◌↔◌, ℕ, ◌<◌, ◌≤◌, ◌++◌, List, length, None, IfOk, OnOk};
 ghost use Rattle.pgn_text.specs.GameTexts.{tag_in};
 ghost use Rattle.pgn_game.specs.Replays.{IsSomeReplay};
 ghost use Rattle.pgn_game.specs.Starts.{fen_tag};
-ghost use Rattle.pgn_criteria.specs.Meeting.{IsFirst};
+ghost use Rattle.pgn_criteria.specs.Meeting.{Tags, IsFirst};
 ghost use Rattle.pgn_extract.specs.Aims.{IsMet, aim_of};
 ghost use Rattle.pgn_extract.specs.Blockwise.{IsPlainEntry, AddsPlies};
 ghost use Rattle.pgn_extract.specs.Listing.{Entry, listing};
@@ -11,6 +11,7 @@ ghost use Rattle.pgn_extract.specs.GameReports.{AreListed};
 
 use crate::settings::Settings;
 use crate::texts::{count_up, push_entry, push_mark};
+use pgn_criteria::Search;
 use pgn_game::Replayed;
 use pgn_text::RawGame;
 use std::alloc::{AllocError, Global};
@@ -31,6 +32,39 @@ pub fn next_ply<'a>(
         None if from <= settings.max_ply && from as usize <= replayed.plies() => {
             Some(from as usize)
         }
+        None => None,
+    }
+}
+
+/// What is looked for in a game, if criteria are given.
+fn search_of<'a>(
+    alloc: Global,
+    settings: &'a Settings,
+    game: &RawGame<'a>,
+    replayed: &Replayed,
+) -> Result<Option<Search<'a>>, AllocError>
+    requires of_game { IsSomeReplay (tag_in fen_tag game.now.tags) game.now.elements replayed.now }
+    ensures { IfOk result (λ search. (ply : ℕ) → IsMet search (λ name. tag_in name game.now.tags) replayed.now ply
+        ↔ IsMet settings.now.criteria (λ name. tag_in name game.now.tags) replayed.now ply) }
+{
+    match &settings.criteria {
+        Some(criteria) => Ok(Some(criteria.search(alloc, game, replayed)?)),
+        None => Ok(None),
+    }
+}
+
+/// The least ply from one on, up to the largest, whose position meets what is looked for.
+fn next_entry(
+    search: &Option<Search<'_>>,
+    replayed: &Replayed,
+    from: u32,
+    max: u32,
+) -> Option<usize>
+    ensures { (tags : Tags) → IsFirst (λ ply. (ply < length replayed.now.positions) × IsMet search.now tags replayed.now ply) from max result }
+{
+    match search {
+        Some(search) => search.first(replayed, from, max),
+        None if from <= max && from as usize <= replayed.plies() => Some(from as usize),
         None => None,
     }
 }
@@ -58,8 +92,9 @@ pub fn push_entries<'a>(
 {
     let mut mark = Vec::with_capacity(alloc, MARK_ROOM)?;
     push_mark(&mut mark, number, offset)?;
+    let search = search_of(alloc, settings, game, replayed)?;
     let mut from = settings.min_ply;
-    while let Some(ply) = next_ply(settings, game, replayed, from) {
+    while let Some(ply) = next_entry(&search, replayed, from, settings.max_ply) {
         push_entry(text, &mark, ply)?;
         if settings.first || settings.max_ply as usize <= ply {
             return Ok(());

@@ -45,7 +45,7 @@ pub fn list_text(alloc: Global, text: &[u8], settings: &Settings) -> Result<Writ
     run_over(alloc, text, settings)
 }
 
-/// The exports of the games of a text that have an entry.
+/// What the export writes of a text: the exports of its games that have an entry, or what else the settings select.
 pub fn export_text(alloc: Global, text: &[u8], settings: &Settings) -> Result<Written, RunError>
     requires number { (1 ≤ settings.now.number) × (settings.now.number ≤ 2 ^ 62) }
     requires offset { settings.now.offset ≤ largest_offset }

@@ -1,13 +1,20 @@
 //! The fixed lines of refusals and of failed runs, which go to standard error.
 
-/// Two mode words were given.
+/// Two modes were asked for.
 pub const BOTH_MODES: &str = "pgn-extract: --list and --index exclude each other\n";
+
+/// A game can't be chosen in two ways.
+pub const BOTH_CHOICES: &str = "pgn-extract: --others and --faulty exclude each other\n";
+
+/// Where lines are written, there is no choice of games.
+pub const NO_GAMES_WRITTEN: &str =
+    "pgn-extract: --others, --faulty and --as-is go with neither --list nor --index\n";
 
 /// The text of `--from` or `--until` is no mark.
 pub const BAD_MARK: &str = "pgn-extract: bad mark\n";
 
-/// The mark of `--until` does not stand behind that of `--from`.
-pub const NOTHING_BETWEEN: &str = "pgn-extract: --until is not behind --from\n";
+/// The mark of `--until` does not stand after that of `--from`.
+pub const NOTHING_BETWEEN: &str = "pgn-extract: --until is not after --from\n";
 
 /// The file of criteria could not be opened, or a read of it failed.
 pub const CANNOT_READ_CRITERIA: &str = "pgn-extract: cannot read criteria\n";
@@ -18,8 +25,8 @@ pub const CRITERIA_TOO_LONG: &str = "pgn-extract: criteria too long\n";
 /// The file of games could not be opened.
 pub const CANNOT_OPEN_INPUT: &str = "pgn-extract: cannot open input\n";
 
-/// A word of the command line is no UTF-8 text.
-pub const WORDS_ARE_NO_TEXT: &str = "pgn-extract: the words are not UTF-8 text\n";
+/// An argument of the command line is no UTF-8 text.
+pub const ARGUMENTS_ARE_NO_TEXT: &str = "pgn-extract: the arguments are not UTF-8 text\n";
 
 /// A read of the input failed.
 pub const READ_FAILED: &str = "pgn-extract: read failed\n";

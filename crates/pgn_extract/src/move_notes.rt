@@ -1,10 +1,10 @@
-//! The notes behind the lines of games that cannot be replayed: at which word, and why.
+//! The notes after the lines of games that cannot be replayed: at which word, and why.
 ghost use Rattle.std.specs.Prelude.{◌≡◌, ℕ, List, ◌+◌, ◌^◌, ◌<◌, ◌≤◌, ◌++◌, [], ◌∷◌, length, true, OnOk};
 ghost use Rattle.pgn_text.specs.Bytes.{is_not_line_feed};
 ghost use Rattle.pgn_extract.specs.Notes.{IsNote, indented};
 ghost use Rattle.pgn_extract.specs.MoveNotes.{KeepsLine};
 
-use crate::notes::{Origin, push_place};
+use crate::notes::{Origin, Spot, push_spot};
 use chess::{Refusal, san};
 use pgn_game::{GameFault, GamePosition, Lines, Refused, Why, named_moves, refused_word};
 use pgn_text::{RawGame, element_place, tag_place};
@@ -17,6 +17,8 @@ pub struct Site<'a> {
     pub origin: Origin,
     /// Its block.
     pub block: &'a [u8],
+    /// A place of the block from which on lines are counted: a place of an earlier game.
+    pub spot: Spot,
 }
 
 /// The byte as it is shown: a line feed as a blank.
@@ -126,10 +128,14 @@ fn push_refused_note(
     requires room { site.origin.offset + length site.block.now < 2 ^ 64 }
     ensures { OnOk result ((note : List ℕ) × IsNote true note × (text.new.items ≡ text.old.items ++ note)) }
 {
-    let Site { origin, block } = site;
+    let Site {
+        origin,
+        block,
+        spot,
+    } = site;
     let place = element_place(block, begin, origin.offset == 0, refused.element);
     let mut line = Vec::new(alloc);
-    push_place(&mut line, origin, &block[..place])?;
+    push_spot(&mut line, origin, spot.go_on(block, place))?;
     push_why(alloc, &mut line, refused)?;
     push_line(text, line.as_slice())
 }
@@ -145,10 +151,14 @@ fn push_start_note(
     requires room { site.origin.offset + length site.block.now < 2 ^ 64 }
     ensures { OnOk result ((note : List ℕ) × IsNote true note × (text.new.items ≡ text.old.items ++ note)) }
 {
-    let Site { origin, block } = site;
+    let Site {
+        origin,
+        block,
+        spot,
+    } = site;
     let place = tag_place(block, begin, origin.offset == 0, b"FEN");
     let mut line = Vec::new(alloc);
-    push_place(&mut line, origin, &block[..place])?;
+    push_spot(&mut line, origin, spot.go_on(block, place))?;
     push_shown(&mut line, b": this tag gives no position")?;
     push_line(text, line.as_slice())
 }

@@ -1,6 +1,7 @@
-//! The notes behind the lines of faulty games, which say where a game is faulty, and why.
+//! The notes after the lines of faulty games, which say where a game is faulty, and why.
 ghost use Rattle.std.specs.Prelude.{◌≡◌, ℕ, List, ◌+◌, ◌^◌, ◌<◌, ◌≤◌, ◌==◌, [], ◌∷◌, ◌++◌, length, take, drop, codes, decimal, OnOk};
 ghost use Rattle.pgn_text.specs.Limits.{block_limit};
+ghost use Rattle.pgn_extract.specs.MoveNotes.{KeepsLine};
 ghost use Rattle.pgn_extract.specs.Notes.{indented};
 ghost use Rattle.pgn_extract.specs.NoteTexts.{line_feeds as line_feeds_of, column_behind, position_text, place_text, begin_text, hex_digit as hex_digit_of, byte_text, stopper_text, context_text, hints, too_long_text, IsStopNote, IsWithinBlock};
 
@@ -41,6 +42,42 @@ pub fn line_behind(line: Option<u32>, block: Block<'_>) -> Option<u32> {
     }
 }
 
+/// A place in a block: how many line feeds stand before it, and its column, counted from 1.
+#[derive(Clone, Copy)]
+pub struct Spot {
+    at: usize,
+    feeds: u64,
+    column: usize,
+}
+
+impl Spot {
+    /// The first byte of a block.
+    pub fn first() -> Spot {
+        Spot {
+            at: 0,
+            feeds: 0,
+            column: 1,
+        }
+    }
+
+    /// A place of the block, found by going on from this one, or anew where it stands before this one.
+    pub fn go_on(self, block: &[u8], to: usize) -> Spot
+        requires { to ≤ length block.now }
+    {
+        let mut spot = if self.at <= to { self } else { Spot::first() };
+        for byte in &block[spot.at.min(to)..to] {
+            if *byte == b'\n' {
+                spot.feeds = spot.feeds.saturating_add(1);
+                spot.column = 1;
+            } else {
+                spot.column = spot.column.saturating_add(1);
+            }
+        }
+        spot.at = to;
+        spot
+    }
+}
+
 /// How many line feeds the bytes have.
 fn line_feeds(bytes: &[u8]) -> usize
     ensures { result ≡ line_feeds_of bytes.now }
@@ -54,7 +91,7 @@ fn line_feeds(bytes: &[u8]) -> usize
     count
 }
 
-/// The column of the byte behind the front of a block.
+/// The column of the byte after the front of a block.
 fn column(front: &[u8]) -> usize
     ensures { result ≡ column_behind front.now }
 {
@@ -65,7 +102,7 @@ fn column(front: &[u8]) -> usize
     column
 }
 
-/// Appends a number behind a label.
+/// Appends a number after a label.
 fn push_number(text: &mut Vec<u8>, label: &[u8], number: u64) -> Result<(), AllocError>
     ensures { OnOk result (text.new.items ≡ text.old.items ++ (label.now ++ decimal number)) }
 {
@@ -75,7 +112,7 @@ fn push_number(text: &mut Vec<u8>, label: &[u8], number: u64) -> Result<(), Allo
     Ok(())
 }
 
-/// Appends the line and the column of the byte behind the front of a block that begins on the line.
+/// Appends the line and the column of the byte after the front of a block that begins on the line.
 fn push_position(text: &mut Vec<u8>, first: u32, front: &[u8]) -> Result<(), AllocError>
     ensures { OnOk result (text.new.items ≡ text.old.items ++ position_text first front.now) }
 {
@@ -84,8 +121,8 @@ fn push_position(text: &mut Vec<u8>, first: u32, front: &[u8]) -> Result<(), All
     push_number(text, b", column ", column(front) as u64)
 }
 
-/// Appends where the byte behind the front of a block stands in the file.
-pub fn push_place(text: &mut Vec<u8>, origin: Origin, front: &[u8]) -> Result<(), AllocError>
+/// Appends where the byte after the front of a block stands in the file.
+fn push_place(text: &mut Vec<u8>, origin: Origin, front: &[u8]) -> Result<(), AllocError>
     requires { origin.offset + length front.now < 2 ^ 64 }
     ensures { OnOk result (text.new.items ≡ text.old.items ++ place_text origin front.now) }
 {
@@ -99,7 +136,21 @@ pub fn push_place(text: &mut Vec<u8>, origin: Origin, front: &[u8]) -> Result<()
     }
 }
 
-/// Appends in what a place stands that begins behind the front of a block.
+/// Appends where a place of a block stands in the file.
+pub fn push_spot(text: &mut Vec<u8>, origin: Origin, spot: Spot) -> Result<(), AllocError>
+    ensures { OnOk result (KeepsLine text.old.items text.new.items) }
+{
+    let byte = origin.offset.saturating_add(spot.at as u64);
+    let Some(first) = origin.line else {
+        return push_number(text, b"byte ", byte);
+    };
+    let line = u64::from(first).saturating_add(spot.feeds);
+    push_number(text, b"line ", line)?;
+    push_number(text, b", column ", spot.column as u64)?;
+    push_number(text, b", byte ", byte)
+}
+
+/// Appends in what a place stands that begins after the front of a block.
 fn push_begin(
     text: &mut Vec<u8>,
     label: &[u8],
@@ -237,5 +288,7 @@ pub fn push_too_long_note(text: &mut Vec<u8>, size: u64) -> Result<(), AllocErro
 {
     push_number(text, b"  ", size)?;
     push_number(text, b" bytes, over the limit of ", BLOCK_LIMIT as u64)?;
-    text.extend_from_slice(b"; games are parted at lines that begin with [Event \"\n")
+    text.extend_from_slice(
+        b"; games are parted at lines that begin with [Event \" (a compressed file needs zcat)\n",
+    )
 }

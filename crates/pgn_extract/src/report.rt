@@ -14,10 +14,10 @@ ghost use Rattle.pgn_extract.specs.declared.settings.Mode.TheVariants.{Index};
 ghost use Rattle.pgn_game.specs.Faults.{Fault};
 ghost use Rattle.pgn_game.specs.Replays.{fault_of};
 
-use crate::exporting::{push_export, written_lines};
+use crate::exporting::{push_export, push_faulty, written_lines};
 use crate::listing::{push_entries, push_plies};
 use crate::move_notes::{Site, push_game_note};
-use crate::notes::{Origin, push_stop_note, push_too_long_note};
+use crate::notes::{Origin, Spot, push_stop_note, push_too_long_note};
 use crate::settings::{Mode, Settings};
 use crate::texts::{push_fault_line, push_game_fault, push_mark_line};
 use pgn_game::{GameFault, Lines, count_plies, replay};
@@ -37,6 +37,8 @@ pub struct Report {
     pub faulty: u64,
     /// The line on which the pieces begin, counted from 1, where it is known.
     pub line: Option<u32>,
+    /// The place of the block up to which lines are counted.
+    spot: Spot,
 }
 
 impl Report {
@@ -52,6 +54,7 @@ impl Report {
             games: 0,
             faulty: 0,
             line,
+            spot: Spot::first(),
         }
     }
 
@@ -65,6 +68,7 @@ impl Report {
         self.faults.clear();
         self.games = 0;
         self.faulty = 0;
+        self.spot = Spot::first();
     }
 }
 
@@ -90,13 +94,20 @@ fn add_fault<'a>(
     requires faulty { report.old.faulty + 1 < 2 ^ 64 }
     requires room { site.origin.offset + length site.block.now < 2 ^ 64 }
     ensures { OnOk result ((own : Fault) × (note : List ℕ) × (fault_of fault.entry ≡ Some own) × IsNote settings.now.explain note
-        × AddsVerdict report.old report.new (FaultyGame (fault_text number offset (cause_text own)) note) 0) }
+        × AddsVerdict report.old report.new (FaultyGame [] (fault_text number offset (cause_text own)) note) 0) }
 {
     push_game_fault(&mut report.faults, number, offset, fault)?;
     report.faulty += 1;
     if !settings.explain {
         return Ok(());
     }
+    report.spot = report
+        .spot
+        .go_on(site.block, game.at().min(site.block.len()));
+    let site = Site {
+        spot: report.spot,
+        ..site
+    };
     let lines = replayed_lines(settings);
     push_game_note(alloc, &mut report.faults, site, game, lines)
 }
@@ -170,7 +181,7 @@ fn add_listed<'a>(
     }
 }
 
-/// Adds what the export reports of a game: its text where it has an entry, or the line of its fault.
+/// Adds what the export reports of a game: its text where it is selected, or the line of its fault.
 fn add_exported<'a>(
     alloc: Global,
     report: &mut Report,
@@ -187,7 +198,11 @@ fn add_exported<'a>(
     game.known();
     match replay(alloc, game, written_lines(&settings.style)) {
         Ok(replayed) => push_export(alloc, &mut report.output, settings, game, &replayed),
-        Err(fault) => add_fault(alloc, report, settings, number, offset, site, game, fault),
+        Err(fault) => {
+            let text = game.text();
+            push_faulty(&mut report.output, Mode::Export, settings.select, text)?;
+            add_fault(alloc, report, settings, number, offset, site, game, fault)
+        }
     }
 }
 
@@ -212,7 +227,7 @@ fn add_game<'a>(
     }
 }
 
-/// Adds the line of bytes at the place of the block that are no game.
+/// Adds the line of bytes at the place of the block that are no game, and the bytes themselves where they are selected.
 #[cold]
 fn add_unreadable(
     report: &mut Report,
@@ -225,9 +240,15 @@ fn add_unreadable(
     requires place { at ≤ length block.now }
     requires room { offset + length block.now < 2 ^ 64 }
     requires faulty { report.old.faulty + 1 < 2 ^ 64 }
-    ensures { OnOk result ((verdict : Verdict) × IsBlockVerdict settings.now.explain number offset block.now at verdict
+    ensures { OnOk result ((verdict : Verdict) × IsBlockVerdict (aim_of settings.now) number offset block.now at verdict
         × AddsVerdict report.old report.new verdict 0) }
 {
+    push_faulty(
+        &mut report.output,
+        settings.mode,
+        settings.select,
+        &block[at..],
+    )?;
     push_fault_line(
         &mut report.faults,
         number,
@@ -288,7 +309,11 @@ fn add_piece<'a>(
                 offset,
                 line: report.line,
             };
-            let site = Site { origin, block };
+            let site = Site {
+                origin,
+                block,
+                spot: report.spot,
+            };
             add_game(alloc, report, settings, number, here, site, game)
         }
         Piece::Unreadable { at } => add_unreadable(report, settings, number, offset, block, *at),
@@ -307,7 +332,7 @@ fn add_mark(
     requires place { mark_place mark ≤ length block.now }
     requires room { offset + length block.now < 2 ^ 64 }
     requires counts { (index.old.games + 1 < 2 ^ 64) × (index.old.faulty + 1 < 2 ^ 64) }
-    ensures { OnOk result ((verdict : Verdict) × IsMarkVerdict settings.now.explain number offset block.now mark verdict
+    ensures { OnOk result ((verdict : Verdict) × IsMarkVerdict (aim_of settings.now) number offset block.now mark verdict
         × AddsVerdict index.old index.new verdict 1) }
 {
     index.games += 1;

@@ -9,8 +9,19 @@ pub enum Mode {
     Index,
     /// Each entry on a line of its own: the mark of a game whose main line can be replayed, and a ply of it whose position is looked for.
     List,
-    /// The text of each sound game that has an entry.
+    /// The text of each game that is selected.
     Export,
+}
+
+/// Which games the export writes.
+#[derive(Clone, Copy, Debug, PartialEq, Eq)]
+pub enum Select {
+    /// The sound games that have an entry.
+    Matching,
+    /// The sound games that have none.
+    Others,
+    /// The faulty games and the unreadable pieces, each as it stands. They are reported as ever.
+    Faulty,
 }
 
 /// What a run writes, and where in the file it begins. With [`Mode::Index`] only `explain`, `number` and `offset` have an effect.
@@ -26,6 +37,10 @@ pub struct Settings {
     pub max_ply: u32,
     /// Whether of each game only the first entry is listed.
     pub first: bool,
+    /// Which games the export writes.
+    pub select: Select,
+    /// Whether each game that the export writes is written as it stands, followed by two line feeds.
+    pub as_is: bool,
     /// How games are written. Where variations are, each line of a game must be sound, else its main line alone.
     pub style: Style,
     /// Whether notes stand behind the lines of faulty games: where a game is faulty, and why.

@@ -1,14 +1,14 @@
-//! The program over words and files that are handed in.
+//! The program over arguments and files that are handed in.
 ghost use Rattle.std.specs.Prelude.{◌≡◌, ◌≤◌, ◌^◌, false, OnErr};
 
-use crate::command::{Request, read_words};
+use crate::command::{Request, read_arguments};
 use crate::extract::run_skipping;
 use crate::front::read_front;
 use crate::mark::{Mark, read_mark};
 use crate::messages;
 use crate::outcome::{RunError, Summary};
 use crate::put::{finish, put};
-use crate::settings::{Mode, Settings};
+use crate::settings::{Mode, Select, Settings};
 use crate::status::{FAILED, FAULTY, REFUSED, SOUND};
 use clap::Error;
 use clap::error::ErrorKind;
@@ -32,9 +32,9 @@ pub trait Files {
 /// Why the program ends before its run.
 #[derive(Drop)]
 enum Refusal {
-    /// The words ask for the help, which goes to standard output.
+    /// The arguments ask for the help, which goes to standard output.
     Help(String),
-    /// The words, or the criteria, are refused with this text.
+    /// The arguments, or the criteria, are refused with this text.
     Text(String),
     /// One of the program's own refusals, with its line.
     Line(&'static str),
@@ -52,7 +52,7 @@ impl From<AllocError> for Refusal {
 }
 
 /// The refusal that `clap` answers.
-fn refused_words(alloc: Global, error: &Error) -> Refusal {
+fn refused_arguments(alloc: Global, error: &Error) -> Refusal {
     if error.kind() == ErrorKind::OutOfMemory {
         return Refusal::OutOfMemory;
     }
@@ -63,23 +63,28 @@ fn refused_words(alloc: Global, error: &Error) -> Refusal {
     }
 }
 
-/// What the words ask for.
+/// What the arguments ask for.
 #[derive(Drop)]
 struct Order<'a> {
     request: Request<'a>,
     mode: Mode,
+    select: Select,
     mark: Mark,
     end: u64,
 }
 
-/// Reads the words and tests them in the order of the refusals: the words, the mode, the mark.
-fn read_order<'a>(alloc: Global, words: &'a [String]) -> Result<Order<'a>, Refusal> {
-    let request = match read_words(alloc, words) {
+/// Reads the arguments and tests them in the order of the refusals: the arguments, the mode, the choice of games, the mark.
+fn read_order<'a>(alloc: Global, arguments: &'a [String]) -> Result<Order<'a>, Refusal> {
+    let request = match read_arguments(alloc, arguments) {
         Ok(request) => request,
-        Err(error) => return Err(refused_words(alloc, &error)),
+        Err(error) => return Err(refused_arguments(alloc, &error)),
     };
     let mode = match mode_of(&request) {
         Ok(mode) => mode,
+        Err(line) => return Err(Refusal::Line(line)),
+    };
+    let select = match select_of(&request, mode) {
+        Ok(select) => select,
         Err(line) => return Err(Refusal::Line(line)),
     };
     let Some(mark) = mark_of(&request) else {
@@ -92,6 +97,7 @@ fn read_order<'a>(alloc: Global, words: &'a [String]) -> Result<Order<'a>, Refus
     Ok(Order {
         request,
         mode,
+        select,
         mark,
         end,
     })
@@ -104,6 +110,20 @@ fn mode_of(request: &Request<'_>) -> Result<Mode, &'static str> {
         (true, false) => Ok(Mode::List),
         (false, true) => Ok(Mode::Index),
         (false, false) => Ok(Mode::Export),
+    }
+}
+
+/// Which games the export writes, or the line that refuses the choice.
+fn select_of(request: &Request<'_>, mode: Mode) -> Result<Select, &'static str> {
+    let chooses = request.others || request.faulty || request.as_is;
+    if chooses && mode != Mode::Export {
+        return Err(messages::NO_GAMES_WRITTEN);
+    }
+    match (request.others, request.faulty) {
+        (true, true) => Err(messages::BOTH_CHOICES),
+        (true, false) => Ok(Select::Others),
+        (false, true) => Ok(Select::Faulty),
+        (false, false) => Ok(Select::Matching),
     }
 }
 
@@ -190,10 +210,10 @@ fn open_input<F: Files>(files: &mut F, file: Option<&str>) -> Result<F::Input, R
     }
 }
 
-/// Reads the words and the criteria, opens the input and runs: the status, or what the program ends with before its run.
+/// Reads the arguments and the criteria, opens the input and runs: the status, or what the program ends with before its run.
 fn start<F: Files, O: Write, E: Write>(
     alloc: Global,
-    words: &[String],
+    arguments: &[String],
     files: &mut F,
     out: &mut Tally<O>,
     err: &mut Tally<E>,
@@ -203,24 +223,22 @@ where
     requires { (out.old.faulted ≡ false) × (err.old.faulted ≡ false) }
     ensures { OnErr result (out.new.faulted ≡ false) }
 {
-    let Order {
-        request,
-        mode,
-        mark,
-        end,
-    } = read_order(alloc, words)?;
+    let order = read_order(alloc, arguments)?;
+    let request = &order.request;
     let criteria = read_criteria(alloc, files, request.criteria)?;
-    let input = open_input(files, request.file)?.take(end);
+    let input = open_input(files, request.file)?.take(order.end);
     let settings = Settings {
-        mode,
+        mode: order.mode,
         criteria,
         min_ply: request.min_ply,
         max_ply: request.max_ply,
         first: request.first,
-        style: style_of(&request),
+        select: order.select,
+        as_is: request.as_is,
+        style: style_of(request),
         explain: request.explain,
-        number: mark.number,
-        offset: mark.offset,
+        number: order.mark.number,
+        offset: order.mark.offset,
     };
     Ok(
         match run_skipping(alloc, &mut Tally::new(input), out, err, &settings) {
@@ -264,7 +282,7 @@ fn end_run<E: Write>(alloc: Global, err: &mut Tally<E>, asked: bool, summary: &S
     if summary.faulty == 0 { SOUND } else { FAULTY }
 }
 
-/// Writes what was gathered before a run failed. Behind a write that failed nothing is written.
+/// Writes what was gathered before a run failed. After a write that failed nothing is written.
 fn flush_rest<O: Write>(out: &mut Tally<O>) {
     if out.faulted() {
         return;
@@ -323,12 +341,12 @@ fn report_line<E: Write>(err: &mut Tally<E>, text: &str) {
     let _ = err.flush();
 }
 
-/// Does what the words ask for, of which the first is the program's name, and answers the exit status:
+/// Does what the arguments ask for, of which the first is the program's name, and answers the exit status:
 /// 0 where no game was faulty (or the help was asked for), 1 where a game was faulty, 2 where the
-/// words or the criteria were refused or a file could not be opened, 3 where the run failed.
+/// arguments or the criteria were refused or a file could not be opened, 3 where the run failed.
 pub fn program<F: Files, O: Write, E: Write>(
     alloc: Global,
-    words: Vec<String>,
+    arguments: Vec<String>,
     files: &mut F,
     out: &mut Tally<O>,
     err: &mut Tally<E>,
@@ -337,7 +355,7 @@ where
     F::Input: Drop,
     requires { (out.old.faulted ≡ false) × (err.old.faulted ≡ false) }
 {
-    match start(alloc, words.as_slice(), files, out, err) {
+    match start(alloc, arguments.as_slice(), files, out, err) {
         Ok(status) => status,
         Err(refusal) => refuse(refusal, out, err),
     }

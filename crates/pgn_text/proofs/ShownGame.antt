@@ -1,14 +1,17 @@
 -- The parts of a game make a game text.
-use Rattle.std.proofs.Common.{◌≡◌, ℕ, Bool, cond, List, [], ◌∷◌, refl, sym, ap, ◌∙◌}
+use Rattle.std.proofs.Common.{◌≡◌, ℕ, ◌-◌, ◌<◌, ◌≤◌, Bool, cond, List, [], ◌∷◌, ◌++◌, length, take, drop, refl, sym, ap, ◌∙◌, arith, length-append}
+use Rattle.std.proofs.Math.Seq.{take-append_seam}
+use Rattle.std.proofs.lemmas.List.{length-take-le}
 use Rattle.std.proofs.lemmas.Cmp.{nat_list_cmp_total, nat_list_eq_equiv}
 use Rattle.std.proofs.lemmas.Map.Text.{is_eq-slice_cmp}
 use Rattle.std.specs.Prelude.{Some, if◌then◌else◌}
 use Rattle.std.specs.FinMap.{entries, entries_sorted, find, from_entries, get-entries, get-from_entries}
 use Rattle.std.specs.Ordering.{is_eq}
-use Rattle.pgn_text.specs.Parts.{Part, ByteOrderMark, White, Brace, Line, EscapeLine, Tag, Word, Star, Dot, Glyph, Marks, Open, Close}
+use Rattle.pgn_text.specs.Parts.{Part, spelled, ByteOrderMark, White, Brace, Line, EscapeLine, Tag, Word, Star, Dot, Glyph, Marks, Open, Close}
 use Rattle.pgn_text.specs.Games.{IsGame, first_tag, items_of, result_of}
 use Rattle.pgn_text.specs.GameTexts.{GameText, IsGameText, ShowsGame, tag_in}
 use Rattle.pgn_text.specs.Steps.{start}
+use Rattle.pgn_text.specs.Walk.{GameTo}
 use Rattle.pgn_text.proofs.GameLeads.{game_leads}
 use Rattle.pgn_text.proofs.LastResult.{game_result}
 use Rattle.pgn_text.proofs.Pairing.{leads_paired}
@@ -56,7 +59,7 @@ pub some_game_text : (max_depth : ℕ) (file_start : Bool) (before : List ℕ) (
     → IsGame max_depth file_start before parts after
     → (game : GameText) × IsGameText game × ShowsGame game at parts
 some_game_text max_depth file_start before parts after at is_game = (
-  record { at = at; tags = sorted_among parts; elements = items_of parts; result = result_of parts },
+  record { at = at; text = spelled parts; tags = sorted_among parts; elements = items_of parts; result = result_of parts },
   record {
     ordered = names_of_sorted (sorted_among parts) (entries_sorted (from_entries {R = name_cmp} (tags_among parts)));
     strings = λ name contents is. (first_string name contents file_start before parts after is_game.stand (sym (tag_in-among name parts) ∙ is)).0;
@@ -64,5 +67,16 @@ some_game_text max_depth file_start before parts after at is_game = (
     paired = leads_paired max_depth start parts (game_leads max_depth file_start before parts after is_game);
     ends = game_result max_depth file_start before parts after is_game;
   },
-  record { place = refl; tags = λ wanted. tag_in-among wanted parts; elements = refl; result = refl },
+  record { place = refl; text = refl; tags = λ wanted. tag_in-among wanted parts; elements = refl; result = refl },
 )
+
+-- what stands from a game's first byte to its last is its parts
+pub bytes_of_game : (max_depth : ℕ) (file_start : Bool) (block : List ℕ) (begin end : ℕ) (parts : List Part)
+    → GameTo max_depth file_start block begin parts end → take (end - begin) (drop begin block) ≡ spelled parts
+bytes_of_game max_depth file_start block begin end parts to =
+    let forward : begin < end = to.forward in
+    let within : end ≤ length block = to.within in
+    let whole : end ≡ length (take begin block ++ spelled parts) = sym (length-take-le end block within) ∙ ap length to.passed in
+    let before : length (take begin block) ≡ begin = length-take-le begin block (omega arith) in
+    let size : end - begin ≡ length (spelled parts) = omega (arith, whole, before, length-append (take begin block) (spelled parts)) in
+    rw (size, to.parted) (take-append_seam (spelled parts) (drop end block))

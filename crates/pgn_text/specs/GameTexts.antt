@@ -5,13 +5,14 @@ use Rattle.std.specs.List.Sorted.{IsStrictlySortedBy}
 use Rattle.std.specs.Ordering.{nat_cmp}
 use Rattle.std.specs.Cmp.Lexicographic.{slice_cmp}
 use Rattle.pgn_text.specs.Bytes.{is_name_byte}
-use Rattle.pgn_text.specs.Parts.{Part}
+use Rattle.pgn_text.specs.Parts.{Part, spelled}
 use Rattle.pgn_text.specs.Strings.{IsContents}
 use Rattle.pgn_text.specs.Games.{Item, MoveText, GlyphNumber, CommentText, VariationOpen, VariationClose, items_of, first_tag, result_of}
 
--- a game: its place in the block, its tags by their names, its elements and its result
+-- a game: its place in the block, its bytes as they stand there, its tags by their names, its elements and its result
 pub record GameText : Type 0 where
   pub at : ℕ
+  pub text : List ℕ
   pub tags : List (List ℕ × List ℕ)
   pub elements : List Item
   pub result : List ℕ
@@ -55,9 +56,11 @@ pub record IsGameText (game : GameText) : Type 0 where
   pub paired : IsPaired 0 game.elements
   pub ends : IsResult game.result
 
--- the game is the one that these parts make at this place: of each name it has the first tag, and its elements and result are theirs
+-- the game is the one that these parts make at this place: its bytes are theirs, of each name it has the first tag, and its elements and result
+-- are theirs
 pub record ShowsGame (game : GameText) (at : ℕ) (parts : List Part) : Type 0 where
   pub place : game.at ≡ at
+  pub text : game.text ≡ spelled parts
   pub tags : (wanted : List ℕ) → tag_in wanted game.tags ≡ first_tag wanted parts
   pub elements : game.elements ≡ items_of parts
   pub result : game.result ≡ result_of parts

@@ -29,7 +29,7 @@ abbrev pub GameTextIsOne : Type 0
 GameTextIsOne =
     (parts : List Part) (game other : GameText) → IsGameText game → IsGameText other
     → ShowsGame game game.at parts → ShowsGame other other.at parts
-    → (game.tags ≡ other.tags) × (game.elements ≡ other.elements) × (game.result ≡ other.result)
+    → (game.tags ≡ other.tags) × (game.elements ≡ other.elements) × (game.result ≡ other.result) × (game.text ≡ other.text)
 
 -- each text is parted into blocks in one way
 abbrev pub TextHasOneParting : Type 0

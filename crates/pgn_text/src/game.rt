@@ -45,6 +45,7 @@ pub enum Element<'a> {
 #[derive(Drop)]
 pub struct RawGame<'a> {
     at: usize,
+    text: &'a [u8],
     tags: BTreeMap<&'a [u8], &'a [u8]>,
     elements: Vec<Element<'a>>,
     result: &'a [u8],
@@ -53,9 +54,9 @@ pub struct RawGame<'a> {
 impl<'a> Model for RawGame<'a> {
     ghost Value = { GameText };
 
-    ghost view = { λ game. record { at = game.at; tags = tags_of game.tags; elements = map item_of game.elements.items; result = game.result.now } };
+    ghost view = { λ game. record { at = game.at; text = game.text.now; tags = tags_of game.tags; elements = map item_of game.elements.items; result = game.result.now } };
 
-    ghost invariant = { λ game. IsGameText (record { at = game.at; tags = tags_of game.tags; elements = map item_of game.elements.items; result = game.result.now }) };
+    ghost invariant = { λ game. IsGameText (record { at = game.at; text = game.text.now; tags = tags_of game.tags; elements = map item_of game.elements.items; result = game.result.now }) };
 }
 
 impl<'a> RawGame<'a> {
@@ -64,6 +65,13 @@ impl<'a> RawGame<'a> {
         ensures { result ≡ self.now.at }
     {
         self.at
+    }
+
+    /// The game's bytes as they stand in the block, from its first to its last.
+    pub fn text(&self) -> &'a [u8]
+        ensures { result.now ≡ self.now.text }
+    {
+        self.text
     }
 
     /// The contents of the tags' strings as they stand in the block, by the tags' names; of a repeated tag the first.
@@ -340,6 +348,7 @@ pub(crate) fn read_game<'a>(
     let Draft { tags, elements } = draft;
     let game = RawGame {
         at: begin,
+        text: &block[begin..end],
         tags,
         elements,
         result: &block[at..end],

@@ -5,7 +5,7 @@ use super::support::first_game;
 use chess::{Bits, Position, resolve};
 use pgn_criteria::Criteria;
 use pgn_extract::memory::{Written, list_text};
-use pgn_extract::{Mode, RunError, Settings};
+use pgn_extract::{Mode, RunError, Select, Settings};
 use pgn_game::{GameFault, Lines, Style, export, replay};
 use pgn_text::{Piece, RawGame, games};
 use std::alloc::{AllocError, Global};
@@ -80,6 +80,8 @@ fn is_listed(alloc: Global, text: &[u8], first: bool, wanted: &[u8]) -> bool {
         min_ply: 1,
         max_ply: u32::MAX,
         first,
+        select: Select::Matching,
+        as_is: false,
         style: WHOLE,
         explain: false,
         number: 1,

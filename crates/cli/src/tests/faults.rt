@@ -4,7 +4,7 @@ ghost use Rattle.std.specs.Prelude.{◌≤◌, ◌^◌, IfOk};
 use super::support::{FAULT_BETWEEN, Fails, LOST_BRACE, Page, Pieces, Shelf, TWO_GAMES, run_words};
 use super::trials::Trial;
 use pgn_criteria::Criteria;
-use pgn_extract::{Mode, Settings};
+use pgn_extract::{Mode, Select, Settings};
 use pgn_game::Style;
 use std::alloc::{AllocError, Global};
 use std::test::Fail;
@@ -29,6 +29,8 @@ fn all(mode: Mode) -> Settings
         min_ply: 0,
         max_ply: u32::MAX,
         first: false,
+        select: Select::Matching,
+        as_is: false,
         style: PLAIN,
         explain: false,
         number: 1,
@@ -47,6 +49,8 @@ fn rest(mode: Mode) -> Settings
         min_ply: 0,
         max_ply: u32::MAX,
         first: false,
+        select: Select::Matching,
+        as_is: false,
         style: PLAIN,
         explain: false,
         number: 2,

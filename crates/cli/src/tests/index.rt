@@ -174,6 +174,8 @@ fn a_block_past_the_limit_is_too_long(rt: HostRuntime) -> Result<(), Fail> {
     let end = run_over(rt.alloc(), &["--list"], &text)?;
     let out = b"2@16777217 0\n2@16777217 1\n";
     assert!(rt; end.is(out, b"pgn-extract: game 1@0: too long\n", 1));
+    let end = run_over(rt.alloc(), &["--faulty"], &text)?;
+    assert!(rt; end.is(b"", b"pgn-extract: game 1@0: too long\n", 1));
     Ok(())
 }
 

@@ -30,7 +30,7 @@ fn is_refused(
 
 #[test]
 fn words_are_refused(rt: HostRuntime) -> Result<(), Fail> {
-    let rows: [(&[u8], Lines, (usize, &[u8]), Why); 17] = [
+    let rows: [(&[u8], Lines, (usize, &[u8]), Why); 20] = [
         (
             b"1. e4 e5 2. Ke3 *",
             Lines::Main,
@@ -125,6 +125,24 @@ fn words_are_refused(rt: HostRuntime) -> Result<(), Fail> {
             b"1. e4=Q *",
             Lines::Main,
             (3, b"e4=Q"),
+            Why::Illegal(Refusal::WrongPromotion),
+        ),
+        (
+            b"1. Nf3=Q *",
+            Lines::Main,
+            (3, b"Nf3=Q"),
+            Why::Illegal(Refusal::WrongPromotion),
+        ),
+        (
+            b"1. e4 e1 *",
+            Lines::Main,
+            (6, b"e1"),
+            Why::Illegal(Refusal::NoneCan),
+        ),
+        (
+            b"1. e4 e5=Q 2. Ke3=R *",
+            Lines::Main,
+            (6, b"e5=Q"),
             Why::Illegal(Refusal::WrongPromotion),
         ),
         (

@@ -45,7 +45,7 @@ const ROWS: [Row; 13] = [
         &["--index", "--until", "5@0", "absent.pgn"],
         TWO_GAMES,
         b"",
-        b"pgn-extract: --until is not behind --from\n",
+        b"pgn-extract: --until is not after --from\n",
         2,
     ),
     (
@@ -383,7 +383,7 @@ const SUMMARIES: [Row; 26] = [
         &["--summary", "--until", "1@0"],
         TWO_GAMES,
         b"",
-        b"pgn-extract: --until is not behind --from\n",
+        b"pgn-extract: --until is not after --from\n",
         2,
     ),
     (
@@ -468,7 +468,7 @@ fn bad_marks_are_refused_before_anything_is_read(rt: HostRuntime) -> Result<(), 
 }
 
 #[test]
-fn a_mark_that_is_not_behind_the_beginning_is_refused(rt: HostRuntime) -> Result<(), Fail> {
+fn a_mark_that_is_not_after_the_beginning_is_refused(rt: HostRuntime) -> Result<(), Fail> {
     let marks = [
         ("1@0", "1@0"),
         ("1@0", "9@0"),
@@ -478,7 +478,7 @@ fn a_mark_that_is_not_behind_the_beginning_is_refused(rt: HostRuntime) -> Result
         ("2@22", "1@0"),
         ("1@4611686018427387904", "2@4611686018427387904"),
     ];
-    let line = b"pgn-extract: --until is not behind --from\n";
+    let line = b"pgn-extract: --until is not after --from\n";
     for (from, until) in marks {
         assert!(rt;
             is_refused(rt.alloc(), from, until, line)?,
@@ -542,10 +542,11 @@ fn help_goes_to_standard_output(rt: HostRuntime) -> Result<(), Fail> {
     let texts = [
         b"Usage: pgn-extract [OPTIONS] [FILE]\n".as_slice(),
         b"\nPositions looked for:\n      --criteria <FILE>  Only those ",
-        b"\n  -w, --width <N>      Fill lines of moves up to N bytes, 1 to 9999 [default: 79]\n",
-        b"\nReports, on standard error:\n      --explain  Say behind the line of each faulty game where it stops being one, and why\n",
-        b"\n      --summary  Say at the end how many games were read, and how many were faulty\n",
-        b"\n      --until <N@O>  End before the game with this mark [default: the end of the input]\n",
+        b"\n  -w, --width <N>      Fill lines of moves up to N bytes, 1 to 9999\n                       [default: 79]\n",
+        b"\nReports, on standard error:\n      --explain  Say after the line of each faulty game where it stops\n                 being one, and why\n",
+        b"\n      --summary  Say at the end how many games were read, and how many\n                 were faulty\n",
+        b"\n      --until <N@O>  End before the game with this mark\n                     [default: the end of the input]\n",
+        b"\nCriteria, a condition a line; ",
         b"\nExamples:\n  pgn-extract games.pgn > clean.pgn ",
         b"\n  -h, --help     Print this help\n",
     ];

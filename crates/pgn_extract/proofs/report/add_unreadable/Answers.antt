@@ -1,19 +1,23 @@
-use Rattle.std.proofs.Common.{◌+◌, [], ◌++◌, refl, sym, ap, ◌∙◌, append_assoc, codes, arith}
+use Rattle.std.proofs.Common.{◌+◌, drop, [], ◌++◌, refl, sym, ap, ◌∙◌, append_assoc, codes, arith}
 use Rattle.std.proofs.lemmas.List.{append-nil}
 use Rattle.std.proofs.lemmas.Result.{on_ok_weaker}
+use Rattle.pgn_extract.specs.Exports.{faulty_text}
 use Rattle.pgn_extract.specs.Index.{fault_text}
 use Rattle.pgn_extract.specs.Verdicts.{FaultyGame}
 use Rattle.pgn_extract.specs.declared.notes.Origin.{Origin}
 use Rattle.pgn_extract.proofs.NoteLines.{no_note, stop_note, names_stop}
+use Rattle.pgn_extract.proofs.RestOfBlock.{rest_taken}
 use Rattle.pgn_extract.proofs.report.add_unreadable.Goals as goal
 
 pub returns : goal.returns
 returns c =
     let line = fault_text c.args.number (c.args.offset + c.args.at) (codes "unreadable") in
+    let text = faulty_text c.args.settings.now.mode c.args.settings.now.select (drop c.args.at c.args.block.now) in
+    let written = c.in_ok-push_faulty.ensures ∙ ap (λ bytes. c.args.report.now.output.items ++ faulty_text c.args.settings.now.mode c.args.settings.now.select bytes) (rest_taken c.args.at c.args.block.now) in
     let origin : Origin = record { offset = c.args.offset; line = c.args.report.now.line } in
     on_ok_weaker c.push_stop_note.result
     (λ note. (
-      FaultyGame line note.0,
+      FaultyGame text line note.0,
       (
         note.0,
         stop_note c.args.settings.now.explain c.if-not-settings.false origin c.args.block.now c.args.at note.0 note.1,
@@ -21,7 +25,7 @@ returns c =
         refl,
       ),
       record {
-        output = sym (append-nil c.args.report.now.output.items);
+        output = written;
         faults = note.2 ∙ ap (λ t. t ++ note.0) c.in_ok-push_fault_line.ensures ∙ append_assoc c.args.report.now.faults.items line note.0;
         games = omega arith;
         faulty = refl;
@@ -32,11 +36,13 @@ returns c =
 pub returns-then-not-settings : goal.returns-then-not-settings
 returns-then-not-settings c =
     let line = fault_text c.args.number (c.args.offset + c.args.at) (codes "unreadable") in
+    let text = faulty_text c.args.settings.now.mode c.args.settings.now.select (drop c.args.at c.args.block.now) in
+    let written = c.in_ok-push_faulty.ensures ∙ ap (λ bytes. c.args.report.now.output.items ++ faulty_text c.args.settings.now.mode c.args.settings.now.select bytes) (rest_taken c.args.at c.args.block.now) in
     let none = no_note c.args.settings.now.explain c.if-not-settings.true c.args.offset c.args.block.now c.args.at in (
-      FaultyGame line [],
+      FaultyGame text line [],
       ([], none.0, none.1, refl),
       record {
-        output = sym (append-nil c.args.report.now.output.items);
+        output = written;
         faults = c.in_ok-push_fault_line.ensures ∙ ap (λ t. c.args.report.now.faults.items ++ t) (sym (append-nil line));
         games = omega arith;
         faulty = refl;

@@ -10,6 +10,7 @@ use Rattle.pgn_text.specs.Walk.{GameRead}
 use Rattle.pgn_text.specs.Limits.{depth_limit}
 use Rattle.pgn_text.proofs.LastResult.{game_result}
 use Rattle.pgn_text.proofs.Pairing.{tags_ascend}
+use Rattle.pgn_text.proofs.ShownGame.{bytes_of_game}
 use Rattle.pgn_text.proofs.TagLemmas.{tag_in-tags_of}
 use Rattle.pgn_text.proofs.TagStrings.{first_string}
 use Rattle.pgn_text.proofs.game.read_game.Goals as goal
@@ -43,6 +44,7 @@ returns c =
       read.game,
       record {
         place = refl;
+        text = bytes_of_game depth_limit c.args.file_start c.args.block.now c.args.begin c.in-Some.end read.parts read.game;
         tags = λ wanted. tag_in-tags_of c.read_parts.new.keeper.tags wanted ∙ held.each wanted ∙ read.tags_kept wanted;
         elements = held.elements ∙ read.elements_kept;
         result = read.result;

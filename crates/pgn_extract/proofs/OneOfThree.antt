@@ -1,0 +1,46 @@
+-- With games as they stand, each piece is in one of three exports: with an entry, without one, or faulty.
+use Rattle.std.proofs.Common.{◌≡◌, ℕ, List, subst}
+use Rattle.pgn_text.specs.Games.{items_of, first_tag}
+use Rattle.pgn_text.specs.Marks.{ReadableGame, UnreadableRest, TooLongBlock}
+use Rattle.pgn_text.specs.Parts.{Part, spelled}
+use Rattle.pgn_game.specs.Replays.{Replay}
+use Rattle.pgn_game.specs.Starts.{fen_tag}
+use Rattle.pgn_game.proofs.OneReplay.{one_replay, no_fault}
+use Rattle.pgn_extract.specs.Aims.{Aim}
+use Rattle.pgn_extract.specs.Exports.{as_it_stands, written_lines, IsWritten, selected, unselected, IsGameExport, sound, faulty}
+use Rattle.pgn_extract.specs.Laws.{as_they_stand, IsInOneOf, in_first, in_second, in_third, PieceIsInOneExport}
+use Rattle.pgn_extract.specs.declared.settings.Select.TheVariants.{Matching, Others, Faulty}
+
+module _ (aim : Aim) (parts : List Part) where
+  -- a sound game has an entry or none, and is not faulty
+  sound_in_one : (replay : Replay) (x y z : List ℕ) → IsWritten (as_they_stand Matching aim) parts replay x
+      → IsWritten (as_they_stand Others aim) parts replay y → IsWritten (as_they_stand Faulty aim) parts replay z
+      → IsInOneOf (as_it_stands (spelled parts)) x y z
+  sound_in_one replay x y z a b (selected never text) = absurd never
+  sound_in_one replay x y z (selected has text) (selected none also) (unselected never empty) = absurd (none has)
+  sound_in_one replay x y z (selected has text) (unselected never nothing) (unselected unmet empty) = in_first text nothing empty
+  sound_in_one replay x y z (unselected none nothing) (selected also text) (unselected unmet empty) = in_second nothing text empty
+  sound_in_one replay x y z (unselected none nothing) (unselected never also) (unselected unmet empty) = absurd (never none)
+
+  game_in_one : (x y z : List ℕ) → IsGameExport (as_they_stand Matching aim) parts x → IsGameExport (as_they_stand Others aim) parts y
+      → IsGameExport (as_they_stand Faulty aim) parts z → IsInOneOf (as_it_stands (spelled parts)) x y z
+  game_in_one x y z (sound replay is a) (sound other also b) (sound third same c) =
+      let lines = written_lines aim in
+      let second : other ≡ replay = one_replay lines (first_tag fen_tag parts) (items_of parts) other replay also is in
+      let last : third ≡ replay = one_replay lines (first_tag fen_tag parts) (items_of parts) third replay same is in
+      sound_in_one replay x y z a (subst (λ (r : Replay). IsWritten (as_they_stand Others aim) parts r y) second b)
+      (subst (λ (r : Replay). IsWritten (as_they_stand Faulty aim) parts r z) last c)
+  game_in_one x y z (faulty fault is a) (faulty other also b) (faulty third same c) = in_third a b c
+  game_in_one x y z (sound replay is a) (faulty other also b) c =
+      absurd (no_fault (written_lines aim) (first_tag fen_tag parts) (items_of parts) other (replay, is) also)
+  game_in_one x y z (sound replay is a) (sound other also b) (faulty third same c) =
+      absurd (no_fault (written_lines aim) (first_tag fen_tag parts) (items_of parts) third (replay, is) same)
+  game_in_one x y z (faulty fault is a) (sound replay also b) c =
+      absurd (no_fault (written_lines aim) (first_tag fen_tag parts) (items_of parts) fault (replay, also) is)
+  game_in_one x y z (faulty fault is a) (faulty other also b) (sound replay same c) =
+      absurd (no_fault (written_lines aim) (first_tag fen_tag parts) (items_of parts) fault (replay, same) is)
+
+pub piece_in_one : PieceIsInOneExport
+piece_in_one aim (ReadableGame parts) x y z a b c = game_in_one aim parts x y z a b c
+piece_in_one aim (UnreadableRest bytes) x y z a b c = in_third a b c
+piece_in_one aim TooLongBlock x y z a b c = in_first a b c
