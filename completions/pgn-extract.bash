@@ -1,7 +1,7 @@
 # Completion of pgn-extract's options in bash.
 _pgn_extract() {
     local word=${COMP_WORDS[COMP_CWORD]} before=${COMP_WORDS[COMP_CWORD - 1]} options
-    # (bash parts --criteria=FILE into three)
+    # (bash divides --criteria=FILE into three)
     if [[ $word == = ]]; then
         word=
     elif [[ $before == = ]]; then
@@ -15,23 +15,26 @@ _pgn_extract() {
     --min-ply | --max-ply | --from | --until | -w | --width) return ;;
     esac
     if [[ $word == -* ]]; then
-        mapfile -t COMPREPLY < <(compgen -W '--list --index --criteria --min-ply --max-ply --first -C --no-comments -N --no-glyphs
+        mapfile -t COMPREPLY < <(compgen -W '--list --index --criteria --min-ply --max-ply --first --others --faulty --as-is -C --no-comments -N --no-glyphs
             -V --no-variations --roster -w --width --explain --summary --from --until -h --help --version' -- "$word")
-        # --list and --index exclude each other.
+        # --list and --index exclude each other and what chooses games, of which --others and --faulty exclude each other.
         options=" ${COMP_WORDS[*]:0:COMP_CWORD} "
-        [[ $options == *' --list '* ]] && _pgn_extract_without --index
-        [[ $options == *' --index '* ]] && _pgn_extract_without --list
+        [[ $options == *' --list '* ]] && _pgn_extract_without --index --others --faulty --as-is
+        [[ $options == *' --index '* ]] && _pgn_extract_without --list --others --faulty --as-is
+        [[ $options == *' --others '* ]] && _pgn_extract_without --list --index --faulty
+        [[ $options == *' --faulty '* ]] && _pgn_extract_without --list --index --others
+        [[ $options == *' --as-is '* ]] && _pgn_extract_without --list --index
     else
         mapfile -t COMPREPLY < <(compgen -f -- "$word")
     fi
     return 0
 }
-# Takes an option out of what is offered.
+# Takes options out of what is offered.
 _pgn_extract_without() {
     local offered=() option
     for option in "${COMPREPLY[@]}"; do
-        [[ $option == "$1" ]] || offered+=("$option")
+        [[ " $* " == *" $option "* ]] || offered+=("$option")
     done
     COMPREPLY=("${offered[@]}")
 }
-complete -o filenames -F _pgn_extract pgn-extract
+complete -o filenames -F _pgn_extract pgn-extract pgn-extract-proved
