@@ -94,12 +94,11 @@ const ENDING: &[u8] =
     b"[Round \"9\"]\n[White \"O\\\"Neil\"]\n[FEN \"4k3/4p3/8/8/8/8/4P3/4K3 w - - 0 1\"]\n\n1. e4 *";
 
 #[test]
-fn conditions_hold_at_their_plies(rt: HostRuntime) -> Result<(), Fail> {
+fn turns_checks_and_material_hold_at_their_plies(rt: HostRuntime) -> Result<(), Fail> {
     let alloc = rt.alloc();
-    let rows: [(&[u8], &[u8], &[usize]); 75] = [
+    let rows: [(&[u8], &[u8], &[usize]); 18] = [
         (b"", SHORT, &[0, 1, 2]),
         (b"# x", SHORT, &[0, 1, 2]),
-        (b"or", SHORT, &[0, 1, 2]),
         (b"turn white", SHORT, &[0, 2]),
         (b"turn black", SHORT, &[1]),
         (b"check", MATE, &[7]),
@@ -108,9 +107,31 @@ fn conditions_hold_at_their_plies(rt: HostRuntime) -> Result<(), Fail> {
         (b"stalemate", STALEMATE, &[0]),
         (b"mate", STALEMATE, &[]),
         (b"check", STALEMATE, &[]),
+        (b"turn black\nturn white", SHORT, &[]),
+        (b"material KQR2B2N2P8 v KQR2B2N2P7+", SHORT, &[0, 1, 2]),
+        (b"material KP8 v KP*", SHORT, &[]),
+        (b"material KP v KP*", ENDING, &[0, 1]),
+        (b"material KP2- v KP0", ENDING, &[]),
+        (b"material KQ*P2- v KP1", ENDING, &[0, 1]),
+        (b"material K2+ v K", SHORT, &[]),
+        (b"material P v P", ENDING, &[]),
+    ];
+    for (criteria, block, plies) in rows {
+        assert!(rt;
+            are_met(alloc, criteria, block, plies)?,
+            "{criteria:?} in {block:?}"
+        );
+    }
+    Ok(())
+}
+
+#[test]
+fn one_alternative_is_enough(rt: HostRuntime) -> Result<(), Fail> {
+    let alloc = rt.alloc();
+    let rows: [(&[u8], &[u8], &[usize]); 15] = [
+        (b"or", SHORT, &[0, 1, 2]),
         (b"turn white\nor\nturn white", SHORT, &[0, 2]),
         (b"turn black\nor\nturn white", SHORT, &[0, 1, 2]),
-        (b"turn black\nturn white", SHORT, &[]),
         (b"or\nturn black", SHORT, &[0, 1, 2]),
         (b"turn black\nor", SHORT, &[0, 1, 2]),
         (b"mate\nor\nturn black\ncheck", MATE, &[7]),
@@ -122,6 +143,25 @@ fn conditions_hold_at_their_plies(rt: HostRuntime) -> Result<(), Fail> {
         (b"turn white\nmoves d4\nor\nturn black", SHORT, &[1]),
         (b"moves e4 e5\nor\nturn black", SHORT, &[0, 1, 2]),
         (b"tag Round = \"9\"\nturn black\nor\nmate", ENDING, &[1]),
+        (
+            b"fen rnbqkbnr/pppppppp/8/8/8/8/PPPPPPPP/RNBQKBNR\nor\nmate",
+            SHORT,
+            &[0],
+        ),
+    ];
+    for (criteria, block, plies) in rows {
+        assert!(rt;
+            are_met(alloc, criteria, block, plies)?,
+            "{criteria:?} in {block:?}"
+        );
+    }
+    Ok(())
+}
+
+#[test]
+fn tags_and_moves_hold_of_a_whole_game(rt: HostRuntime) -> Result<(), Fail> {
+    let alloc = rt.alloc();
+    let rows: [(&[u8], &[u8], &[usize]); 15] = [
         (b"tag Round < \"10\"", ENDING, &[0, 1]),
         (b"tag Round < \"9\"", ENDING, &[]),
         (b"tag White = \"O\\\"Neil\"", ENDING, &[0, 1]),
@@ -141,13 +181,20 @@ fn conditions_hold_at_their_plies(rt: HostRuntime) -> Result<(), Fail> {
         (b"moves Nge2", PINNED, &[]),
         (b"moves Ne2", PINNED, &[0, 1]),
         (b"moves zz", SHORT, &[]),
-        (b"material KQR2B2N2P8 v KQR2B2N2P7+", SHORT, &[0, 1, 2]),
-        (b"material KP8 v KP*", SHORT, &[]),
-        (b"material KP v KP*", ENDING, &[0, 1]),
-        (b"material KP2- v KP0", ENDING, &[]),
-        (b"material KQ*P2- v KP1", ENDING, &[0, 1]),
-        (b"material K2+ v K", SHORT, &[]),
-        (b"material P v P", ENDING, &[]),
+    ];
+    for (criteria, block, plies) in rows {
+        assert!(rt;
+            are_met(alloc, criteria, block, plies)?,
+            "{criteria:?} in {block:?}"
+        );
+    }
+    Ok(())
+}
+
+#[test]
+fn patterns_hold_at_their_plies(rt: HostRuntime) -> Result<(), Fail> {
+    let alloc = rt.alloc();
+    let rows: [(&[u8], &[u8], &[usize]); 14] = [
         (
             b"fen rnbqkbnr/pppppppp/8/8/8/8/PPPPPPPP/RNBQKBNR",
             SHORT,
@@ -166,6 +213,20 @@ fn conditions_hold_at_their_plies(rt: HostRuntime) -> Result<(), Fail> {
         (b"fen */*/*/*/4A*/*/*/*", SHORT, &[1, 2]),
         (b"fen */*/*/*/4a*/*/*/*", SHORT, &[]),
         (b"fen */aaaaaaaa/*/*/*/*/*/*", SHORT, &[0, 1]),
+    ];
+    for (criteria, block, plies) in rows {
+        assert!(rt;
+            are_met(alloc, criteria, block, plies)?,
+            "{criteria:?} in {block:?}"
+        );
+    }
+    Ok(())
+}
+
+#[test]
+fn ranks_hold_at_their_plies(rt: HostRuntime) -> Result<(), Fail> {
+    let alloc = rt.alloc();
+    let rows: [(&[u8], &[u8], &[usize]); 13] = [
         (b"fen */*/*/*/*/*/PPPP1PPP/*", SHORT, &[1, 2]),
         (b"fen */*/*/*/*/*/PPPP1PPP/*\nturn white", SHORT, &[2]),
         (
@@ -183,11 +244,6 @@ fn conditions_hold_at_their_plies(rt: HostRuntime) -> Result<(), Fail> {
         (b"fen 7/*/*/*/*/*/*/*", SHORT, &[]),
         (b"fen */*/*/*/*P*/*/*/*", SHORT, &[1, 2]),
         (b"tag White = \"x\"\nfen */*/*/*/*/*/*/*", SHORT, &[]),
-        (
-            b"fen rnbqkbnr/pppppppp/8/8/8/8/PPPPPPPP/RNBQKBNR\nor\nmate",
-            SHORT,
-            &[0],
-        ),
     ];
     for (criteria, block, plies) in rows {
         assert!(rt;
