@@ -1,5 +1,5 @@
 //! How many games of so many moves there are: published counts of legal move sequences. The longest are counted over the board of words alone.
-use super::chess_rows::{played, position};
+use crate::rows::{played, position, square_at};
 use chess::{Bits, Board, Kind, Mailbox, Move, Position, Square, Wing};
 use std::test::Fail;
 
@@ -22,7 +22,7 @@ fn count<B: Board>(position: &Position<B>, depth: u8) -> u32 {
     }
     let mut games = 0u32;
     for place in 0u8..64 {
-        if let Some(from) = Square::new(place % 8 + 1, place / 8 + 1) {
+        if let Some(from) = square_at(place) {
             games = games.saturating_add(count_from(position, from, depth));
         }
     }
@@ -38,7 +38,7 @@ fn count_from<B: Board>(position: &Position<B>, from: Square, depth: u8) -> u32 
     let targets = position.targets(from);
     let mut games = 0u32;
     for place in 0u8..64 {
-        if let Some(to) = Square::new(place % 8 + 1, place / 8 + 1)
+        if let Some(to) = square_at(place)
             && targets.has(to)
         {
             games = games.saturating_add(count_between(position, from, to, depth));

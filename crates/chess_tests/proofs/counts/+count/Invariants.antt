@@ -1,5 +1,5 @@
 use Rattle.std.proofs.Common.{◌+◌, ◌*◌}
-use Rattle.cli.proofs.tests.chess_counts.+count.Given as goal
+use Rattle.chess_tests.proofs.counts.+count.Given as goal
 
 abbrev pub decreases-count : goal.decreases-count
 decreases-count g l = 3 * l.depth + 2

@@ -1,5 +1,5 @@
 //! Squares, sets of squares, both boards, and the calls that ask a position for its parts.
-use super::chess_rows::{move_of, played, position, square};
+use crate::rows::{move_of, played, position, square, square_at};
 use chess::{Bits, Board, Kind, Mailbox, Man, Position, Side, Square, resolve};
 use std::test::Fail;
 
@@ -144,7 +144,7 @@ fn calls_that_ask_for_parts(rt: HostRuntime) -> Result<(), Fail> {
 fn agree_on(plain: &Mailbox, words: &Bits, square: Square) -> bool {
     let (reach, other) = (plain.reach(square), words.reach(square));
     for place in 0u8..64 {
-        if let Some(target) = Square::new(place % 8 + 1, place / 8 + 1)
+        if let Some(target) = square_at(place)
             && reach.has(target) != other.has(target)
         {
             return false;
@@ -158,13 +158,13 @@ fn agree_on(plain: &Mailbox, words: &Bits, square: Square) -> bool {
 /// Puts the men of the position on both boards, and reports whether these agree on each square.
 fn agree(position: &Position<Bits>, plain: &mut Mailbox, words: &mut Bits) -> bool {
     for place in 0u8..64 {
-        if let Some(square) = Square::new(place % 8 + 1, place / 8 + 1) {
+        if let Some(square) = square_at(place) {
             plain.put(square, position.at(square));
             words.put(square, position.at(square));
         }
     }
     for place in 0u8..64 {
-        if let Some(square) = Square::new(place % 8 + 1, place / 8 + 1)
+        if let Some(square) = square_at(place)
             && !agree_on(plain, words, square)
         {
             return false;

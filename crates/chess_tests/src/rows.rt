@@ -15,6 +15,11 @@ pub fn square(file: u8, rank: u8) -> Result<Square, Fail> {
     Ok(Square::new(file.wrapping_sub(b'a' - 1), rank.wrapping_sub(b'0')).ok_or("no square")?)
 }
 
+/// The square of a number from 0 to 63: a1, b1 to h1, a2 and so on.
+pub fn square_at(place: u8) -> Option<Square> {
+    Square::new(place % 8 + 1, place / 8 + 1)
+}
+
 /// What a pawn becomes, by the fifth byte of a move's text.
 fn promotion(letter: Option<&u8>) -> Option<Kind> {
     match letter {
