@@ -91,8 +91,9 @@ def is_call_of_function(calls, crate, file, function, call):
 
 
 def listed(tree):
-    """Each public function but for examples and for laws that want nothing of their callers, by its name, with its callers."""
+    """Each public function but for examples and for laws that want nothing of their callers, by its name, with its callers; none of a crate without
+    definitions, which helps tests alone."""
     for (crate, file, function), callers in callers_by_function(tree):
         is_law = file.module == LAWS and not any(it.kind == "requires" for it in function.clauses)
-        if not is_law and file.module != EXAMPLES:
+        if crate.specs and not is_law and file.module != EXAMPLES:
             yield name_of(crate, file, function), callers

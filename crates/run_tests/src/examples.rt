@@ -1,0 +1,147 @@
+//! The examples with which the crates' documentation opens.
+ghost use Rattle.std.specs.Prelude.{◌≡◌, ◌≤◌, ◌^◌};
+
+use chess::{Bits, Position, resolve};
+use pgn_criteria::Criteria;
+use pgn_extract::memory::{Written, list_text};
+use pgn_extract::{Mode, RunError, Select, Settings};
+use pgn_game::{GameFault, Lines, Style, export, replay};
+use pgn_text::{Piece, RawGame, games};
+use std::alloc::{AllocError, Global};
+use std::test::Fail;
+use test_support::first_game;
+
+/// The example of `chess`.
+fn after_word(fen: &[u8], word: &[u8]) -> Option<Position<Bits>> {
+    let position = Position::<Bits>::from_fen(fen).ok()?;
+    let m = resolve(&position, word).ok()?;
+    Some(position.play(m))
+}
+
+/// The example of `pgn_game`.
+fn exported(alloc: Global, block: &[u8], style: &Style) -> Result<Vec<u8>, AllocError> {
+    let mut out = Vec::new(alloc);
+    for piece in games(alloc, block, true) {
+        if let Piece::Game(game) = piece? {
+            match replay(alloc, &game, Lines::All) {
+                Ok(replayed) => export(alloc, &game, &replayed, style, &mut out)?,
+                Err(GameFault::OutOfMemory) => return Err(AllocError),
+                Err(_) => {}
+            }
+        }
+    }
+    Ok(out)
+}
+
+/// The example of `pgn_criteria`.
+fn first_met<'a>(
+    alloc: Global,
+    criteria: &'a Criteria,
+    game: &RawGame<'a>,
+) -> Result<Option<usize>, AllocError> {
+    match replay(alloc, game, Lines::Main) {
+        Ok(replayed) => Ok(criteria.first(game, &replayed, 0, u32::MAX)),
+        Err(GameFault::OutOfMemory) => Err(AllocError),
+        Err(_) => Ok(None),
+    }
+}
+
+/// Whether that example answers so of a block's first game.
+fn is_first_met(
+    alloc: Global,
+    criteria: &[u8],
+    block: &[u8],
+    wanted: Option<usize>,
+) -> Result<bool, Fail> {
+    let Ok(criteria) = Criteria::parse(alloc, criteria) else {
+        return Err("the criteria were refused")?;
+    };
+    let Some(game) = first_game(alloc, block)? else {
+        return Ok(false);
+    };
+    Ok(first_met(alloc, &criteria, &game)? == wanted)
+}
+
+/// The example of `pgn_extract`.
+fn listed(alloc: Global, text: &[u8], settings: &Settings) -> Result<Vec<u8>, RunError>
+    requires number { (1 ≤ settings.now.number) × (settings.now.number ≤ 2 ^ 62) }
+    requires offset { settings.now.offset ≤ 2 ^ 62 }
+    requires mode { settings.now.mode ≡ Mode.List }
+{
+    let Written { out, err: _ } = list_text(alloc, text, settings)?;
+    Ok(out)
+}
+
+/// Whether that example lists these lines.
+fn is_listed(alloc: Global, text: &[u8], first: bool, wanted: &[u8]) -> bool {
+    let settings = Settings {
+        mode: Mode::List,
+        criteria: None,
+        min_ply: 1,
+        max_ply: u32::MAX,
+        first,
+        select: Select::Matching,
+        as_is: false,
+        style: WHOLE,
+        explain: false,
+        number: 1,
+        offset: 0,
+    };
+    match listed(alloc, text, &settings) {
+        Ok(out) => out.as_slice() == wanted,
+        Err(_) => false,
+    }
+}
+
+/// Whether the word leads to a position with this text, or to none.
+fn leads(fen: &[u8], word: &[u8], after: Option<&str>) -> bool {
+    match (after_word(fen, word), after) {
+        (Some(found), Some(text)) => found.fen().as_str() == text,
+        (None, None) => true,
+        _ => false,
+    }
+}
+
+#[test]
+fn a_word_leads_to_a_position(rt: HostRuntime) -> Result<(), Fail> {
+    let usual = b"rnbqkbnr/pppppppp/8/8/8/8/PPPPPPPP/RNBQKBNR w KQkq - 0 1";
+    let after = "rnbqkbnr/pppppppp/8/8/4P3/8/PPPP1PPP/RNBQKBNR b KQkq e3 0 1";
+    assert!(rt; leads(usual, b"e4", Some(after)));
+    assert!(rt; leads(usual, b"e5", None));
+    assert!(rt; leads(b"8/8", b"e4", None));
+    Ok(())
+}
+
+/// Everything is kept.
+const WHOLE: Style = Style {
+    comments: true,
+    glyphs: true,
+    variations: true,
+    roster_only: false,
+    width: 80,
+};
+
+#[test]
+fn the_games_of_a_block_are_exported(rt: HostRuntime) -> Result<(), Fail> {
+    let text =
+        b"[Event \"?\"]\n[Site \"?\"]\n[Date \"????.??.??\"]\n[Round \"?\"]\n[White \"?\"]\n[Black \"?\"]\n[Result \"*\"]\n\n1. e4 *\n\n[Event \"?\"]\n[Site \"?\"]\n[Date \"????.??.??\"]\n[Round \"?\"]\n[White \"?\"]\n[Black \"?\"]\n[Result \"*\"]\n\n1. d4 *\n\n";
+    let found = exported(rt.alloc(), b"1. e4 *\n1. e5 *\n1. d4 *\n", &WHOLE)?;
+    assert!(rt; found.as_slice() == text.as_slice());
+    Ok(())
+}
+
+#[test]
+fn the_first_ply_that_meets_criteria(rt: HostRuntime) -> Result<(), Fail> {
+    assert!(rt; is_first_met(rt.alloc(), b"check", b"1. e4 f6 2. Qh5+ g6 *", Some(3))?);
+    assert!(rt; is_first_met(rt.alloc(), b"check", b"1. e4 *", None)?);
+    assert!(rt; is_first_met(rt.alloc(), b"check", b"1. e5 *", None)?);
+    Ok(())
+}
+
+#[test]
+fn a_text_in_memory_is_listed(rt: HostRuntime) -> Result<(), Fail> {
+    let text = b"1. e4 e5 *\n1. e5 *\n1. d4 *\n";
+    assert!(rt; is_listed(rt.alloc(), text, false, b"1@0 1\n1@0 2\n3@19 1\n"));
+    assert!(rt; is_listed(rt.alloc(), text, true, b"1@0 1\n3@19 1\n"));
+    Ok(())
+}
