@@ -33,93 +33,97 @@ fn spells(alloc: Global, text: &[u8], alternatives: usize, conditions: usize) ->
     }
 }
 
+/// A text, and the number of the line that it is refused for.
+const BAD_LINES: [(&[u8], usize); 44] = [
+    (b"check\nchek", 2),
+    (b"chek\nchek", 1),
+    (b"check\n\n# x\nmate x\n", 4),
+    (b"Check", 1),
+    (b"check\r\r\n", 1),
+    (b"check\r \n", 1),
+    (b"\xEF\xBB\xBFcheck", 1),
+    (b"or x", 1),
+    (b"tag A= \"x\"", 1),
+    (b"tag A =\"x\"", 1),
+    (b"tag A = \"x\" y", 1),
+    (b"tag A = \"x\"#", 1),
+    (b"tag A = \"x", 1),
+    (b"tag A = x", 1),
+    (b"tag A = \"x\\\"", 1),
+    (b"tag A = \"a\"b\"", 1),
+    (b"tag A == \"x\"", 1),
+    (b"tag A-B = \"x\"", 1),
+    (b"tag = \"x\"", 1),
+    (b"turn green", 1),
+    (b"turn", 1),
+    (b"turn white black", 1),
+    (b"fen 9/*/*/*/*/*/*/*", 1),
+    (b"fen 99/*/*/*/*/*/*/*", 1),
+    (b"fen */*/*/*/*/*/*", 1),
+    (b"fen */*/*/*/*/*/*/*/*", 1),
+    (b"fen //*/*/*/*/*/*", 1),
+    (b"fen */*/*/*/*/*/*/", 1),
+    (b"fen */*/*/*/*/*/*/* w", 1),
+    (b"fen x/*/*/*/*/*/*/*", 1),
+    (b"fen", 1),
+    (b"material KK v K", 1),
+    (b"material KQ2K v K", 1),
+    (b"material k v K", 1),
+    (b"material K+ v K", 1),
+    (b"material K10 v K", 1),
+    (b"material K1++ v K", 1),
+    (b"material v K", 1),
+    (b"material K v", 1),
+    (b"material KvK", 1),
+    (b"moves", 1),
+    (b"moves e4+", 1),
+    (b"moves e", 1),
+    (b"moves e4 **", 1),
+];
+
 #[test]
 fn bad_lines_are_refused_by_their_number(rt: HostRuntime) -> Result<(), Fail> {
     let alloc = rt.alloc();
-    let rows: [(&[u8], usize); 44] = [
-        (b"check\nchek", 2),
-        (b"chek\nchek", 1),
-        (b"check\n\n# x\nmate x\n", 4),
-        (b"Check", 1),
-        (b"check\r\r\n", 1),
-        (b"check\r \n", 1),
-        (b"\xEF\xBB\xBFcheck", 1),
-        (b"or x", 1),
-        (b"tag A= \"x\"", 1),
-        (b"tag A =\"x\"", 1),
-        (b"tag A = \"x\" y", 1),
-        (b"tag A = \"x\"#", 1),
-        (b"tag A = \"x", 1),
-        (b"tag A = x", 1),
-        (b"tag A = \"x\\\"", 1),
-        (b"tag A = \"a\"b\"", 1),
-        (b"tag A == \"x\"", 1),
-        (b"tag A-B = \"x\"", 1),
-        (b"tag = \"x\"", 1),
-        (b"turn green", 1),
-        (b"turn", 1),
-        (b"turn white black", 1),
-        (b"fen 9/*/*/*/*/*/*/*", 1),
-        (b"fen 99/*/*/*/*/*/*/*", 1),
-        (b"fen */*/*/*/*/*/*", 1),
-        (b"fen */*/*/*/*/*/*/*/*", 1),
-        (b"fen //*/*/*/*/*/*", 1),
-        (b"fen */*/*/*/*/*/*/", 1),
-        (b"fen */*/*/*/*/*/*/* w", 1),
-        (b"fen x/*/*/*/*/*/*/*", 1),
-        (b"fen", 1),
-        (b"material KK v K", 1),
-        (b"material KQ2K v K", 1),
-        (b"material k v K", 1),
-        (b"material K+ v K", 1),
-        (b"material K10 v K", 1),
-        (b"material K1++ v K", 1),
-        (b"material v K", 1),
-        (b"material K v", 1),
-        (b"material KvK", 1),
-        (b"moves", 1),
-        (b"moves e4+", 1),
-        (b"moves e", 1),
-        (b"moves e4 **", 1),
-    ];
-    for (text, number) in rows {
+    for &(text, number) in &BAD_LINES {
         assert!(rt; is_refused(alloc, text, number), "{text:?}");
     }
     Ok(())
 }
 
+/// A text, how many alternatives it spells, and how many conditions the last of them has.
+const ACCEPTED: [(&[u8], usize, usize); 26] = [
+    (b"", 1, 0),
+    (b"# x", 1, 0),
+    (b"  # x", 1, 0),
+    (b"#\r\r\n \t\n", 1, 0),
+    (b"or", 2, 0),
+    (b"or\nor", 3, 0),
+    (b"check\r\n", 1, 1),
+    (b" \tcheck \t", 1, 1),
+    (b"check \r", 1, 1),
+    (b"check\nmate\nor\n or \r\nstalemate\n\nturn white", 3, 2),
+    (b"tag  A\t>=  \"10\"", 1, 1),
+    (b"tag A_1 <> \"\"", 1, 1),
+    (b"tag A = \"a\\\\x\\\"\"", 1, 1),
+    (b"tag A < \"x y\tz\" ", 1, 1),
+    (b"tag A <= \"\xFF\"", 1, 1),
+    (b"tag A > \"#\"", 1, 1),
+    (b"turn\tblack", 1, 1),
+    (b"moves 0-0 zz --", 1, 1),
+    (b"moves * e8=Q \t Nb1xd2", 1, 1),
+    (b"fen 1PPP1*/*/*/*/*/*/*/*", 1, 1),
+    (b"fen ?!Aa1234/KQRBNP/kqrbnp/****/8/*/88/*", 1, 1),
+    (b"material K v K", 1, 1),
+    (b"material KQ0 v K", 1, 1),
+    (b"material KQ1R2B3N4P9+ v P0-N*K1", 1, 1),
+    (b"material  KP8\tv  KP*", 1, 1),
+    (b"material K v K\nor\nmoves e4 *\nturn black\ncheck", 2, 3),
+];
+
 #[test]
 fn lines_of_the_language_are_accepted(rt: HostRuntime) -> Result<(), Fail> {
     let alloc = rt.alloc();
-    let rows: [(&[u8], usize, usize); 26] = [
-        (b"", 1, 0),
-        (b"# x", 1, 0),
-        (b"  # x", 1, 0),
-        (b"#\r\r\n \t\n", 1, 0),
-        (b"or", 2, 0),
-        (b"or\nor", 3, 0),
-        (b"check\r\n", 1, 1),
-        (b" \tcheck \t", 1, 1),
-        (b"check \r", 1, 1),
-        (b"check\nmate\nor\n or \r\nstalemate\n\nturn white", 3, 2),
-        (b"tag  A\t>=  \"10\"", 1, 1),
-        (b"tag A_1 <> \"\"", 1, 1),
-        (b"tag A = \"a\\\\x\\\"\"", 1, 1),
-        (b"tag A < \"x y\tz\" ", 1, 1),
-        (b"tag A <= \"\xFF\"", 1, 1),
-        (b"tag A > \"#\"", 1, 1),
-        (b"turn\tblack", 1, 1),
-        (b"moves 0-0 zz --", 1, 1),
-        (b"moves * e8=Q \t Nb1xd2", 1, 1),
-        (b"fen 1PPP1*/*/*/*/*/*/*/*", 1, 1),
-        (b"fen ?!Aa1234/KQRBNP/kqrbnp/****/8/*/88/*", 1, 1),
-        (b"material K v K", 1, 1),
-        (b"material KQ0 v K", 1, 1),
-        (b"material KQ1R2B3N4P9+ v P0-N*K1", 1, 1),
-        (b"material  KP8\tv  KP*", 1, 1),
-        (b"material K v K\nor\nmoves e4 *\nturn black\ncheck", 2, 3),
-    ];
-    for (text, alternatives, conditions) in rows {
+    for &(text, alternatives, conditions) in &ACCEPTED {
         assert!(rt; spells(alloc, text, alternatives, conditions), "{text:?}");
     }
     Ok(())
