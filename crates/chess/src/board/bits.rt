@@ -9,9 +9,6 @@ ghost use Rattle.chess.specs.Start.{usual_men};
 ghost use Rattle.chess.specs.CellFacts.{on_board-men_of};
 ghost use Rattle.chess.specs.declared.board.man.Kind.TheVariants.{King, Knight, Pawn};
 
-#[cfg(test)]
-mod tests;
-
 use crate::board::fills::{reached, word_of};
 use crate::board::sights::{has_unblocked, hitters_of, sighting};
 use crate::board::{Board, Kind, Man, Side, Square, SquareSet};
