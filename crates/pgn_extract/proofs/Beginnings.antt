@@ -12,7 +12,7 @@ use Rattle.pgn_extract.proofs.VerdictFacts.{output_text-append, fault_lines-appe
 use Rattle.pgn_extract.proofs.Writing.{appends_join, appends_kept}
 
 -- some bytes, and a beginning of others
-front_join : (old mid new : Option (List ℕ)) (xs ys : List ℕ) → Appends old mid xs → AppendsFront mid new ys → AppendsFront old new (xs ++ ys)
+pub front_join : (old mid new : Option (List ℕ)) (xs ys : List ℕ) → Appends old mid xs → AppendsFront mid new ys → AppendsFront old new (xs ++ ys)
 front_join old mid new xs ys whole front =
     (length xs + front.0, subst (Appends old new) (sym (take-append-add xs ys front.0)) (appends_join old mid new xs (take front.0 ys) whole front.1))
 

@@ -1,17 +1,29 @@
 -- One block reported, or a beginning of it.
-use Rattle.std.proofs.Common.{ℕ, List, [], Option, refl, sym, subst}
+use Rattle.std.proofs.Common.{◌≡◌, ℕ, false, List, [], Option, Ok, refl, sym, subst, inl, inr}
+use Rattle.std.proofs.lemmas.Bool.{false_from_ne_true}
 use Rattle.std.proofs.lemmas.List.{append-nil}
 use Rattle.std.specs.Io.KnownBytes.{Appends}
 use Rattle.pgn_text.proofs.MarkedPieces.{of_block_exist}
-use Rattle.pgn_extract.specs.Blockwise.{ReportsBlock, WritesBlock, BeginsBlock}
+use Rattle.pgn_extract.specs.Blockwise.{GathersBlock, WritesBlock, BeginsBlock}
 use Rattle.pgn_extract.specs.Outcomes.{AppendsFront}
+use Rattle.pgn_extract.specs.RunParts.{WriteFaultsAre}
+use Rattle.pgn_extract.specs.Runs.{Passage}
 use Rattle.pgn_extract.specs.declared.report.Report.{Report}
 use Rattle.pgn_extract.specs.Aims.{Aim}
-use Rattle.pgn_extract.proofs.Writing.{appends_none}
+use Rattle.pgn_extract.proofs.Gathered.{gathers_begun}
+use Rattle.pgn_extract.proofs.Writing.{appends_none, appends_join}
 
 -- nothing is a beginning
 pub front_none : (old : Option (List ℕ)) (bytes : List ℕ) → AppendsFront old old bytes
 front_none old bytes = (0, appends_none old)
+
+-- where no write failed, both writers are sound
+pub written_soundly : {A : Type 0} {answer : A} {out err : Passage} → WriteFaultsAre (Ok answer) out err
+    → (out.new.faulted ≡ false) × (err.new.faulted ≡ false)
+written_soundly faults = (
+  false_from_ne_true _ (λ is. let k = faults.write.1 (inl is) in cc),
+  false_from_ne_true _ (λ is. let k = faults.write.1 (inr is) in cc),
+)
 
 -- a block of which nothing is reported
 pub begins_none : (aim : Aim) (limit max_depth number offset : ℕ) (block : List ℕ) (out err : Option (List ℕ))
@@ -24,19 +36,19 @@ begins_none aim limit max_depth number offset block out err =
       written = record { before = []; behind = own.0; parted = refl; verdicts = []; each = refl; output = front_none out _; faults = front_none err _ };
     }
 
-module _ {aim : Aim} {report : Report} {limit max_depth number offset : ℕ} {block : List ℕ} (of : ReportsBlock aim report limit max_depth number offset block)
-    (out out' err err' : Option (List ℕ)) where
-  -- a block whose report is written
-  pub writes_report : Appends out out' report.output.items → Appends err err' report.faults.items
-      → WritesBlock aim limit max_depth number offset block out out' err err' (record { games = report.games; faulty = report.faulty })
-  writes_report output faults = record {
+module _ {aim : Aim} {report : Report} {limit max_depth number offset : ℕ} {block : List ℕ} {out out' err err' : Option (List ℕ)}
+    (of : GathersBlock aim report limit max_depth number offset block out out' err err') where
+  -- a block whose report is written to its end
+  pub writes_rest : {out'' err'' : Option (List ℕ)} → Appends out' out'' report.output.items → Appends err' err'' report.faults.items
+      → WritesBlock aim limit max_depth number offset block out out'' err err'' (record { games = report.games; faulty = report.faulty })
+  writes_rest {out''} {err''} output faults = record {
     own = of.own;
     each = of.each;
     verdicts = of.written.verdicts;
     written = record {
       each = of.written.each;
-      output = subst (Appends out out') of.written.output output;
-      faults = subst (Appends err err') of.written.faults faults;
+      output = subst (Appends out out'') of.written.output (appends_join out out' out'' of.written.first_output report.output.items of.written.out_grew output);
+      faults = subst (Appends err err'') of.written.faults (appends_join err err' err'' of.written.first_faults report.faults.items of.written.err_grew faults);
     };
     same = of.written.same;
     games = of.written.games;
@@ -44,19 +56,11 @@ module _ {aim : Aim} {report : Report} {limit max_depth number offset : ℕ} {bl
     few = of.few;
   }
 
-  -- a block of whose report a beginning is written
-  pub begins_report : AppendsFront out out' report.output.items → AppendsFront err err' report.faults.items
-      → BeginsBlock aim limit max_depth number offset block out out' err err'
-  begins_report output faults = record {
+  -- a block whose report is written up to somewhere
+  pub begins_rest : {out'' err'' : Option (List ℕ)} → AppendsFront out' out'' report.output.items → AppendsFront err' err'' report.faults.items
+      → BeginsBlock aim limit max_depth number offset block out out'' err err''
+  begins_rest output faults = record {
     own = of.own;
     each = of.each;
-    written = record {
-      before = of.own;
-      behind = [];
-      parted = sym (append-nil of.own);
-      verdicts = of.written.verdicts;
-      each = of.written.each;
-      output = subst (AppendsFront out out') of.written.output output;
-      faults = subst (AppendsFront err err') of.written.faults faults;
-    };
+    written = gathers_begun of.written of.own [] (sym (append-nil of.own)) output faults;
   }

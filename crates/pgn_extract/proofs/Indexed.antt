@@ -1,5 +1,5 @@
 -- The marks of a block that the iterator has given so far.
-use Rattle.std.proofs.Common.{◌≡◌, ◌==◌, ℕ, ◌+◌, ◌≤◌, Bool, true, false, List, [], ◌∷◌, ◌++◌, map, length, refl, sym, ap, ◌∙◌, subst, arith, append_assoc, length-append}
+use Rattle.std.proofs.Common.{◌≡◌, ◌==◌, ℕ, ◌+◌, ◌≤◌, Bool, true, false, List, [], ◌∷◌, ◌++◌, map, length, Option, refl, sym, ap, ◌∙◌, subst, arith, append_assoc, length-append}
 use Rattle.std.specs.Prelude.{if◌then◌else◌}
 use Rattle.std.proofs.lemmas.List.{append-nil, map_push, length-map}
 use Rattle.pgn_text.specs.Limits.{block_limit, depth_limit}
@@ -10,14 +10,15 @@ use Rattle.pgn_text.specs.Pieces as spec
 use Rattle.pgn_text.specs.declared.pieces.Mark.{Mark}
 use Rattle.pgn_text.specs.declared.pieces.Mark.TheVariants.{Game, Unreadable}
 use Rattle.pgn_extract.specs.Aims.{Aim}
-use Rattle.pgn_extract.specs.Blockwise.{Reports, ReportsBlock, AddsVerdict, IsPieceOf, IsMarkVerdict}
+use Rattle.pgn_extract.specs.Blockwise.{Gathers, GathersBlock, Passes, BeginsBlock, AddsVerdict, IsPieceOf, IsMarkVerdict}
 use Rattle.pgn_extract.specs.Index.{mark_line}
+use Rattle.pgn_extract.specs.Outcomes.{AppendsFront}
 use Rattle.pgn_extract.specs.Verdicts.{Verdict, SoundGame, is_faulty, IsVerdict, IsVerdictIn}
 use Rattle.pgn_extract.specs.declared.report.Report.{Report}
 use Rattle.pgn_extract.specs.declared.settings.Mode.TheVariants as modes
 use Rattle.pgn_extract.proofs.GameVerdict.{unreadable_there}
-use Rattle.pgn_extract.proofs.Listed.{piece_in}
-use Rattle.pgn_extract.proofs.VerdictFacts.{reports_more}
+use Rattle.pgn_extract.proofs.Gathered.{gathers_none, gathers_more, gathers_passed}
+use Rattle.pgn_extract.proofs.Listed.{piece_in, begun_of}
 
 -- what is reported of a mark is the index's verdict on the piece
 mark_is_verdict : (aim : Aim) (number offset : ℕ) (block : List ℕ) (mark : Mark) (shown : spec.Piece) (verdict : Verdict)
@@ -36,34 +37,50 @@ faulty_once true = omega arith
 faulty_once false = omega arith
 
 -- the marks of some pieces are given, and the pieces reported by the index
-pub record Indexed (aim : Aim) (start now : Left) (report : Report) (number offset : ℕ) : Type 0 where
+pub record Indexed (aim : Aim) (start now : Left) (report : Report) (number offset : ℕ) (out out' err err' : Option (List ℕ)) : Type 0 where
   pub done : List spec.Piece
   pub completes : (more : List spec.Piece) → ArePiecesLeft depth_limit now more → ArePiecesLeft depth_limit start (done ++ more)
-  pub written : Reports aim report number (map (marked offset) done)
+  pub written : Gathers aim report out out' err err' number (map (marked offset) done)
   pub games : report.games ≡ length done
   pub faulty : report.faulty ≤ length done
   pub few : length done ≤ now.at
   pub within : now.at ≤ length now.block
   pub same : now.block ≡ start.block
 
-module _ {aim : Aim} {start now : Left} {report : Report} {number offset : ℕ} (l : Indexed aim start now report number offset) where
+-- at the start none is given
+pub indexed_none : (aim : Aim) (start : Left) (block : List ℕ) (report : Report) (number offset : ℕ) (out err : Option (List ℕ))
+    → start ≡ record { block = block; file_start = offset == 0; at = 0; failed = false } → report.output.items ≡ [] → report.faults.items ≡ []
+    → report.games ≡ 0 → report.faulty ≡ 0 → Indexed aim start start report number offset out out err err
+indexed_none aim start block report number offset out err is output faults games faulty = record {
+  done = [];
+  completes = λ more left. left;
+  written = gathers_none aim report number out err output faults games faulty;
+  games = games;
+  faulty = omega arith;
+  few = omega arith;
+  within = subst (λ (s : Left). s.at ≤ length s.block) (sym is) (omega arith);
+  same = refl;
+}
+
+module _ {aim : Aim} {start now : Left} {report : Report} {number offset : ℕ} {out out' err err' : Option (List ℕ)}
+    (l : Indexed aim start now report number offset out out' err err') where
   -- one more mark
   pub indexed_more : {next : Left} {report' : Report} {here : ℕ} (block : List ℕ) (mark : Mark)
       → start ≡ record { block = block; file_start = offset == 0; at = 0; failed = false } → aim.mode ≡ modes.Index → TakesMark depth_limit now next mark
       → here ≡ number + report.games → (verdict : Verdict) × IsMarkVerdict aim here offset block mark verdict × AddsVerdict report report' verdict 1
-      → Indexed aim start next report' number offset
+      → Indexed aim start next report' number offset out out' err err'
   indexed_more {next} {report'} {here} block mark begins index takes is (verdict, by, adds) = record {
     done = l.done ++ takes.shown ∷ [];
     completes = λ more left.
         subst (ArePiecesLeft depth_limit start) (sym (append_assoc l.done (takes.shown ∷ []) more)) (l.completes (takes.shown ∷ more) (takes.completes more left));
     written =
         let among = piece_in start next block offset l.done takes.shown begins (λ more left. l.completes (takes.shown ∷ more) (takes.completes more left)) in
-        let more = reports_more aim report report' number here (map (marked offset) l.done) (marked offset takes.shown) l.written (is ∙ ap (λ n. number + n) l.written.games) (
+        let more = gathers_more l.written report' here (marked offset takes.shown) (is ∙ ap (λ n. number + n) l.written.games) (
           verdict,
           mark_is_verdict aim here offset block mark takes.shown verdict index takes.is among by,
           adds,
         ) in
-        subst (Reports aim report' number) (sym (map_push (marked offset) l.done takes.shown)) more;
+        subst (Gathers aim report' out out' err err' number) (sym (map_push (marked offset) l.done takes.shown)) more;
     games = let old = l.games in let new = adds.games in omega (arith, length-append l.done (takes.shown ∷ []));
     faulty =
         let old = l.faulty in let new = adds.faulty in let once = faulty_once (is_faulty verdict) in
@@ -73,9 +90,29 @@ module _ {aim : Aim} {start now : Left} {report : Report} {number offset : ℕ} 
     same = takes.same.0 ∙ l.same;
   }
 
+  -- what is gathered is passed on
+  pub indexed_passed : {report' : Report} {out'' err'' : Option (List ℕ)} → Passes report report' out' out'' err' err''
+      → Indexed aim start now report' number offset out out'' err err''
+  indexed_passed passes = record {
+    done = l.done;
+    completes = l.completes;
+    written = gathers_passed l.written passes;
+    games = passes.games ∙ l.games;
+    faulty = let f = l.faulty in let g = passes.faulty in omega arith;
+    few = l.few;
+    within = l.within;
+    same = l.same;
+  }
+
+  -- a beginning of what is gathered is written
+  pub indexed_begun : {out'' err'' : Option (List ℕ)} (block : List ℕ) → start ≡ record { block = block; file_start = offset == 0; at = 0; failed = false } → length block ≤ block_limit
+      → AppendsFront out' out'' report.output.items → AppendsFront err' err'' report.faults.items
+      → BeginsBlock aim block_limit depth_limit number offset block out out'' err err''
+  indexed_begun block is fits output faults = begun_of start now block l.done is fits l.completes l.written output faults
+
   -- all of them, where none is left
   pub indexed_all : (block : List ℕ) → start ≡ record { block = block; file_start = offset == 0; at = 0; failed = false } → length block ≤ block_limit
-      → ArePiecesLeft depth_limit now [] → ReportsBlock aim report block_limit depth_limit number offset block
+      → ArePiecesLeft depth_limit now [] → GathersBlock aim report block_limit depth_limit number offset block out out' err err'
   indexed_all block is fits end = record {
     own = map (marked offset) l.done;
     each = in_limit fits l.done (subst (λ (s : Left). ArePiecesLeft depth_limit s l.done) is

@@ -8,6 +8,7 @@ pub mod ModeOutputs
 pub mod ExactEntries
 pub mod Exported
 pub mod GameExport
+pub mod Gathered
 pub mod GameVerdict
 pub mod Indexed
 pub mod JoinedParts

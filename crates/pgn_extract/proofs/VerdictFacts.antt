@@ -1,10 +1,10 @@
 -- What is reported of pieces in a row, piece by piece.
-use Rattle.std.proofs.Common.{◌≡◌, ℕ, ◌+◌, List, [], ◌∷◌, ◌++◌, map, length, refl, sym, ap, ◌∙◌, subst, arith, append_assoc, length-append, codes}
+use Rattle.std.proofs.Common.{◌≡◌, ℕ, ◌+◌, List, [], ◌∷◌, ◌++◌, map, length, refl, sym, ap, ◌∙◌, subst, arith, append_assoc, codes}
 use Rattle.std.specs.Prelude.{count_by, fold, if◌then◌else◌}
-use Rattle.std.proofs.lemmas.List.Sums.{fold_push, fold-append}
+use Rattle.std.proofs.lemmas.List.Sums.{fold-append}
 use Rattle.std.proofs.lemmas.List.{append-nil}
 use Rattle.pgn_text.specs.Marks.{MarkedPiece}
-use Rattle.pgn_extract.specs.Blockwise.{Reports, AddsMark, too_long_piece}
+use Rattle.pgn_extract.specs.Blockwise.{Reports, too_long_piece}
 use Rattle.pgn_extract.specs.Index.{fault_text}
 use Rattle.pgn_extract.specs.Notes.{IsNote}
 use Rattle.pgn_extract.specs.Verdicts.{Verdict, SoundGame, FaultyGame, without_note, AreVerdicts, output_of, fault_line_of, output_text, fault_lines, is_faulty}
@@ -74,22 +74,8 @@ pub same_faulty : (xs ys : List Verdict) → map without_note xs ≡ map without
 same_faulty xs ys same = sym (bare_count 0 xs) ∙ ap (count_by is_faulty) same ∙ bare_count 0 ys
 
 -- the last one joins nothing
-joined : (front one whole : List ℕ) → whole ≡ front ++ (one ++ []) → front ++ one ≡ whole
+pub joined : (front one whole : List ℕ) → whole ≡ front ++ (one ++ []) → front ++ one ≡ whole
 joined front one whole e = ap (λ t. front ++ t) (sym (append-nil one)) ∙ sym e
-
--- one more piece
-pub reports_more : (aim : Aim) (old new : Report) (number here : ℕ) (pieces : List MarkedPiece) (piece : MarkedPiece) → Reports aim old number pieces
-    → here ≡ number + length pieces → AddsMark aim old new here piece → Reports aim new number (pieces ++ piece ∷ [])
-reports_more aim old new number here pieces piece reports is (verdict, how, adds) = record {
-  verdicts = reports.verdicts ++ verdict ∷ [];
-  each = verdicts-append aim number pieces (piece ∷ []) reports.verdicts (verdict ∷ []) reports.each
-      (subst (λ n. AreVerdicts aim n (piece ∷ []) (verdict ∷ [])) is (verdict, [], refl, how, refl));
-  output = adds.output ∙ ap (λ t. t ++ output_of verdict) reports.output ∙ joined _ _ _ (output_text-append reports.verdicts (verdict ∷ []));
-  faults = adds.faults ∙ ap (λ t. t ++ fault_line_of verdict) reports.faults ∙ joined _ _ _ (fault_lines-append reports.verdicts (verdict ∷ []));
-  same = omega (arith, reports.same, length-append reports.verdicts (verdict ∷ []), length-append pieces (piece ∷ []));
-  games = adds.games ∙ ap (λ n. n + 1) reports.games ∙ omega (arith, length-append pieces (piece ∷ []));
-  faulty = adds.faulty ∙ ap (λ n. n + (if is_faulty verdict then 1 else 0)) reports.faulty ∙ sym (fold_push (λ (n : ℕ) (x : Verdict). n + (if is_faulty x then 1 else 0)) 0 reports.verdicts verdict);
-}
 
 -- the one piece of a block over the limit
 pub reports_too_long : (aim : Aim) (report : Report) (number offset : ℕ) (note : List ℕ) → IsNote aim.explain note → report.output.items ≡ []

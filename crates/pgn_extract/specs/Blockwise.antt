@@ -1,6 +1,7 @@
 -- What the parts of a run do with the bytes dropped, with one block and with the blocks in a row: the words between the code and
 -- those of `Outcomes`.
 use Rattle.std.specs.Prelude.{◌≡◌, ◌⊎◌, ℕ, ◌+◌, ◌<◌, ◌≤◌, Bool, true, false, List, [], ◌∷◌, ◌++◌, length, drop, count_by, Option, IfSome, codes, if◌then◌else◌, ◌==◌}
+use Rattle.std.specs.Io.KnownBytes.{Appends}
 use Rattle.pgn_text.specs.GameTexts.{GameText, ShowsGame, tag_in}
 use Rattle.pgn_game.specs.Exports.{IsExport}
 use Rattle.pgn_game.specs.Replays.{Replay}
@@ -125,12 +126,37 @@ abbrev pub IsMarkVerdict : Aim → ℕ → ℕ → List ℕ → Mark → Verdict
 IsMarkVerdict aim number offset block (mark.Game place) verdict = verdict ≡ SoundGame (mark_line number (offset + place))
 IsMarkVerdict aim number offset block (mark.Unreadable place) verdict = IsBlockVerdict aim number offset block place verdict
 
--- the report is of the pieces of the block
-pub record ReportsBlock (aim : Aim) (report : Report) (limit max_depth number offset : ℕ) (block : List ℕ) : Type 0 where
+-- of what is reported of these pieces a beginning is written; the report has the rest, and counts the pieces
+pub record Gathers (aim : Aim) (report : Report) (out out' err err' : Option (List ℕ)) (number : ℕ) (pieces : List MarkedPiece) : Type 0 where
+  pub verdicts : List Verdict
+  pub each : AreVerdicts aim number pieces verdicts
+  pub first_output : List ℕ
+  pub first_faults : List ℕ
+  pub out_grew : Appends out out' first_output
+  pub err_grew : Appends err err' first_faults
+  pub output : first_output ++ report.output.items ≡ output_text verdicts
+  pub faults : first_faults ++ report.faults.items ≡ fault_lines verdicts
+  pub same : length verdicts ≡ length pieces
+  pub games : report.games ≡ length pieces
+  pub faulty : report.faulty ≡ count_by is_faulty verdicts
+
+-- the same of the pieces of the block
+pub record GathersBlock (aim : Aim) (report : Report) (limit max_depth number offset : ℕ) (block : List ℕ) (out out' err err' : Option (List ℕ)) : Type 0 where
   pub own : List MarkedPiece
   pub each : AreOfBlock limit max_depth offset block own
-  pub written : Reports aim report number own
+  pub written : Gathers aim report out out' err err' number own
   pub few : length own ≤ length block
+
+-- what the one report has is written, or the other has it still; the counts stay
+pub record Passes (old new : Report) (out out' err err' : Option (List ℕ)) : Type 0 where
+  pub first_output : List ℕ
+  pub first_faults : List ℕ
+  pub out_grew : Appends out out' first_output
+  pub err_grew : Appends err err' first_faults
+  pub output : first_output ++ new.output.items ≡ old.output.items
+  pub faults : first_faults ++ new.faults.items ≡ old.faults.items
+  pub games : new.games ≡ old.games
+  pub faulty : new.faulty ≡ old.faulty
 
 -- the one piece of a block over the limit
 abbrev pub too_long_piece : ℕ → MarkedPiece

@@ -1,15 +1,25 @@
 -- What the parts of a run do, over the words of its contract. No public contract cites these.
 use Rattle.std.specs.Prelude.{◌≡◌, ◌↔◌, ◌⊎◌, ℕ, true, List, Result, IsErrOf}
-use Rattle.pgn_extract.specs.Blockwise.{WritesBlock, BeginsBlock, EndsBlocks, BreaksOff}
+use Rattle.pgn_extract.specs.Blockwise.{GathersBlock, Passes, WritesBlock, BeginsBlock, EndsBlocks, BreaksOff}
 use Rattle.pgn_extract.specs.declared.outcome.RunError.{RunError}
 use Rattle.pgn_extract.specs.declared.outcome.RunError.TheVariants.{Write}
 use Rattle.pgn_extract.specs.declared.outcome.Summary.{Summary}
+use Rattle.pgn_extract.specs.declared.report.Report.{Report}
 use Rattle.pgn_extract.specs.Outcomes.{AppendsFront}
 use Rattle.pgn_extract.specs.Runs.{Job, Io, Passage}
 
 -- the stream grew by a beginning of these bytes
 abbrev pub AddsFront : Passage → List ℕ → Type 0
 AddsFront stream bytes = AppendsFront stream.old.bytes stream.new.bytes bytes
+
+-- what the one report has is written, or the other has it still
+abbrev pub PassesOn : Report → Report → Passage → Passage → Type 0
+PassesOn old new out err = Passes old new out.old.bytes out.new.bytes err.old.bytes err.new.bytes
+
+-- of what is reported of the pieces of the block a beginning is written; the report has the rest, and counts the pieces
+abbrev pub GathersPieces : Job → Report → Passage → Passage → List ℕ → Type 0
+GathersPieces job report out err block =
+    GathersBlock job.aim report job.limit job.max_depth job.number job.offset block out.old.bytes out.new.bytes err.old.bytes err.new.bytes
 
 -- the pieces of the block are reported and counted
 abbrev pub WritesPieces : Job → Passage → Passage → List ℕ → Summary → Type 0

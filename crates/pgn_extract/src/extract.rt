@@ -1,72 +1,20 @@
 //! The run over an input: block by block, each reported before the next is read.
-ghost use Rattle.std.specs.Prelude.{◌≡◌, ◌⊎◌, ℕ, ◌^◌, ◌≤◌, false, true, List, IfOk, IfErr, OnOk, OnErr};
+ghost use Rattle.std.specs.Prelude.{◌≡◌, ◌^◌, ◌≤◌, false, true, IfOk, IfErr, OnOk};
 ghost use Rattle.std.specs.Io.KnownBytes.{Keeps};
-ghost use Rattle.pgn_text.specs.Limits.{block_limit, largest_offset};
-ghost use Rattle.pgn_text.specs.Windows.{Shows};
-ghost use Rattle.pgn_extract.specs.Blockwise.{IsShown};
-ghost use Rattle.pgn_extract.specs.RunParts.{AddsFront, BeginsPieces, Broken, Finished, WriteFaultsAre, WritesPieces};
-ghost use Rattle.pgn_extract.specs.Runs.{Adds, FaultsAre, IsReady, IsRun, io_of, job_at, job_of, passage};
+ghost use Rattle.pgn_text.specs.Limits.{largest_offset};
+ghost use Rattle.pgn_extract.specs.RunParts.{Broken, Finished, WriteFaultsAre};
+ghost use Rattle.pgn_extract.specs.Runs.{FaultsAre, IsReady, IsRun, io_of, job_of, passage};
 
-use crate::notes::{first_line, line_behind};
+use crate::notes::first_line;
 use crate::outcome::{RunError, Summary, of_read};
-use crate::put::{finish, put};
-use crate::report::{Report, report_block};
+use crate::piecewise::put_block;
+use crate::put::finish;
+use crate::report::Report;
 use crate::settings::{Mode, Settings};
 use crate::skip::{drop_first, skip_first};
-use pgn_text::{Block, Blocks, Skip, Tally};
+use pgn_text::{Blocks, Skip, Tally};
 use std::alloc::Global;
 use std::io::{Read, Write};
-
-/// Writes a report, its output first.
-fn put_report<O: Write, E: Write>(
-    out: &mut Tally<O>,
-    err: &mut Tally<E>,
-    report: &Report,
-) -> Result<(), RunError>
-    requires sound { (out.old.faulted ≡ false) × (err.old.faulted ≡ false) }
-    ensures ok { OnOk result (Adds (passage O.contents out.old out.new) report.now.output.items
-        × Adds (passage E.contents err.old err.new) report.now.faults.items) }
-    ensures err { OnErr result (AddsFront (passage O.contents out.old out.new) report.now.output.items
-        × AddsFront (passage E.contents err.old err.new) report.now.faults.items) }
-    ensures only { IfErr result (λ error. error ≡ RunError.Write) }
-    ensures faults { WriteFaultsAre result (passage O.contents out.old out.new) (passage E.contents err.old err.new) }
-{
-    put(out, &report.output)?;
-    put(err, &report.faults)
-}
-
-/// Writes what is reported of the pieces of one block, which is gathered in the report.
-fn put_block<'a, O: Write, E: Write>(
-    alloc: Global,
-    out: &mut Tally<O>,
-    err: &mut Tally<E>,
-    report: &mut Report,
-    settings: &'a Settings,
-    number: u64,
-    block: Block<'a>,
-) -> Result<Summary, RunError>
-    requires sound { (out.old.faulted ≡ false) × (err.old.faulted ≡ false) }
-    requires number { number ≤ 2 ^ 63 }
-    requires offset { block.offset ≤ largest_offset }
-    requires size { IsShown block_limit block.body }
-    ensures done { IfOk result (λ summary. (bytes : List ℕ) → Shows block_limit block.entry.body bytes
-        → WritesPieces (job_at settings.now number block.entry.offset) (passage O.contents out.old out.new) (passage E.contents err.old err.new) bytes summary) }
-    ensures stopped { OnErr result ((bytes : List ℕ) → Shows block_limit block.entry.body bytes
-        → BeginsPieces (job_at settings.now number block.entry.offset) (passage O.contents out.old out.new) (passage E.contents err.old err.new) bytes) }
-    ensures only { IfErr result (λ error. (error ≡ RunError.Write) ⊎ (error ≡ RunError.OutOfMemory)) }
-    ensures faults { WriteFaultsAre result (passage O.contents out.old out.new) (passage E.contents err.old err.new) }
-{
-    match report_block(alloc, report, settings, number, block) {
-        Ok(()) => {}
-        Err(_) => return Err(RunError::OutOfMemory),
-    }
-    put_report(out, err, report)?;
-    report.line = line_behind(report.line, block);
-    Ok(Summary {
-        games: report.games,
-        faulty: report.faulty,
-    })
-}
 
 /// Flushes both writers.
 fn finish_both<O: Write, E: Write>(out: &mut Tally<O>, err: &mut Tally<E>) -> Result<(), RunError>

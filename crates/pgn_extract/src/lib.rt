@@ -25,6 +25,7 @@ pub mod messages;
 mod move_notes;
 mod notes;
 mod outcome;
+mod piecewise;
 mod put;
 mod report;
 mod settings;

@@ -1,8 +1,10 @@
 //! How a run ends.
 ghost use Rattle.std.specs.Prelude.{◌≡◌};
 ghost use Rattle.pgn_extract.specs.Blockwise.{run_error_of};
+ghost use Rattle.pgn_extract.specs.declared.outcome.RunError.TheVariants.{OutOfMemory};
 
 use pgn_text::ReadError;
+use std::alloc::AllocError;
 use thiserror::Error;
 
 /// What a run met.
@@ -29,6 +31,14 @@ pub enum RunError {
     /// The input goes past the largest offset.
     #[error("the input is too long")]
     InputTooLong,
+}
+
+impl From<AllocError> for RunError {
+    ghost from_gives = { λ _ error. error ≡ OutOfMemory };
+
+    fn from(_: AllocError) -> Self {
+        RunError::OutOfMemory
+    }
 }
 
 /// The error of a run for the error of its reader.

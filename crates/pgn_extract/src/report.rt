@@ -1,16 +1,13 @@
-//! What is reported of the pieces of one block.
-ghost use Rattle.std.specs.Prelude.{◌≡◌, ℕ, List, None, Some, ◌+◌, ◌^◌, ◌<◌, ◌≤◌, ◌==◌, [], ◌∷◌, length, codes, OnOk};
+//! What is reported of the pieces of one block, piece by piece.
+ghost use Rattle.std.specs.Prelude.{◌≡◌, ℕ, List, None, Some, ◌+◌, ◌^◌, ◌<◌, ◌≤◌, [], ◌∷◌, length, codes, OnOk};
 ghost use Rattle.pgn_text.specs.Left.{piece_place};
 ghost use Rattle.pgn_text.specs.LeftMarks.{mark_place};
-ghost use Rattle.pgn_text.specs.Limits.{block_limit, depth_limit, largest_offset};
-ghost use Rattle.pgn_text.specs.Windows.{Shows};
 ghost use Rattle.pgn_extract.specs.Aims.{aim_of};
-ghost use Rattle.pgn_extract.specs.Blockwise.{IsShown, Reports, ReportsBlock, AddsVerdict, AddsGame, AddsListed, AddsExported, AddsPiece, IsBlockVerdict, IsMarkVerdict, too_long_piece};
+ghost use Rattle.pgn_extract.specs.Blockwise.{Reports, AddsVerdict, AddsGame, AddsListed, AddsExported, AddsPiece, IsBlockVerdict, IsMarkVerdict, too_long_piece};
 ghost use Rattle.pgn_extract.specs.Index.{fault_text};
 ghost use Rattle.pgn_extract.specs.GameReports.{cause_text};
 ghost use Rattle.pgn_extract.specs.Notes.{IsNote};
 ghost use Rattle.pgn_extract.specs.Verdicts.{Verdict, FaultyGame};
-ghost use Rattle.pgn_extract.specs.declared.settings.Mode.TheVariants.{Index};
 ghost use Rattle.pgn_game.specs.Faults.{Fault};
 ghost use Rattle.pgn_game.specs.Replays.{fault_of};
 
@@ -21,8 +18,11 @@ use crate::notes::{Origin, Spot, push_stop_note, push_too_long_note};
 use crate::settings::{Mode, Settings};
 use crate::texts::{push_fault_line, push_game_fault, push_mark_line};
 use pgn_game::{GameFault, Lines, count_plies, replay};
-use pgn_text::{Block, Body, Mark, Piece, RawGame, games, marks};
+use pgn_text::{Mark, Piece, RawGame};
 use std::alloc::{AllocError, Global};
+
+/// So many bytes of both texts together are large: a report that has them is written before its block ends.
+const LARGE: usize = 1 << 20;
 
 /// What is reported of pieces in a row, and their counts. One is made for a run, and filled anew for each block.
 #[derive(Drop)]
@@ -59,7 +59,7 @@ impl Report {
     }
 
     /// Makes it the report on no pieces; the room that it has stays.
-    fn clear(&mut self)
+    pub fn clear(&mut self)
         ensures output { self.new.output.items ≡ [] }
         ensures faults { self.new.faults.items ≡ [] }
         ensures counts { (self.new.games ≡ 0) × (self.new.faulty ≡ 0) }
@@ -69,6 +69,21 @@ impl Report {
         self.games = 0;
         self.faulty = 0;
         self.spot = Spot::first();
+    }
+
+    /// Whether its texts are so long that they are better written before more is added.
+    pub fn is_large(&self) -> bool {
+        self.output.len() + self.faults.len() >= LARGE
+    }
+
+    /// Makes its texts empty; the counts stay, and so does the room.
+    pub fn clear_texts(&mut self)
+        ensures output { self.new.output.items ≡ [] }
+        ensures faults { self.new.faults.items ≡ [] }
+        ensures counts { (self.new.games ≡ self.old.games) × (self.new.faulty ≡ self.old.faulty) }
+    {
+        self.output.clear();
+        self.faults.clear();
     }
 }
 
@@ -267,7 +282,7 @@ fn add_unreadable(
 }
 
 /// Reports on a block of this size, over the limit.
-fn report_too_long(
+pub fn report_too_long(
     report: &mut Report,
     settings: &Settings,
     number: u64,
@@ -287,7 +302,7 @@ fn report_too_long(
 }
 
 /// Adds what is reported of one piece of the block that begins at the offset.
-fn add_piece<'a>(
+pub fn add_piece<'a>(
     alloc: Global,
     report: &mut Report,
     settings: &'a Settings,
@@ -321,7 +336,7 @@ fn add_piece<'a>(
 }
 
 /// Adds what the index has of one piece of the block that begins at the offset.
-fn add_mark(
+pub fn add_mark(
     index: &mut Report,
     settings: &Settings,
     number: u64,
@@ -339,90 +354,5 @@ fn add_mark(
     match mark {
         Mark::Game(at) => push_mark_line(&mut index.output, number, offset + at as u64),
         Mark::Unreadable(at) => add_unreadable(index, settings, number, offset, block, at),
-    }
-}
-
-/// Reports the index of a block, whose pieces are numbered from `number` on.
-fn report_marks(
-    index: &mut Report,
-    settings: &Settings,
-    number: u64,
-    offset: u64,
-    block: &[u8],
-) -> Result<(), AllocError>
-    requires mode { settings.now.mode ≡ Index }
-    requires size { length block.now ≤ block_limit }
-    requires number { number ≤ 2 ^ 63 }
-    requires offset { offset ≤ largest_offset }
-    ensures { OnOk result (ReportsBlock (aim_of settings.now) index.new block_limit depth_limit number offset block.now) }
-{
-    index.clear();
-    for mark in marks(block, offset == 0) {
-        let here = number + index.games;
-        add_mark(index, settings, here, offset, block, mark)?;
-    }
-    Ok(())
-}
-
-/// Reports on the games of a block, whose pieces are numbered from `number` on.
-fn report_games<'a>(
-    alloc: Global,
-    report: &mut Report,
-    settings: &'a Settings,
-    number: u64,
-    offset: u64,
-    block: &'a [u8],
-) -> Result<(), AllocError>
-    requires size { length block.now ≤ block_limit }
-    requires number { number ≤ 2 ^ 63 }
-    requires offset { offset ≤ largest_offset }
-    ensures { OnOk result (ReportsBlock (aim_of settings.now) report.new block_limit depth_limit number offset block.now) }
-{
-    report.clear();
-    for piece in games(alloc, block, offset == 0) {
-        let piece = piece?;
-        let here = number + report.games;
-        add_piece(alloc, report, settings, here, offset, block, &piece)?;
-    }
-    Ok(())
-}
-
-/// Reports on the pieces of a block, which are numbered from `number` on.
-fn report_pieces<'a>(
-    alloc: Global,
-    report: &mut Report,
-    settings: &'a Settings,
-    number: u64,
-    offset: u64,
-    block: &'a [u8],
-) -> Result<(), AllocError>
-    requires size { length block.now ≤ block_limit }
-    requires number { number ≤ 2 ^ 63 }
-    requires offset { offset ≤ largest_offset }
-    ensures { OnOk result (ReportsBlock (aim_of settings.now) report.new block_limit depth_limit number offset block.now) }
-{
-    match settings.mode {
-        Mode::Index => report_marks(report, settings, number, offset, block),
-        Mode::List | Mode::Export => report_games(alloc, report, settings, number, offset, block),
-    }
-}
-
-/// Reports on a block, whose pieces are numbered from `number` on: the report is of nothing else.
-pub fn report_block<'a>(
-    alloc: Global,
-    report: &mut Report,
-    settings: &'a Settings,
-    number: u64,
-    block: Block<'a>,
-) -> Result<(), AllocError>
-    requires number { number ≤ 2 ^ 63 }
-    requires offset { block.offset ≤ largest_offset }
-    requires size { IsShown block_limit block.body }
-    ensures { OnOk result ((bytes : List ℕ) → Shows block_limit block.entry.body bytes
-        → ReportsBlock (aim_of settings.now) report.new block_limit depth_limit number block.entry.offset bytes) }
-{
-    match block.body {
-        Body::Bytes(bytes) => report_pieces(alloc, report, settings, number, block.offset, bytes),
-        Body::TooLong(size) => report_too_long(report, settings, number, block.offset, size),
     }
 }
