@@ -6,7 +6,7 @@ ghost use Rattle.chess.specs.SanAnswers.{IsAnswer};
 ghost use Rattle.chess.specs.declared.moves.Move.{Move};
 ghost use Rattle.chess.specs.declared.move_text.SanError.{SanError};
 
-use crate::board::{Board, Kind, Side, Square, SquareSet, Wing};
+use crate::board::{Board, Kind, Man, Side, Square, SquareSet, Wing};
 use crate::move_text::SanError;
 use crate::moves::Move;
 use crate::moves::castling::{king_arrives, king_leaves};
@@ -63,8 +63,31 @@ pub(crate) fn castling_move(side: Side, wing: Wing) -> Move
     }
 }
 
-/// The only legal move that agrees with what is said.
+/// The only legal move that agrees with what is said: one man alone who may make it is only asked whether his king is then attacked.
 fn moved<B: Board>(position: &Position<B>, said: &SaidMove) -> Result<Move, SanError>
+    ensures { IsAnswer (IsMoveSaid position.now (said_by said.now)) result }
+{
+    let mut able = able_men(position, said);
+    let Some(from) = able.take_first() else {
+        return Err(SanError::None);
+    };
+    if able.has_some() {
+        return moved_among(position, said);
+    }
+    let man = Man {
+        side: position.side(),
+        kind: said.kind(),
+    };
+    let m = said.from(from);
+    if position.exposes_king(man, &m) {
+        return Err(SanError::None);
+    }
+    Ok(m)
+}
+
+/// The only legal move that agrees with what is said, where several men may make it whether or not their king is then attacked.
+#[cold]
+fn moved_among<B: Board>(position: &Position<B>, said: &SaidMove) -> Result<Move, SanError>
     ensures { IsAnswer (IsMoveSaid position.now (said_by said.now)) result }
 {
     let Some((from, rest)) = next_origin(position, said, able_men(position, said)) else {

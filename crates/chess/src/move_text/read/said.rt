@@ -215,14 +215,21 @@ pub(crate) fn before_mark(text: &[u8]) -> &[u8]
     }
 }
 
-/// What the text says, if it is a target alone or a letter and a target, as most texts are; else it may be a move text of another form.
+/// What the text says, if it is a target alone or a letter and a target, or says of a pawn or a piece that it takes, with one mark at most,
+/// as most texts are; else it may be a move text of another form.
 #[inline(always)]
-fn read_plain(text: &[u8]) -> Option<SaidMove>
+fn read_frequent(text: &[u8]) -> Option<SaidMove>
     ensures { MatchOption result (Unit {0}) (λ said. IsReadSaid text.now (Some said)) }
 {
-    match text {
+    match before_mark(text) {
         [file, rank] => plainly_said(None, *file, *rank),
         [letter, file, rank] => plainly_said(Some(*letter), *file, *rank),
+        [from, sign, file, rank] if *sign == b'x' => {
+            if let Some(said) = pawn_takes(*from, *file, *rank) {
+                return Some(said);
+            }
+            plainly_said(Some(*from), *file, *rank)
+        }
         _ => None,
     }
 }
@@ -232,7 +239,7 @@ fn read_plain(text: &[u8]) -> Option<SaidMove>
 pub(crate) fn read_said(text: &[u8]) -> Option<SaidMove>
     ensures { IsReadSaid text.now result }
 {
-    if let Some(said) = read_plain(text) {
+    if let Some(said) = read_frequent(text) {
         return Some(said);
     }
     let Some(parts) = split_parts(text) else {
