@@ -1,6 +1,9 @@
 //! Games with the main line, or the turns of all lines, that they must be replayed to, or the fault that they must be refused for.
 use chess::{Move, Side, Square};
-use pgn_game::{GameFault, Lines, Replayed, Turn, count_plies, replay};
+use pgn_game::{
+    GameFault, Lines, Replayed, Turn, check_lines, check_variations, count_plies, replay,
+    replay_opening,
+};
 use std::alloc::{AllocError, Global};
 use std::test::Fail;
 use test_support::first_game;
@@ -17,9 +20,12 @@ fn goes(m: &Move, from: (u8, u8), to: (u8, u8)) -> bool {
 fn has_plies(alloc: Global, block: &[u8], plies: usize) -> Result<bool, AllocError> {
     match first_game(alloc, block)? {
         Some(game) => match (replay(alloc, &game, Lines::Main), count_plies(alloc, &game)) {
-            (Ok(replayed), Ok(counted)) => {
-                Ok(replayed.plies() == plies && counted == plies && replayed.turns() == 0)
-            }
+            (Ok(replayed), Ok(counted)) => Ok(
+                replayed.plies() == plies
+                    && counted == plies
+                    && replayed.turns() == 0
+                    && check_lines(alloc, &game, Lines::Main).is_ok(),
+            ),
             _ => Ok(false),
         },
         None => Ok(false),
@@ -72,12 +78,107 @@ fn has_fault(
     fault: &GameFault<'_>,
 ) -> Result<bool, AllocError> {
     match first_game(alloc, block)? {
-        Some(game) => match replay(alloc, &game, lines) {
-            Ok(_) => Ok(false),
-            Err(found) => Ok(found == *fault),
+        Some(game) => match (
+            replay(alloc, &game, lines),
+            check_lines(alloc, &game, lines),
+        ) {
+            (Err(found), Err(checked)) => Ok(found == *fault && checked == *fault),
+            _ => Ok(false),
         },
         None => Ok(false),
     }
+}
+
+/// Whether the main line of the block's first game is sound, and its variations have this fault, or none.
+fn variations_end_so(
+    alloc: Global,
+    block: &[u8],
+    fault: Option<&GameFault<'_>>,
+) -> Result<bool, AllocError> {
+    let Some(game) = first_game(alloc, block)? else {
+        return Ok(false);
+    };
+    if check_lines(alloc, &game, Lines::Main).is_err() {
+        return Ok(false);
+    }
+    match (check_variations(alloc, &game), fault) {
+        (Ok(()), None) => Ok(true),
+        (Err(found), Some(wanted)) => Ok(found == *wanted),
+        _ => Ok(false),
+    }
+}
+
+/// How many plies the opening of the block's first game has where so many are asked for, and `None` where it is refused.
+fn opening_plies(alloc: Global, block: &[u8], most: usize) -> Result<Option<usize>, AllocError> {
+    match first_game(alloc, block)? {
+        Some(game) => match replay_opening(alloc, &game, most) {
+            Ok(opening) => Ok(Some(opening.plies())),
+            Err(_) => Ok(None),
+        },
+        None => Ok(None),
+    }
+}
+
+/// A game, the plies that are asked for, and those of its opening; `None` where its main line is faulty up to there.
+const OPENINGS: [(&[u8], usize, Option<usize>); 9] = [
+    (b"1. e4 e5 2. Nf3 *", 0, Some(0)),
+    (b"1. e4 e5 2. Nf3 *", 1, Some(1)),
+    (b"1. e4 e5 2. Nf3 *", 3, Some(3)),
+    (b"1. e4 e5 2. Nf3 *", 9, Some(3)),
+    (b"1. e4 (1. Z0 x) e5 2. Nf3 *", 2, Some(2)),
+    (b"1. e4 e5 2. Ke3 *", 2, Some(2)),
+    (b"1. e4 e5 2. Ke3 *", 3, None),
+    (b"[FEN \"x\"]\n\n1. e4 *", 0, None),
+    (b"*", 4, Some(0)),
+];
+
+#[test]
+fn openings_have_their_plies(rt: HostRuntime) -> Result<(), Fail> {
+    for &(block, most, plies) in &OPENINGS {
+        assert!(rt;
+            opening_plies(rt.alloc(), block, most)? == plies,
+            "{block:?}, {most}"
+        );
+    }
+    Ok(())
+}
+
+/// A game whose main line is sound, and the fault of its variations.
+const VARIATIONS: [(&[u8], Option<GameFault<'static>>); 5] = [
+    (b"1. e4 e5 *", None),
+    (b"1. e4 (1. d4 d5 (1... f5)) e5 (1... --) *", None),
+    (
+        b"1. e4 (1. d4 Qh4) e5 *",
+        Some(GameFault::Illegal {
+            word: b"Qh4",
+            ply: 2,
+        }),
+    ),
+    (
+        b"1. Nf3 d5 2. d3 Nf6 3. Nbd2 (3. Nd2 e6) 3... e6 *",
+        Some(GameFault::Ambiguous {
+            word: b"Nd2",
+            ply: 5,
+        }),
+    ),
+    (
+        b"1. e4 e5 (1... e4 2. Z0) *",
+        Some(GameFault::Illegal {
+            word: b"e4",
+            ply: 2,
+        }),
+    ),
+];
+
+#[test]
+fn variations_are_sound_or_have_their_fault(rt: HostRuntime) -> Result<(), Fail> {
+    for (block, fault) in &VARIATIONS {
+        assert!(rt;
+            variations_end_so(rt.alloc(), block, fault.as_ref())?,
+            "{block:?}"
+        );
+    }
+    Ok(())
 }
 
 /// A game, and the fault of its main line.

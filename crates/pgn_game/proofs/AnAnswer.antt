@@ -16,9 +16,9 @@ use Rattle.pgn_text.specs.Strings.{IsContents, value_of_sign}
 use Rattle.pgn_game.specs.Laws.{GameHasAnAnswer}
 use Rattle.pgn_game.specs.MainLines.{main_words, IsMainLine}
 use Rattle.pgn_game.specs.Starts.{IsValueOf, IsStart, IsBadStart}
-use Rattle.pgn_game.specs.AllLines.{Line, LineEnd, ThenMove, ThenGlyph, ThenComment, ThenVariation, is_pass, SaysTurn, after_turn, IsPlayed, own_words}
+use Rattle.pgn_game.specs.AllLines.{Line, LineEnd, ThenMove, ThenGlyph, ThenComment, ThenVariation, is_pass, SaysTurn, after_turn, IsPlayed, ArePlayed, own_words}
 use Rattle.pgn_game.specs.Faults.{Fault, BadStart, IllegalMove, AmbiguousMove, IsMoveFault, RefusesTurn, IsLineFault, HasLineFault}
-use Rattle.pgn_game.specs.Replays.{AreTurns}
+use Rattle.pgn_game.specs.Replays.{AreTurns, IsSoundGame}
 use Rattle.pgn_game.specs.declared.replayer.Lines.{Lines}
 use Rattle.pgn_game.specs.declared.replayer.Lines.TheVariants.{Main, All}
 use Rattle.pgn_game.specs.declared.turn.Turn.{Turn}
@@ -135,3 +135,18 @@ game_answer lines fen items has paired = elim (start_answer fen has) [
     | inr met ↦ inr (met.0, inr (start, is_start, met.1))
   ]
 ]
+
+-- a game of which all lines are played is sound
+pub played_sound : (fen : Option (List ℕ)) (start : State) (items : List Item) (turns : List Turn) → IsStart fen start → ArePlayed start items turns
+    → IsSoundGame All fen items
+played_sound fen start items turns is_start (tree, spells, played) =
+    let line = main_of_all tree start start turns played in
+    let words : own_words tree ≡ main_words items 0 = sym (ap (λ xs. main_words xs 0) spells ∙ main_words_of tree) in (
+      record { positions = line.0; played = line.1; turns = turns },
+      record {
+        start = start;
+        is_start = is_start;
+        line = subst (λ ws. IsMainLine start ws line.0 line.1) words line.2;
+        turns = (tree, spells, played);
+      },
+    )

@@ -1,7 +1,10 @@
 pub mod OneReplay
+pub mod Openings
 pub mod Tags
 pub mod WalkFacts
+pub mod PlayedFacts
 pub mod AnAnswer
+pub mod FlatGames
 pub mod OnBoard
 pub mod Spelling
 pub mod RunFacts
@@ -24,6 +27,7 @@ pub mod MovetextFacts
 pub mod MovetextLines
 pub mod SomeMovetext
 pub mod SomeExport
+pub mod StepFacts
 pub mod PlainTokens
 pub mod PlainLines
 pub mod PlainExport

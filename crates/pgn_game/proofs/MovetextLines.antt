@@ -1,97 +1,84 @@
 -- What is written of a line, by the line that its elements spell.
-use Rattle.std.proofs.Common.{◌≡◌, ℕ, ◌+◌, ◌-◌, ◌<◌, Bool, true, false, List, [], ◌∷◌, ◌++◌, map, refl, sym, ap, ◌∙◌, subst, append_assoc, append-nil, arith}
+use Rattle.std.proofs.Common.{◌≡◌, ℕ, ◌+◌, ◌-◌, ◌<◌, Bool, true, false, List, [], ◌∷◌, ◌++◌, refl, sym, ap, ◌∙◌, subst, append_assoc, append-nil, inl, inr, arith}
 use Rattle.std.proofs.Math.Bool.{or_comm}
 use Rattle.std.proofs.lemmas.Bool.Decides.{nat_tests}
 use Rattle.std.specs.List.{slice_get}
-use Rattle.std.specs.Prelude.{◌==◌, ◌||◌, if◌then◌else◌, Option, Some, codes, decimal}
+use Rattle.std.specs.Prelude.{◌==◌, ◌||◌, if◌then◌else◌, Option, Some, None, IfSome, codes, decimal}
 use Rattle.chess.specs.Positions.{State}
+use Rattle.chess.specs.Moves.{after}
+use Rattle.chess.specs.San.{IsOnlyNamed}
 use Rattle.chess.specs.declared.moves.Move.{Move}
 use Rattle.pgn_text.specs.GameTexts.{IsPaired}
 use Rattle.pgn_text.specs.Games.{Item, MoveText, GlyphNumber, CommentText, VariationOpen, VariationClose}
-use Rattle.pgn_game.specs.AllLines.{Line, LineEnd, ThenMove, ThenGlyph, ThenComment, ThenVariation, spelled, IsPlayed}
+use Rattle.pgn_game.specs.AllLines.{Line, LineEnd, ThenMove, ThenGlyph, ThenComment, ThenVariation, spelled, own_words, SaysTurn, after_turn, IsPlayed}
 use Rattle.pgn_game.specs.Comments.{comment_tokens}
-use Rattle.pgn_game.specs.Exports.{number_tokens, kept, AreTokens, IsReplayFor}
+use Rattle.pgn_game.specs.Exports.{number_tokens, kept, lines_with, AreMovetextTokens, AreTokens, IsReplayFor}
+use Rattle.pgn_game.specs.Faults.{Fault, HasLineFault, IsMoveFault}
+use Rattle.pgn_game.specs.LineWalks.{Stops, first_level, gone_on}
 use Rattle.pgn_game.specs.MainLines.{main_words, IsMainLine}
-use Rattle.pgn_game.specs.MovetextWalks.{outside, shown_if, shown_items, written_turns, in_variation, moved_on, set_apart, varied, first_line, Follows, Draws}
-use Rattle.pgn_game.specs.Replays.{Replay, AreTurns}
+use Rattle.pgn_game.specs.MovetextWalks.{outside, shown_if, shown_items, in_variation, moved_on, set_apart, varied, first_line, Draws}
+use Rattle.pgn_game.specs.Replays.{Replay, AreTurns, IsReplay, IsSoundGame, fault_of}
+use Rattle.pgn_game.specs.Starts.{IsStart}
+use Rattle.pgn_game.specs.declared.all_lines.Level.{Level}
+use Rattle.pgn_game.specs.declared.fault.GameFault.{GameFault}
 use Rattle.pgn_game.specs.declared.movetext.WrittenLine.{WrittenLine}
 use Rattle.pgn_game.specs.declared.replayer.Lines.TheVariants.{All}
 use Rattle.pgn_game.specs.declared.style.Style.{Style}
 use Rattle.pgn_game.specs.declared.turn.Turn.{Turn}
-use Rattle.pgn_game.specs.declared.turn.Turn.TheVariants.{Played}
-use Rattle.pgn_game.proofs.OneReplay.{line_head}
+use Rattle.pgn_game.specs.declared.turn.Turn.TheVariants.{Played, Passed}
+use Rattle.pgn_game.proofs.OneLine.{main_words_of}
+use Rattle.pgn_game.proofs.OneReplay.{line_head, no_fault}
+use Rattle.pgn_game.proofs.RunFacts.{stops_faulty}
 use Rattle.pgn_game.proofs.Spelling.{one_spelt}
 use Rattle.pgn_game.proofs.WalkFacts.{same_state}
 
--- ---- the turns of all lines
+-- ---- the fault of the main line
 
-line_follows : (line : Line) (rest : List Item) (style : Style) (at : WrittenLine) (outer : List WrittenLine) (own more : List Turn)
-    → IsPlayed (in_variation outer) at.before at.now line own → ((last : WrittenLine) → Follows rest style last outer more)
-    → Follows (spelled line ++ rest) style at outer (own ++ more)
-line_follows LineEnd rest style at outer own more none behind = subst (λ ts. Follows rest style at outer (ts ++ more)) (sym none) (behind at)
-line_follows (ThenMove word line) rest style at outer own more (turn, later, is, says, played) behind =
-    (turn, later ++ more, ap (λ ts. ts ++ more) is, says, line_follows line rest style (moved_on at turn) outer later more played behind)
-line_follows (ThenGlyph number line) rest style at outer own more played behind = line_follows line rest style at outer own more played behind
-line_follows (ThenComment text line) rest style at outer own more played behind = line_follows line rest style (set_apart style.comments at) outer own more played behind
-line_follows (ThenVariation inner line) rest style at outer own more (first, second, is, within, played) behind =
-    let all : own ++ more ≡ first ++ (second ++ more) = ap (λ ts. ts ++ more) is ∙ append_assoc first second more in
-    subst (λ items. Follows items style (varied at) (set_apart true at ∷ outer) (own ++ more)) (sym (append_assoc (spelled inner) (VariationClose ∷ spelled line) rest))
-    (subst (λ ts. Follows (spelled inner ++ VariationClose ∷ (spelled line ++ rest)) style (varied at) (set_apart true at ∷ outer) ts) (sym all)
-    (line_follows inner (VariationClose ∷ (spelled line ++ rest)) style (varied at) (set_apart true at ∷ outer) first (second ++ more) within
-    (λ last. line_follows line rest style (set_apart true at) outer second more played behind)))
-
-all_follow : (line : Line) (style : Style) (start : State) (turns : List Turn) → IsPlayed false start start line turns → Follows (spelled line) style (first_line start) [] turns
-all_follow line style start turns played =
-    subst (λ items. Follows items style (first_line start) [] turns) (append-nil (spelled line))
-    (subst (λ ts. Follows (spelled line ++ []) style (first_line start) [] ts) (append-nil turns)
-    (line_follows line [] style (first_line start) [] turns [] played (λ last. record {})))
-
--- ---- the moves of the main line
-
-main_follows : (items : List Item) (depth : ℕ) (style : Style) (at : WrittenLine) (positions : List State) (played : List Move)
-    → IsMainLine at.now (main_words items depth) positions played → Follows (outside items depth) style at [] (map (λ m. Played m) played)
-main_follows [] depth style at positions played line = record {}
-main_follows (MoveText word ∷ items) depth style at positions played line = by (depth == 0) line (λ next ps ms rest. main_follows items depth style next ps ms rest)
+main_stops : (items : List Item) (depth : ℕ) (level : Level) (fault : Fault) → Stops (outside items depth) level [] fault
+    → IsMoveFault level.now level.plies (main_words items depth) fault
+main_stops [] depth level fault stops = stops
+main_stops (MoveText word ∷ items) depth level fault stops = by (depth == 0) stops (λ next later. main_stops items depth next fault later)
   where
-    by : (main : Bool) → IsMainLine at.now (if main then word ∷ main_words items depth else main_words items depth) positions played
-        → ((next : WrittenLine) (ps : List State) (ms : List Move) → IsMainLine next.now (main_words items depth) ps ms → Follows (outside items depth) style next [] (map (λ m. Played m) ms))
-        → Follows (shown_if main (MoveText word) (outside items depth)) style at [] (map (λ m. Played m) played)
-    by true (m, later, more, positions_is, played_is, named, rest) on =
-        (Played m, map (λ m. Played m) more, ap (map (λ m. Played m)) played_is, named, on (moved_on at (Played m)) later more rest)
-    by false rest on = on at positions played rest
-main_follows (GlyphNumber number ∷ items) depth style at positions played line = by (depth == 0) (main_follows items depth style at positions played line)
-  where
-    by : (main : Bool) → Follows (outside items depth) style at [] (map (λ m. Played m) played)
-        → Follows (shown_if main (GlyphNumber number) (outside items depth)) style at [] (map (λ m. Played m) played)
-    by true rest = rest
-    by false rest = rest
-main_follows (CommentText text ∷ items) depth style at positions played line = by (depth == 0) (λ next now. main_follows items depth style next positions played now) line
-  where
-    by : (main : Bool) → ((next : WrittenLine) → IsMainLine next.now (main_words items depth) positions played → Follows (outside items depth) style next [] (map (λ m. Played m) played))
-        → IsMainLine at.now (main_words items depth) positions played → Follows (shown_if main (CommentText text) (outside items depth)) style at [] (map (λ m. Played m) played)
-    by true on rest = on (set_apart style.comments at) rest
-    by false on rest = on at rest
-main_follows (VariationOpen ∷ items) depth style at positions played line = main_follows items (depth + 1) style at positions played line
-main_follows (VariationClose ∷ items) depth style at positions played line = main_follows items (depth - 1) style at positions played line
+    turned : (turn : Turn) → SaysTurn false level.now word turn → IsMoveFault (after_turn level.now turn) (level.plies + 1) (main_words items depth) fault
+        → (m : Move) × IsOnlyNamed level.now word m × IsMoveFault (after level.now m) (level.plies + 1) (main_words items depth) fault
+    turned (Played m) says met = (m, says, met)
+    turned Passed says met = absurd says
 
--- ---- a replay leaves a turn for each move that is written
+    by : (main : Bool) → Stops (shown_if main (MoveText word) (outside items depth)) level [] fault
+        → ((next : Level) → Stops (outside items depth) next [] fault → IsMoveFault next.now next.plies (main_words items depth) fault)
+        → IsMoveFault level.now level.plies (if main then word ∷ main_words items depth else main_words items depth) fault
+    by true (inl refused) on = inl refused
+    by true (inr (turn, says, later)) on = inr (turned turn says (on (gone_on level turn) later))
+    by false later on = on level later
+main_stops (GlyphNumber number ∷ items) depth level fault stops = by (depth == 0) stops (λ later. main_stops items depth level fault later)
+  where
+    by : (main : Bool) → Stops (shown_if main (GlyphNumber number) (outside items depth)) level [] fault
+        → (Stops (outside items depth) level [] fault → IsMoveFault level.now level.plies (main_words items depth) fault)
+        → IsMoveFault level.now level.plies (main_words items depth) fault
+    by true later on = on later
+    by false later on = on later
+main_stops (CommentText text ∷ items) depth level fault stops = by (depth == 0) stops (λ later. main_stops items depth level fault later)
+  where
+    by : (main : Bool) → Stops (shown_if main (CommentText text) (outside items depth)) level [] fault
+        → (Stops (outside items depth) level [] fault → IsMoveFault level.now level.plies (main_words items depth) fault)
+        → IsMoveFault level.now level.plies (main_words items depth) fault
+    by true later on = on later
+    by false later on = on later
+main_stops (VariationOpen ∷ items) depth level fault stops = main_stops items (depth + 1) level fault stops
+main_stops (VariationClose ∷ items) depth level fault stops = main_stops items (depth - 1) level fault stops
+
+-- the fault of the lines that are written
+pub written_fault : (variations : Bool) (start : State) (items : List Item) (fault : Fault) → IsPaired 0 items
+    → Stops (shown_items variations 0 items) (first_level start) [] fault → HasLineFault (lines_with variations) start items fault
+written_fault true start items fault paired stops = stops_faulty start items fault paired stops
+written_fault false start items fault paired stops = main_stops items 0 (first_level start) fault stops
+
+-- ---- a replay begins where its game starts
 
 pub starts_there : (style : Style) (fen : Option (List ℕ)) (items : List Item) (replay : Replay) (now : State) (is : IsReplayFor style fen items replay)
     → slice_get replay.positions 0 ≡ Some now → is.2.start ≡ now
 starts_there style fen items replay now (lines, all, is) here =
     same_state is.start now (sym (line_head is.start (main_words items 0) replay.positions replay.played is.line) ∙ here)
-
-pub replay_follows : (style : Style) (fen : Option (List ℕ)) (items : List Item) (replay : Replay) (now : State) → IsReplayFor style fen items replay
-    → slice_get replay.positions 0 ≡ Some now → Follows (shown_items style.variations 0 items) style (first_line now) [] (written_turns style.variations replay)
-replay_follows style fen items replay now (lines, all, is) here =
-    subst (λ start. Follows (shown_items style.variations 0 items) style (first_line start) [] (written_turns style.variations replay))
-    (starts_there style fen items replay now (lines, all, is) here) (by style.variations all)
-  where
-    by : (variations : Bool) → (variations ≡ true → lines ≡ All) → Follows (shown_items variations 0 items) style (first_line is.start) [] (written_turns variations replay)
-    by true every =
-        let played = subst (λ which. AreTurns which is.start items replay.turns) (every refl) is.turns in
-        subst (λ xs. Follows xs style (first_line is.start) [] replay.turns) (sym played.1) (all_follow played.0 style is.start replay.turns played.2)
-    by false every = main_follows items 0 style (first_line is.start) replay.positions replay.played is.line
 
 -- ---- the tokens of all lines
 
@@ -206,3 +193,69 @@ drawn_tokens style start items tokens paired draws =
         → AreTokens style false start start true line tokens
     by true shown line all = all_draw line style shown start tokens all
     by false hidden line main = main_draws line style hidden (first_line start) tokens main
+
+-- ---- what is written is played
+
+-- the moves of a line that has tokens
+drawn_line : (line : Line) (style : Style) (before now : State) (apart : Bool) (tokens : List (List ℕ)) → AreTokens style false before now apart line tokens
+    → (positions : List State) × (played : List Move) × IsMainLine now (own_words line) positions played
+drawn_line LineEnd style before now apart tokens none = (now ∷ [], [], (refl, refl))
+drawn_line (ThenMove word line) style before now apart tokens (turn, text, more, says, spells, is, rest) = by turn says (drawn_line line style now (after_turn now turn) false more rest)
+  where
+    by : (turn : Turn) → SaysTurn false now word turn
+        → ((positions : List State) × (played : List Move) × IsMainLine (after_turn now turn) (own_words line) positions played)
+        → (positions : List State) × (played : List Move) × IsMainLine now (word ∷ own_words line) positions played
+    by (Played m) says (later, moves, there) = (now ∷ later, m ∷ moves, (m, later, moves, refl, refl, says, there))
+    by Passed says there = absurd says
+drawn_line (ThenGlyph number line) style before now apart tokens (more, is, rest) = drawn_line line style before now apart more rest
+drawn_line (ThenComment text line) style before now apart tokens (more, is, rest) = drawn_line line style before now (apart || style.comments) more rest
+drawn_line (ThenVariation inner line) style before now apart tokens (own, more, is, inside, rest) = drawn_line line style before now (apart || style.variations) more rest
+
+-- and the turns of all its lines, where variations are written
+drawn_turns : (line : Line) (style : Style) → style.variations ≡ true → (inside : Bool) (before now : State) (apart : Bool) (tokens : List (List ℕ))
+    → AreTokens style inside before now apart line tokens → (turns : List Turn) × IsPlayed inside before now line turns
+drawn_turns LineEnd style shown inside before now apart tokens none = ([], refl)
+drawn_turns (ThenMove word line) style shown inside before now apart tokens (turn, text, more, says, spells, is, rest) =
+    let there = drawn_turns line style shown inside now (after_turn now turn) false more rest in
+    (turn ∷ there.0, (turn, there.0, refl, says, there.1))
+drawn_turns (ThenGlyph number line) style shown inside before now apart tokens (more, is, rest) = drawn_turns line style shown inside before now apart more rest
+drawn_turns (ThenComment text line) style shown inside before now apart tokens (more, is, rest) =
+    drawn_turns line style shown inside before now (apart || style.comments) more rest
+drawn_turns (ThenVariation inner line) style shown inside before now apart tokens (own, more, is, within, rest) =
+    let first = drawn_turns inner style shown true before before true own (within shown) in
+    let second = drawn_turns line style shown inside before now (apart || style.variations) more rest in
+    (first.0 ++ second.0, (first.0, second.0, refl, first.1, second.1))
+
+-- a game that has an export is sound in the lines that are written
+pub written_sound : (style : Style) (fen : Option (List ℕ)) (start : State) (items : List Item) (result : List ℕ) (tokens : List (List ℕ)) → IsStart fen start
+    → AreMovetextTokens style start items result tokens → IsSoundGame (lines_with style.variations) fen items
+written_sound style fen start items result tokens is_start (line, own, spells, drawn, all) =
+    let main = drawn_line line style start start true own drawn in
+    let words : own_words line ≡ main_words items 0 = sym (ap (λ xs. main_words xs 0) spells ∙ main_words_of line) in
+    let turns = by style.variations refl in (
+      record { positions = main.0; played = main.1; turns = turns.0 },
+      record { start = start; is_start = is_start; line = subst (λ ws. IsMainLine start ws main.0 main.1) words main.2; turns = turns.1 },
+    )
+  where
+    by : (variations : Bool) → style.variations ≡ variations → (turns : List Turn) × AreTurns (lines_with variations) start items turns
+    by true shown = let there = drawn_turns line style shown false start start true own drawn in (there.0, (line, spells, there.1))
+    by false hidden = ([], refl)
+
+-- a game that is replayed has no fault of the lines that are written
+pub none_of_sound : (style : Style) (fen : Option (List ℕ)) (items : List Item) (replay : Replay) (start : State) (answer : GameFault)
+    → IsReplayFor style fen items replay → IsStart fen start
+    → IfSome (fault_of answer) (HasLineFault (lines_with style.variations) start items) → fault_of answer ≡ None
+none_of_sound style fen items replay start answer (lines, every, is) is_start told = none (fault_of answer) told
+  where
+    sound : (variations : Bool) → (variations ≡ true → lines ≡ All) → (other : Replay) × IsReplay (lines_with variations) fen items other
+    sound true all = (replay, subst (λ which. IsReplay which fen items replay) (all refl) is)
+    sound false all = (
+      record { positions = replay.positions; played = replay.played; turns = [] },
+      record { start = is.start; is_start = is.is_start; line = is.line; turns = refl },
+    )
+
+    none : (fault : Option Fault) → IfSome fault (HasLineFault (lines_with style.variations) start items) → fault ≡ None
+    none None told = refl
+    none (Some fault) told =
+        let there = sound style.variations every in
+        absurd (no_fault (lines_with style.variations) fen items fault there (inr (start, is_start, told)))

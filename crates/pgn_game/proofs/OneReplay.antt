@@ -76,7 +76,7 @@ line_length now (word ∷ words) positions played (m, later, more, positions_is,
 
 -- ---- one main line
 
-one_move : (now : State) (word : List ℕ) (m n : Move) → IsOnlyNamed now word m → IsOnlyNamed now word n → m ≡ n
+pub one_move : (now : State) (word : List ℕ) (m n : Move) → IsOnlyNamed now word m → IsOnlyNamed now word n → m ≡ n
 one_move now word m n named other = other.only m named.named
 
 pub one_line : (now : State) (words : List (List ℕ)) (positions others : List State) (played moves : List Move)
@@ -159,7 +159,7 @@ replay_or_fault lines fen items replay fault is (inr (start, is_start, met)) =
 
 -- ---- one replay
 
-same_replay : (replay other : Replay) → replay.positions ≡ other.positions → replay.played ≡ other.played → replay.turns ≡ other.turns → replay ≡ other
+pub same_replay : (replay other : Replay) → replay.positions ≡ other.positions → replay.played ≡ other.played → replay.turns ≡ other.turns → replay ≡ other
 same_replay replay other positions played turns i = record { positions = positions i; played = played i; turns = turns i }
 
 same_turns : (lines : Lines) (start : State) (items : List Item) (turns others : List Turn) → AreTurns lines start items turns → AreTurns lines start items others → turns ≡ others

@@ -15,6 +15,7 @@ use Rattle.pgn_game.specs.Walks.{HasPlayed, HasPassed, HasStepped, IsStuck, HasW
 use Rattle.pgn_game.specs.declared.fault.GameFault.{GameFault}
 use Rattle.pgn_game.specs.declared.main_line.LineKeeper.{LineKeeper}
 use Rattle.pgn_game.specs.declared.main_line.MainWalk.{MainWalk}
+use Rattle.pgn_game.proofs.Openings.{joined}
 
 pub same_state : (a b : State) → Some a ≡ Some b → a ≡ b
 same_state a b is = cc
@@ -97,9 +98,22 @@ module _ {start : State} {words : List (List ℕ)} {old new : LineKeeper} {item 
   keeps_move m answer is stepped same positions played = record {
     before = keeps.before ++ old.walk.position ∷ [];
     positions = positions ∙ ap (λ (w : MainWalk). old.positions.items ++ w.position ∷ []) (sym same) ∙ ap (λ ps. ps ++ new.walk.position ∷ []) keeps.positions;
-    walked = subst (λ ms. HasWalked start words new.walk (keeps.before ++ old.walk.position ∷ []) ms items) (sym played)
-        (walked_by m keeps.walked (subst (λ w. HasPlayed old.walk w item m) (sym same) (subst (HasStepped old.walk _ item) is stepped)));
+    walked = subst (λ ms. HasWalked start words new.walk (keeps.before ++ old.walk.position ∷ []) ms items) (sym played) (walked_by m keeps.walked move);
+    first = keeps.first ++ move.word ∷ [];
+    parted = keeps.parted ∙ ap (λ ws. keeps.first ++ ws) (move.words items) ∙ sym (append_assoc keeps.first (move.word ∷ []) (main_words items new.walk.depth));
+    opening = subst (λ ps. IsMainLine start (keeps.first ++ move.word ∷ []) ps new.played.items) (sym both)
+        (subst (λ ms. IsMainLine start (keeps.first ++ move.word ∷ []) (keeps.before ++ old.walk.position ∷ new.walk.position ∷ []) ms) (sym played)
+        (joined start old.walk.position keeps.first (move.word ∷ []) keeps.before (old.walk.position ∷ new.walk.position ∷ []) old.played.items (m ∷ [])
+        (subst (λ ps. IsMainLine start keeps.first ps old.played.items) keeps.positions keeps.opening)
+        (m, new.walk.position ∷ [], [], refl, refl, move.named, (ap (λ s. s ∷ []) move.position, refl))));
   }
+    where
+      move : HasPlayed old.walk new.walk item m
+      move = subst (λ w. HasPlayed old.walk w item m) (sym same) (subst (HasStepped old.walk _ item) is stepped)
+
+      both : new.positions.items ≡ keeps.before ++ old.walk.position ∷ new.walk.position ∷ []
+      both = positions ∙ ap (λ (w : MainWalk). old.positions.items ++ w.position ∷ []) (sym same) ∙ ap (λ ps. ps ++ new.walk.position ∷ []) keeps.positions
+          ∙ append_assoc keeps.before (old.walk.position ∷ []) (new.walk.position ∷ [])
 
   -- any other element
   pub keeps_on : (answer : Option Move) → ((m : Move) → answer ≡ Some m → ⊥) → HasStepped old.walk new.walk item answer
@@ -109,6 +123,10 @@ module _ {start : State} {words : List (List ℕ)} {old new : LineKeeper} {item 
     before = keeps.before;
     positions = positions ∙ keeps.positions ∙ ap (λ p. keeps.before ++ p ∷ []) (sym stepped.position);
     walked = subst (λ ms. HasWalked start words new.walk keeps.before ms items) (sym played) (walked_past keeps.walked stepped);
+    first = keeps.first;
+    parted = keeps.parted ∙ ap (λ ws. keeps.first ++ ws) (stepped.words items);
+    opening = subst (λ ps. IsMainLine start keeps.first ps new.played.items) (sym positions)
+        (subst (λ ms. IsMainLine start keeps.first old.positions.items ms) (sym played) keeps.opening);
   }
 
 -- the elements from a place on

@@ -1,6 +1,6 @@
--- Replays are stored as tuples of lists, so that a type may have one as its value.
-use Rattle.std.specs.Prelude.{◌≡◌, Bool, true, false, List, Option, Some, None, refl}
-use Rattle.std.specs.Coded.{Coded, coded_bool, coded_list, coded_option, coded×, code_by}
+-- Replays are stored as tuples of lists, so that a type may have one as its value; and so are main lines that are played.
+use Rattle.std.specs.Prelude.{◌≡◌, ℕ, Bool, true, false, List, Option, Some, None, refl}
+use Rattle.std.specs.Coded.{Coded, coded_ℕ, coded_bool, coded_list, coded_option, coded×, code_by}
 use Rattle.chess.specs.Squares.{Place}
 use Rattle.chess.specs.PlaceCodes.{coded_place}
 use Rattle.chess.specs.Positions.{State}
@@ -12,6 +12,7 @@ use Rattle.chess.specs.declared.moves.Move.{Move}
 use Rattle.pgn_game.specs.declared.turn.Turn.{Turn}
 use Rattle.pgn_game.specs.declared.turn.Turn.TheVariants.{Played, Passed}
 use Rattle.pgn_game.specs.Replays.{Replay}
+use Rattle.pgn_game.specs.PlayedLines.{PlayedLine}
 
 abbrev pub is_queen_side : Wing → Bool
 is_queen_side KingSide = false
@@ -53,3 +54,7 @@ coded_turn = code_by (Option Move) (coded_option coded_move) move_of turn_of tur
 abbrev pub coded_replay : Coded Replay
 coded_replay = code_by (List State × (List Move × List Turn)) (coded× (coded_list coded_state) (coded× (coded_list coded_move) (coded_list coded_turn)))
     (λ r. (r.positions, (r.played, r.turns))) (λ p. record { positions = p.0; played = p.1.0; turns = p.1.1 }) (λ _. refl)
+
+abbrev pub coded_played_line : Coded PlayedLine
+coded_played_line = code_by (State × (ℕ × List (List ℕ))) (coded× coded_state (coded× coded_ℕ (coded_list (coded_list coded_ℕ))))
+    (λ l. (l.position, (l.plies, l.words))) (λ p. record { position = p.0; plies = p.1.0; words = p.1.1 }) (λ _. refl)

@@ -13,7 +13,7 @@ use Rattle.pgn_game.specs.Starts.{fen_tag, IsStart}
 use Rattle.pgn_game.specs.TagLines.{AreTagLines}
 use Rattle.pgn_game.specs.TextLines.{IsLaid}
 use Rattle.pgn_game.specs.declared.replayer.Lines.{Lines}
-use Rattle.pgn_game.specs.declared.replayer.Lines.TheVariants.{All}
+use Rattle.pgn_game.specs.declared.replayer.Lines.TheVariants.{Main, All}
 use Rattle.pgn_game.specs.declared.style.Style.{Style}
 use Rattle.pgn_game.specs.declared.turn.Turn.{Turn}
 use Rattle.pgn_game.specs.declared.turn.Turn.TheVariants.{Played, Passed}
@@ -56,6 +56,11 @@ AreTokens style inside before now apart (ThenVariation inner rest) tokens =
 abbrev pub AreMovetextTokens : Style → State → List Item → List ℕ → List (List ℕ) → Type 0
 AreMovetextTokens style start items result tokens =
     (line : Line) × (own : List (List ℕ)) × (items ≡ spelled line) × AreTokens style false start start true line own × (tokens ≡ own ++ result ∷ [])
+
+-- the lines of a game that are written, where variations are kept or left out
+abbrev pub lines_with : Bool → Lines
+lines_with true = All
+lines_with false = Main
 
 -- the replay is one of the game, and of all its lines where the style keeps variations
 abbrev pub IsReplayFor : Style → Option (List ℕ) → List Item → Replay → Type 0

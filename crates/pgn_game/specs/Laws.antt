@@ -12,6 +12,7 @@ use Rattle.pgn_text.specs.Strings.{IsContents}
 use Rattle.pgn_game.specs.AllLines.{Line, spelled, own_words}
 use Rattle.pgn_game.specs.MainLines.{main_words}
 use Rattle.pgn_game.specs.Faults.{Fault, IsFault}
+use Rattle.pgn_game.specs.Openings.{IsOpening}
 use Rattle.pgn_game.specs.Replays.{Replay, IsReplay, IsSoundGame}
 use Rattle.pgn_game.specs.Exports.{AreMovetextTokens, IsReplayFor, IsExport}
 use Rattle.pgn_game.specs.Starts.{IsStart, fen_tag}
@@ -34,6 +35,12 @@ abbrev pub GameHasOneReplay : Type 0
 GameHasOneReplay =
     (lines : Lines) (fen : Option (List ℕ)) (items : List Item) (replay other : Replay)
     → IsReplay lines fen items replay → IsReplay lines fen items other → replay ≡ other
+
+-- a game has one opening of so many plies at most
+abbrev pub GameHasOneOpening : Type 0
+GameHasOneOpening =
+    (fen : Option (List ℕ)) (items : List Item) (most : ℕ) (opening other : Replay)
+    → IsOpening fen items most opening → IsOpening fen items most other → opening ≡ other
 
 -- these lines of a game have one fault at most
 abbrev pub GameHasOneFault : Type 0

@@ -4,6 +4,8 @@ pub mod MainLines
 pub mod AllLines
 pub mod Faults
 pub mod Replays
+pub mod PlayedLines
+pub mod Openings
 pub mod Refusals
 pub mod TagLines
 pub mod TextLines
@@ -14,6 +16,7 @@ pub mod Laws
 pub mod Codes
 pub mod Walks
 pub mod LineWalks
+pub mod Steps
 pub mod RefusalWalks
 pub mod Pens
 pub mod CommentWords

@@ -13,9 +13,9 @@ use Rattle.pgn_game.specs.declared.all_lines.Level.{Level}
 use Rattle.pgn_game.specs.declared.all_lines.LinesWalk.{LinesWalk}
 
 -- the lines around this one, the innermost first: where there is one, this one is a variation
-abbrev pub is_inside : List Level → Bool
+abbrev pub is_inside : {T : Type 0} → List T → Bool
 is_inside [] = false
-is_inside (level ∷ outer) = true
+is_inside (line ∷ outer) = true
 
 -- the line after a turn; a variation as it begins
 abbrev pub gone_on : Level → Turn → Level
@@ -100,3 +100,12 @@ pub record HasTurned (old : LinesWalk) (word : List ℕ) (new : LinesWalk) : Typ
 -- no line has more plies
 abbrev pub AreWithin : ℕ → LinesWalk → Type 0
 AreWithin n walk = (walk.line.plies ≤ n) × All (λ level. level.plies ≤ n) walk.outer.items
+
+-- no variation begins among the elements
+abbrev pub IsFlat : List Item → Type 0
+IsFlat [] = Unit {0}
+IsFlat (MoveText word ∷ items) = IsFlat items
+IsFlat (GlyphNumber number ∷ items) = IsFlat items
+IsFlat (CommentText text ∷ items) = IsFlat items
+IsFlat (VariationOpen ∷ items) = ⊥
+IsFlat (VariationClose ∷ items) = IsFlat items

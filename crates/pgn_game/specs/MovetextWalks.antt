@@ -1,12 +1,15 @@
 -- The movetext while it is written: what is left of the elements completes the tokens. Nothing but the proof of its writer cites these.
-use Rattle.std.specs.Prelude.{◌≡◌, ◌==◌, ◌||◌, ℕ, ◌+◌, ◌-◌, Bool, true, false, codes, decimal, List, [], ◌∷◌, ◌++◌, map, reverse, drop}
+use Rattle.std.specs.Prelude.{◌≡◌, ◌==◌, ◌||◌, ◌≤◌, ℕ, ◌+◌, ◌-◌, Bool, true, false, codes, decimal, List, [], ◌∷◌, ◌++◌, map, reverse}
 use Rattle.chess.specs.Positions.{State, IsCheck}
 use Rattle.chess.specs.Moves.{IsLegal}
 use Rattle.pgn_text.specs.Games.{Item, MoveText, GlyphNumber, CommentText, VariationOpen, VariationClose}
 use Rattle.pgn_game.specs.AllLines.{IsTurn, after_turn}
 use Rattle.pgn_game.specs.Comments.{comment_tokens}
 use Rattle.pgn_game.specs.Exports.{number_tokens, IsTurnText, kept}
-use Rattle.pgn_game.specs.Replays.{Replay}
+use Rattle.pgn_game.specs.Faults.{Fault}
+use Rattle.pgn_game.specs.LineWalks.{Stops}
+use Rattle.pgn_game.specs.Pens.{HasPut}
+use Rattle.pgn_game.specs.declared.all_lines.Level.{Level}
 use Rattle.pgn_game.specs.declared.movetext.MovetextWalk.{MovetextWalk}
 use Rattle.pgn_game.specs.declared.movetext.WrittenLine.{WrittenLine}
 use Rattle.pgn_game.specs.declared.style.Style.{Style}
@@ -32,11 +35,6 @@ abbrev pub shown_items : Bool → ℕ → List Item → List Item
 shown_items true depth items = items
 shown_items false depth items = outside items depth
 
--- the turns of the lines that are written
-abbrev pub written_turns : Bool → Replay → List Turn
-written_turns true replay = replay.turns
-written_turns false replay = map (λ m. Played m) replay.played
-
 -- the turn may be taken in the position
 abbrev pub IsPlayable : State → Turn → Type 0
 IsPlayable now (Played m) = IsLegal now m
@@ -49,34 +47,23 @@ in_variation (line ∷ outer) = true
 
 -- the line after a turn; behind something that is written or left out; a variation as it begins; and the main line as it begins
 abbrev pub moved_on : WrittenLine → Turn → WrittenLine
-moved_on line turn = record { before = line.now; now = after_turn line.now turn; apart = false }
+moved_on line turn = record { before = line.now; now = after_turn line.now turn; plies = line.plies + 1; apart = false }
 
 abbrev pub set_apart : Bool → WrittenLine → WrittenLine
-set_apart written line = record { before = line.before; now = line.now; apart = written || line.apart }
+set_apart written line = record { before = line.before; now = line.now; plies = line.plies; apart = written || line.apart }
 
 abbrev pub varied : WrittenLine → WrittenLine
-varied line = record { before = line.before; now = line.before; apart = true }
+varied line = record { before = line.before; now = line.before; plies = line.plies - 1; apart = true }
 
 abbrev pub first_line : State → WrittenLine
-first_line start = record { before = start; now = start; apart = true }
+first_line start = record { before = start; now = start; plies = 0; apart = true }
 
 -- behind the end of a variation the line around it goes on
 abbrev pub IsBack : WrittenLine → List WrittenLine → WrittenLine → List WrittenLine → Type 0
 IsBack line [] new left = (new ≡ line) × (left ≡ [])
 IsBack line (next ∷ outer) new left = (new ≡ next) × (left ≡ outer)
 
--- with these lines around this one, what is left of the elements is played by the first of these turns
-abbrev pub Follows : List Item → Style → WrittenLine → List WrittenLine → List Turn → Type 0
-Follows [] style line outer turns = Unit {0}
-Follows (MoveText word ∷ items) style line outer turns =
-    (turn : Turn) × (more : List Turn) × (turns ≡ turn ∷ more) × IsTurn (in_variation outer) line.now word turn × Follows items style (moved_on line turn) outer more
-Follows (GlyphNumber number ∷ items) style line outer turns = Follows items style line outer turns
-Follows (CommentText text ∷ items) style line outer turns = Follows items style (set_apart style.comments line) outer turns
-Follows (VariationOpen ∷ items) style line outer turns = Follows items style (varied line) (set_apart true line ∷ outer) turns
-Follows (VariationClose ∷ items) style line [] turns = Follows items style line [] turns
-Follows (VariationClose ∷ items) style line (next ∷ outer) turns = Follows items style next outer turns
-
--- and has these tokens
+-- with these lines around this one, what is left of the elements is played, and has these tokens
 abbrev pub Draws : List Item → Style → WrittenLine → List WrittenLine → List (List ℕ) → Type 0
 Draws [] style line outer tokens = tokens ≡ []
 Draws (MoveText word ∷ items) style line outer tokens =
@@ -91,9 +78,39 @@ Draws (VariationOpen ∷ items) style line outer tokens =
 Draws (VariationClose ∷ items) style line [] tokens = (more : List (List ℕ)) × (tokens ≡ codes ")" ∷ more) × Draws items style line [] more
 Draws (VariationClose ∷ items) style line (next ∷ outer) tokens = (more : List (List ℕ)) × (tokens ≡ codes ")" ∷ more) × Draws items style next outer more
 
--- what is left of the elements is played by the turns that are left, and has these tokens
-abbrev pub FollowsOn : MovetextWalk → List Item → Style → List Turn → Type 0
-FollowsOn walk items style turns = Follows items style walk.line (reverse walk.outer.items) (drop walk.taken turns)
+-- the line as far as it was played
+abbrev pub level_of : WrittenLine → Level
+level_of line = record { before = line.before; now = line.now; plies = line.plies }
 
+-- what is left of the elements is played, and has these tokens; or has the fault
 abbrev pub DrawsOn : MovetextWalk → List Item → Style → List (List ℕ) → Type 0
 DrawsOn walk items style tokens = Draws items style walk.line (reverse walk.outer.items) tokens
+
+abbrev pub HaltsOn : MovetextWalk → List Item → Fault → Type 0
+HaltsOn walk items fault = Stops items (level_of walk.line) (map level_of (reverse walk.outer.items)) fault
+
+-- no line has more plies
+abbrev pub AreWithin : ℕ → List WrittenLine → Type 0
+AreWithin n [] = Unit {0}
+AreWithin n (line ∷ lines) = (line.plies ≤ n) × AreWithin n lines
+
+abbrev pub IsShort : ℕ → MovetextWalk → Type 0
+IsShort n walk = AreWithin n (walk.line ∷ reverse walk.outer.items)
+
+-- the walk went on by the turn that the word says, and wrote its number and its text
+pub record HasMoved (old new : MovetextWalk) (word : List ℕ) (before after : List ℕ) : Type 0 where
+  pub turn : Turn
+  pub text : List ℕ
+  pub says : IsTurn (in_variation old.outer.items) old.line.now word turn
+  pub spells : IsTurnText old.line.now turn text
+  pub put : HasPut old.pen new.pen before after (number_tokens old.line.now.turn old.line.now.fullmove_number old.line.apart ++ text ∷ [])
+  pub line : new.line ≡ moved_on old.line turn
+  pub outer : new.outer ≡ old.outer
+
+-- the element is no move
+abbrev pub IsNoMove : Item → Type 0
+IsNoMove (MoveText word) = ⊥
+IsNoMove (GlyphNumber number) = Unit {0}
+IsNoMove (CommentText text) = Unit {0}
+IsNoMove VariationOpen = Unit {0}
+IsNoMove VariationClose = Unit {0}

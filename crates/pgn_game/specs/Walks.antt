@@ -47,8 +47,11 @@ pub record HasWalked (start : State) (words : List (List ℕ)) (walk : MainWalk)
       → IsMainLine start words (positions ++ later) (played ++ more)
   pub faults : (fault : Fault) → IsMoveFault walk.position walk.plies (main_words items walk.depth) fault → IsMoveFault start 0 words fault
 
--- all positions and moves are kept so far
+-- all positions and moves are kept so far: they are the line of the first words
 pub record KeepsLine (start : State) (words : List (List ℕ)) (line : LineKeeper) (items : List Item) : Type 0 where
   pub before : List State
   pub positions : line.positions.items ≡ before ++ line.walk.position ∷ []
   pub walked : HasWalked start words line.walk before line.played.items items
+  pub first : List (List ℕ)
+  pub parted : words ≡ first ++ main_words items line.walk.depth
+  pub opening : IsMainLine start first line.positions.items line.played.items

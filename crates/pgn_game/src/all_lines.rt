@@ -1,12 +1,12 @@
 //! All lines, played element by element.
-ghost use Rattle.std.specs.Prelude.{◌≡◌, Bool, ◌&&◌, ◌+◌, ◌<◌, ◌≤◌, ◌++◌, ℕ, List, [], ◌∷◌, length, map, reverse, MatchResult, IfErr, IfOk, IfSome, OnOk};
+ghost use Rattle.std.specs.Prelude.{◌≡◌, Bool, ◌+◌, ◌<◌, ◌≤◌, ◌++◌, ℕ, List, [], ◌∷◌, length, map, reverse, MatchResult, IfErr, IfOk, IfSome, OnOk};
 ghost use Rattle.chess.specs.Positions.{State};
 ghost use Rattle.chess.specs.declared.moves.Move.{Move};
 ghost use Rattle.pgn_text.specs.Elements.{item_of};
 ghost use Rattle.pgn_text.specs.GameTexts.{IsPaired};
 ghost use Rattle.pgn_text.specs.Games.{Item};
 ghost use Rattle.pgn_game.specs.MainLines.{main_words, IsMainLine};
-ghost use Rattle.pgn_game.specs.AllLines.{is_pass, IsTurn, after_turn, ArePlayed};
+ghost use Rattle.pgn_game.specs.AllLines.{IsTurn, after_turn, ArePlayed};
 ghost use Rattle.pgn_game.specs.Faults.{Fault, IsRefusedTurn, HaveFault};
 ghost use Rattle.pgn_game.specs.Replays.{fault_of};
 ghost use Rattle.pgn_game.specs.declared.all_lines.Level.{Level};
@@ -15,6 +15,7 @@ ghost use Rattle.pgn_game.specs.LineWalks.{is_inside, RunsOn, StopsOn, LeadsOn, 
 use crate::fault::GameFault;
 use crate::naming::play_named;
 use crate::replayed::{GamePosition, Replayed};
+use crate::saying::passes;
 use crate::turn::Turn;
 use chess::Move;
 use pgn_text::Element;
@@ -24,10 +25,23 @@ use std::mem;
 /// A line as far as it was played: the position before its last turn and the one after it, and the plies that lead to the latter. Before
 /// the first turn both are the position that the line is played from.
 #[derive(Drop)]
-struct Level {
-    before: GamePosition,
-    now: GamePosition,
-    plies: usize,
+pub(crate) struct Level {
+    pub(crate) before: GamePosition,
+    pub(crate) now: GamePosition,
+    pub(crate) plies: usize,
+}
+
+impl Level {
+    /// The main line before its first turn.
+    pub(crate) fn first(start: &GamePosition) -> Self
+        ensures { result ≡ first_level start.now }
+    {
+        Level {
+            before: start.copy(),
+            now: start.copy(),
+            plies: 0,
+        }
+    }
 }
 
 /// All lines as far as they were played: the positions of the main line before its moves, its moves, all turns in the order of the text,
@@ -41,15 +55,8 @@ pub(crate) struct LinesWalk {
     outer: Vec<Level>,
 }
 
-/// Whether the word is a pass: in a variation `--` and `Z0` are, in the main line no word is.
-pub(crate) fn passes(inside: bool, word: &[u8]) -> bool
-    ensures { result ≡ (inside && is_pass word.now) }
-{
-    inside && (word == b"--".as_slice() || word == b"Z0".as_slice())
-}
-
 /// Plays what the word says in the position, in a variation or not; or answers the fault of this ply.
-fn play_turn<'a>(
+pub(crate) fn play_turn<'a>(
     position: &mut GamePosition,
     inside: bool,
     word: &'a [u8],
@@ -85,11 +92,7 @@ impl LinesWalk {
             positions: Vec::new(alloc),
             played: Vec::new(alloc),
             turns: Vec::new(alloc),
-            line: Level {
-                before: start.copy(),
-                now: start.copy(),
-                plies: 0,
-            },
+            line: Level::first(start),
             outer: Vec::new(alloc),
         }
     }

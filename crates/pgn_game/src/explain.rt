@@ -8,10 +8,11 @@ ghost use Rattle.pgn_game.specs.Refusals.{AreNamed, IsWhy, IsRefusedAt, IsRefuse
 ghost use Rattle.pgn_game.specs.RefusalWalks.{AddsFrom, IsCounted, GoesOn, IsRefusedHere};
 ghost use Rattle.pgn_game.specs.Replays.{fault_of};
 
-use crate::all_lines::{LinesWalk, passes};
+use crate::all_lines::LinesWalk;
 use crate::fault::GameFault;
 use crate::replayed::GamePosition;
 use crate::replayer::Lines;
+use crate::saying::passes;
 use crate::starting::starting_position;
 use chess::{Move, Refusal, SanError, Square, named_from, resolve, why_unnamed};
 use pgn_text::{Element, RawGame};

@@ -3,7 +3,7 @@
 ghost use Rattle.pgn_game.specs.Exports.{MovetextHasOneList};
 ghost use Rattle.pgn_game.specs.Refusals.{OneLineIsReached, RefusedWordIsTheFault};
 ghost use Rattle.pgn_game.specs.TextLines.{TokensHaveAText, TokensHaveOneText};
-ghost use Rattle.pgn_game.specs.Laws.{EachMoveIsNamed, MainLineIsTheLine, EachMoveHasATurn, GameHasOneReplay, GameHasOneFault, SoundGameHasNoFault, GameHasAnAnswer, MovetextHasTokens, GameHasAnExport, GameHasOneExport, NoLineIsMisread, ExportIsReadAsOne};
+ghost use Rattle.pgn_game.specs.Laws.{EachMoveIsNamed, MainLineIsTheLine, EachMoveHasATurn, GameHasOneReplay, GameHasOneOpening, GameHasOneFault, SoundGameHasNoFault, GameHasAnAnswer, MovetextHasTokens, GameHasAnExport, GameHasOneExport, NoLineIsMisread, ExportIsReadAsOne};
 
 /// Whichever lines are replayed, each move of the main line is the only legal move that its word names in the position before it.
 pub fn one_legal_move()
@@ -25,6 +25,11 @@ pub fn one_answer()
     ensures replay { GameHasOneReplay }
     ensures fault { GameHasOneFault }
     ensures not_both { SoundGameHasNoFault }
+{}
+
+/// A game has at most one opening of so many plies.
+pub fn one_opening()
+    ensures { GameHasOneOpening }
 {}
 
 /// Of the main line, and of all lines, a game has a replay or a fault, where its FEN tag holds the contents of a string and its

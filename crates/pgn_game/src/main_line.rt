@@ -5,6 +5,7 @@ ghost use Rattle.pgn_text.specs.Elements.{item_of};
 ghost use Rattle.pgn_text.specs.Games.{Item};
 ghost use Rattle.pgn_game.specs.MainLines.{main_words, IsMainLine};
 ghost use Rattle.pgn_game.specs.Faults.{IsMoveFault};
+ghost use Rattle.pgn_game.specs.Openings.{IsBeginning};
 ghost use Rattle.pgn_game.specs.Replays.{fault_of, HasPlies};
 ghost use Rattle.pgn_game.specs.Walks.{HasStepped, IsStuck, KeepsLine, HasLinePlies};
 
@@ -17,15 +18,15 @@ use std::alloc::{AllocError, Global};
 
 /// The position that the main line leads to as far as it is played, how many plies lead to it, and how many variations are open.
 #[derive(Drop)]
-struct MainWalk {
-    position: GamePosition,
-    plies: usize,
-    depth: usize,
+pub(crate) struct MainWalk {
+    pub(crate) position: GamePosition,
+    pub(crate) plies: usize,
+    pub(crate) depth: usize,
 }
 
 impl MainWalk {
     /// Before the first element.
-    fn new(start: GamePosition) -> Self
+    pub(crate) fn new(start: GamePosition) -> Self
         ensures { (result.position ≡ start) × (result.plies ≡ 0) × (result.depth ≡ 0) }
     {
         MainWalk {
@@ -37,7 +38,7 @@ impl MainWalk {
 
     /// Plays the element, if it is a move of the main line, and answers the move.
     #[inline(always)]
-    fn step<'a>(&mut self, element: Element<'a>) -> Result<Option<Move>, GameFault<'a>>
+    pub(crate) fn step<'a>(&mut self, element: Element<'a>) -> Result<Option<Move>, GameFault<'a>>
         requires room { (self.old.plies < usize.MAX) × (self.old.depth < usize.MAX) }
         ensures within { (self.new.plies ≤ self.old.plies + 1) × (self.new.depth ≤ self.old.depth + 1) }
         ensures stepped { MatchResult result
@@ -103,6 +104,25 @@ impl LineKeeper {
         Ok(())
     }
 
+    /// What is kept, as a replay.
+    fn replayed(self, alloc: Global) -> Replayed
+        requires { length self.positions.items ≡ length self.played.items + 1 }
+        ensures positions { result.positions ≡ self.positions.items }
+        ensures played { result.played ≡ self.played.items }
+        ensures turns { result.turns ≡ [] }
+    {
+        let LineKeeper {
+            positions,
+            played,
+            ..
+        } = self;
+        Replayed {
+            positions,
+            played,
+            turns: Vec::new(alloc),
+        }
+    }
+
     /// Plays the element, if it is a move of the main line.
     fn step<'a>(&mut self, element: Element<'a>) -> Result<(), GameFault<'a>>
         requires room { (self.old.walk.plies < usize.MAX) × (self.old.walk.depth < usize.MAX) }
@@ -132,16 +152,28 @@ pub(crate) fn play_main_line<'a>(
     for element in elements {
         line.step(*element)?;
     }
-    let LineKeeper {
-        positions,
-        played,
-        ..
-    } = line;
-    Ok(Replayed {
-        positions,
-        played,
-        turns: Vec::new(alloc),
-    })
+    Ok(line.replayed(alloc))
+}
+
+/// Plays the main line of the elements from the position up to so many plies, or to its end.
+pub(crate) fn play_opening<'a>(
+    alloc: Global,
+    start: GamePosition,
+    elements: &[Element<'a>],
+    most: usize,
+) -> Result<Replayed, GameFault<'a>>
+    ensures { MatchResult result
+        (IsBeginning start (main_words (map item_of elements.now) 0) most)
+        (λ fault. IfSome (fault_of fault) (IsMoveFault start 0 (main_words (map item_of elements.now) 0))) }
+{
+    let mut opening = LineKeeper::new(alloc, start, &[])?;
+    for element in elements {
+        if opening.played.len() >= most {
+            return Ok(opening.replayed(alloc));
+        }
+        opening.step(*element)?;
+    }
+    Ok(opening.replayed(alloc))
 }
 
 /// Counts the plies of the main line of the elements, played from the position.

@@ -1,21 +1,21 @@
 //! The movetext of a game, written element by element.
-ghost use Rattle.std.specs.Prelude.{◌≡◌, ◌+◌, ◌<◌, ◌≤◌, ◌++◌, ◌∷◌, ℕ, List, [], Some, codes, decimal, drop, false, length, map, reverse, true, IfOk, OnOk};
-ghost use Rattle.std.specs.List.{slice_get};
-ghost use Rattle.chess.specs.Positions.{State};
+ghost use Rattle.std.specs.Prelude.{◌≡◌, ◌+◌, ◌<◌, ◌≤◌, ◌++◌, ◌∷◌, ℕ, List, [], codes, decimal, false, map, reverse, true, IfErr, IfSome, OnOk};
 ghost use Rattle.pgn_text.specs.Elements.{item_of};
 ghost use Rattle.pgn_text.specs.Games.{Item};
-ghost use Rattle.pgn_text.specs.GameTexts.{tag_in};
-ghost use Rattle.pgn_game.specs.AllLines.{after_turn};
+ghost use Rattle.pgn_game.specs.AllLines.{IsTurn, after_turn};
 ghost use Rattle.pgn_game.specs.Comments.{comment_tokens};
-ghost use Rattle.pgn_game.specs.Exports.{IsReplayFor, IsTurnText, AreMovetextTokens, kept, number_tokens};
-ghost use Rattle.pgn_game.specs.MovetextWalks.{Draws, DrawsOn, Follows, FollowsOn, IsBack, IsPlayable, first_line, moved_on, set_apart, shown_if, shown_items, varied, written_turns};
+ghost use Rattle.pgn_game.specs.Exports.{IsTurnText, AreMovetextTokens, kept, lines_with, number_tokens};
+ghost use Rattle.pgn_game.specs.Faults.{Fault, HasLineFault, IsRefusedTurn};
+ghost use Rattle.pgn_game.specs.MovetextWalks.{IsShort, Draws, DrawsOn, HaltsOn, HasMoved, IsBack, IsNoMove, IsPlayable, first_line, in_variation, moved_on, set_apart, shown_if, shown_items, varied};
 ghost use Rattle.pgn_game.specs.Pens.{HasPut, behind_tokens};
-ghost use Rattle.pgn_game.specs.Starts.{fen_tag, IsStart};
+ghost use Rattle.pgn_game.specs.Replays.{fault_of};
 ghost use Rattle.pgn_game.specs.TextLines.{IsLaid};
 
 use crate::comment::put_comment;
+use crate::fault::GameFault;
 use crate::pen::Pen;
-use crate::replayed::{GamePosition, Replayed};
+use crate::replayed::GamePosition;
+use crate::saying::said_turn;
 use crate::style::Style;
 use crate::tokens::{put_glyph, put_number, put_turn};
 use crate::turn::Turn;
@@ -56,32 +56,21 @@ impl Shown {
     }
 }
 
-/// The turn of the written lines that so many stand before.
-fn turn_at(replayed: &Replayed, style: &Style, index: usize) -> Turn
-    requires { index < length (written_turns style.now.variations replayed.now) }
-    ensures { slice_get (written_turns style.now.variations replayed.now) index ≡ Some result }
-{
-    if style.variations {
-        return replayed.turn(index);
-    }
-    Turn::Played(replayed.played(index))
-}
-
-/// A line as far as it was written: the position before its last turn and the one after it, and whether its next move stands apart from
-/// that turn. Before the first turn both are the position that the line is played from.
+/// A line as far as it was written: the position before its last turn and the one after it, the plies that lead to the latter, and whether
+/// its next move stands apart from that turn. Before the first turn both are the position that the line is played from.
 #[derive(Drop)]
 struct WrittenLine {
     before: GamePosition,
     now: GamePosition,
+    plies: usize,
     apart: bool,
 }
 
-/// The lines as far as they were written: the pen, the number of turns that were taken, the line that is being written, and those around
-/// it, the innermost last. There are no more of these than variations can be nested.
+/// The lines as far as they were written: the pen, the line that is being written, and those around it, the innermost last. There are no
+/// more of these than variations can be nested.
 #[derive(Drop)]
 struct MovetextWalk {
     pen: Pen,
-    taken: usize,
     line: WrittenLine,
     outer: Vec<WrittenLine>,
 }
@@ -92,32 +81,37 @@ impl MovetextWalk {
         ensures pen_width { result.pen.width ≡ width }
         ensures pen_begun { result.pen.begun ≡ false }
         ensures pen_column { result.pen.column ≡ 0 }
-        ensures taken { result.taken ≡ 0 }
         ensures line { result.line ≡ first_line start.now }
         ensures outer { result.outer.items ≡ [] }
     {
         MovetextWalk {
             pen: Pen::new(width),
-            taken: 0,
             line: WrittenLine {
                 before: start.copy(),
                 now: start.copy(),
+                plies: 0,
                 apart: true,
             },
             outer: Vec::new(alloc),
         }
     }
 
+    /// Whether a variation is written.
+    fn is_inside(&self) -> bool
+        ensures { result ≡ in_variation self.now.outer.items }
+    {
+        !self.outer.is_empty()
+    }
+
     /// Writes a turn with its number.
-    fn put_move(&mut self, turn: &Turn, out: &mut Vec<u8>) -> Result<(), AllocError>
-        requires room { self.old.taken < usize.MAX }
+    fn put_turn(&mut self, turn: &Turn, out: &mut Vec<u8>) -> Result<(), AllocError>
+        requires room { self.old.line.plies < usize.MAX }
         requires playable { IsPlayable self.old.line.now turn.now }
         ensures text { OnOk result ((text : List ℕ) × IsTurnText self.old.line.now turn.now text
             × HasPut self.old.pen self.new.pen out.old.items out.new.items
             (number_tokens self.old.line.now.turn self.old.line.now.fullmove_number self.old.line.apart ++ text ∷ [])) }
         ensures line { OnOk result (self.new.line ≡ moved_on self.old.line turn.now) }
         ensures outer { self.new.outer ≡ self.old.outer }
-        ensures taken { OnOk result (self.new.taken ≡ self.old.taken + 1) }
         ensures kept { (some : List ℕ) × (out.new.items ≡ out.old.items ++ some) }
         ensures width { self.new.pen.width ≡ self.old.pen.width }
     {
@@ -132,7 +126,20 @@ impl MovetextWalk {
         )?;
         put_turn(&mut self.pen, out, &mut line.now, turn)?;
         line.apart = false;
-        self.taken += 1;
+        line.plies += 1;
+        Ok(())
+    }
+
+    /// Plays what the word says, and writes it with its number; or answers its fault.
+    fn put_move<'a>(&mut self, word: &'a [u8], out: &mut Vec<u8>) -> Result<(), GameFault<'a>>
+        requires room { self.old.line.plies < usize.MAX }
+        ensures moved { OnOk result (HasMoved self.old self.new word.now out.old.items out.new.items) }
+        ensures stuck { IfErr result (λ fault. IfSome (fault_of fault) (IsRefusedTurn (in_variation self.old.outer.items) self.old.line.now self.old.line.plies word.now)) }
+        ensures kept { (some : List ℕ) × (out.new.items ≡ out.old.items ++ some) }
+        ensures width { self.new.pen.width ≡ self.old.pen.width }
+    {
+        let turn = said_turn(&self.line.now, self.is_inside(), word, self.line.plies + 1)?;
+        self.put_turn(&turn, out)?;
         Ok(())
     }
 
@@ -141,7 +148,6 @@ impl MovetextWalk {
         ensures text { OnOk result (HasPut self.old.pen self.new.pen out.old.items out.new.items (comment_tokens text.now)) }
         ensures line { OnOk result (self.new.line ≡ set_apart true self.old.line) }
         ensures outer { self.new.outer ≡ self.old.outer }
-        ensures taken { self.new.taken ≡ self.old.taken }
         ensures kept { (some : List ℕ) × (out.new.items ≡ out.old.items ++ some) }
         ensures width { self.new.pen.width ≡ self.old.pen.width }
     {
@@ -154,7 +160,6 @@ impl MovetextWalk {
         ensures text { OnOk result (HasPut self.old.pen self.new.pen out.old.items out.new.items (codes "(" ∷ [])) }
         ensures line { OnOk result (self.new.line ≡ varied self.old.line) }
         ensures outer { OnOk result (self.new.outer.items ≡ self.old.outer.items ++ set_apart true self.old.line ∷ []) }
-        ensures taken { self.new.taken ≡ self.old.taken }
         ensures kept { (some : List ℕ) × (out.new.items ≡ out.old.items ++ some) }
         ensures width { self.new.pen.width ≡ self.old.pen.width }
     {
@@ -162,6 +167,7 @@ impl MovetextWalk {
         let variation = WrittenLine {
             before: self.line.before.copy(),
             now: self.line.before.copy(),
+            plies: self.line.plies.saturating_sub(1),
             apart: true,
         };
         let mut line = mem::replace(&mut self.line, variation);
@@ -173,7 +179,6 @@ impl MovetextWalk {
     /// Goes back to the line around this one, if there is one.
     fn back(&mut self)
         ensures line { IsBack self.old.line (reverse self.old.outer.items) self.new.line (reverse self.new.outer.items) }
-        ensures taken { self.new.taken ≡ self.old.taken }
         ensures pen { self.new.pen ≡ self.old.pen }
     {
         if let Some(line) = self.outer.pop() {
@@ -185,7 +190,6 @@ impl MovetextWalk {
     fn close(&mut self, out: &mut Vec<u8>) -> Result<(), AllocError>
         ensures text { OnOk result (HasPut self.old.pen self.new.pen out.old.items out.new.items (codes ")" ∷ [])) }
         ensures line { IsBack self.old.line (reverse self.old.outer.items) self.new.line (reverse self.new.outer.items) }
-        ensures taken { self.new.taken ≡ self.old.taken }
         ensures kept { (some : List ℕ) × (out.new.items ≡ out.old.items ++ some) }
         ensures width { self.new.pen.width ≡ self.old.pen.width }
     {
@@ -193,29 +197,23 @@ impl MovetextWalk {
         self.pen.put(out, b")")
     }
 
-    /// Writes the element.
-    fn step(
+    /// Writes an element that is no move.
+    fn put_beside(
         &mut self,
         element: Element,
-        replayed: &Replayed,
         style: &Style,
         out: &mut Vec<u8>,
     ) -> Result<(), AllocError>
-        requires room { self.old.taken < usize.MAX }
-        requires follows { (items : List Item) × FollowsOn self.old (item_of element ∷ items) style.now (written_turns style.now.variations replayed.now) }
-        ensures follows { OnOk result ((items : List Item) → FollowsOn self.old (item_of element.entry ∷ items) style.now (written_turns style.now.variations replayed.now)
-            → FollowsOn self.new items style.now (written_turns style.now.variations replayed.now)) }
+        requires { IsNoMove (item_of element) }
         ensures text { OnOk result ((tokens : List (List ℕ)) × HasPut self.old.pen self.new.pen out.old.items out.new.items tokens
             × ((items : List Item) (more : List (List ℕ)) → DrawsOn self.new items style.now more → DrawsOn self.old (item_of element.entry ∷ items) style.now (tokens ++ more))) }
-        ensures taken { OnOk result (self.new.taken ≤ self.old.taken + 1) }
+        ensures halts { OnOk result ((items : List Item) (fault : Fault) → HaltsOn self.new items fault → HaltsOn self.old (item_of element.entry ∷ items) fault) }
+        ensures within { OnOk result ((n : ℕ) → IsShort n self.old → IsShort n self.new) }
         ensures kept { (some : List ℕ) × (out.new.items ≡ out.old.items ++ some) }
         ensures width { self.new.pen.width ≡ self.old.pen.width }
     {
         match element {
-            Element::Move(_) => {
-                let turn = turn_at(replayed, style, self.taken);
-                self.put_move(&turn, out)
-            }
+            Element::Move(_) => Ok(()),
             Element::Glyph(number) => {
                 if !style.glyphs {
                     return Ok(());
@@ -233,18 +231,39 @@ impl MovetextWalk {
         }
     }
 
-    /// Writes the elements: all, or where variations are left out those that stand in none.
-    fn put_elements(
+    /// Plays and writes the element.
+    fn step<'a>(
         &mut self,
-        elements: &[Element],
-        replayed: &Replayed,
+        element: Element<'a>,
         style: &Style,
         out: &mut Vec<u8>,
-    ) -> Result<(), AllocError>
-        requires begun { self.old.taken ≡ 0 }
-        requires follows { FollowsOn self.old (shown_items style.now.variations 0 (map item_of elements.now)) style.now (written_turns style.now.variations replayed.now) }
+    ) -> Result<(), GameFault<'a>>
+        requires room { self.old.line.plies < usize.MAX }
+        ensures text { OnOk result ((tokens : List (List ℕ)) × HasPut self.old.pen self.new.pen out.old.items out.new.items tokens
+            × ((items : List Item) (more : List (List ℕ)) → DrawsOn self.new items style.now more → DrawsOn self.old (item_of element.entry ∷ items) style.now (tokens ++ more))) }
+        ensures halts { OnOk result ((items : List Item) (fault : Fault) → HaltsOn self.new items fault → HaltsOn self.old (item_of element.entry ∷ items) fault) }
+        ensures stuck { IfErr result (λ fault. (items : List Item) → IfSome (fault_of fault) (HaltsOn self.old (item_of element.entry ∷ items))) }
+        ensures within { OnOk result ((n : ℕ) → IsShort n self.old → IsShort (n + 1) self.new) }
+        ensures kept { (some : List ℕ) × (out.new.items ≡ out.old.items ++ some) }
+        ensures width { self.new.pen.width ≡ self.old.pen.width }
+    {
+        match element {
+            Element::Move(word) => self.put_move(word, out),
+            _ => Ok(self.put_beside(element, style, out)?),
+        }
+    }
+
+    /// Plays and writes the elements: all, or where variations are left out those that stand in none.
+    fn put_elements<'a>(
+        &mut self,
+        elements: &[Element<'a>],
+        style: &Style,
+        out: &mut Vec<u8>,
+    ) -> Result<(), GameFault<'a>>
+        requires begun { IsShort 0 self.old }
         ensures text { OnOk result ((tokens : List (List ℕ)) × HasPut self.old.pen self.new.pen out.old.items out.new.items tokens
             × DrawsOn self.old (shown_items style.now.variations 0 (map item_of elements.now)) style.now tokens) }
+        ensures stuck { IfErr result (λ fault. IfSome (fault_of fault) (HaltsOn self.old (shown_items style.now.variations 0 (map item_of elements.now)))) }
         ensures kept { (some : List ℕ) × (out.new.items ≡ out.old.items ++ some) }
         ensures width { self.new.pen.width ≡ self.old.pen.width }
     {
@@ -256,29 +275,29 @@ impl MovetextWalk {
             if !shown.shows(*element) {
                 continue;
             }
-            self.step(*element, replayed, style, out)?;
+            self.step(*element, style, out)?;
         }
         Ok(())
     }
 }
 
-/// Writes the movetext of the game that is replayed, in lines of the style's width: its moves, with what the style keeps beside them, and
-/// its result. Where memory runs out, some of it may stand in the vector.
-pub(crate) fn put_movetext(
+/// Plays the lines of the game that the style keeps from this start, and writes its movetext in lines of the style's width: its moves, with
+/// what the style keeps beside them, and its result. Where a line is faulty or memory runs out, some of it may stand in the vector.
+pub(crate) fn put_movetext<'a>(
     alloc: Global,
-    game: &RawGame,
-    replayed: &Replayed,
+    game: &RawGame<'a>,
+    start: &GamePosition,
     style: &Style,
     out: &mut Vec<u8>,
-) -> Result<(), AllocError>
-    requires { IsReplayFor style.now (tag_in fen_tag game.now.tags) game.now.elements replayed.now }
-    ensures text { OnOk result ((start : State) × (tokens : List (List ℕ)) × (movetext : List ℕ) × IsStart (tag_in fen_tag game.now.tags) start
-        × AreMovetextTokens style.now start game.now.elements game.now.result tokens × IsLaid style.now.width tokens movetext
+) -> Result<(), GameFault<'a>>
+    ensures text { OnOk result ((tokens : List (List ℕ)) × (movetext : List ℕ)
+        × AreMovetextTokens style.now start.now game.now.elements game.now.result tokens × IsLaid style.now.width tokens movetext
         × (out.new.items ≡ out.old.items ++ movetext)) }
+    ensures fault { IfErr result (λ fault. IfSome (fault_of fault) (HasLineFault (lines_with style.now.variations) start.now game.now.elements)) }
     ensures kept { (some : List ℕ) × (out.new.items ≡ out.old.items ++ some) }
 {
-    let mut walk = MovetextWalk::new(alloc, replayed.position(0), style.width);
-    walk.put_elements(game.elements(), replayed, style, out)?;
+    let mut walk = MovetextWalk::new(alloc, start, style.width);
+    walk.put_elements(game.elements(), style, out)?;
     walk.pen.put(out, game.result())?;
-    walk.pen.finish(out)
+    Ok(walk.pen.finish(out)?)
 }

@@ -1,17 +1,21 @@
 //! Replay of a game.
-ghost use Rattle.std.specs.Prelude.{MatchResult, IfSome};
+ghost use Rattle.std.specs.Prelude.{MatchResult, IfSome, IsTrue, map};
+ghost use Rattle.pgn_text.specs.Elements.{item_of};
 ghost use Rattle.pgn_text.specs.GameTexts.{tag_in};
 ghost use Rattle.pgn_game.specs.Starts.{fen_tag};
 ghost use Rattle.pgn_game.specs.Faults.{IsFault};
-ghost use Rattle.pgn_game.specs.Replays.{IsReplay, HasPlies, fault_of};
-ghost use Rattle.pgn_game.specs.declared.replayer.Lines.TheVariants.{Main};
+ghost use Rattle.pgn_game.specs.LineWalks.{IsFlat};
+ghost use Rattle.pgn_game.specs.Openings.{IsOpening};
+ghost use Rattle.pgn_game.specs.Replays.{IsReplay, IsSoundGame, HasPlies, fault_of};
+ghost use Rattle.pgn_game.specs.declared.replayer.Lines.TheVariants.{All, Main};
 
 use crate::all_lines::play_all_lines;
 use crate::fault::GameFault;
-use crate::main_line::{count_main_line, play_main_line};
+use crate::main_line::{count_main_line, play_main_line, play_opening};
 use crate::replayed::Replayed;
 use crate::starting::starting_position;
-use pgn_text::RawGame;
+use crate::walk::check_all_lines;
+use pgn_text::{Element, RawGame};
 use std::alloc::Global;
 
 /// Which lines of a game are replayed.
@@ -36,6 +40,62 @@ pub fn replay<'a>(alloc: Global, raw: &RawGame<'a>, lines: Lines) -> Result<Repl
         Lines::Main => play_main_line(alloc, start, raw.elements()),
         Lines::All => play_all_lines(alloc, &start, raw.elements()),
     }
+}
+
+/// Plays these lines of the game and keeps nothing of them: whether they are sound, or the fault of a replay of them.
+pub fn check_lines<'a>(alloc: Global, raw: &RawGame<'a>, lines: Lines) -> Result<(), GameFault<'a>>
+    ensures { MatchResult result
+        (λ _. IsSoundGame lines (tag_in fen_tag raw.now.tags) raw.now.elements)
+        (λ fault. IfSome (fault_of fault) (IsFault lines (tag_in fen_tag raw.now.tags) raw.now.elements)) }
+{
+    let start = starting_position(alloc, raw.tags())?;
+    match lines {
+        Lines::Main => {
+            count_main_line(start, raw.elements())?;
+            Ok(())
+        }
+        Lines::All => check_all_lines(alloc, &start, raw.elements()),
+    }
+}
+
+/// Whether none of the elements begins a variation.
+fn is_flat(elements: &[Element<'_>]) -> bool
+    ensures { IsTrue result → IsFlat (map item_of elements.now) }
+{
+    for element in elements {
+        if matches!(element, Element::Open) {
+            return false;
+        }
+    }
+    true
+}
+
+/// Whether all lines are sound of a game whose main line is; or the fault of a replay of them. Without variations nothing is played.
+pub fn check_variations<'a>(alloc: Global, raw: &RawGame<'a>) -> Result<(), GameFault<'a>>
+    requires { IsSoundGame Main (tag_in fen_tag raw.now.tags) raw.now.elements }
+    ensures { MatchResult result
+        (λ _. IsSoundGame All (tag_in fen_tag raw.now.tags) raw.now.elements)
+        (λ fault. IfSome (fault_of fault) (IsFault All (tag_in fen_tag raw.now.tags) raw.now.elements)) }
+{
+    raw.known();
+    if is_flat(raw.elements()) {
+        return Ok(());
+    }
+    check_lines(alloc, raw, Lines::All)
+}
+
+/// Plays the main line of the game up to so many plies, or to its end, and keeps the positions so far.
+pub fn replay_opening<'a>(
+    alloc: Global,
+    raw: &RawGame<'a>,
+    most: usize,
+) -> Result<Replayed, GameFault<'a>>
+    ensures { MatchResult result
+        (IsOpening (tag_in fen_tag raw.now.tags) raw.now.elements most)
+        (λ fault. IfSome (fault_of fault) (IsFault Main (tag_in fen_tag raw.now.tags) raw.now.elements)) }
+{
+    let start = starting_position(alloc, raw.tags())?;
+    play_opening(alloc, start, raw.elements(), most)
 }
 
 /// Counts the plies of the main line of the game, or reports its fault: just as a replay of the main line, but no position is kept.

@@ -6,11 +6,11 @@ use Rattle.pgn_game.proofs.exporter.put_export.Goals as goal
 pub returns-clause-text : goal.returns-clause-text
 returns-clause-text c =
     let (head, tags, head_is) = c.in_ok-put_tags.ensures.lines in
-    let (start, tokens, movetext, is_start, are_tokens, laid, movetext_is) = c.in_ok-put_movetext.ensures.text in
+    let (tokens, movetext, are_tokens, laid, movetext_is) = c.in_ok-put_movetext.ensures.text in
     let text : List ℕ = head ++ 10 ∷ (movetext ++ 10 ∷ []) in
     let is : IsExport c.args.style.now c.args.game.now text = record {
-      start = start;
-      is_start = is_start;
+      start = c.args.start.now;
+      is_start = c.requires;
       head = head;
       tags = tags;
       tokens = tokens;

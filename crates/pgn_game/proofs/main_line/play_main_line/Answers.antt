@@ -1,10 +1,10 @@
-use Rattle.std.proofs.Common.{◌+◌, ◌++◌, ◌∷◌, [], length, drop, map, sym, subst, ap, ◌∙◌, arith}
+use Rattle.std.proofs.Common.{◌+◌, ◌∷◌, [], drop, map, sym, subst, ap, ◌∙◌, arith, append-nil}
 use Rattle.std.proofs.lemmas.Result.{err_from_is_err_and}
 use Rattle.pgn_text.specs.Elements.{item_of}
 use Rattle.pgn_game.specs.MainLines.{main_words, IsMainLine}
 use Rattle.pgn_game.specs.Walks.{HasWalked, KeepsLine}
 use Rattle.pgn_game.proofs.OneReplay.{line_length}
-use Rattle.pgn_game.proofs.WalkFacts.{walk_begins, stuck_at, walk_ends, items_step, items_end}
+use Rattle.pgn_game.proofs.WalkFacts.{walk_begins, stuck_at, items_step, items_end}
 use Rattle.pgn_game.proofs.main_line.play_main_line.Goals as goal
 
 pub loop-element-init : goal.loop-element-init
@@ -20,6 +20,9 @@ loop-element-init c =
         positions = c.in_ok-line.ensures.positions ∙ ap (λ s. s ∷ []) (sym begun.0);
         walked = subst (λ ms. HasWalked c.args.start (main_words items 0) line.walk [] ms items) (sym c.in_ok-line.ensures.played)
             (walk_begins c.args.start line.walk items begun.0 begun.1 begun.2);
+        first = [];
+        parted = ap (main_words items) (sym begun.2);
+        opening = (c.in_ok-line.ensures.positions, c.in_ok-line.ensures.played);
       };
     }
 
@@ -42,14 +45,14 @@ loop-element-preserved c =
           (subst (KeepsLine c.args.start words c.loop-element.line) (items_step c.args.elements.now i _ (omega arith)) c.loop-element.invariant.keeps);
     }
 
-pub invariant_of-result : goal.invariant_of-result
-invariant_of-result c =
-    let words = main_words (map item_of c.args.elements.now) 0 in
-    let keeps = subst (KeepsLine c.args.start words c.loop-element.line) (items_end c.args.elements.now c.loop-element.element-index (omega arith)) c.loop-element.invariant.keeps in
-    ap length keeps.positions ∙ line_length c.args.start words (keeps.before ++ c.loop-element.line.walk.position ∷ []) c.loop-element.line.played.items (walk_ends keeps.walked)
+pub replayed-requires : goal.replayed-requires
+replayed-requires c =
+    let keeps = c.loop-element.invariant.keeps in
+    line_length c.args.start keeps.first c.loop-element.line.positions.items c.loop-element.line.played.items keeps.opening
 
 pub returns : goal.returns
 returns c =
     let words = main_words (map item_of c.args.elements.now) 0 in
     let keeps = subst (KeepsLine c.args.start words c.loop-element.line) (items_end c.args.elements.now c.loop-element.element-index (omega arith)) c.loop-element.invariant.keeps in
-    (subst (λ ps. IsMainLine c.args.start words ps c.loop-element.line.played.items) (sym keeps.positions) (walk_ends keeps.walked), c.new-2.ensures.items)
+    let line = subst (λ ws. IsMainLine c.args.start ws c.loop-element.line.positions.items c.loop-element.line.played.items) (sym (append-nil keeps.first) ∙ sym keeps.parted) keeps.opening in
+    (rw (c.replayed.ensures.positions, c.replayed.ensures.played) line, c.replayed.ensures.turns)

@@ -1,8 +1,10 @@
 use Rattle.std.proofs.Common.{◌+◌, ◌≤◌, [], ◌++◌, drop, map, sym, ap, ◌∙◌, subst, append_assoc, append-nil, arith}
+use Rattle.std.proofs.lemmas.Option.{IfSome_then}
+use Rattle.std.proofs.lemmas.Result.{err_from_is_err_and}
 use Rattle.pgn_text.specs.Elements.{item_of}
-use Rattle.pgn_game.specs.MovetextWalks.{DrawsOn, FollowsOn, shown_items, written_turns}
+use Rattle.pgn_game.specs.MovetextWalks.{DrawsOn, HaltsOn, shown_items}
 use Rattle.pgn_game.proofs.PenFacts.{put_both}
-use Rattle.pgn_game.proofs.MovetextFacts.{drawn_end}
+use Rattle.pgn_game.proofs.MovetextFacts.{drawn_end, short_more}
 use Rattle.pgn_game.proofs.WalkFacts.{items_step, items_end}
 use Rattle.pgn_game.proofs.movetext.MovetextWalk.put_elements.Goals as goal
 
@@ -14,10 +16,10 @@ loop-element-preserved-then-not-shows c =
     let elements = c.args.elements.now in
     let skipped = ap (shown_items l.shown.variations l.shown.depth) (items_step elements i _ (omega arith)) ∙ c.if-not-shows.ensures.shown (map item_of (drop (i + 1) elements)) in
     record {
-      taken = omega arith;
+      short = short_more i l.self l.invariant.short;
       depth = omega (arith, c.if-not-shows.ensures.depth);
       variations = c.if-not-shows.ensures.variations ∙ l.invariant.variations;
-      follows = subst (λ items. FollowsOn l.self items style (written_turns style.variations c.args.replayed.now)) skipped l.invariant.follows;
+      halts = λ fault on. l.invariant.halts fault (subst (λ items. HaltsOn l.self items fault) (sym skipped) on);
       text = (
         l.invariant.text.0,
         l.invariant.text.1,
@@ -27,16 +29,19 @@ loop-element-preserved-then-not-shows c =
       width = l.invariant.width;
     }
 
-pub step-requires-clause-follows : goal.step-requires-clause-follows
-step-requires-clause-follows c =
+pub step-requires : goal.step-requires
+step-requires c = let below : c.loop-element.self.line.plies ≤ c.loop-element.element-index = c.loop-element.invariant.short.0 in omega arith
+
+pub returns-in_err-step-clause-stuck : goal.returns-in_err-step-clause-stuck
+returns-in_err-step-clause-stuck c =
     let l = c.loop-element in
     let i = l.element-index in
-    let style = c.args.style.now in
     let elements = c.args.elements.now in
-    let next = ap (shown_items l.shown.variations l.shown.depth) (items_step elements i _ (omega arith)) ∙ c.if-not-shows.ensures.shown (map item_of (drop (i + 1) elements)) in (
-      shown_items c.shows.new.self.variations c.shows.new.self.depth (map item_of (drop (i + 1) elements)),
-      subst (λ items. FollowsOn l.self items style (written_turns style.variations c.args.replayed.now)) next l.invariant.follows,
-    )
+    let left = shown_items c.shows.new.self.variations c.shows.new.self.depth (map item_of (drop (i + 1) elements)) in
+    let next = ap (shown_items l.shown.variations l.shown.depth) (items_step elements i _ (omega arith)) ∙ c.if-not-shows.ensures.shown (map item_of (drop (i + 1) elements)) in
+    let p = err_from_is_err_and c.from_residual.result c.from_residual.ensures.1 in
+    rw (p.1, p.2) (IfSome_then _ (c.in_err-step.ensures.stuck left)
+    (λ fault met. l.invariant.halts fault (subst (λ items. HaltsOn l.self items fault) (sym next) met)))
 
 pub loop-element-preserved : goal.loop-element-preserved
 loop-element-preserved c =
@@ -48,10 +53,10 @@ loop-element-preserved c =
     let left = shown_items c.shows.new.self.variations c.shows.new.self.depth (map item_of (drop (i + 1) elements)) in
     let next = ap (shown_items l.shown.variations l.shown.depth) (items_step elements i _ (omega arith)) ∙ c.if-not-shows.ensures.shown (map item_of (drop (i + 1) elements)) in
     record {
-      taken = let more : c.step.new.self.taken ≤ l.self.taken + 1 = done.taken in omega arith;
+      short = done.within i l.invariant.short;
       depth = omega (arith, c.if-not-shows.ensures.depth);
       variations = c.if-not-shows.ensures.variations ∙ l.invariant.variations;
-      follows = done.follows left (subst (λ items. FollowsOn l.self items style (written_turns style.variations c.args.replayed.now)) next l.invariant.follows);
+      halts = λ fault on. l.invariant.halts fault (subst (λ items. HaltsOn l.self items fault) (sym next) (done.halts left fault on));
       text = (
         l.invariant.text.0 ++ done.text.0,
         put_both c.args.self.now.pen l.self.pen c.step.new.self.pen c.args.out.now.items l.out.items c.step.new.out.items l.invariant.text.0 done.text.0

@@ -1,0 +1,40 @@
+-- A main line that is played ply by ply: where it stands, and what of it is still to come.
+use Rattle.std.specs.Prelude.{◌≡◌, ◌+◌, ℕ, Bool, true, false, List, [], ◌∷◌, Option}
+use Rattle.chess.specs.Positions.{State}
+use Rattle.chess.specs.Moves.{after}
+use Rattle.chess.specs.San.{IsOnlyNamed}
+use Rattle.chess.specs.declared.moves.Move.{Move}
+use Rattle.pgn_text.specs.Games.{Item}
+use Rattle.pgn_game.specs.MainLines.{main_words}
+use Rattle.pgn_game.specs.Starts.{IsStart}
+
+-- the position that is reached, how many plies lead to it, and the words of the moves that are still to be played
+pub record PlayedLine : Type 0 where
+  pub position : State
+  pub plies : ℕ
+  pub words : List (List ℕ)
+
+-- nothing is played yet of the game with these contents of its FEN tag and these elements
+pub record IsBegun (fen : Option (List ℕ)) (items : List Item) (line : PlayedLine) : Type 0 where
+  pub start : IsStart fen line.position
+  pub plies : line.plies ≡ 0
+  pub words : line.words ≡ main_words items 0
+
+-- the next word is played: it names one legal move alone
+pub record PlaysWord (old new : PlayedLine) : Type 0 where
+  pub word : List ℕ
+  pub m : Move
+  pub words : old.words ≡ word ∷ new.words
+  pub named : IsOnlyNamed old.position word m
+  pub position : new.position ≡ after old.position m
+  pub plies : new.plies ≡ old.plies + 1
+
+-- no word is left, and the line stays as it is
+pub record HasEnded (old new : PlayedLine) : Type 0 where
+  pub words : old.words ≡ []
+  pub same : new ≡ old
+
+-- the line went on by one ply, or is at its end
+abbrev pub HasAdvanced : PlayedLine → PlayedLine → Bool → Type 0
+HasAdvanced old new true = PlaysWord old new
+HasAdvanced old new false = HasEnded old new

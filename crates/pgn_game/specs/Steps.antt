@@ -1,0 +1,63 @@
+-- One walk over the lines of a game: its steps, and what a visitor of them does. Nothing but the proofs of the walk and its visitors cites these.
+use Rattle.std.specs.Prelude.{◌≡◌, ◌≤◌, ℕ, Bool, List, [], ◌∷◌, reverse}
+use Rattle.chess.specs.Positions.{State}
+use Rattle.pgn_text.specs.Games.{Item, MoveText, GlyphNumber, CommentText, VariationOpen, VariationClose}
+use Rattle.pgn_game.specs.AllLines.{IsTurn}
+use Rattle.pgn_game.specs.Faults.{Fault}
+use Rattle.pgn_game.specs.LineWalks.{Stops, begun, gone_on, is_inside}
+use Rattle.pgn_game.specs.declared.line_stack.LineStack.{LineStack}
+use Rattle.pgn_game.specs.declared.turn.Turn.{Turn}
+use Rattle.pgn_game.specs.declared.all_lines.Level.{Level}
+
+-- the lines around the one that is gone along, the innermost first
+abbrev pub around : {T : Type 0} → LineStack T → List T
+around stack = reverse stack.outer.items
+
+-- after the end of a variation the line around it goes on
+abbrev pub IsBack : {T : Type 0} → T → List T → T → List T → Type 0
+IsBack line [] new left = (new ≡ line) × (left ≡ [])
+IsBack line (next ∷ outer) new left = (new ≡ next) × (left ≡ outer)
+
+-- a turn taken in a position, in a variation or not; or another element
+pub data Step : Type 0 where
+  Turned : Bool → State → Turn → Step
+  Beside : Item → Step
+
+-- with these lines around this one, what is left of the elements has these steps
+abbrev pub Walks : List Item → Level → List Level → List Step → Type 0
+Walks [] line outer steps = steps ≡ []
+Walks (MoveText word ∷ items) line outer steps =
+    (turn : Turn) × (more : List Step) × (steps ≡ Turned (is_inside outer) line.now turn ∷ more) × IsTurn (is_inside outer) line.now word turn
+    × Walks items (gone_on line turn) outer more
+Walks (GlyphNumber number ∷ items) line outer steps = (more : List Step) × (steps ≡ Beside (GlyphNumber number) ∷ more) × Walks items line outer more
+Walks (CommentText text ∷ items) line outer steps = (more : List Step) × (steps ≡ Beside (CommentText text) ∷ more) × Walks items line outer more
+Walks (VariationOpen ∷ items) line outer steps = (more : List Step) × (steps ≡ Beside VariationOpen ∷ more) × Walks items (begun line) (line ∷ outer) more
+Walks (VariationClose ∷ items) line [] steps = (more : List Step) × (steps ≡ Beside VariationClose ∷ more) × Walks items line [] more
+Walks (VariationClose ∷ items) line (next ∷ outer) steps = (more : List Step) × (steps ≡ Beside VariationClose ∷ more) × Walks items next outer more
+
+-- a visitor went along the steps, each by what it does at one
+abbrev pub Visits : {V : Type 0} → (V → Step → V → Type 0) → V → List Step → V → Type 0
+Visits does old [] new = new ≡ old
+Visits {V} does old (step ∷ more) new = (mid : V) × does old step mid × Visits does mid more new
+
+-- on a stack
+abbrev pub WalksOn : LineStack Level → List Item → List Step → Type 0
+WalksOn stack items steps = Walks items stack.line (around stack) steps
+
+abbrev pub StopsAt : LineStack Level → List Item → Fault → Type 0
+StopsAt stack items fault = Stops items stack.line (around stack) fault
+
+-- no line has more plies
+abbrev pub AreWithin : ℕ → List Level → Type 0
+AreWithin n [] = Unit {0}
+AreWithin n (line ∷ lines) = (line.plies ≤ n) × AreWithin n lines
+
+abbrev pub IsWithin : ℕ → LineStack Level → Type 0
+IsWithin n stack = AreWithin n (stack.line ∷ around stack)
+
+abbrev pub IsNoMove : Item → Type 0
+IsNoMove (MoveText word) = ⊥
+IsNoMove (GlyphNumber number) = Unit {0}
+IsNoMove (CommentText text) = Unit {0}
+IsNoMove VariationOpen = Unit {0}
+IsNoMove VariationClose = Unit {0}
