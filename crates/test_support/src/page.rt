@@ -6,12 +6,12 @@ use std::io;
 use std::io::{ErrorKind, Write};
 
 /// How many bytes a `Page` can hold.
-const PAGE: usize = 4096;
+const PAGE: usize = 8192;
 
 /// A writer over a fixed array that takes at most `piece` bytes a call, and fails once it holds `room` bytes, by an error or by taking nothing, or at a flush.
 #[derive(Drop)]
 pub struct Page {
-    bytes: [u8; 4096],
+    bytes: [u8; 8192],
     len: usize,
     room: usize,
     piece: usize,
@@ -20,14 +20,14 @@ pub struct Page {
     flush_fails: Fails,
     flushed: usize,
     pub calls: Calls,
-    ghost within: { len ≤ 4096 },
+    ghost within: { len ≤ 8192 },
 }
 
 impl Page {
     /// A page with room for all that a test writes.
     pub fn new() -> Self {
         Page {
-            bytes: [0; 4096],
+            bytes: [0; 8192],
             len: 0,
             room: PAGE,
             piece: PAGE,
