@@ -1,14 +1,14 @@
 //! The files of the machine that the program runs on.
 ghost use Rattle.std.specs.Prelude.{◌≤◌, IfOk};
 
-use pgn_extract::Files;
+use crate::progress::{Progress, StatusLine};
+use pgn_extract::{Files, messages};
 use pgn_text::Skip;
-use std::alloc::AllocError;
 use std::fs::File;
-use std::io::{ErrorKind, Read, Seek, SeekFrom, Stdin};
+use std::io::{Read, Seek, SeekFrom, Stdin};
 use std::{fs, io};
 
-/// An input: a file, or standard input.
+/// Where bytes come from: a file, or standard input.
 #[derive(Drop)]
 pub enum Source {
     File(File),
@@ -21,18 +21,6 @@ impl Read for Source {
             Source::File(file) => file.read(buf),
             Source::Standard(stdin) => stdin.read(buf),
         }
-    }
-}
-
-/// Opens real files through the runtime.
-#[derive(Drop)]
-pub struct RealFiles {
-    rt: HostRuntime,
-}
-
-impl RealFiles {
-    pub fn new(rt: HostRuntime) -> Self {
-        RealFiles { rt }
     }
 }
 
@@ -63,18 +51,90 @@ impl Skip for Source {
     }
 }
 
-impl Files for RealFiles {
-    type Input = Source;
+/// An input, and how far it is read where that is shown.
+#[derive(Drop)]
+pub struct Input<'a> {
+    source: Source,
+    progress: Option<Progress<'a>>,
+}
 
-    fn open(&mut self, path: &str) -> Result<Option<Source>, AllocError> {
-        match fs::open(&self.rt, path) {
-            Ok(file) => Ok(Some(Source::File(file))),
-            Err(error) if error.kind() == ErrorKind::OutOfMemory => Err(AllocError),
-            Err(_) => Ok(None),
+impl<'a> Read for Input<'a> {
+    fn read(&mut self, buf: &mut [u8]) -> io::Result<usize> {
+        let count = self.source.read(buf)?;
+        if let Some(progress) = &mut self.progress {
+            progress.add(&buf[..count]);
+        }
+        Ok(count)
+    }
+}
+
+impl<'a> Skip for Input<'a> {
+    fn skip(&mut self, most: u64) -> io::Result<u64> {
+        let count = self.source.skip(most)?;
+        if let Some(progress) = &mut self.progress {
+            progress.pass(count);
+        }
+        Ok(count)
+    }
+}
+
+/// Opens real files through the runtime.
+#[derive(Drop)]
+pub struct RealFiles<'a> {
+    rt: HostRuntime,
+    line: &'a StatusLine,
+    has_progress: bool,
+}
+
+impl<'a> RealFiles<'a> {
+    /// Those of the machine, with the line on which progress is shown once it is asked for.
+    pub fn new(rt: HostRuntime, line: &'a StatusLine) -> Self {
+        RealFiles {
+            rt,
+            line,
+            has_progress: false,
         }
     }
 
-    fn standard(&mut self) -> Source {
-        Source::Standard(self.rt.stdin())
+    /// The input from a source with this name and size.
+    fn input(&self, source: Source, name: &str, size: Option<u64>) -> Input<'a> {
+        let mut progress = None;
+        if self.has_progress
+            && let Ok(begun) = Progress::new(self.rt.alloc(), self.line, name, size)
+        {
+            progress = begun;
+        }
+        Input { source, progress }
+    }
+}
+
+/// The bytes of a file, where they are known.
+fn size_of(file: &File) -> Option<u64> {
+    match file.metadata() {
+        Ok(metadata) if metadata.is_file() => Some(metadata.len()),
+        _ => None,
+    }
+}
+
+impl<'a> Files for RealFiles<'a> {
+    type Input = Input<'a>;
+
+    fn open(&mut self, path: &str) -> io::Result<Input<'a>> {
+        let file = fs::open(&self.rt, path)?;
+        let size = if self.has_progress {
+            size_of(&file)
+        } else {
+            None
+        };
+        Ok(self.input(Source::File(file), path, size))
+    }
+
+    fn standard(&mut self) -> Input<'a> {
+        let stdin = self.rt.stdin();
+        self.input(Source::Standard(stdin), messages::STANDARD_INPUT, None)
+    }
+
+    fn show_progress(&mut self) {
+        self.has_progress = true;
     }
 }

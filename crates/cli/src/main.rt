@@ -3,11 +3,13 @@
 #![tactic(auto)]
 
 mod files;
+mod progress;
 
 use files::RealFiles;
 use pgn_extract::status::{FAILED, REFUSED};
 use pgn_extract::{messages, program};
 use pgn_text::Tally;
+use progress::{Beside, StatusLine};
 use std::alloc::Global;
 use std::io::{BufWriter, ErrorKind};
 use std::process::ExitCode;
@@ -36,13 +38,16 @@ fn main(rt: HostRuntime) -> ExitCode {
         }
         Err(_) => return end_with(&rt, messages::ARGUMENTS_ARE_NO_TEXT, REFUSED),
     };
-    let Ok(buffered) = BufWriter::with_capacity(alloc, OUTPUT_BUFFER, rt.stdout()) else {
+    let line = StatusLine::new(rt);
+    let stdout = Beside::new(rt.stdout(), &line);
+    let Ok(buffered) = BufWriter::with_capacity(alloc, OUTPUT_BUFFER, stdout) else {
         return end_with(&rt, messages::OUT_OF_MEMORY, FAILED);
     };
     let mut out = Tally::new(buffered);
-    let mut err = Tally::new(rt.stderr());
-    let mut files = RealFiles::new(rt);
+    let mut err = Tally::new(Beside::new(rt.stderr(), &line));
+    let mut files = RealFiles::new(rt, &line);
     let status = program(alloc, arguments, &mut files, &mut out, &mut err);
+    line.clear();
     if out.faulted() {
         // What is gathered after a write that failed stays unwritten.
         mem::forget(out);

@@ -1,55 +1,30 @@
 -- The text of a condition begins and ends with a solid byte, and is that of one condition.
-use Rattle.std.proofs.Common.{◌≡◌, ℕ, List, [], ◌∷◌, ◌++◌, refl, sym, ap, ◌∙◌, subst, inl, inr}
+use Rattle.std.proofs.Common.{◌≡◌, ℕ, Bool, true, false, List, ◌++◌, refl, sym, ap, ◌∙◌, subst, inl, inr}
 use Rattle.std.specs.Prelude.{codes}
 use Rattle.pgn_criteria.specs.Reading.{core_of}
-use Rattle.pgn_criteria.specs.Lines.{SpellsCondition, Spells, IsLine, side_text, relation_text}
+use Rattle.pgn_criteria.specs.Lines.{SpellsTaken, SpellsCondition, Spells, IsLine}
 use Rattle.pgn_criteria.specs.declared.condition.Condition.{Condition}
-use Rattle.pgn_criteria.specs.declared.condition.Condition.TheVariants.{Tag, Fen, Material, Moves, Turn, Check, Mate, Stalemate}
+use Rattle.pgn_criteria.specs.declared.condition.Claim.{Claim}
 use Rattle.pgn_criteria.specs.declared.line.Meaning.{Meaning}
 use Rattle.pgn_criteria.specs.declared.line.Meaning.TheVariants.{Nothing, Or, Asks}
-use Rattle.pgn_criteria.proofs.SolidFacts.{BeginsSolid, EndsSolid, solid_ends, ends_behind}
-use Rattle.pgn_criteria.proofs.TurnFacts.{side_ends}
-use Rattle.pgn_criteria.proofs.FenFacts.{pattern_some, pattern_solid}
-use Rattle.pgn_criteria.proofs.LimitFacts.{limits_some, limits_solid}
-use Rattle.pgn_criteria.proofs.MoveWordFacts.{words_end}
+use Rattle.pgn_criteria.proofs.SolidFacts.{BeginsSolid, EndsSolid, ends_behind}
+use Rattle.pgn_criteria.proofs.ClaimFacts.{claim_begins, claim_ends, ends_as}
 use Rattle.pgn_criteria.proofs.CoreFacts.{core_about, solid_core, empty_core, comment_core}
 
-condition_begins : (text : List ℕ) (condition : Condition (List ℕ)) → SpellsCondition text condition → BeginsSolid text
-condition_begins text (Tag name relation contents) s = (116, _, s.3, refl)
-condition_begins text (Fen pattern) s = (102, _, s.1, refl)
-condition_begins text (Material white black) s = (109, _, s.5, refl)
-condition_begins text (Moves words) s = (109, _, s.1, refl)
-condition_begins text (Turn side) s = (116, _, s.1, refl)
-condition_begins text Check s = (99, _, s, refl)
-condition_begins text Mate s = (109, _, s, refl)
-condition_begins text Stalemate s = (115, _, s, refl)
+taken_begins : (text : List ℕ) (denied : Bool) (claim : Claim (List ℕ)) → SpellsTaken text denied claim → BeginsSolid text
+taken_begins text false claim spells = claim_begins text claim spells
+taken_begins text true claim (gap, own, is, g, spells) = (110, _, is, refl)
 
-ends_as : (text whole : List ℕ) → text ≡ whole → EndsSolid whole → EndsSolid text
-ends_as text whole is (front, b, ends, solid) = (front, b, is ∙ ends, solid)
+condition_begins : (text : List ℕ) (condition : Condition (List ℕ)) → SpellsCondition text condition → BeginsSolid text
+condition_begins text condition spells = taken_begins text condition.is_denied condition.claim spells
+
+taken_ends : (text : List ℕ) (denied : Bool) (claim : Claim (List ℕ)) → SpellsTaken text denied claim → EndsSolid text
+taken_ends text false claim spells = claim_ends text claim spells
+taken_ends text true claim (gap, own, is, g, spells) =
+    ends_as text _ is (ends_behind (codes "not") (gap ++ own) (ends_behind gap own (claim_ends own claim spells)))
 
 condition_ends : (text : List ℕ) (condition : Condition (List ℕ)) → SpellsCondition text condition → EndsSolid text
-condition_ends text (Tag name relation contents) (first, second, third, is, g, h, k, some, each, good) =
-    let string = 34 ∷ (contents ++ 34 ∷ []) in
-    ends_as text _ is (ends_behind (codes "tag") (first ++ (name ++ (second ++ (relation_text relation ++ (third ++ string)))))
-    (ends_behind first (name ++ (second ++ (relation_text relation ++ (third ++ string))))
-    (ends_behind name (second ++ (relation_text relation ++ (third ++ string)))
-    (ends_behind second (relation_text relation ++ (third ++ string))
-    (ends_behind (relation_text relation) (third ++ string) (ends_behind third string (34 ∷ contents, 34, refl, refl)))))))
-condition_ends text (Fen pattern) (gap, is, g, good) =
-    ends_as text _ is (ends_behind (codes "fen") (gap ++ pattern) (ends_behind gap pattern (solid_ends pattern (pattern_some pattern good) (pattern_solid pattern good))))
-condition_ends text (Material white black) (first, second, third, of_white, of_black, is, g, h, k, spells_white, spells_black) =
-    let last = ends_behind third of_black (solid_ends of_black (limits_some of_black black spells_black) (limits_solid of_black black spells_black)) in
-    ends_as text _ is (ends_behind (codes "material") (first ++ (of_white ++ (second ++ (codes "v" ++ (third ++ of_black)))))
-    (ends_behind first (of_white ++ (second ++ (codes "v" ++ (third ++ of_black))))
-    (ends_behind of_white (second ++ (codes "v" ++ (third ++ of_black)))
-    (ends_behind second (codes "v" ++ (third ++ of_black)) (ends_behind (codes "v") (third ++ of_black) last)))))
-condition_ends text (Moves words) (gap, is, g, are) =
-    ends_as text _ is (ends_behind (codes "moves") (gap ++ words) (ends_behind gap words (words_end words are)))
-condition_ends text (Turn side) (gap, is, g) =
-    ends_as text _ is (ends_behind (codes "turn") (gap ++ side_text side) (ends_behind gap (side_text side) (side_ends side)))
-condition_ends text Check is = ends_as text _ is (codes "chec", 107, refl, refl)
-condition_ends text Mate is = ends_as text _ is (codes "mat", 101, refl, refl)
-condition_ends text Stalemate is = ends_as text _ is (codes "stalemat", 101, refl, refl)
+condition_ends text condition spells = taken_ends text condition.is_denied condition.claim spells
 
 -- a line's meaning is spelled by its core
 pub line_read : (line : List ℕ) (means : Meaning (List ℕ)) → IsLine line means → Spells (core_of line) means

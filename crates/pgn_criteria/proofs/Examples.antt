@@ -1,20 +1,22 @@
 -- What the definitions say of values, ranks and words that every reader can check.
-use Rattle.std.proofs.Common.{◌≡◌, ◌≤◌, List, [], ◌∷◌, Option, Some, None, true, false, refl, arith, codes}
+use Rattle.std.proofs.Common.{◌≡◌, ◌≤◌, ◌==◌, List, [], ◌∷◌, Option, Some, None, true, false, refl, ap, arith, codes, get_or, drop, ◌++◌}
 use Rattle.std.specs.declared.cmp.Ordering.TheVariants as order
-use Rattle.chess.specs.Fen.{IsSquares}
+use Rattle.chess.specs.Letters.{man_letter}
+use Rattle.chess.specs.Fen.{IsSquares, has_byte}
 use Rattle.chess.specs.Fen.IsSquares.{letter, step}
 use Rattle.chess.specs.declared.board.man.Man.{Man}
 use Rattle.chess.specs.declared.board.man.Side.TheVariants.{White, Black}
 use Rattle.chess.specs.declared.board.man.Kind.TheVariants.{King, Queen, Pawn, Rook}
 use Rattle.pgn_text.specs.Strings.{Single, Escaped}
-use Rattle.pgn_criteria.specs.Comparing.{number_in, order_of, Stands}
-use Rattle.pgn_criteria.specs.Patterns.{CanBeSplit}
-use Rattle.pgn_criteria.specs.Patterns.IsStretch.{spelled, any, occupied, white, black, many}
+use Rattle.pgn_criteria.specs.Comparing.{number_in, order_of, Allows, Stands}
+use Rattle.pgn_criteria.specs.Patterns.{CanBeSplit, IsStretch}
+use Rattle.pgn_criteria.specs.Items.{items_of}
+use Rattle.pgn_criteria.specs.Patterns.IsStretch.{spelled, any, occupied, white, black, many, among, other}
 use Rattle.pgn_criteria.specs.Materials.{is_man}
 use Rattle.pgn_criteria.specs.Materials as material
 use Rattle.pgn_criteria.specs.MoveTexts.{without_marks}
 use Rattle.pgn_criteria.specs.Meeting.{IsFirst}
-use Rattle.pgn_criteria.specs.declared.compare.Relation.TheVariants.{Equal}
+use Rattle.pgn_criteria.specs.declared.compare.Relation.TheVariants.{Equal, Has, Begins}
 use Rattle.pgn_criteria.specs.declared.material.Limit.TheVariants.{Exactly, AtLeast, AtMost, AnyNumber}
 
 -- numbers have 1 to 18 digits and nothing else
@@ -67,6 +69,39 @@ a_backslash = record {
   allowed = refl;
 }
 
+-- the value of \"a begins with that of \", which is a quote
+a_quote : Stands Begins (92 ∷ 34 ∷ 97 ∷ []) (92 ∷ 34 ∷ [])
+a_quote = record {
+  value = 34 ∷ 97 ∷ [];
+  other = 34 ∷ [];
+  signs = Escaped 34 ∷ Single 97 ∷ [];
+  other_signs = Escaped 34 ∷ [];
+  has = record { spells = refl; each = refl; gives = refl };
+  other_has = record { spells = refl; each = refl; gives = refl };
+  allowed = (97 ∷ [], refl);
+}
+
+begins_with_name : Allows Begins (codes "Carlsen, Magnus") (codes "Carlsen")
+begins_with_name = (codes ", Magnus", refl)
+
+not_the_longer : Allows Begins (codes "ab") (codes "abc") → ⊥
+not_the_longer (back, is) = cc
+
+not_the_same_number : Allows Begins (codes "7") (codes "07") → ⊥
+not_the_same_number (back, is) = cc
+
+has_at_the_end : Allows Has (codes "aaab") (codes "aab")
+has_at_the_end = (codes "a", [], refl)
+
+has_no_letter : Allows Has (codes "ab") (codes "x") → ⊥
+has_no_letter ([], back, is) = let e : true ≡ false = ap (λ bytes. get_or bytes 0 0 == 97) is in cc
+has_no_letter (a ∷ [], back, is) = let e : true ≡ false = ap (λ bytes. get_or bytes 1 0 == 98) is in cc
+has_no_letter (a ∷ b ∷ [], back, is) = let e : [] ≡ 120 ∷ back = ap (drop 2) is in cc
+has_no_letter (a ∷ b ∷ c ∷ front, back, is) = let e : [] ≡ c ∷ (front ++ (120 ∷ back)) = ap (drop 2) is in cc
+
+has_the_empty_text : Allows Has [] []
+has_the_empty_text = ([], [], refl)
+
 -- a pawn of each side, and the squares of a rank with three pawns of White on its right
 abbrev pawn : Option Man
 pawn = Some (record { side = White; kind = Pawn })
@@ -78,7 +113,7 @@ abbrev three_pawns : List (Option Man)
 three_pawns = None ∷ None ∷ None ∷ None ∷ None ∷ pawn ∷ pawn ∷ pawn ∷ []
 
 -- *1PPP: four squares, an empty one, three pawns
-pawns_behind_an_empty_square : CanBeSplit (codes "*1PPP") three_pawns
+pawns_behind_an_empty_square : CanBeSplit (items_of (codes "*1PPP")) three_pawns
 pawns_behind_an_empty_square =
     let p : IsSquares 80 (pawn ∷ []) = letter (record { side = White; kind = Pawn }) in
     let e : IsSquares 49 (None ∷ []) = step 1 (omega arith) (omega arith) in (
@@ -102,7 +137,7 @@ pawns_behind_an_empty_square =
     )
 
 -- ?!Aa5: any square, a man, a man of White, a man of Black, five empty squares would be nine: *?!Aa4* takes eight
-each_sign : CanBeSplit (codes "*?!Aa4*") (None ∷ black_rook ∷ pawn ∷ black_rook ∷ None ∷ None ∷ None ∷ None ∷ [])
+each_sign : CanBeSplit (items_of (codes "*?!Aa4*")) (None ∷ black_rook ∷ pawn ∷ black_rook ∷ None ∷ None ∷ None ∷ None ∷ [])
 each_sign =
     let four : IsSquares 52 (None ∷ None ∷ None ∷ None ∷ []) = step 4 (omega arith) (omega arith) in (
       [],
@@ -135,6 +170,20 @@ each_sign =
         ),
       ),
     )
+
+-- [QP][^p]*: a man of the first set, then a square without one of the second, which may be empty
+each_set : CanBeSplit (items_of (codes "[QP][^p]*")) (pawn ∷ None ∷ black_rook ∷ [])
+each_set = (
+  pawn ∷ [],
+  None ∷ black_rook ∷ [],
+  refl,
+  among (codes "QP") (record { side = White; kind = Pawn }) ((λ none. cc), refl) refl,
+  (None ∷ [], black_rook ∷ [], refl, other (codes "p") None ((λ none. cc), refl) (λ man is. cc), (black_rook ∷ [], [], refl, many (black_rook ∷ []), refl)),
+)
+
+-- [^pp] takes a rook of Black too: the letter may stand twice
+other_man : IsStretch (codes "[^pp]") (black_rook ∷ [])
+other_man = other (codes "pp") black_rook ((λ none. cc), refl) (λ man is. let same : man ≡ record { side = Black; kind = Rook } = cc in ap (λ (m : Man). has_byte (man_letter m) (codes "pp")) same)
 
 -- men are distinguished by kind and by side
 own_man : is_man (record { side = White; kind = King }) (Some (record { side = White; kind = King })) ≡ true

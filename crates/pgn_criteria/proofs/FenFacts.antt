@@ -1,8 +1,8 @@
 -- Conditions on the men: what spells one is read as it, and the other way round.
-use Rattle.std.proofs.Common.{◌≡◌, ◌≢◌, ℕ, true, false, List, [], ◌∷◌, refl, sym, ap, arith}
+use Rattle.std.proofs.Common.{◌≡◌, ◌≢◌, ℕ, true, false, Bool, List, [], ◌∷◌, ◌++◌, IsTrue, refl, sym, ap, subst, arith}
 use Rattle.std.specs.Prelude.{codes, Option, ◌+◌, ◌-◌, ◌==◌, if◌then◌else◌}
 use Rattle.std.specs.List.{list_all}
-use Rattle.std.proofs.lemmas.Bool.{eqb-true}
+use Rattle.std.proofs.lemmas.Bool.{eqb-true, and_parts}
 use Rattle.std.proofs.lemmas.Bool.Decides.{nat_tests}
 use Rattle.chess.specs.Fen.{IsSquares, letter, step, parted_at, before_first}
 use Rattle.chess.specs.Letters.{man_letter}
@@ -11,11 +11,13 @@ use Rattle.chess.specs.declared.board.man.Side.{Side}
 use Rattle.chess.specs.declared.board.man.Side.TheVariants.{White, Black}
 use Rattle.chess.specs.declared.board.man.Kind.{Kind}
 use Rattle.chess.specs.declared.board.man.Kind.TheVariants.{King, Queen, Rook, Bishop, Knight, Pawn}
-use Rattle.pgn_criteria.specs.Patterns.{IsStretch, spelled, any, occupied, white, black, many, IsItem, AreItems, AreRanks, IsPattern}
+use Rattle.pgn_criteria.specs.Patterns.{IsStretch, spelled, any, occupied, white, black, many, among, other, AreRanks, IsPattern, items_where}
+use Rattle.pgn_criteria.specs.Items.{AreItems, is_letter, items_of}
 use Rattle.pgn_criteria.specs.Reading.{run_of, behind_word}
-use Rattle.pgn_criteria.specs.Lines.{SpellsCondition}
-use Rattle.pgn_criteria.specs.declared.condition.Condition.TheVariants.{Fen}
-use Rattle.pgn_criteria.proofs.SolidFacts.{is_solid, AreSolid, both_true, solid_begins, word_read, word_spelled}
+use Rattle.pgn_criteria.specs.Lines.{SpellsClaim}
+use Rattle.pgn_criteria.specs.declared.condition.Claim.TheVariants.{Fen}
+use Rattle.pgn_criteria.proofs.SetFacts.{all_men, letter_in, are_split}
+use Rattle.pgn_criteria.proofs.SolidFacts.{is_solid, AreSolid, all_solid, both_true, solid_begins, word_read, word_spelled}
 
 letter_solid : (side : Side) (kind : Kind) → is_solid (man_letter (record { side = side; kind = kind })) ≡ true
 letter_solid White King = refl
@@ -38,48 +40,78 @@ squares_solid : (b : ℕ) (own : List (Option Man)) → IsSquares b own → is_s
 squares_solid b own (letter man) = letter_solid man.side man.kind
 squares_solid b own (step n low high) = digit_solid n
 
-stretch_solid : (b : ℕ) (own : List (Option Man)) → IsStretch b own → is_solid b ≡ true
-stretch_solid b own (spelled byte squares is) = squares_solid byte squares is
-stretch_solid b own (any square) = refl
-stretch_solid b own (occupied man) = refl
-stretch_solid b own (white man of) = refl
-stretch_solid b own (black man of) = refl
-stretch_solid b own (many squares) = refl
+letters_solid : (letters : List ℕ) → IsTrue (list_all is_letter letters) → AreSolid letters
+letters_solid letters are = all_solid is_letter one_solid letters are
+  where
+    one_solid : (b : ℕ) → is_letter b ≡ true → is_solid b ≡ true
+    one_solid b is = let man = letter_in all_men b is in subst (λ n. is_solid n ≡ true) man.1 (letter_solid man.0.side man.0.kind)
+
+-- both ends of a set are
+set_solid : (letters : List ℕ) → AreSolid letters → AreSolid (91 ∷ (letters ++ 93 ∷ []))
+set_solid [] solid = refl
+set_solid (b ∷ x) solid = let parts = and_parts (is_solid b) (list_all is_solid x) solid in both_true (is_solid b) (list_all is_solid (x ++ 93 ∷ [])) parts.0 (set_solid x parts.1)
+
+stretch_solid : (item : List ℕ) (own : List (Option Man)) → IsStretch item own → AreSolid item
+stretch_solid _ _ (spelled byte squares is) = both_true (is_solid byte) true (squares_solid byte squares is) refl
+stretch_solid _ _ (any square) = refl
+stretch_solid _ _ (occupied man) = refl
+stretch_solid _ _ (white man of) = refl
+stretch_solid _ _ (black man of) = refl
+stretch_solid _ _ (many squares) = refl
+stretch_solid _ _ (among letters man are has) = set_solid letters (letters_solid letters are.1)
+stretch_solid _ _ (other letters square are none) = set_solid (94 ∷ letters) (letters_solid letters are.1)
+
+-- so is a text that is cut into items
+abbrev pub EachSolid : List (List ℕ) → Type 0
+EachSolid [] = Unit {0}
+EachSolid (item ∷ more) = AreSolid item × EachSolid more
+
+front_solid : (b : ℕ) (items : List (List ℕ)) → EachSolid (before_first b items) → (is_solid b ≡ true) × EachSolid items
+front_solid b [] each = let parts = and_parts (is_solid b) true each.0 in (parts.0, tt)
+front_solid b (first ∷ more) each = let parts = and_parts (is_solid b) (list_all is_solid first) each.0 in (parts.0, (parts.1, each.1))
+
+cut_solid : (in_set : Bool) (x : List ℕ) → EachSolid (items_where in_set x) → AreSolid x
+cut_solid in_set [] each = refl
+cut_solid true (b ∷ x) each =
+    elim (b == 93) as (λ t. EachSolid (if t then (b ∷ []) ∷ items_where false x else before_first b (items_where true x)) → AreSolid (b ∷ x)) [
+      | true ↦ λ solid. both_true (is_solid b) (list_all is_solid x) (and_parts (is_solid b) true solid.0).0 (cut_solid false x solid.1)
+      | false ↦ λ solid. let parts = front_solid b (items_where true x) solid in both_true (is_solid b) (list_all is_solid x) parts.0 (cut_solid true x parts.1)
+    ] each
+cut_solid false (b ∷ x) each =
+    elim (b == 91) as (λ t. EachSolid (if t then before_first b (items_where true x) else (b ∷ []) ∷ items_where false x) → AreSolid (b ∷ x)) [
+      | true ↦ λ solid. let parts = front_solid b (items_where true x) solid in both_true (is_solid b) (list_all is_solid x) parts.0 (cut_solid true x parts.1)
+      | false ↦ λ solid. both_true (is_solid b) (list_all is_solid x) (and_parts (is_solid b) true solid.0).0 (cut_solid false x solid.1)
+    ] each
+
+each_solid : (items : List (List ℕ)) → AreItems items → EachSolid items
+each_solid [] are = tt
+each_solid (item ∷ more) are = (stretch_solid item are.0.0 are.0.1, each_solid more are.1)
 
 -- the ranks of a pattern are of items, and so are solid
-abbrev pub EachItems : List (List ℕ) → Type 0
-EachItems [] = Unit {0}
-EachItems (rank ∷ more) = AreItems rank × EachItems more
+ranks_solid : (n : ℕ) (ranks : List (List ℕ)) → AreRanks n ranks → EachSolid ranks
+ranks_solid n [] are = tt
+ranks_solid n (rank ∷ more) are = (cut_solid false rank (each_solid (items_of rank) ((are_split (items_of rank)).1 (are.1.1, are.1.2))), ranks_solid (n - 1) more are.2)
 
-ranks_items : (n : ℕ) (ranks : List (List ℕ)) → AreRanks n ranks → EachItems ranks
-ranks_items n [] are = tt
-ranks_items n (rank ∷ more) are = (are.1.1, ranks_items (n - 1) more are.2)
-
-split_items : (b : ℕ) (ranks : List (List ℕ)) → EachItems (before_first b ranks) → IsItem b × EachItems ranks
-split_items b [] are = (are.0.0, tt)
-split_items b (rank ∷ more) are = (are.0.0, (are.0.1, are.1))
-
-items_solid : (x : List ℕ) → EachItems (parted_at 47 x) → AreSolid x
-items_solid [] are = refl
-items_solid (b ∷ x) are =
-    elim (b == 47) as (λ t. (b == 47) ≡ t → EachItems (if t then [] ∷ parted_at 47 x else before_first b (parted_at 47 x)) → AreSolid (b ∷ x)) [
-      | true ↦ λ same items. both_true (is_solid b) (list_all is_solid x) (ap is_solid (eqb-true b 47 same)) (items_solid x items.1)
-      | false ↦ λ other items.
-          let parts = split_items b (parted_at 47 x) items in
-          both_true (is_solid b) (list_all is_solid x) (stretch_solid b parts.0.0 parts.0.1) (items_solid x parts.1)
-    ] refl are
+parts_solid : (x : List ℕ) → EachSolid (parted_at 47 x) → AreSolid x
+parts_solid [] each = refl
+parts_solid (b ∷ x) each =
+    elim (b == 47) as (λ t. (b == 47) ≡ t → EachSolid (if t then [] ∷ parted_at 47 x else before_first b (parted_at 47 x)) → AreSolid (b ∷ x)) [
+      | true ↦ λ same solid. both_true (is_solid b) (list_all is_solid x) (ap is_solid (eqb-true b 47 same)) (parts_solid x solid.1)
+      | false ↦ λ other solid.
+          let parts = front_solid b (parted_at 47 x) solid in both_true (is_solid b) (list_all is_solid x) parts.0 (parts_solid x parts.1)
+    ] refl each
 
 pub pattern_solid : (pattern : List ℕ) → IsPattern pattern → AreSolid pattern
-pattern_solid pattern is = items_solid pattern (ranks_items 8 (parted_at 47 pattern) is)
+pattern_solid pattern is = parts_solid pattern (ranks_solid 8 (parted_at 47 pattern) is)
 
 pub pattern_some : (pattern : List ℕ) → IsPattern pattern → pattern ≢ []
 pattern_some [] is none = is.1.0 refl
 pattern_some (b ∷ x) is none = cc
 
-pub fen_read : (text pattern : List ℕ) → SpellsCondition text (Fen pattern) → (run_of text ≡ codes "fen") × (behind_word text ≡ pattern)
+pub fen_read : (text pattern : List ℕ) → SpellsClaim text (Fen pattern) → (run_of text ≡ codes "fen") × (behind_word text ≡ pattern)
 fen_read text pattern (gap, is, g, good) =
     word_read text (codes "fen") gap pattern is refl g (solid_begins pattern (pattern_some pattern good) (pattern_solid pattern good))
 
-pub fen_spelled : (text pattern : List ℕ) → run_of text ≡ codes "fen" → pattern ≡ behind_word text → IsPattern pattern → SpellsCondition text (Fen pattern)
+pub fen_spelled : (text pattern : List ℕ) → run_of text ≡ codes "fen" → pattern ≡ behind_word text → IsPattern pattern → SpellsClaim text (Fen pattern)
 fen_spelled text pattern run behind good =
     let two = word_spelled text (codes "fen") pattern run (sym behind) (pattern_some pattern good) in (two.0, two.1, two.2, good)

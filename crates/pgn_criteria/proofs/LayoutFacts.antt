@@ -12,13 +12,18 @@ use Rattle.chess.specs.Sets.{is_in}
 use Rattle.chess.specs.declared.board.man.Man.{Man}
 use Rattle.chess.proofs.PlaceFacts.{same_square-then, same_square-same}
 use Rattle.pgn_criteria.specs.Patterns.{CanBeSplit}
-use Rattle.pgn_criteria.specs.Items.{IsOf, EachOf, item_of}
-use Rattle.pgn_criteria.specs.Layouts.{AllStand, AreEmpty, EachFrom, Lays}
+use Rattle.pgn_criteria.specs.Items.{items_of}
+use Rattle.pgn_criteria.specs.Items.{IsOf, EachOf, Reads, IsNextItem, has_man}
+use Rattle.chess.specs.declared.board.man.Kind.{Kind}
+use Rattle.chess.specs.declared.board.man.Kind.TheVariants.{King, Queen, Rook, Bishop, Knight, Pawn}
+use Rattle.chess.specs.declared.board.man.Side.TheVariants.{White, Black}
+use Rattle.pgn_criteria.specs.Layouts.{AllStand, AreEmpty, EachFrom, Lays, NoneOf}
+use Rattle.pgn_criteria.specs.declared.rank.Men.{Men}
+use Rattle.pgn_criteria.specs.declared.rank.Class.TheVariants.{Other}
 use Rattle.pgn_criteria.specs.declared.layout.Asked.{Asked}
 use Rattle.pgn_criteria.specs.declared.layout.Layout.{Layout}
 use Rattle.pgn_criteria.specs.declared.rank.Class.{Class}
 use Rattle.pgn_criteria.specs.declared.rank.Item.TheVariants.{Run, Many}
-use Rattle.pgn_criteria.proofs.ItemFacts.{item_exact}
 use Rattle.pgn_criteria.proofs.NeedFacts.{behind_own, left_behind, left_at_end}
 
 -- nothing is laid out yet
@@ -59,22 +64,75 @@ stand_more men (first ∷ more) one =
     let there = stand_more men more one in
     (λ stand. ((stand.0, (there.0 stand.1).0), (there.0 stand.1).1), λ both. (both.0.0, there.1 (both.0.1, both.1)))
 
-pub lays_asked : (old new : Layout) (class : Class) (square : Place) (one : Asked) → one.class ≡ class → one.square ≡ square → new.asked.items ≡ old.asked.items ++ one ∷ [] → new.empty ≡ old.empty
+pub lays_asked : (old new : Layout) (class : Class) (square : Place) (one : Asked) → one.class ≡ class → one.square ≡ square → new.asked.items ≡ old.asked.items ++ one ∷ [] → new.barred.items ≡ old.barred.items → new.empty ≡ old.empty
     → Lays (λ P. IsOf class (man_at P.men square)) (λ P. Unit {0}) old new true
-lays_asked old new class square one is at items empty = record {
+lays_asked old new class square one is at items barred empty = record {
   needed = λ P laid here. (
     (
       subst (AllStand P.men) (sym items) ((stand_more P.men old.asked.items one).1 (laid.0, subst (λ c. IsOf c (man_at P.men one.square)) (sym is) (subst (λ s. IsOf class (man_at P.men s)) (sym at) here))),
-      subst (AreEmpty P.men) (sym empty) laid.1,
+      subst (AllStand P.men) (sym barred) laid.1,
+      subst (AreEmpty P.men) (sym empty) laid.2,
     ),
     tt,
   );
   enough = λ so P laid left.
       let both = (stand_more P.men old.asked.items one).0 (subst (AllStand P.men) items laid.0) in (
-        (both.0, subst (AreEmpty P.men) empty laid.1),
+        (both.0, subst (AllStand P.men) barred laid.1, subst (AreEmpty P.men) empty laid.2),
         subst (λ s. IsOf class (man_at P.men s)) at (subst (λ c. IsOf c (man_at P.men one.square)) is both.1),
       );
 }
+
+-- a square more on which a man must not stand, if that is so
+pub lays_barred : (old new : Layout) (class : Class) (square : Place) (one : Asked) → one.class ≡ class → one.square ≡ square → new.barred.items ≡ old.barred.items ++ one ∷ [] → new.asked.items ≡ old.asked.items → new.empty ≡ old.empty
+    → Lays (λ P. IsTrue true → IsOf class (man_at P.men square)) (λ P. Unit {0}) old new true
+lays_barred old new class square one is at items asked empty = record {
+  needed = λ P laid here. (
+    (
+      subst (AllStand P.men) (sym asked) laid.0,
+      subst (AllStand P.men) (sym items) ((stand_more P.men old.barred.items one).1 (laid.1, subst (λ c. IsOf c (man_at P.men one.square)) (sym is) (subst (λ s. IsOf class (man_at P.men s)) (sym at) (here refl)))),
+      subst (AreEmpty P.men) (sym empty) laid.2,
+    ),
+    tt,
+  );
+  enough = λ so P laid left.
+      let both = (stand_more P.men old.barred.items one).0 (subst (AllStand P.men) items laid.1) in (
+        (subst (AllStand P.men) asked laid.0, both.0, subst (AreEmpty P.men) empty laid.2),
+        λ t. subst (λ s. IsOf class (man_at P.men s)) at (subst (λ c. IsOf c (man_at P.men one.square)) is both.1),
+      );
+}
+
+pub lays_unbarred : (fact : State → Type 0) (old : Layout) → Lays (λ P. IsTrue false → fact P) (λ P. Unit {0}) old old true
+lays_unbarred fact old = record { needed = λ P laid all. (laid, tt); enough = λ so P laid left. (laid, λ t. absurd (cc)) }
+
+-- two facts, one after the other, and the same fact in other words
+pub lays_both : (first second : State → Type 0) (a b c : Layout) → Lays first (λ P. Unit {0}) a b true → Lays second (λ P. Unit {0}) b c true → Lays (λ P. first P × second P) (λ P. Unit {0}) a c true
+lays_both first second a b c one two = record {
+  needed = λ P laid both. two.needed P (one.needed P laid both.0).0 both.1;
+  enough = λ so P laid left. let back = two.enough refl P laid tt in let front = one.enough refl P back.0 tt in (front.0, (front.1, back.1));
+}
+
+pub lays_like : (whole other : State → Type 0) (a b : Layout) → ((P : State) → whole P ↔ other P) → Lays whole (λ P. Unit {0}) a b true → Lays other (λ P. Unit {0}) a b true
+lays_like whole other a b same first = record {
+  needed = λ P laid all. first.needed P laid ((same P).1 all);
+  enough = λ so P laid left. let back = first.enough so P laid left in (back.0, (same P).0 back.1);
+}
+
+-- a fact of each kind
+pub each_kind : (F : Kind → Type 0) → (((((F Pawn × F Knight) × F Bishop) × F Rook) × F Queen) × F King) ↔ ((kind : Kind) → F kind)
+each_kind F = (
+  λ all kind. elim kind as (λ k. F k) [ Pawn ↦ all.0.0.0.0.0 | Knight ↦ all.0.0.0.0.1 | Bishop ↦ all.0.0.0.1 | Rook ↦ all.0.0.1 | Queen ↦ all.0.1 | King ↦ all.1 ],
+  λ each. (((((each Pawn, each Knight), each Bishop), each Rook), each Queen), each King),
+)
+
+-- no man of either side
+pub both_sides : (men : Men) (square : Option Man) → (NoneOf White men.white square × NoneOf Black men.black square) ↔ IsOf (Other men) square
+both_sides men square = (
+  λ both man. elim man.side as (λ side. IsTrue (has_man men (record { side = side; kind = man.kind })) → square ≡ Some (record { side = side; kind = man.kind }) → ⊥) [
+    | White ↦ both.0 man.kind
+    | Black ↦ both.1 man.kind
+  ],
+  λ none. (λ kind has is. none (record { side = White; kind = kind }) has is, λ kind has is. none (record { side = Black; kind = kind }) has is),
+)
 
 -- a square more that must be empty
 either_true : (a b : Bool) → (a || b) ≡ true → (a ≡ true) ⊎ (b ≡ true)
@@ -89,22 +147,23 @@ second_true : (a b : Bool) → b ≡ true → (a || b) ≡ true
 second_true true b e = refl
 second_true false b e = e
 
-pub lays_empty : (old new : Layout) (square : Place) → ((s : Place) → is_in new.empty s ≡ (same_square square s || is_in old.empty s)) → new.asked.items ≡ old.asked.items
+pub lays_empty : (old new : Layout) (square : Place) → ((s : Place) → is_in new.empty s ≡ (same_square square s || is_in old.empty s)) → new.asked.items ≡ old.asked.items → new.barred.items ≡ old.barred.items
     → Lays (λ P. man_at P.men square ≡ None) (λ P. Unit {0}) old new true
-lays_empty old new square told items = record {
+lays_empty old new square told items barred = record {
   needed = λ P laid here. (
     (
       subst (AllStand P.men) (sym items) laid.0,
+      subst (AllStand P.men) (sym barred) laid.1,
       λ s is. elim (either_true (same_square square s) (is_in old.empty s) (sym (told s) ∙ is)) [
         | inl same ↦ subst (λ t. man_at P.men t ≡ None) (same_square-then square s same) here
-        | inr before ↦ laid.1 s before
+        | inr before ↦ laid.2 s before
       ],
     ),
     tt,
   );
   enough = λ so P laid left. (
-    (subst (AllStand P.men) items laid.0, λ s is. laid.1 s (told s ∙ second_true (same_square square s) (is_in old.empty s) is)),
-    laid.1 square (told square ∙ first_true (same_square square square) (is_in old.empty square) (same_square-same square square refl)),
+    (subst (AllStand P.men) items laid.0, subst (AllStand P.men) barred laid.1, λ s is. laid.2 s (told s ∙ second_true (same_square square s) (is_in old.empty s) is)),
+    laid.2 square (told square ∙ first_true (same_square square square) (is_in old.empty square) (same_square-same square square refl)),
   );
 }
 
@@ -142,11 +201,11 @@ each_of class [] (suc n) low each = absurd (omega arith)
 each_of class (square ∷ more) (suc n) low each = (each 0 (omega arith), each_of class more n (omega arith) (λ k less. each (suc k) (omega arith)))
 
 -- an item of a fixed size takes squares that are known
-pub run_split : (men : Placement) (rank taken count b : ℕ) (class : Class) (behind : List ℕ) → item_of b ≡ Some (Run class count) → taken + count ≤ 8
+pub run_split : (men : Placement) (rank taken count : ℕ) (b : List ℕ) (class : Class) (behind : List (List ℕ)) → Reads b (Run class count) → taken + count ≤ 8
     → CanBeSplit (b ∷ behind) (drop taken (row men rank)) ↔ (EachFrom men class rank taken 0 count × CanBeSplit behind (drop (taken + count) (row men rank)))
 run_split men rank taken count b class behind is room = (
   λ split.
-      let fits = (item_exact b (Run class count) is split.0).0 split.3 in (
+      let fits = (is.1 split.0).0 split.3 in (
         λ k low less.
             let at = ap (λ x. get_or x k None) split.2 ∙ get_or-append split.0 split.1 None k (omega (arith, fits.0)) in
             subst (IsOf class) (sym at ∙ get_or-drop taken (row men rank) k None ∙ get_row men rank (taken + k) (omega arith))
@@ -159,7 +218,7 @@ run_split men rank taken count b class behind is room = (
         take count squares,
         drop (taken + count) (row men rank),
         sym (take-append-drop count squares) ∙ ap (λ x. take count squares ++ x) (drop-drop count taken (row men rank)),
-        (item_exact b (Run class count) is (take count squares)).1 (
+        (is.1 (take count squares)).1 (
           omega (arith, length-take count squares),
           each_of class squares count size
               (λ k less. subst (IsOf class) (sym (get_or-drop taken (row men rank) k None ∙ get_row men rank (taken + k) (omega arith))) (both.0 k (omega arith) less)),
@@ -169,7 +228,7 @@ run_split men rank taken count b class behind is room = (
 )
 
 -- the last * leaves what the items behind it take
-pub many_split : (men : Placement) (rank taken size b : ℕ) (behind : List ℕ) → item_of b ≡ Some Many → size ≤ 8 → taken ≤ 8 - size
+pub many_split : (men : Placement) (rank taken size : ℕ) (b : List ℕ) (behind : List (List ℕ)) → Reads b Many → size ≤ 8 → taken ≤ 8 - size
     → ((own : List (Option Man)) → CanBeSplit behind own → length own ≡ size)
     → CanBeSplit (b ∷ behind) (drop taken (row men rank)) ↔ CanBeSplit behind (drop (8 - size) (row men rank))
 many_split men rank taken size b behind is small low sized = (
@@ -181,7 +240,21 @@ many_split men rank taken size b behind is small low sized = (
         take n squares,
         drop (8 - size) (row men rank),
         sym (take-append-drop n squares) ∙ ap (λ x. take n squares ++ x) (drop-drop n taken (row men rank) ∙ ap (λ k. drop k (row men rank)) at),
-        (item_exact b Many is (take n squares)).1 tt,
+        (is.1 (take n squares)).1 tt,
         split,
       ),
 )
+
+-- the same of the first of some items
+pub next_run : (men : Placement) (rank taken count : ℕ) (items behind : List ℕ) (class : Class) → IsNextItem items (Run class count) behind → taken + count ≤ 8
+    → CanBeSplit (items_of items) (drop taken (row men rank)) ↔ (EachFrom men class rank taken 0 count × CanBeSplit (items_of behind) (drop (taken + count) (row men rank)))
+next_run men rank taken count items behind class next room =
+    subst (λ (x : List (List ℕ)). CanBeSplit x (drop taken (row men rank)) ↔ (EachFrom men class rank taken 0 count × CanBeSplit (items_of behind) (drop (taken + count) (row men rank)))) (sym next.cut)
+    (run_split men rank taken count next.text class (items_of behind) next.reads room)
+
+pub next_many : (men : Placement) (rank taken size : ℕ) (items behind : List ℕ) → IsNextItem items Many behind → size ≤ 8 → taken ≤ 8 - size
+    → ((own : List (Option Man)) → CanBeSplit (items_of behind) own → length own ≡ size)
+    → CanBeSplit (items_of items) (drop taken (row men rank)) ↔ CanBeSplit (items_of behind) (drop (8 - size) (row men rank))
+next_many men rank taken size items behind next small low sized =
+    subst (λ (x : List (List ℕ)). CanBeSplit x (drop taken (row men rank)) ↔ CanBeSplit (items_of behind) (drop (8 - size) (row men rank))) (sym next.cut)
+    (many_split men rank taken size next.text (items_of behind) next.reads small low sized)

@@ -1,26 +1,31 @@
 -- What the definitions say of lines that every reader can check.
-use Rattle.std.proofs.Common.{◌≡◌, ◌≤◌, ℕ, List, [], ◌∷◌, ◌++◌, length, refl, inl, inr, arith, codes}
+use Rattle.std.proofs.Common.{◌≡◌, ◌≤◌, ℕ, Bool, true, false, List, [], ◌∷◌, ◌++◌, length, get_or, refl, ap, inl, inr, arith, codes}
 use Rattle.chess.specs.Fen.{parted_at}
 use Rattle.chess.specs.declared.board.man.Kind.{Kind}
 use Rattle.chess.specs.declared.board.man.Kind.TheVariants.{King, Queen, Rook, Bishop, Knight, Pawn}
 use Rattle.chess.specs.declared.board.man.Side.TheVariants.{White}
 use Rattle.pgn_text.specs.Strings.{Single}
-use Rattle.pgn_criteria.specs.Lines.{SpellsCondition, SpellsLimits, IsLimitIn, IsMoveWord, a_word, and_words, IsLine, Accepts, alternatives_of}
+use Rattle.pgn_criteria.specs.Lines.{SpellsClaim, SpellsTaken, Spells, SpellsLimits, IsLimitIn, IsMoveWord, a_word, and_words, IsLine, Accepts, alternatives_of}
 use Rattle.pgn_criteria.specs.Lines.SpellsLimit.{one, exactly, at_least, at_most, any}
 use Rattle.pgn_criteria.specs.Materials.{limit_of}
-use Rattle.pgn_criteria.specs.declared.compare.Relation.TheVariants.{GreaterOrEqual}
+use Rattle.pgn_criteria.specs.declared.compare.Relation.TheVariants.{GreaterOrEqual, Begins}
 use Rattle.pgn_criteria.specs.declared.material.Limit.{Limit}
 use Rattle.pgn_criteria.specs.declared.material.Limit.TheVariants.{Exactly, AtLeast, AtMost, AnyNumber}
 use Rattle.pgn_criteria.specs.declared.material.Limits.{Limits}
-use Rattle.pgn_criteria.specs.declared.condition.Condition.TheVariants.{Tag, Moves, Turn, Check, Mate, Stalemate}
+use Rattle.pgn_criteria.specs.declared.condition.Condition.{Condition}
+use Rattle.pgn_criteria.specs.declared.condition.Claim.{Claim}
+use Rattle.pgn_criteria.specs.declared.condition.Claim.TheVariants.{Tag, Moves, Turn, Check, Mate, Stalemate}
+use Rattle.pgn_criteria.specs.declared.line.Meaning.{Meaning}
 use Rattle.pgn_criteria.specs.declared.line.Meaning.TheVariants.{Nothing, Or, Asks}
+use Rattle.pgn_criteria.proofs.ClaimFacts.{claim_not, not_read}
+use Rattle.pgn_criteria.proofs.ConditionFacts.{line_read}
 
 -- more blanks may stand where one stands
-turn : SpellsCondition (codes "turn  white") (Turn White)
+turn : SpellsClaim (codes "turn  white") (Turn White)
 turn = (codes "  ", refl, ((λ none. cc), refl))
 
 -- tag A >= "10"
-tag : SpellsCondition (codes "tag A >= " ++ (34 ∷ 49 ∷ 48 ∷ 34 ∷ [])) (Tag (codes "A") GreaterOrEqual (codes "10"))
+tag : SpellsClaim (codes "tag A >= " ++ (34 ∷ 49 ∷ 48 ∷ 34 ∷ [])) (Tag (codes "A") GreaterOrEqual (codes "10"))
 tag = (
   codes " ",
   codes " ",
@@ -32,6 +37,21 @@ tag = (
   (λ none. cc),
   refl,
   (Single 49 ∷ Single 48 ∷ [], refl, refl),
+)
+
+-- tag A begins "C"
+tag_begins : SpellsClaim (codes "tag A begins " ++ (34 ∷ 67 ∷ 34 ∷ [])) (Tag (codes "A") Begins (codes "C"))
+tag_begins = (
+  codes " ",
+  codes " ",
+  codes " ",
+  refl,
+  ((λ none. cc), refl),
+  ((λ none. cc), refl),
+  ((λ none. cc), refl),
+  (λ none. cc),
+  refl,
+  (Single 67 ∷ [], refl, refl),
 )
 
 -- a king, two pawns or more, at most three knights, any rooks, and no man of the other kinds
@@ -77,7 +97,7 @@ side = (
 )
 
 -- words for moves
-moves : SpellsCondition (codes "moves e4 *") (Moves (codes "e4 *"))
+moves : SpellsClaim (codes "moves e4 *") (Moves (codes "e4 *"))
 moves = (
   codes " ",
   refl,
@@ -102,8 +122,42 @@ not_one_letter is = let few : 2 ≤ 1 = (bytes_of (codes "e") is (λ star. cc)).
 not_eight_letters : IsMoveWord (codes "Nb1xd2ef") → ⊥
 not_eight_letters is = let many : 8 ≤ 7 = (bytes_of (codes "Nb1xd2ef") is (λ star. cc)).1 in absurd (omega arith)
 
+-- a claim that is to be so, and one that is denied
+abbrev pub so : Claim (List ℕ) → Condition (List ℕ)
+so claim = record { is_denied = false; claim = claim }
+
+abbrev pub denied : Claim (List ℕ) → Condition (List ℕ)
+denied claim = record { is_denied = true; claim = claim }
+
+not_check : IsLine (codes "not check") (Asks (denied Check))
+not_check = record {
+  before = [];
+  text = codes "not check";
+  after = [];
+  last = [];
+  whole = refl;
+  blank_before = refl;
+  blank_after = refl;
+  end = inl refl;
+  spells = (codes " ", codes "check", refl, ((λ none. cc), refl), refl);
+}
+
+-- `not` is written once
+not_twice : (means : Meaning (List ℕ)) → IsLine (codes "not not check") means → ⊥
+not_twice means is = no_meaning means (line_read (codes "not not check") means is)
+  where
+    no_claim : (denied : Bool) (claim : Claim (List ℕ)) → SpellsTaken (codes "not not check") denied claim → ⊥
+    no_claim false claim spells = claim_not (codes "not not check") claim refl spells
+    no_claim true claim spells = claim_not (codes "not check") claim refl (not_read (codes "not not check") claim spells).1
+
+    no_meaning : (means : Meaning (List ℕ)) → Spells (codes "not not check") means → ⊥
+    no_meaning Nothing (inl none) = cc
+    no_meaning Nothing (inr comment) = let first : get_or (codes "not not check") 0 0 ≡ 35 = ap (λ x. get_or x 0 0) comment.1 in omega arith
+    no_meaning Or or = let short : length (codes "not not check") ≡ 2 = ap length or in omega arith
+    no_meaning (Asks condition) spells = no_claim condition.is_denied condition.claim spells
+
 -- blanks about a line do not count, nor does one carriage return
-ended : IsLine (32 ∷ 9 ∷ 99 ∷ 104 ∷ 101 ∷ 99 ∷ 107 ∷ 32 ∷ 13 ∷ []) (Asks Check)
+ended : IsLine (32 ∷ 9 ∷ 99 ∷ 104 ∷ 101 ∷ 99 ∷ 107 ∷ 32 ∷ 13 ∷ []) (Asks (so Check))
 ended = record {
   before = 32 ∷ 9 ∷ [];
   text = codes "check";
@@ -136,7 +190,7 @@ no_lines = refl
 two_or : alternatives_of (Or ∷ Or ∷ []) ≡ [] ∷ [] ∷ [] ∷ []
 two_or = refl
 
-in_order : alternatives_of (Asks Check ∷ Or ∷ Asks Mate ∷ Nothing ∷ Asks Stalemate ∷ []) ≡ (Check ∷ []) ∷ (Mate ∷ Stalemate ∷ []) ∷ []
+in_order : alternatives_of (Asks (so Check) ∷ Or ∷ Asks (denied Mate) ∷ Nothing ∷ Asks (so Stalemate) ∷ []) ≡ (so Check ∷ []) ∷ (denied Mate ∷ so Stalemate ∷ []) ∷ []
 in_order = refl
 
 -- a text without bytes has one line, which is empty, and spells one alternative without conditions

@@ -2,9 +2,9 @@
 use Rattle.std.proofs.Common.{◌≡◌, ℕ, List, ◌++◌, refl, sym, subst}
 use Rattle.std.specs.Prelude.{codes}
 use Rattle.pgn_criteria.specs.Reading.{run_of, behind_word}
-use Rattle.pgn_criteria.specs.Lines.{SpellsCondition, SpellsLimits}
+use Rattle.pgn_criteria.specs.Lines.{SpellsClaim, SpellsLimits}
 use Rattle.pgn_criteria.specs.declared.material.Limits.{Limits}
-use Rattle.pgn_criteria.specs.declared.condition.Condition.TheVariants.{Material}
+use Rattle.pgn_criteria.specs.declared.condition.Claim.TheVariants.{Material}
 use Rattle.pgn_criteria.proofs.SolidFacts.{BeginsSolid, solid_begins, begins_front, front_some, word_read, word_spelled}
 use Rattle.pgn_criteria.proofs.LimitFacts.{limits_some, limits_solid}
 
@@ -18,7 +18,7 @@ pub record IsMaterialRead (text : List ℕ) (white black : Limits) : Type 0 wher
 limits_begin : (text : List ℕ) (limits : Limits) → SpellsLimits text limits → BeginsSolid text
 limits_begin text limits spells = solid_begins text (limits_some text limits spells) (limits_solid text limits spells)
 
-pub material_read : (text : List ℕ) (white black : Limits) → SpellsCondition text (Material white black) → IsMaterialRead text white black
+pub material_read : (text : List ℕ) (white black : Limits) → SpellsClaim text (Material white black) → IsMaterialRead text white black
 material_read text white black (first, second, third, of_white, of_black, is, g, h, k, spells_white, spells_black) =
     let between = codes "v" ++ (third ++ of_black) in
     let one = word_read text (codes "material") first (of_white ++ (second ++ between)) is refl g
@@ -32,7 +32,7 @@ material_read text white black (first, second, third, of_white, of_black, is, g,
       black_is = subst (λ x. SpellsLimits x black) (sym three.1) spells_black;
     }
 
-pub material_spelled : (text : List ℕ) (white black : Limits) → IsMaterialRead text white black → SpellsCondition text (Material white black)
+pub material_spelled : (text : List ℕ) (white black : Limits) → IsMaterialRead text white black → SpellsClaim text (Material white black)
 material_spelled text white black read =
     let of_white = run_of (behind_word text) in
     let of_black = behind_word (behind_word (behind_word text)) in

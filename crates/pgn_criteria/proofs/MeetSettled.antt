@@ -1,5 +1,5 @@
 -- Whether a position of a sound game meets criteria is settled.
-use Rattle.std.proofs.Common.{◌≡◌, ℕ, ◌+◌, List, [], ◌∷◌, Option, Some, None, refl, ap, ◌∙◌, inl, inr}
+use Rattle.std.proofs.Common.{◌≡◌, ℕ, ◌+◌, Bool, true, false, List, [], ◌∷◌, Option, Some, None, refl, ap, ◌∙◌, inl, inr}
 use Rattle.std.specs.Prelude.{codes}
 use Rattle.std.specs.List.{slice_get}
 use Rattle.chess.specs.Placements.{AreOnBoard}
@@ -16,14 +16,15 @@ use Rattle.pgn_game.specs.MainLines.{main_words}
 use Rattle.pgn_game.specs.Replays.{Replay}
 use Rattle.pgn_game.proofs.AnAnswer.{start_on_board}
 use Rattle.pgn_game.proofs.OnBoard.{line_on_board, line_legal}
-use Rattle.pgn_criteria.specs.Meeting.{Tags, Holds, AllHold, SomeHold, Meets}
+use Rattle.pgn_criteria.specs.Meeting.{Tags, IsSo, Taken, Holds, AllHold, SomeHold, Meets}
 use Rattle.pgn_criteria.specs.MoveTexts.{without_marks, FitsWord, FitsMove, FitMoves}
 use Rattle.pgn_criteria.specs.Stages.{AreLegal}
 use Rattle.pgn_criteria.specs.Words.{words_of}
 use Rattle.pgn_criteria.specs.Comparing.{Stands}
 use Rattle.pgn_criteria.specs.Laws.{EachPositionMeetsOrDoesNot}
 use Rattle.pgn_criteria.specs.declared.condition.Condition.{Condition}
-use Rattle.pgn_criteria.specs.declared.condition.Condition.TheVariants.{Tag, Fen, Material, Moves, Turn, Check, Mate, Stalemate}
+use Rattle.pgn_criteria.specs.declared.condition.Claim.{Claim}
+use Rattle.pgn_criteria.specs.declared.condition.Claim.TheVariants.{Tag, Fen, Material, Moves, Turn, Check, Mate, Stalemate}
 use Rattle.pgn_criteria.specs.declared.compare.Relation.{Relation}
 use Rattle.pgn_criteria.proofs.MeetFacts.{meets_at}
 use Rattle.pgn_criteria.proofs.MoveFacts.{by_move}
@@ -72,16 +73,26 @@ settled_moves replay plies (word ∷ more) on_board legal =
 
 -- ---- conditions, alternatives, criteria
 
+settled_taken : {A : Type 0} (denied : Bool) → Settled A → Settled (Taken denied A)
+settled_taken false settled = settled
+settled_taken true (inl a) = inr (λ none. none a)
+settled_taken true (inr none) = inl none
+
+settled_claim : (tags : Tags) (replay : Replay) (P : State) (claim : Claim (List ℕ)) → AllOnBoard replay → AreLegal replay
+    → AreOnBoard P.men → Settled (IsSo tags replay P claim)
+settled_claim tags replay P (Tag name relation contents) all legal on_board = settled_tag (tags name) relation contents
+settled_claim tags replay P (Fen pattern) all legal on_board = settled_pattern P.men pattern
+settled_claim tags replay P (Material white black) all legal on_board = settled_material P.men white black
+settled_claim tags replay P (Moves words) all legal on_board = settled_moves replay 0 (words_of words) all legal
+settled_claim tags replay P (Turn side) all legal on_board = cases_side P.turn side
+settled_claim tags replay P Check all legal on_board = settled_check P.men P.turn on_board
+settled_claim tags replay P Mate all legal on_board = settled_mate P on_board
+settled_claim tags replay P Stalemate all legal on_board = settled_stalemate P on_board
+
 settled_condition : (tags : Tags) (replay : Replay) (P : State) (condition : Condition (List ℕ)) → AllOnBoard replay → AreLegal replay
     → AreOnBoard P.men → Settled (Holds tags replay P condition)
-settled_condition tags replay P (Tag name relation contents) all legal on_board = settled_tag (tags name) relation contents
-settled_condition tags replay P (Fen pattern) all legal on_board = settled_pattern P.men pattern
-settled_condition tags replay P (Material white black) all legal on_board = settled_material P.men white black
-settled_condition tags replay P (Moves words) all legal on_board = settled_moves replay 0 (words_of words) all legal
-settled_condition tags replay P (Turn side) all legal on_board = cases_side P.turn side
-settled_condition tags replay P Check all legal on_board = settled_check P.men P.turn on_board
-settled_condition tags replay P Mate all legal on_board = settled_mate P on_board
-settled_condition tags replay P Stalemate all legal on_board = settled_stalemate P on_board
+settled_condition tags replay P condition all legal on_board =
+    settled_taken condition.is_denied (settled_claim tags replay P condition.claim all legal on_board)
 
 settled_all : (tags : Tags) (replay : Replay) (P : State) (conditions : List (Condition (List ℕ))) → AllOnBoard replay → AreLegal replay
     → AreOnBoard P.men → Settled (AllHold tags replay P conditions)

@@ -5,8 +5,8 @@ use Rattle.std.specs.List.{list_all}
 use Rattle.std.proofs.lemmas.Bool.Decides.{nat_tests}
 use Rattle.pgn_criteria.specs.Words.{is_blank}
 use Rattle.pgn_criteria.specs.Reading.{run_of, after_run, behind_blanks, behind_word}
-use Rattle.pgn_criteria.specs.Lines.{is_move_byte, IsMoveWord, AreMoveWords, a_word, and_words, SpellsCondition}
-use Rattle.pgn_criteria.specs.declared.condition.Condition.TheVariants.{Moves}
+use Rattle.pgn_criteria.specs.Lines.{is_move_byte, IsMoveWord, AreMoveWords, a_word, and_words, SpellsClaim}
+use Rattle.pgn_criteria.specs.declared.condition.Claim.TheVariants.{Moves}
 use Rattle.pgn_criteria.proofs.WordFacts.{run_whole}
 use Rattle.pgn_criteria.proofs.SolidFacts.{is_solid, AreSolid, BeginsSolid, EndsSolid, all_solid, solid_begins, solid_ends, begins_front, begins_some, ends_behind, word_alone, word_read, word_spelled}
 
@@ -70,10 +70,10 @@ words_shorter x is =
     omega arith
 
 -- the condition: what spells it is read as it, and the other way round
-pub moves_read : (text words : List ℕ) → SpellsCondition text (Moves words) → (run_of text ≡ codes "moves") × (behind_word text ≡ words)
+pub moves_read : (text words : List ℕ) → SpellsClaim text (Moves words) → (run_of text ≡ codes "moves") × (behind_word text ≡ words)
 moves_read text words (gap, is, g, are) = word_read text (codes "moves") gap words is refl g (words_begin words are)
 
-pub moves_spelled : (text words : List ℕ) → run_of text ≡ codes "moves" → words ≡ behind_word text → AreMoveWords words → SpellsCondition text (Moves words)
+pub moves_spelled : (text words : List ℕ) → run_of text ≡ codes "moves" → words ≡ behind_word text → AreMoveWords words → SpellsClaim text (Moves words)
 moves_spelled text words run behind are =
     let spelled = word_spelled text (codes "moves") words run (sym behind) (begins_some words (words_begin words are)) in
     (spelled.0, spelled.1, spelled.2, are)

@@ -1,21 +1,20 @@
 -- Where a rank can be split, items of a fixed size take squares that are known.
-use Rattle.std.proofs.Common.{◌≡◌, ◌≤◌, ◌+◌, ◌-◌, ℕ, List, ◌∷◌, ◌++◌, length, drop, Option, Some, refl, sym, ap, ◌∙◌, subst, arith, length-drop, length-append}
+use Rattle.std.proofs.Common.{◌≡◌, ◌≤◌, ◌+◌, ◌-◌, ℕ, List, ◌∷◌, ◌++◌, length, drop, Option, refl, sym, ap, ◌∙◌, subst, arith, length-drop, length-append}
 use Rattle.std.proofs.Math.Seq.{drop-append_seam}
 use Rattle.std.proofs.lemmas.List.{drop-drop}
 use Rattle.chess.specs.declared.board.man.Man.{Man}
 use Rattle.pgn_criteria.specs.Patterns.{CanBeSplit, IsStretch}
-use Rattle.pgn_criteria.specs.Items.{item_of}
+use Rattle.pgn_criteria.specs.Items.{Fits, Reads}
 use Rattle.pgn_criteria.specs.declared.rank.Class.{Class}
 use Rattle.pgn_criteria.specs.declared.rank.Item.{Item}
 use Rattle.pgn_criteria.specs.declared.rank.Item.TheVariants.{Run}
-use Rattle.pgn_criteria.proofs.ItemFacts.{item_exact}
 
-pub count_taken : (b : ℕ) (found : Option Item) (item : Item) (class : Class) (count : ℕ) → found ≡ item_of b → found ≡ Some item → item ≡ Run class count
-    → (own : List (Option Man)) → IsStretch b own → length own ≡ count
-count_taken b found item class count of some run own stretch = ((item_exact b (Run class count) (sym of ∙ some ∙ ap Some run) own).0 stretch).0
+pub count_taken : (text : List ℕ) (item : Item) (class : Class) (count : ℕ) → Reads text item → item ≡ Run class count
+    → (own : List (Option Man)) → IsStretch text own → length own ≡ count
+count_taken text item class count reads run own stretch = (subst (λ i. Fits i own) run ((reads.1 own).0 stretch)).0
 
 -- squares of a rank behind an item, from which its other items take theirs
-abbrev pub IsLeft : List (Option Man) → List ℕ → Type 0
+abbrev pub IsLeft : List (Option Man) → List (List ℕ) → Type 0
 IsLeft squares items = (k : ℕ) × (k ≤ length squares) × CanBeSplit items (drop k squares)
 
 pub behind_own : (squares : List (Option Man)) (k n : ℕ) (own more : List (Option Man)) → drop k squares ≡ own ++ more → length own ≡ n → drop (k + n) squares ≡ more
@@ -23,7 +22,7 @@ behind_own squares k n own more cut size =
     sym (drop-drop n k squares) ∙ ap (drop n) cut ∙ ap (λ m. drop m (own ++ more)) (sym size) ∙ drop-append_seam own more
 
 -- behind any item
-pub left_behind : (squares : List (Option Man)) (b : ℕ) (items : List ℕ) → IsLeft squares (b ∷ items) → IsLeft squares items
+pub left_behind : (squares : List (Option Man)) (b : List ℕ) (items : List (List ℕ)) → IsLeft squares (b ∷ items) → IsLeft squares items
 left_behind squares b items left =
     let k = left.0 in
     let split = left.2 in
@@ -33,7 +32,7 @@ left_behind squares b items left =
     (k + length own, low, subst (CanBeSplit items) (sym (behind_own squares k (length own) own split.1 split.2 refl)) split.4)
 
 -- items of a known size at the end of eight squares
-pub left_at_end : (squares : List (Option Man)) (items : List ℕ) (size : ℕ) → length squares ≡ 8 → size ≤ 8
+pub left_at_end : (squares : List (Option Man)) (items : List (List ℕ)) (size : ℕ) → length squares ≡ 8 → size ≤ 8
     → ((own : List (Option Man)) → CanBeSplit items own → length own ≡ size) → IsLeft squares items → CanBeSplit items (drop (8 - size) squares)
 left_at_end squares items size eight small sized left =
     let long = sized (drop left.0 squares) left.2 in
@@ -41,7 +40,7 @@ left_at_end squares items size eight small sized left =
     subst (λ n. CanBeSplit items (drop n squares)) at left.2
 
 -- the size of the items so far, and of one more
-pub size_more : (b n : ℕ) (items : List ℕ) (rest : ℕ) → ((own : List (Option Man)) → IsStretch b own → length own ≡ n)
+pub size_more : (b : List ℕ) (n : ℕ) (items : List (List ℕ)) (rest : ℕ) → ((own : List (Option Man)) → IsStretch b own → length own ≡ n)
     → ((own : List (Option Man)) → CanBeSplit items own → length own ≡ rest) → (own : List (Option Man)) → CanBeSplit (b ∷ items) own → length own ≡ n + rest
 size_more b n items rest sized all own split =
     let whole : length own ≡ length (split.0 ++ split.1) = ap length split.2 in

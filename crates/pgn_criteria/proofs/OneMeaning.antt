@@ -1,5 +1,5 @@
--- An accepted text has one meaning: its lines are cut in one way, and each kind of condition has its own first word.
-use Rattle.std.proofs.Common.{◌≡◌, ◌≤◌, ℕ, List, [], ◌∷◌, ◌++◌, length, refl, sym, ap, ◌∙◌, subst, inl, inr, arith}
+-- An accepted text has one meaning: its lines are cut in one way, and each kind of claim has its own first word, as a denied claim has.
+use Rattle.std.proofs.Common.{◌≡◌, ◌≤◌, ℕ, Bool, true, false, List, [], ◌∷◌, ◌++◌, length, refl, sym, ap, ◌∙◌, subst, inl, inr, arith}
 use Rattle.std.specs.Prelude.{codes, ◌+◌, ◌==◌, if◌then◌else◌}
 use Rattle.std.proofs.lemmas.List.{append_cancel_right}
 use Rattle.chess.specs.Fen.{parted_at}
@@ -9,13 +9,14 @@ use Rattle.chess.specs.declared.board.man.Kind.{Kind}
 use Rattle.chess.specs.declared.board.man.Kind.TheVariants.{King, Queen, Rook, Bishop, Knight, Pawn}
 use Rattle.pgn_criteria.specs.Reading.{run_of, behind_word, core_of}
 use Rattle.pgn_criteria.specs.Materials.{limit_of}
-use Rattle.pgn_criteria.specs.Lines.{SpellsCondition, SpellsLimits, Spells, IsLine, AreLines, side_text, relation_text, alternatives_of, IsFirstBad}
+use Rattle.pgn_criteria.specs.Lines.{SpellsClaim, SpellsTaken, SpellsCondition, SpellsLimits, Spells, IsLine, AreLines, side_text, relation_text, alternatives_of, IsFirstBad}
 use Rattle.pgn_criteria.specs.Laws.{TextHasOneMeaning, TextHasOneAnswer, MemoryIsTheOnlyFault}
 use Rattle.pgn_criteria.specs.declared.compare.Relation.{Relation}
-use Rattle.pgn_criteria.specs.declared.compare.Relation.TheVariants.{Equal, Unequal, Less, LessOrEqual, Greater, GreaterOrEqual}
+use Rattle.pgn_criteria.specs.declared.compare.Relation.TheVariants.{Equal, Unequal, Less, LessOrEqual, Greater, GreaterOrEqual, Has, Begins}
 use Rattle.pgn_criteria.specs.declared.material.Limits.{Limits}
 use Rattle.pgn_criteria.specs.declared.condition.Condition.{Condition}
-use Rattle.pgn_criteria.specs.declared.condition.Condition.TheVariants.{Tag, Fen, Material, Moves, Turn, Check, Mate, Stalemate}
+use Rattle.pgn_criteria.specs.declared.condition.Claim.{Claim}
+use Rattle.pgn_criteria.specs.declared.condition.Claim.TheVariants.{Tag, Fen, Material, Moves, Turn, Check, Mate, Stalemate}
 use Rattle.pgn_criteria.specs.declared.line.Meaning.{Meaning}
 use Rattle.pgn_criteria.specs.declared.line.Meaning.TheVariants.{Nothing, Or, Asks}
 use Rattle.pgn_criteria.proofs.TurnFacts.{turn_read}
@@ -24,37 +25,12 @@ use Rattle.pgn_criteria.proofs.TagFacts.{IsTagRead, tag_read}
 use Rattle.pgn_criteria.proofs.MoveWordFacts.{moves_read}
 use Rattle.pgn_criteria.proofs.MaterialFacts.{IsMaterialRead, material_read}
 use Rattle.pgn_criteria.proofs.LimitFacts.{limits_given}
+use Rattle.pgn_criteria.proofs.ClaimFacts.{key, key_read, total, claim_not, not_read}
 use Rattle.pgn_criteria.proofs.ConditionFacts.{line_read}
-
--- the first word of a condition
-abbrev pub key : Condition (List ℕ) → List ℕ
-key (Tag name relation contents) = codes "tag"
-key (Fen pattern) = codes "fen"
-key (Material white black) = codes "material"
-key (Moves words) = codes "moves"
-key (Turn side) = codes "turn"
-key Check = codes "check"
-key Mate = codes "mate"
-key Stalemate = codes "stalemate"
-
-key_read : (text : List ℕ) (condition : Condition (List ℕ)) → SpellsCondition text condition → run_of text ≡ key condition
-key_read text (Tag name relation contents) spells = (tag_read text name relation contents spells).key_is
-key_read text (Fen pattern) spells = (fen_read text pattern spells).0
-key_read text (Material white black) spells = (material_read text white black spells).key_is
-key_read text (Moves words) spells = (moves_read text words spells).0
-key_read text (Turn side) spells = (turn_read text side spells).0
-key_read text Check spells = ap run_of spells
-key_read text Mate spells = ap run_of spells
-key_read text Stalemate spells = ap run_of spells
-
--- these words differ in the sum of their bytes
-abbrev pub total : List ℕ → ℕ
-total [] = 0
-total (b ∷ x) = b + total x
 
 -- texts of relations and sides are those of one
 abbrev pub relation_at : ℕ → Relation
-relation_at n = if n == 61 then Equal else if n == 122 then Unequal else if n == 60 then Less else if n == 121 then LessOrEqual else if n == 62 then Greater else GreaterOrEqual
+relation_at n = if n == 61 then Equal else if n == 122 then Unequal else if n == 60 then Less else if n == 121 then LessOrEqual else if n == 62 then Greater else if n == 123 then GreaterOrEqual else if n == 316 then Has else Begins
 
 relation_back : (relation : Relation) → relation_at (total (relation_text relation)) ≡ relation
 relation_back Equal = refl
@@ -63,6 +39,8 @@ relation_back Less = refl
 relation_back LessOrEqual = refl
 relation_back Greater = refl
 relation_back GreaterOrEqual = refl
+relation_back Has = refl
+relation_back Begins = refl
 
 one_relation : (a b : Relation) → relation_text a ≡ relation_text b → a ≡ b
 one_relation a b e = sym (relation_back a) ∙ ap (λ x. relation_at (total x)) e ∙ relation_back b
@@ -93,7 +71,7 @@ same_limits a b each =
 one_limits : (text : List ℕ) (a b : Limits) → SpellsLimits text a → SpellsLimits text b → a ≡ b
 one_limits text a b is has = same_limits a b (λ kind. limits_given text a is kind ∙ sym (limits_given text b has kind))
 
--- conditions of one kind
+-- claims of one kind
 one_tag : (text name other : List ℕ) (relation reverse : Relation) (contents more : List ℕ) → IsTagRead text name relation contents → IsTagRead text other reverse more
     → Tag name relation contents ≡ Tag other reverse more
 one_tag text name other relation reverse contents more is has =
@@ -103,30 +81,51 @@ one_tag text name other relation reverse contents more is has =
     ap (λ x. Tag x relation contents) names ∙ ap (λ x. Tag other x contents) relations ∙ ap (λ x. Tag other reverse x) strings
 
 one_material : (text : List ℕ) (white black first second : Limits) → IsMaterialRead text white black → IsMaterialRead text first second
-    → ◌≡◌ {A = Condition (List ℕ)} (Material white black) (Material first second)
+    → ◌≡◌ {A = Claim (List ℕ)} (Material white black) (Material first second)
 one_material text white black first second is has =
     let whites : white ≡ first = one_limits (run_of (behind_word text)) white first is.white_is has.white_is in
     let blacks : black ≡ second = one_limits (behind_word (behind_word (behind_word text))) black second is.black_is has.black_is in
     ap (λ x. Material x black) whites ∙ ap (λ x. Material first x) blacks
 
-apart : (text : List ℕ) (c d : Condition (List ℕ)) → SpellsCondition text c → SpellsCondition text d → total (key c) ≡ total (key d)
+apart : (text : List ℕ) (c d : Claim (List ℕ)) → SpellsClaim text c → SpellsClaim text d → total (key c) ≡ total (key d)
 apart text c d spells has = ap total (sym (key_read text c spells) ∙ key_read text d has)
 
-one_condition : (text : List ℕ) (c d : Condition (List ℕ)) → SpellsCondition text c → SpellsCondition text d → c ≡ d
-one_condition text (Tag name relation contents) (Tag other reverse more) spells has =
+one_claim : (text : List ℕ) (c d : Claim (List ℕ)) → SpellsClaim text c → SpellsClaim text d → c ≡ d
+one_claim text (Tag name relation contents) (Tag other reverse more) spells has =
     one_tag text name other relation reverse contents more (tag_read text name relation contents spells) (tag_read text other reverse more has)
-one_condition text (Fen pattern) (Fen other) spells has = ap Fen (sym (fen_read text pattern spells).1 ∙ (fen_read text other has).1)
-one_condition text (Material white black) (Material first second) spells has =
+one_claim text (Fen pattern) (Fen other) spells has = ap Fen (sym (fen_read text pattern spells).1 ∙ (fen_read text other has).1)
+one_claim text (Material white black) (Material first second) spells has =
     one_material text white black first second (material_read text white black spells) (material_read text first second has)
-one_condition text (Moves words) (Moves other) spells has = ap Moves (sym (moves_read text words spells).1 ∙ (moves_read text other has).1)
-one_condition text (Turn side) (Turn other) spells has = ap Turn (one_side side other (sym (turn_read text side spells).1 ∙ (turn_read text other has).1))
-one_condition text Check Check spells has = refl
-one_condition text Mate Mate spells has = refl
-one_condition text Stalemate Stalemate spells has = refl
-one_condition text c d spells has = let e : total (key c) ≡ total (key d) = apart text c d spells has in absurd (omega arith)
+one_claim text (Moves words) (Moves other) spells has = ap Moves (sym (moves_read text words spells).1 ∙ (moves_read text other has).1)
+one_claim text (Turn side) (Turn other) spells has = ap Turn (one_side side other (sym (turn_read text side spells).1 ∙ (turn_read text other has).1))
+one_claim text Check Check spells has = refl
+one_claim text Mate Mate spells has = refl
+one_claim text Stalemate Stalemate spells has = refl
+one_claim text c d spells has = let e : total (key c) ≡ total (key d) = apart text c d spells has in absurd (omega arith)
+
+-- and conditions of one claim, which both are denied or are not
+one_taken : (text : List ℕ) (p q : Bool) (a b : Claim (List ℕ)) → SpellsTaken text p a → SpellsTaken text q b → (p ≡ q) × (a ≡ b)
+one_taken text false false a b spells has = (refl, one_claim text a b spells has)
+one_taken text false true a b spells has = absurd (claim_not text a (not_read text b has).0 spells)
+one_taken text true false a b spells has = absurd (claim_not text b (not_read text a spells).0 has)
+one_taken text true true a b spells has = (refl, one_claim (behind_word text) a b (not_read text a spells).1 (not_read text b has).1)
+
+one_condition : (text : List ℕ) (c d : Condition (List ℕ)) → SpellsCondition text c → SpellsCondition text d → c ≡ d
+one_condition text c d spells has =
+    let same = one_taken text c.is_denied d.is_denied c.claim d.claim spells has in
+    λ i. record { is_denied = same.0 i; claim = same.1 i }
+
+-- the first word of a condition
+abbrev pub word : Bool → Claim (List ℕ) → List ℕ
+word false claim = key claim
+word true claim = codes "not"
+
+word_is : (text : List ℕ) (denied : Bool) (claim : Claim (List ℕ)) → SpellsTaken text denied claim → run_of text ≡ word denied claim
+word_is text false claim spells = key_read text claim spells
+word_is text true claim spells = (not_read text claim spells).0
 
 -- a condition is no comment, not empty, and not `or`
-key_high : (condition : Condition (List ℕ)) → 300 ≤ total (key condition)
+key_high : (claim : Claim (List ℕ)) → 300 ≤ total (key claim)
 key_high (Tag name relation contents) = omega arith
 key_high (Fen pattern) = omega arith
 key_high (Material white black) = omega arith
@@ -136,11 +135,15 @@ key_high Check = omega arith
 key_high Mate = omega arith
 key_high Stalemate = omega arith
 
+word_high : (denied : Bool) (claim : Claim (List ℕ)) → 300 ≤ total (word denied claim)
+word_high false claim = key_high claim
+word_high true claim = omega arith
+
 abbrev pub first_byte : List ℕ → ℕ
 first_byte [] = 0
 first_byte (b ∷ x) = b
 
-key_first : (condition : Condition (List ℕ)) → 99 ≤ first_byte (key condition)
+key_first : (claim : Claim (List ℕ)) → 99 ≤ first_byte (key claim)
 key_first (Tag name relation contents) = omega arith
 key_first (Fen pattern) = omega arith
 key_first (Material white black) = omega arith
@@ -149,6 +152,10 @@ key_first (Turn side) = omega arith
 key_first Check = omega arith
 key_first Mate = omega arith
 key_first Stalemate = omega arith
+
+word_first : (denied : Bool) (claim : Claim (List ℕ)) → 99 ≤ first_byte (word denied claim)
+word_first false claim = key_first claim
+word_first true claim = omega arith
 
 nothing_first : (text : List ℕ) → Spells text Nothing → first_byte (run_of text) ≤ 35
 nothing_first text (inl none) = let e : first_byte (run_of text) ≡ 0 = ap (λ x. first_byte (run_of x)) none in omega arith
@@ -162,13 +169,13 @@ nothing_or text spells is =
 nothing_condition : (text : List ℕ) (condition : Condition (List ℕ)) → Spells text Nothing → SpellsCondition text condition → ⊥
 nothing_condition text condition spells has =
     let low = nothing_first text spells in
-    let high = key_first condition in
-    let e : first_byte (run_of text) ≡ first_byte (key condition) = ap first_byte (key_read text condition has) in omega arith
+    let high = word_first condition.is_denied condition.claim in
+    let e : first_byte (run_of text) ≡ first_byte (word condition.is_denied condition.claim) = ap first_byte (word_is text condition.is_denied condition.claim has) in omega arith
 
 or_condition : (text : List ℕ) (condition : Condition (List ℕ)) → text ≡ codes "or" → SpellsCondition text condition → ⊥
 or_condition text condition is has =
-    let high = key_high condition in
-    let e : 225 ≡ total (key condition) = ap (λ x. total (run_of x)) (sym is) ∙ ap total (key_read text condition has) in omega arith
+    let high = word_high condition.is_denied condition.claim in
+    let e : 225 ≡ total (word condition.is_denied condition.claim) = ap (λ x. total (run_of x)) (sym is) ∙ ap total (word_is text condition.is_denied condition.claim has) in omega arith
 
 one_spelled : (text : List ℕ) (first second : Meaning (List ℕ)) → Spells text first → Spells text second → first ≡ second
 one_spelled text Nothing Nothing is has = refl

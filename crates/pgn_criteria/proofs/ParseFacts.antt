@@ -1,12 +1,13 @@
 -- The lines of a text read one after the other, and the alternatives that they spell.
-use Rattle.std.proofs.Common.{◌≡◌, ◌≤◌, ◌<◌, ℕ, true, false, List, [], ◌∷◌, ◌++◌, length, refl, sym, ap, ◌∙◌, subst, append_assoc, append-nil, length-append, arith}
+use Rattle.std.proofs.Common.{◌≡◌, ◌≤◌, ◌<◌, ℕ, Bool, true, false, List, [], ◌∷◌, ◌++◌, length, refl, sym, ap, ◌∙◌, subst, append_assoc, append-nil, length-append, arith}
 use Rattle.std.specs.Prelude.{◌+◌, ◌==◌, if◌then◌else◌, Option, Some, None, MatchOption}
 use Rattle.chess.specs.Fen.{parted_at, before_first}
-use Rattle.pgn_criteria.specs.Lines.{SpellsCondition, IsLine, AreLines, alternatives_of, onto_first, SpellsCriteria, IsFirstBad}
+use Rattle.pgn_criteria.specs.Lines.{SpellsClaim, SpellsTaken, IsLine, AreLines, alternatives_of, onto_first, SpellsCriteria, IsFirstBad}
 use Rattle.pgn_criteria.specs.Reading.{with_open}
 use Rattle.pgn_criteria.specs.Stages.{IsGood, AllGood}
 use Rattle.pgn_criteria.specs.declared.condition.Condition.{Condition}
-use Rattle.pgn_criteria.specs.declared.condition.Condition.TheVariants.{Tag, Fen, Material, Moves, Turn, Check, Mate, Stalemate}
+use Rattle.pgn_criteria.specs.declared.condition.Claim.{Claim}
+use Rattle.pgn_criteria.specs.declared.condition.Claim.TheVariants.{Tag, Fen, Material, Moves, Turn, Check, Mate, Stalemate}
 use Rattle.pgn_criteria.specs.declared.line.Meaning.{Meaning}
 use Rattle.pgn_criteria.specs.declared.line.Meaning.TheVariants.{Nothing, Or, Asks}
 
@@ -173,24 +174,28 @@ condition_added done begun condition more =
     ∙ ap (λ x. with_open done begun (onto_first condition x)) (sym f.2)
 
 -- conditions that are spelled have the contents of strings
-condition_good : (text : List ℕ) (condition : Condition (List ℕ)) → SpellsCondition text condition → IsGood condition
-condition_good text (Tag name relation contents) spells = spells.9
-condition_good text (Fen pattern) spells = tt
-condition_good text (Material white black) spells = tt
-condition_good text (Moves words) spells = tt
-condition_good text (Turn side) spells = tt
-condition_good text Check spells = tt
-condition_good text Mate spells = tt
-condition_good text Stalemate spells = tt
+claim_good : (text : List ℕ) (claim : Claim (List ℕ)) → SpellsClaim text claim → IsGood claim
+claim_good text (Tag name relation contents) spells = spells.9
+claim_good text (Fen pattern) spells = tt
+claim_good text (Material white black) spells = tt
+claim_good text (Moves words) spells = tt
+claim_good text (Turn side) spells = tt
+claim_good text Check spells = tt
+claim_good text Mate spells = tt
+claim_good text Stalemate spells = tt
 
-onto_good : (condition : Condition (List ℕ)) (alternatives : List (List (Condition (List ℕ)))) → IsGood condition → AllGood alternatives → AllGood (onto_first condition alternatives)
+taken_good : (text : List ℕ) (denied : Bool) (claim : Claim (List ℕ)) → SpellsTaken text denied claim → IsGood claim
+taken_good text false claim spells = claim_good text claim spells
+taken_good text true claim (gap, own, is, g, spells) = claim_good own claim spells
+
+onto_good : (condition : Condition (List ℕ)) (alternatives : List (List (Condition (List ℕ)))) → IsGood condition.claim → AllGood alternatives → AllGood (onto_first condition alternatives)
 onto_good condition [] good all = ((good, tt), tt)
 onto_good condition (first ∷ more) good all = ((good, all.0), all.1)
 
 with_own : (line : List ℕ) (own : Meaning (List ℕ)) (more : List (Meaning (List ℕ))) → IsLine line own → AllGood (alternatives_of more) → AllGood (alternatives_of (own ∷ more))
 with_own line Nothing more is all = all
 with_own line Or more is all = (tt, all)
-with_own line (Asks condition) more is all = onto_good condition (alternatives_of more) (condition_good is.text condition is.spells) all
+with_own line (Asks condition) more is all = onto_good condition (alternatives_of more) (taken_good is.text condition.is_denied condition.claim is.spells) all
 
 lines_good : (lines : List (List ℕ)) (means : List (Meaning (List ℕ))) → AreLines lines means → AllGood (alternatives_of means)
 lines_good [] means none = subst (λ m. AllGood (alternatives_of m)) (sym none) (tt, tt)

@@ -1,5 +1,5 @@
 -- Places between the squares of a rank that items reach.
-use Rattle.std.proofs.Common.{◌≡◌, ◌↔◌, ◌<◌, ◌≤◌, ◌+◌, ◌-◌, ◌*◌, ◌%◌, ◌^◌, bit_or, ℕ, suc, Bool, false, IsTrue, List, [], ◌∷◌, ◌++◌, length, take, drop, get_or, Option, Some, None, refl, sym, ap, ◌∙◌, subst, arith, inl, inr, length-drop, length-append}
+use Rattle.std.proofs.Common.{◌≡◌, ◌≢◌, ◌↔◌, ◌<◌, ◌≤◌, ◌+◌, ◌-◌, ◌*◌, ◌%◌, ◌^◌, bit_or, ℕ, suc, Bool, false, IsTrue, List, [], ◌∷◌, ◌++◌, length, take, drop, get_or, Option, None, refl, sym, ap, ◌∙◌, subst, arith, inl, inr, length-drop, length-append}
 use Rattle.std.proofs.Math.Seq.{drop-cons}
 use Rattle.std.proofs.Math.Seq.{drop-append_seam}
 use Rattle.std.proofs.lemmas.List.{take-append-drop, drop-drop}
@@ -13,11 +13,12 @@ use mir.Val.{bits}
 use mir.Syntax.{w16}
 use Rattle.chess.specs.declared.board.man.Man.{Man}
 use Rattle.pgn_criteria.specs.Patterns.{CanBeSplit}
-use Rattle.pgn_criteria.specs.Items.{IsOf, Fits, item_of, Has, IsBehind, Ends, Goes}
+use Rattle.pgn_criteria.specs.Items.{items_of}
+use Rattle.pgn_criteria.specs.Items.{IsOf, Fits, Reads, IsNextItem, HasNoItem, Has, IsBehind, Ends, Goes}
 use Rattle.pgn_criteria.specs.declared.rank.Class.{Class}
 use Rattle.pgn_criteria.specs.declared.rank.Item.{Item}
 use Rattle.pgn_criteria.specs.declared.rank.Item.TheVariants.{Run, Many}
-use Rattle.pgn_criteria.proofs.ItemFacts.{item_exact, no_stretch}
+use Rattle.pgn_criteria.proofs.SetFacts.{some_items}
 
 -- the square that the rest of the squares begins with
 abbrev IsNext : List (Option Man) → ℕ → Option Man → List (Option Man) → Type 0
@@ -33,7 +34,7 @@ next_square squares place square more cut =
     (within, cc, ap (λ n. drop n squares) (sym next) ∙ behind)
 
 -- a run of one square more
-pub run_more : (class : Class) (squares : List (Option Man)) (reached next left count : ℕ) (items : List ℕ) → length squares ≡ 8 → left ≡ count + 1
+pub run_more : (class : Class) (squares : List (Option Man)) (reached next left count : ℕ) (items : List (List ℕ)) → length squares ≡ 8 → left ≡ count + 1
     → ((place : ℕ) → Has next place ↔ IsBehind class squares reached 8 place) → Goes squares next (Run class count) items ↔ Goes squares reached (Run class left) items
 run_more class squares reached next left count items eight more told = (
   λ goes.
@@ -61,7 +62,7 @@ run_more class squares reached next left count items eight more told = (
         (place + 1, high, here, (own, rest, front.2, (size, fits.1.1), split))
 
 -- a run of no square
-pub run_none : (class : Class) (squares : List (Option Man)) (reached : ℕ) (items : List ℕ) → Ends squares reached items ↔ Goes squares reached (Run class 0) items
+pub run_none : (class : Class) (squares : List (Option Man)) (reached : ℕ) (items : List (List ℕ)) → Ends squares reached items ↔ Goes squares reached (Run class 0) items
 run_none class squares reached items = (
   λ ends. (ends.0, ends.1, ends.2, ([], drop ends.0 squares, refl, (refl, tt), ends.3)),
   λ goes. from_none goes.0 goes.1 goes.2 goes.3.0 goes.3.1 goes.3.2 goes.3.3 goes.3.4,
@@ -73,7 +74,7 @@ run_none class squares reached items = (
     from_none place low has (square ∷ own) rest cut fits split = absurd (omega (arith, fits.0))
 
 -- any number of squares
-pub many : (squares : List (Option Man)) (reached next : ℕ) (items : List ℕ) → length squares ≡ 8
+pub many : (squares : List (Option Man)) (reached next : ℕ) (items : List (List ℕ)) → length squares ≡ 8
     → ((place : ℕ) → Has next place ↔ ((first : ℕ) × (first ≤ place) × (place ≤ 8) × Has reached first)) → Ends squares next items ↔ Goes squares reached Many items
 many squares reached next items eight told = (
   λ ends.
@@ -94,17 +95,13 @@ many squares reached next items eight told = (
       (place, low, (told place).1 (goes.0, from, low, goes.2), subst (CanBeSplit items) (sym behind) goes.3.4),
 )
 
--- the item is that of the next byte
-pub goes_item : (squares : List (Option Man)) (reached : ℕ) (b : ℕ) (item : Item) (items : List ℕ) → item_of b ≡ Some item
-    → Goes squares reached item items ↔ Ends squares reached (b ∷ items)
-goes_item squares reached b item items is = (
-  λ goes. (goes.0, goes.1, goes.2, (goes.3.0, goes.3.1, goes.3.2, (item_exact b item is goes.3.0).1 goes.3.3, goes.3.4)),
-  λ ends. (ends.0, ends.1, ends.2, (ends.3.0, ends.3.1, ends.3.2, (item_exact b item is ends.3.0).0 ends.3.3, ends.3.4)),
+-- the item is the next one
+pub goes_item : (squares : List (Option Man)) (reached : ℕ) (text : List ℕ) (item : Item) (items : List (List ℕ)) → Reads text item
+    → Goes squares reached item items ↔ Ends squares reached (text ∷ items)
+goes_item squares reached text item items reads = (
+  λ goes. (goes.0, goes.1, goes.2, (goes.3.0, goes.3.1, goes.3.2, (reads.1 goes.3.0).1 goes.3.3, goes.3.4)),
+  λ ends. (ends.0, ends.1, ends.2, (ends.3.0, ends.3.1, ends.3.2, (reads.1 ends.3.0).0 ends.3.3, ends.3.4)),
 )
-
--- nothing goes on behind a byte that is no item, or from no place
-pub no_item : (squares : List (Option Man)) (reached : ℕ) (b : ℕ) (items : List ℕ) → item_of b ≡ None → Ends squares reached (b ∷ items) → ⊥
-no_item squares reached b items none ends = no_stretch b none ends.3.0 ends.3.3
 
 -- one more square is looked at
 pub place_kept : (class : Class) (squares : List (Option Man)) (reached next end : ℕ) → ((Has reached end × IsOf class (get_or squares end None)) → ⊥)
@@ -180,7 +177,7 @@ pub none_reached : (place : ℕ) → Has 0 place → ⊥
 none_reached place has = absurd (cc (bit_at-zero place, has))
 
 -- before the first square
-pub at_start : (squares : List (Option Man)) (items : List ℕ) → Ends squares 1 items ↔ CanBeSplit items squares
+pub at_start : (squares : List (Option Man)) (items : List (List ℕ)) → Ends squares 1 items ↔ CanBeSplit items squares
 at_start squares items = (
   λ ends. elim (cases_eq ends.0 0) [
     | inl here ↦ subst (λ n. CanBeSplit items (drop n squares)) here ends.3
@@ -201,44 +198,39 @@ at_end squares reached eight = (
       (8, omega arith, has, nil_from_length (drop 8 squares) size),
 )
 
--- the next byte
-next_byte : (items : List ℕ) (at : ℕ) → at < length items → drop at items ≡ get_or items at 0 ∷ drop (at + 1) items
-next_byte items at within = let next : suc at ≡ at + 1 = omega arith in drop-cons items at 0 within ∙ ap (λ n. get_or items at 0 ∷ drop n items) next
-
--- its item is taken
-pub item_kept : (squares : List (Option Man)) (reached next : ℕ) (items : List ℕ) (at : ℕ) (found : Option Item) (item : Item) (Whole : Type 0) → at < length items
-    → found ≡ item_of (get_or items at 0) → found ≡ Some item → ((more : List ℕ) → Ends squares next more ↔ Goes squares reached item more)
-    → (Ends squares reached (drop at items) ↔ Whole) → Ends squares next (drop (at + 1) items) ↔ Whole
-item_kept squares reached next items at found item Whole within is some step kept =
-    let b = get_or items at 0 in
-    let behind = drop (at + 1) items in
-    let front : drop at items ≡ b ∷ behind = next_byte items at within in
-    let taken = goes_item squares reached b item behind (sym is ∙ some) in (
-      λ ends. kept.0 (subst (Ends squares reached) (sym front) (taken.0 ((step behind).0 ends))),
-      λ whole. (step behind).1 (taken.1 (subst (Ends squares reached) front (kept.1 whole))),
+-- the next item is taken
+pub item_kept : (squares : List (Option Man)) (reached next : ℕ) (rest behind : List ℕ) (item : Item) (Whole : Type 0) → IsNextItem rest item behind
+    → ((more : List (List ℕ)) → Ends squares next more ↔ Goes squares reached item more)
+    → (Ends squares reached (items_of rest) ↔ Whole) → Ends squares next (items_of behind) ↔ Whole
+item_kept squares reached next rest behind item Whole is step kept =
+    let taken = goes_item squares reached is.text item (items_of behind) is.reads in (
+      λ ends. kept.0 (subst (Ends squares reached) (sym is.cut) (taken.0 ((step (items_of behind)).0 ends))),
+      λ whole. (step (items_of behind)).1 (taken.1 (subst (Ends squares reached) is.cut (kept.1 whole))),
     )
 
--- it is no item, or nothing is reached: then the whole fails
-pub no_item_fails : (squares : List (Option Man)) (reached : ℕ) (items : List ℕ) (at : ℕ) (found : Option Item) (Whole : Type 0) → at < length items
-    → found ≡ item_of (get_or items at 0) → found ≡ None → (Ends squares reached (drop at items) ↔ Whole) → IsTrue false ↔ Whole
-no_item_fails squares reached items at found Whole within is none kept = (
-  λ t. absurd (cc),
-  λ whole. absurd (no_item squares reached (get_or items at 0) (drop (at + 1) items) (sym is ∙ none) (subst (Ends squares reached) (next_byte items at within) (kept.1 whole))),
-)
+-- there is none, or nothing is reached: then the whole fails
+pub no_item_fails : (squares : List (Option Man)) (reached : ℕ) (rest : List ℕ) (Whole : Type 0) → rest ≢ [] → HasNoItem rest
+    → (Ends squares reached (items_of rest) ↔ Whole) → IsTrue false ↔ Whole
+no_item_fails squares reached [] Whole some none kept = absurd (some refl)
+no_item_fails squares reached (b ∷ x) Whole some none kept =
+    let first = some_items b x in (
+      λ t. absurd (cc),
+      λ whole.
+          let ends = subst (Ends squares reached) first.2 (kept.1 whole) in
+          absurd (none first.0 first.1 first.2 (ends.3.0, ends.3.3)),
+    )
 
-pub none_fails : (squares : List (Option Man)) (reached : ℕ) (items : List ℕ) (Whole : Type 0) → reached ≡ 0 → (Ends squares reached items ↔ Whole) → IsTrue false ↔ Whole
+pub none_fails : (squares : List (Option Man)) (reached : ℕ) (items : List (List ℕ)) (Whole : Type 0) → reached ≡ 0 → (Ends squares reached items ↔ Whole) → IsTrue false ↔ Whole
 none_fails squares reached items Whole none kept = (
   λ t. absurd (cc),
   λ whole. let ends = kept.1 whole in absurd (none_reached ends.0 (subst (λ r. Has r ends.0) none ends.2)),
 )
 
 -- the last place is among the reached ones
-pub whole_reached : (squares : List (Option Man)) (reached : ℕ) (items : List ℕ) (at : ℕ) (r : Bool) (Whole : Type 0) → length squares ≡ 8 → length items ≤ at
-    → (IsTrue r ↔ Has reached 8) → (Ends squares reached (drop at items) ↔ Whole) → IsTrue r ↔ Whole
-whole_reached squares reached items at r Whole eight all told kept =
-    let size : length (drop at items) ≡ 0 = omega (arith, length-drop at items) in
-    let none : drop at items ≡ [] = nil_from_length (drop at items) size in
+pub whole_reached : (squares : List (Option Man)) (reached : ℕ) (rest : List ℕ) (r : Bool) (Whole : Type 0) → length squares ≡ 8 → rest ≡ []
+    → (IsTrue r ↔ Has reached 8) → (Ends squares reached (items_of rest) ↔ Whole) → IsTrue r ↔ Whole
+whole_reached squares reached rest r Whole eight none told kept =
     let end = at_end squares reached eight in (
-      λ t. kept.0 (subst (Ends squares reached) (sym none) (end.1 (told.0 t))),
-      λ whole. told.1 (end.0 (subst (Ends squares reached) none (kept.1 whole))),
+      λ t. kept.0 (subst (λ x. Ends squares reached (items_of x)) (sym none) (end.1 (told.0 t))),
+      λ whole. told.1 (end.0 (subst (λ x. Ends squares reached (items_of x)) none (kept.1 whole))),
     )

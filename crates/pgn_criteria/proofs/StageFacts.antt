@@ -1,32 +1,33 @@
 -- Conditions on a game are what they say of the game alone and what they say of a position.
-use Rattle.std.proofs.Common.{◌≡◌, ◌↔◌, ◌+◌, ◌++◌, ℕ, Bool, false, List, [], ◌∷◌, Option, Some, None, IsTrue, refl, subst, inl, inr, arith}
+use Rattle.std.proofs.Common.{◌≡◌, ◌↔◌, ◌+◌, ◌++◌, if◌then◌else◌, ℕ, Bool, true, false, List, [], ◌∷◌, Option, Some, None, IsTrue, refl, subst, inl, inr, arith}
 use Rattle.std.specs.Prelude.{◌⊎◌}
 use Rattle.std.specs.Option.{unwrap_or}
 use Rattle.std.specs.List.{slice_get}
 use Rattle.chess.specs.Positions.{State}
 use Rattle.pgn_game.specs.Replays.{Replay}
-use Rattle.pgn_criteria.specs.Meeting.{Tags, Holds, AllHold, SomeHold, Meets, IsFirst}
-use Rattle.pgn_criteria.specs.Stages.{OfGame, AllOfGame, OfPosition, AllOfPosition, AllOfStage, stage_of, on_positions, FitsAt, IsFirstBefore}
+use Rattle.pgn_criteria.specs.Meeting.{Tags, IsSo, Taken, AllHold, SomeHold, Meets, IsFirst}
+use Rattle.pgn_criteria.specs.Stages.{SaysOfGame, AllOfGame, SaysOfTags, AllOfTags, IsFreeOfMoves, AreFreeOfMoves, SaysOfPosition, AllOfPosition, AllOfStage, stage_of, is_on_position, on_positions, FitsAt, IsFirstBefore}
 use Rattle.pgn_criteria.specs.declared.meets.Stage.{Stage}
 use Rattle.pgn_criteria.specs.declared.meets.Stage.TheVariants.{Men, Attacks, Replies}
 use Rattle.pgn_criteria.specs.declared.condition.Condition.{Condition}
-use Rattle.pgn_criteria.specs.declared.condition.Condition.TheVariants.{Tag, Fen, Material, Moves, Turn, Check, Mate, Stalemate}
+use Rattle.pgn_criteria.specs.declared.condition.Claim.{Claim}
+use Rattle.pgn_criteria.specs.declared.condition.Claim.TheVariants.{Tag, Fen, Material, Moves, Turn, Check, Mate, Stalemate}
 
 -- each condition on the position is tried at some stage
-one_stage : (P : State) (condition : Condition (List ℕ)) → (stage_of condition ≡ Men → OfPosition P condition) → (stage_of condition ≡ Attacks → OfPosition P condition)
-    → (stage_of condition ≡ Replies → OfPosition P condition) → OfPosition P condition
-one_stage P (Tag name relation contents) men attacks replies = tt
-one_stage P (Fen pattern) men attacks replies = men refl
-one_stage P (Material white black) men attacks replies = men refl
-one_stage P (Moves words) men attacks replies = tt
-one_stage P (Turn side) men attacks replies = men refl
-one_stage P Check men attacks replies = attacks refl
-one_stage P Mate men attacks replies = replies refl
-one_stage P Stalemate men attacks replies = replies refl
+one_stage : (P : State) (denied : Bool) (claim : Claim (List ℕ)) → (stage_of claim ≡ Men → SaysOfPosition P denied claim) → (stage_of claim ≡ Attacks → SaysOfPosition P denied claim)
+    → (stage_of claim ≡ Replies → SaysOfPosition P denied claim) → SaysOfPosition P denied claim
+one_stage P denied (Tag name relation contents) men attacks replies = tt
+one_stage P denied (Fen pattern) men attacks replies = men refl
+one_stage P denied (Material white black) men attacks replies = men refl
+one_stage P denied (Moves words) men attacks replies = tt
+one_stage P denied (Turn side) men attacks replies = men refl
+one_stage P denied Check men attacks replies = attacks refl
+one_stage P denied Mate men attacks replies = replies refl
+one_stage P denied Stalemate men attacks replies = replies refl
 
 all_stages : (P : State) (conditions : List (Condition (List ℕ))) → AllOfStage Men P conditions → AllOfStage Attacks P conditions → AllOfStage Replies P conditions → AllOfPosition P conditions
 all_stages P [] men attacks replies = tt
-all_stages P (condition ∷ more) men attacks replies = (one_stage P condition men.0 attacks.0 replies.0, all_stages P more men.1 attacks.1 replies.1)
+all_stages P (condition ∷ more) men attacks replies = (one_stage P condition.is_denied condition.claim men.0 attacks.0 replies.0, all_stages P more men.1 attacks.1 replies.1)
 
 each_stage : (stage : Stage) (P : State) (conditions : List (Condition (List ℕ))) → AllOfPosition P conditions → AllOfStage stage P conditions
 each_stage stage P [] all = tt
@@ -46,22 +47,59 @@ stage_fails stage P conditions r fails told = (
   λ all. let t : IsTrue r = told.1 (each_stage stage P conditions all) in absurd (cc),
 )
 
+-- what is said of the game is what is said of its tags, where nothing is said of its moves
+one_of_tags : (tags : Tags) (replay : Replay) (denied : Bool) (claim : Claim (List ℕ)) → IsFreeOfMoves claim → SaysOfTags tags denied claim → SaysOfGame tags replay denied claim
+one_of_tags tags replay denied (Tag name relation contents) free told = told
+one_of_tags tags replay denied (Fen pattern) free told = tt
+one_of_tags tags replay denied (Material white black) free told = tt
+one_of_tags tags replay denied (Moves words) free told = absurd free
+one_of_tags tags replay denied (Turn side) free told = tt
+one_of_tags tags replay denied Check free told = tt
+one_of_tags tags replay denied Mate free told = tt
+one_of_tags tags replay denied Stalemate free told = tt
+
+pub all_of_tags : (tags : Tags) (replay : Replay) (conditions : List (Condition (List ℕ))) → AreFreeOfMoves conditions → AllOfTags tags conditions
+    → AllOfGame tags replay conditions
+all_of_tags tags replay [] free told = tt
+all_of_tags tags replay (condition ∷ more) free told =
+    (one_of_tags tags replay condition.is_denied condition.claim free.0 told.0, all_of_tags tags replay more free.1 told.1)
+
+tags_of_one : (tags : Tags) (replay : Replay) (denied : Bool) (claim : Claim (List ℕ)) → SaysOfGame tags replay denied claim → SaysOfTags tags denied claim
+tags_of_one tags replay denied (Tag name relation contents) told = told
+tags_of_one tags replay denied (Fen pattern) told = tt
+tags_of_one tags replay denied (Material white black) told = tt
+tags_of_one tags replay denied (Moves words) told = tt
+tags_of_one tags replay denied (Turn side) told = tt
+tags_of_one tags replay denied Check told = tt
+tags_of_one tags replay denied Mate told = tt
+tags_of_one tags replay denied Stalemate told = tt
+
+tags_of_all : (tags : Tags) (replay : Replay) (conditions : List (Condition (List ℕ))) → AllOfGame tags replay conditions → AllOfTags tags conditions
+tags_of_all tags replay [] told = tt
+tags_of_all tags replay (condition ∷ more) told = (tags_of_one tags replay condition.is_denied condition.claim told.0, tags_of_all tags replay more told.1)
+
+-- so it is not said of the game where it is not of its tags
+pub not_of_tags : (tags : Tags) (replay : Replay) (conditions : List (Condition (List ℕ))) (r : Bool) → r ≡ false → (IsTrue r ↔ AllOfTags tags conditions)
+    → IsTrue r ↔ AllOfGame tags replay conditions
+not_of_tags tags replay conditions r fails told = (λ t. absurd (cc), λ all. told.1 (tags_of_all tags replay conditions all))
+
 -- a condition is both that it says
-one_parted : (tags : Tags) (replay : Replay) (P : State) (condition : Condition (List ℕ)) → Holds tags replay P condition ↔ (OfGame tags replay condition × OfPosition P condition)
-one_parted tags replay P (Tag name relation contents) = (λ holds. (holds, tt), λ both. both.0)
-one_parted tags replay P (Fen pattern) = (λ holds. (tt, holds), λ both. both.1)
-one_parted tags replay P (Material white black) = (λ holds. (tt, holds), λ both. both.1)
-one_parted tags replay P (Moves words) = (λ holds. (holds, tt), λ both. both.0)
-one_parted tags replay P (Turn side) = (λ holds. (tt, holds), λ both. both.1)
-one_parted tags replay P Check = (λ holds. (tt, holds), λ both. both.1)
-one_parted tags replay P Mate = (λ holds. (tt, holds), λ both. both.1)
-one_parted tags replay P Stalemate = (λ holds. (tt, holds), λ both. both.1)
+one_parted : (tags : Tags) (replay : Replay) (P : State) (denied : Bool) (claim : Claim (List ℕ))
+    → Taken denied (IsSo tags replay P claim) ↔ (SaysOfGame tags replay denied claim × SaysOfPosition P denied claim)
+one_parted tags replay P denied (Tag name relation contents) = (λ holds. (holds, tt), λ both. both.0)
+one_parted tags replay P denied (Fen pattern) = (λ holds. (tt, holds), λ both. both.1)
+one_parted tags replay P denied (Material white black) = (λ holds. (tt, holds), λ both. both.1)
+one_parted tags replay P denied (Moves words) = (λ holds. (holds, tt), λ both. both.0)
+one_parted tags replay P denied (Turn side) = (λ holds. (tt, holds), λ both. both.1)
+one_parted tags replay P denied Check = (λ holds. (tt, holds), λ both. both.1)
+one_parted tags replay P denied Mate = (λ holds. (tt, holds), λ both. both.1)
+one_parted tags replay P denied Stalemate = (λ holds. (tt, holds), λ both. both.1)
 
 all_parted : (tags : Tags) (replay : Replay) (P : State) (conditions : List (Condition (List ℕ)))
     → AllHold tags replay P conditions ↔ (AllOfGame tags replay conditions × AllOfPosition P conditions)
 all_parted tags replay P [] = (λ hold. (tt, tt), λ both. tt)
 all_parted tags replay P (condition ∷ more) =
-    let here = one_parted tags replay P condition in
+    let here = one_parted tags replay P condition.is_denied condition.claim in
     let there = all_parted tags replay P more in (
       (λ hold. (((here.0 hold.0).0, (there.0 hold.1).0), ((here.0 hold.0).1, (there.0 hold.1).1))),
       (λ both. (here.1 (both.0.0, both.1.0), there.1 (both.0.1, both.1.1))),
@@ -118,48 +156,42 @@ no_first tags replay conditions from end r fails told n low less met =
     let so : IsTrue r = told.1 (game_of tags replay n conditions met) in absurd (cc)
 
 -- the conditions that speak of positions hold where what all say of positions is so
+on_position : (tags : Tags) (replay : Replay) (P : State) (denied : Bool) (claim : Claim (List ℕ)) → is_on_position claim ≡ true
+    → Taken denied (IsSo tags replay P claim) ↔ SaysOfPosition P denied claim
+on_position tags replay P denied (Tag name relation contents) on = absurd (cc)
+on_position tags replay P denied (Fen pattern) on = (λ holds. holds, λ says. says)
+on_position tags replay P denied (Material white black) on = (λ holds. holds, λ says. says)
+on_position tags replay P denied (Moves words) on = absurd (cc)
+on_position tags replay P denied (Turn side) on = (λ holds. holds, λ says. says)
+on_position tags replay P denied Check on = (λ holds. holds, λ says. says)
+on_position tags replay P denied Mate on = (λ holds. holds, λ says. says)
+on_position tags replay P denied Stalemate on = (λ holds. holds, λ says. says)
+
+off_position : (P : State) (denied : Bool) (claim : Claim (List ℕ)) → is_on_position claim ≡ false → SaysOfPosition P denied claim
+off_position P denied (Tag name relation contents) off = tt
+off_position P denied (Fen pattern) off = absurd (cc)
+off_position P denied (Material white black) off = absurd (cc)
+off_position P denied (Moves words) off = tt
+off_position P denied (Turn side) off = absurd (cc)
+off_position P denied Check off = absurd (cc)
+off_position P denied Mate off = absurd (cc)
+off_position P denied Stalemate off = absurd (cc)
+
 pub positions_hold : (tags : Tags) (replay : Replay) (P : State) (conditions : List (Condition (List ℕ)))
     → AllHold tags replay P (on_positions conditions) ↔ AllOfPosition P conditions
 positions_hold tags replay P [] = (λ hold. tt, λ all. tt)
-positions_hold tags replay P (Tag name relation contents ∷ more) =
-    let there = positions_hold tags replay P more in (λ hold. (tt, there.0 hold), λ all. there.1 all.1)
-positions_hold tags replay P (Fen pattern ∷ more) =
-    let there = positions_hold tags replay P more in (λ hold. (hold.0, there.0 hold.1), λ all. (all.0, there.1 all.1))
-positions_hold tags replay P (Material white black ∷ more) =
-    let there = positions_hold tags replay P more in (λ hold. (hold.0, there.0 hold.1), λ all. (all.0, there.1 all.1))
-positions_hold tags replay P (Moves words ∷ more) =
-    let there = positions_hold tags replay P more in (λ hold. (tt, there.0 hold), λ all. there.1 all.1)
-positions_hold tags replay P (Turn side ∷ more) =
-    let there = positions_hold tags replay P more in (λ hold. (hold.0, there.0 hold.1), λ all. (all.0, there.1 all.1))
-positions_hold tags replay P (Check ∷ more) =
-    let there = positions_hold tags replay P more in (λ hold. (hold.0, there.0 hold.1), λ all. (all.0, there.1 all.1))
-positions_hold tags replay P (Mate ∷ more) =
-    let there = positions_hold tags replay P more in (λ hold. (hold.0, there.0 hold.1), λ all. (all.0, there.1 all.1))
-positions_hold tags replay P (Stalemate ∷ more) =
-    let there = positions_hold tags replay P more in (λ hold. (hold.0, there.0 hold.1), λ all. (all.0, there.1 all.1))
+positions_hold tags replay P (condition ∷ more) =
+    let there = positions_hold tags replay P more in
+    elim (is_on_position condition.claim) as (λ t. is_on_position condition.claim ≡ t
+    → AllHold tags replay P (if t then condition ∷ on_positions more else on_positions more) ↔ AllOfPosition P (condition ∷ more)) [
+      | true ↦ λ on. let here = on_position tags replay P condition.is_denied condition.claim on in (λ hold. (here.0 hold.0, there.0 hold.1), λ all. (here.1 all.0, there.1 all.1))
+      | false ↦ λ off. (λ hold. (off_position P condition.is_denied condition.claim off, there.0 hold), λ all. there.1 all.1)
+    ] refl
 
 pub told_positions : (tags : Tags) (replay : Replay) (P : State) (conditions : List (Condition (List ℕ))) (r : Bool) → (IsTrue r ↔ AllOfPosition P conditions)
     → IsTrue r ↔ AllHold tags replay P (on_positions conditions)
 told_positions tags replay P conditions r told =
     let same = positions_hold tags replay P conditions in (λ t. same.1 (told.0 t), λ hold. told.1 (same.0 hold))
-
--- a search for one alternative is a search for its conditions on positions
-pub only_first : (tags : Tags) (replay : Replay) (conditions : List (Condition (List ℕ))) (min max : ℕ) (found : Option ℕ)
-    → IsFirstBefore (FitsAt replay conditions) min (max + 1) found → IsFirst (λ plies. Meets tags replay plies (on_positions conditions ∷ [])) min max found
-only_first tags replay conditions min max found first = go found first
-  where
-    fits : (plies : ℕ) → Meets tags replay plies (on_positions conditions ∷ []) → FitsAt replay conditions plies
-    fits plies met =
-        (met.position, met.here, (positions_hold tags replay met.position conditions).0 (one_holds tags replay met.position (on_positions conditions) met.hold))
-
-    go : (found : Option ℕ) → IsFirstBefore (FitsAt replay conditions) min (max + 1) found → IsFirst (λ plies. Meets tags replay plies (on_positions conditions ∷ [])) min max found
-    go None none = λ n low high met. none n low (omega arith) (fits n met)
-    go (Some n) (low, less, here, least) = (
-      low,
-      omega arith,
-      record { position = here.0; here = here.1; hold = inl ((positions_hold tags replay here.0 conditions).1 here.2) },
-      λ m above under met. least m above under (fits m met),
-    )
 
 -- alternatives and one more
 hold_before : (tags : Tags) (replay : Replay) (P : State) (before : List (List (Condition (List ℕ)))) (more : List (List (Condition (List ℕ))))

@@ -1,5 +1,7 @@
 -- Whether the value of a tag stands in a relation to a text is settled.
-use Rattle.std.proofs.Common.{◌≡◌, ◌↔◌, ◌==◌, ℕ, length, Some, None, Bool, true, false, List, IsTrue, refl, inl, inr}
+use Rattle.std.proofs.Common.{◌≡◌, ◌↔◌, ◌==◌, ℕ, length, Some, None, Bool, true, false, List, [], ◌∷◌, IsTrue, refl, sym, ap, inl, inr, arith}
+use Rattle.std.proofs.lemmas.Bool.{eqb-true}
+use Rattle.std.proofs.lemmas.Bool.Decides.{nat_tests}
 use Rattle.std.specs.declared.cmp.Ordering.{Ordering}
 use Rattle.std.specs.declared.cmp.Ordering.TheVariants as order
 use Rattle.chess.proofs.Settled.{Settled, settled_like, settled_not, settled_true}
@@ -8,8 +10,9 @@ use Rattle.pgn_text.specs.Reading.{contents_front, value_of}
 use Rattle.pgn_text.proofs.Values.{is_contents-none, is_contents-some}
 use Rattle.pgn_criteria.specs.Comparing.{order_of, Allows, Stands}
 use Rattle.pgn_criteria.specs.declared.compare.Relation.{Relation}
-use Rattle.pgn_criteria.specs.declared.compare.Relation.TheVariants.{Equal, Unequal, Less, LessOrEqual, Greater, GreaterOrEqual}
+use Rattle.pgn_criteria.specs.declared.compare.Relation.TheVariants.{Equal, Unequal, Less, LessOrEqual, Greater, GreaterOrEqual, Has, Begins}
 use Rattle.pgn_criteria.proofs.CompareFacts.{stands_so}
+use Rattle.pgn_criteria.proofs.WithinFacts.{begins_next, has_next, has_at_once, has_nothing}
 
 -- where a test of the first fact is one of the second, the second is settled with the first
 pub settled_by : {A B : Type 0} → ((r : Bool) → (IsTrue r ↔ A) → IsTrue r ↔ B) → Settled A → Settled B
@@ -38,13 +41,33 @@ settled_greater order.Less = inr (λ e. cc)
 settled_greater order.Equal = inr (λ e. cc)
 settled_greater order.Greater = inl refl
 
-settled_relation : (relation : Relation) (found : Ordering) → Settled (Allows relation found)
-settled_relation Equal found = settled_equal found
-settled_relation Unequal found = settled_not (settled_equal found)
-settled_relation Less found = settled_less found
-settled_relation LessOrEqual found = settled_not (settled_greater found)
-settled_relation Greater found = settled_greater found
-settled_relation GreaterOrEqual found = settled_not (settled_less found)
+settled_same : (a b : ℕ) → Settled (a ≡ b)
+settled_same a b = settled_like (eqb-true a b) (λ e. grind (arith, nat_tests)) (settled_true (a == b))
+
+settled_begins : (a b : List ℕ) → Settled (Allows Begins a b)
+settled_begins a [] = inl (a, refl)
+settled_begins [] (y ∷ b) = inr (λ begun. let e = begun.1 in cc)
+settled_begins (x ∷ a) (y ∷ b) = elim (settled_same x y) [
+  | inl same ↦ let next = begins_next (x ∷ a) (y ∷ b) a b x refl (ap (λ (z : ℕ). z ∷ b) (sym same)) in settled_like next.0 next.1 (settled_begins a b)
+  | inr other ↦ inr (λ begun. let e = begun.1 in other (cc))
+]
+
+settled_has : (a b : List ℕ) → Settled (Allows Has a b)
+settled_has [] b = settled_like (has_at_once [] b) (has_nothing b) (settled_begins [] b)
+settled_has (x ∷ a) b = elim (settled_begins (x ∷ a) b) [
+  | inl begun ↦ inl (has_at_once (x ∷ a) b begun)
+  | inr none ↦ let next = has_next (x ∷ a) b none in settled_like next.0 next.1 (settled_has a b)
+]
+
+settled_relation : (relation : Relation) (a b : List ℕ) → Settled (Allows relation a b)
+settled_relation Equal a b = settled_equal (order_of a b)
+settled_relation Unequal a b = settled_not (settled_equal (order_of a b))
+settled_relation Less a b = settled_less (order_of a b)
+settled_relation LessOrEqual a b = settled_not (settled_greater (order_of a b))
+settled_relation Greater a b = settled_greater (order_of a b)
+settled_relation GreaterOrEqual a b = settled_not (settled_less (order_of a b))
+settled_relation Has a b = settled_has a b
+settled_relation Begins a b = settled_begins a b
 
 -- ---- contents
 
@@ -58,8 +81,7 @@ settled_contents text =
 
 settled_values : (relation : Relation) (given text : List ℕ) → IsContents given → IsContents text → Settled (Stands relation given text)
 settled_values relation given text of_given of_text =
-    settled_by (λ r told. stands_so relation given text (order_of (value_of given) (value_of text)) r of_given of_text refl told)
-    (settled_relation relation (order_of (value_of given) (value_of text)))
+    settled_by (λ r told. stands_so relation given text r of_given of_text told) (settled_relation relation (value_of given) (value_of text))
 
 -- without contents of strings there are no values
 pub settled_stands : (relation : Relation) (given text : List ℕ) → Settled (Stands relation given text)

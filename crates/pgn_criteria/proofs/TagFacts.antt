@@ -6,10 +6,10 @@ use Rattle.std.proofs.lemmas.Bool.Decides.{nat_tests}
 use Rattle.pgn_text.specs.Bytes.{is_name_byte}
 use Rattle.pgn_text.specs.Strings.{IsContents}
 use Rattle.pgn_criteria.specs.Reading.{run_of, behind_word}
-use Rattle.pgn_criteria.specs.Lines.{SpellsCondition, relation_text}
+use Rattle.pgn_criteria.specs.Lines.{SpellsClaim, relation_text}
 use Rattle.pgn_criteria.specs.declared.compare.Relation.{Relation}
-use Rattle.pgn_criteria.specs.declared.compare.Relation.TheVariants.{Equal, Unequal, Less, LessOrEqual, Greater, GreaterOrEqual}
-use Rattle.pgn_criteria.specs.declared.condition.Condition.TheVariants.{Tag}
+use Rattle.pgn_criteria.specs.declared.compare.Relation.TheVariants.{Equal, Unequal, Less, LessOrEqual, Greater, GreaterOrEqual, Has, Begins}
+use Rattle.pgn_criteria.specs.declared.condition.Claim.TheVariants.{Tag}
 use Rattle.pgn_criteria.proofs.SolidFacts.{is_solid, AreSolid, all_solid, solid_begins, begins_front, front_some, word_read, word_spelled}
 
 name_byte_solid : (b : ℕ) → is_name_byte b ≡ true → is_solid b ≡ true
@@ -25,6 +25,8 @@ relation_solid Less = refl
 relation_solid LessOrEqual = refl
 relation_solid Greater = refl
 relation_solid GreaterOrEqual = refl
+relation_solid Has = refl
+relation_solid Begins = refl
 
 relation_some : (relation : Relation) → relation_text relation ≢ []
 relation_some Equal none = cc
@@ -33,6 +35,8 @@ relation_some Less none = cc
 relation_some LessOrEqual none = cc
 relation_some Greater none = cc
 relation_some GreaterOrEqual none = cc
+relation_some Has none = cc
+relation_some Begins none = cc
 
 -- a string with these contents
 abbrev pub quoted : List ℕ → List ℕ
@@ -45,7 +49,7 @@ pub record IsTagRead (text name : List ℕ) (relation : Relation) (contents : Li
   pub operator_is : run_of (behind_word (behind_word text)) ≡ relation_text relation
   pub string_is : behind_word (behind_word (behind_word text)) ≡ quoted contents
 
-pub tag_read : (text name : List ℕ) (relation : Relation) (contents : List ℕ) → SpellsCondition text (Tag name relation contents) → IsTagRead text name relation contents
+pub tag_read : (text name : List ℕ) (relation : Relation) (contents : List ℕ) → SpellsClaim text (Tag name relation contents) → IsTagRead text name relation contents
 tag_read text name relation contents (first, second, third, is, g, h, k, some, each, good) =
     let string = quoted contents in
     let operator = relation_text relation ++ (third ++ string) in
@@ -58,7 +62,7 @@ tag_read text name relation contents (first, second, third, is, g, h, k, some, e
 
 -- and a text of such words spells it
 pub tag_spelled : (text name : List ℕ) (relation : Relation) (contents : List ℕ) → IsTagRead text name relation contents → name ≢ [] → IsTrue (list_all is_name_byte name)
-    → IsContents contents → SpellsCondition text (Tag name relation contents)
+    → IsContents contents → SpellsClaim text (Tag name relation contents)
 tag_spelled text name relation contents read some each good =
     let three = word_spelled (behind_word (behind_word text)) (relation_text relation) (quoted contents) read.operator_is read.string_is (λ none. cc) in
     let two = word_spelled (behind_word text) name (relation_text relation ++ (three.0 ++ quoted contents)) read.name_is three.1

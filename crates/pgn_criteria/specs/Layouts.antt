@@ -1,15 +1,17 @@
 -- What patterns ask of squares that they name, as it is laid out.
-use Rattle.std.specs.Prelude.{◌≡◌, ◌↔◌, ◌<◌, ◌≤◌, ◌+◌, ℕ, Bool, true, List, [], ◌∷◌, Some, None, IsTrue}
+use Rattle.std.specs.Prelude.{◌≡◌, ◌↔◌, ◌<◌, ◌≤◌, ◌+◌, ℕ, Bool, true, List, [], ◌∷◌, Option, Some, None, IsTrue}
 use Rattle.chess.specs.Squares.{Place, IsOnBoard}
 use Rattle.chess.specs.Placements.{Placement, man_at}
 use Rattle.chess.specs.Positions.{State}
 use Rattle.chess.specs.Sets.{Places, is_in}
 use Rattle.chess.specs.declared.board.man.Side.{Side}
 use Rattle.chess.specs.declared.board.man.Kind.{Kind}
-use Rattle.pgn_criteria.specs.Items.{IsOf}
+use Rattle.chess.specs.declared.board.man.Man.{Man}
+use Rattle.pgn_criteria.specs.Items.{IsOf, has_kind}
 use Rattle.pgn_criteria.specs.Stages.{AllOfPosition}
 use Rattle.pgn_criteria.specs.declared.condition.Condition.{Condition}
 use Rattle.pgn_criteria.specs.declared.rank.Class.{Class}
+use Rattle.pgn_criteria.specs.declared.rank.Kinds.{Kinds}
 use Rattle.pgn_criteria.specs.declared.layout.Asked.{Asked}
 use Rattle.pgn_criteria.specs.declared.layout.Layout.{Layout}
 
@@ -24,7 +26,11 @@ AreEmpty men empty = (s : Place) → is_in empty s ≡ true → man_at men s ≡
 
 -- the men stand as is laid out
 abbrev pub Laid : Placement → Layout → Type 0
-Laid men layout = AllStand men layout.asked.items × AreEmpty men layout.empty
+Laid men layout = AllStand men layout.asked.items × AllStand men layout.barred.items × AreEmpty men layout.empty
+
+-- no man of the side that is of one of the kinds stands on the square
+abbrev pub NoneOf : Side → Kinds → Option Man → Type 0
+NoneOf side kinds square = (kind : Kind) → IsTrue (has_kind kinds kind) → square ≡ Some (record { side = side; kind = kind }) → ⊥
 
 -- the second set is that of the other squares of the board
 abbrev pub IsRest : Places → Places → Type 0

@@ -1,5 +1,5 @@
 -- Conditions by what they are tried on: the game alone, or a position.
-use Rattle.std.specs.Prelude.{◌≡◌, ◌≤◌, ◌<◌, ℕ, List, [], ◌∷◌, Option, Some, None}
+use Rattle.std.specs.Prelude.{◌≡◌, ◌↔◌, ◌≤◌, ◌<◌, if◌then◌else◌, ℕ, Bool, true, false, List, [], ◌∷◌, length, Option, Some, None}
 use Rattle.chess.specs.Positions.{State, IsCheck}
 use Rattle.std.specs.List.{slice_get}
 use Rattle.chess.specs.Moves.{IsLegal, IsMate, IsStalemate}
@@ -11,25 +11,29 @@ use Rattle.pgn_criteria.specs.Materials.{FitsMaterial}
 use Rattle.pgn_criteria.specs.MoveTexts.{FitMoves}
 use Rattle.pgn_criteria.specs.Words.{words_of}
 use Rattle.pgn_criteria.specs.Comparing.{Stands}
-use Rattle.pgn_criteria.specs.Meeting.{Tags}
+use Rattle.pgn_criteria.specs.Meeting.{Tags, Taken}
 use Rattle.pgn_criteria.specs.declared.meets.Stage.{Stage}
 use Rattle.pgn_criteria.specs.declared.meets.Stage.TheVariants.{Game, Men, Attacks, Replies}
 use Rattle.pgn_criteria.specs.declared.condition.Condition.{Condition}
-use Rattle.pgn_criteria.specs.declared.condition.Condition.TheVariants.{Tag, Fen, Material, Moves, Turn, Check, Mate, Stalemate}
+use Rattle.pgn_criteria.specs.declared.condition.Claim.{Claim}
+use Rattle.pgn_criteria.specs.declared.condition.Claim.TheVariants.{Tag, Fen, Material, Moves, Turn, Check, Mate, Stalemate}
 
--- a condition by the bytes of its texts
+-- a claim, and a condition, by the bytes of their texts
+abbrev pub claim_seen : {T : Type 0} → (T → List ℕ) → Claim T → Claim (List ℕ)
+claim_seen bytes (Tag name relation contents) = Tag (bytes name) relation (bytes contents)
+claim_seen bytes (Fen pattern) = Fen (bytes pattern)
+claim_seen bytes (Material white black) = Material white black
+claim_seen bytes (Moves words) = Moves (bytes words)
+claim_seen bytes (Turn side) = Turn side
+claim_seen bytes Check = Check
+claim_seen bytes Mate = Mate
+claim_seen bytes Stalemate = Stalemate
+
 abbrev pub seen : {T : Type 0} → (T → List ℕ) → Condition T → Condition (List ℕ)
-seen bytes (Tag name relation contents) = Tag (bytes name) relation (bytes contents)
-seen bytes (Fen pattern) = Fen (bytes pattern)
-seen bytes (Material white black) = Material white black
-seen bytes (Moves words) = Moves (bytes words)
-seen bytes (Turn side) = Turn side
-seen bytes Check = Check
-seen bytes Mate = Mate
-seen bytes Stalemate = Stalemate
+seen bytes condition = record { is_denied = condition.is_denied; claim = claim_seen bytes condition.claim }
 
--- the contents of a condition on a tag are those of a string
-abbrev pub IsGood : Condition (List ℕ) → Type 0
+-- the contents of a claim on a tag are those of a string
+abbrev pub IsGood : Claim (List ℕ) → Type 0
 IsGood (Tag name relation contents) = IsContents contents
 IsGood (Fen pattern) = Unit {0}
 IsGood (Material white black) = Unit {0}
@@ -41,7 +45,7 @@ IsGood Stalemate = Unit {0}
 
 abbrev pub AreGood : List (Condition (List ℕ)) → Type 0
 AreGood [] = Unit {0}
-AreGood (condition ∷ more) = IsGood condition × AreGood more
+AreGood (condition ∷ more) = IsGood condition.claim × AreGood more
 
 abbrev pub AllGood : List (List (Condition (List ℕ))) → Type 0
 AllGood [] = Unit {0}
@@ -52,53 +56,118 @@ abbrev pub AreLegal : Replay → Type 0
 AreLegal replay = (i : ℕ) (P : State) (m : Move) → slice_get replay.positions i ≡ Some P → slice_get replay.played i ≡ Some m → IsLegal P m
 
 -- what a condition says of the game alone
+abbrev pub SaysOfGame : Tags → Replay → Bool → Claim (List ℕ) → Type 0
+SaysOfGame tags replay denied (Tag name relation contents) = Taken denied ((given : List ℕ) × (tags name ≡ Some given) × Stands relation given contents)
+SaysOfGame tags replay denied (Fen pattern) = Unit {0}
+SaysOfGame tags replay denied (Material white black) = Unit {0}
+SaysOfGame tags replay denied (Moves words) = Taken denied (FitMoves replay 0 (words_of words))
+SaysOfGame tags replay denied (Turn side) = Unit {0}
+SaysOfGame tags replay denied Check = Unit {0}
+SaysOfGame tags replay denied Mate = Unit {0}
+SaysOfGame tags replay denied Stalemate = Unit {0}
+
 abbrev pub OfGame : Tags → Replay → Condition (List ℕ) → Type 0
-OfGame tags replay (Tag name relation contents) = (given : List ℕ) × (tags name ≡ Some given) × Stands relation given contents
-OfGame tags replay (Fen pattern) = Unit {0}
-OfGame tags replay (Material white black) = Unit {0}
-OfGame tags replay (Moves words) = FitMoves replay 0 (words_of words)
-OfGame tags replay (Turn side) = Unit {0}
-OfGame tags replay Check = Unit {0}
-OfGame tags replay Mate = Unit {0}
-OfGame tags replay Stalemate = Unit {0}
+OfGame tags replay condition = SaysOfGame tags replay condition.is_denied condition.claim
 
 abbrev pub AllOfGame : Tags → Replay → List (Condition (List ℕ)) → Type 0
 AllOfGame tags replay [] = Unit {0}
 AllOfGame tags replay (condition ∷ more) = OfGame tags replay condition × AllOfGame tags replay more
 
+-- what a condition says of the tags of the game
+abbrev pub SaysOfTags : Tags → Bool → Claim (List ℕ) → Type 0
+SaysOfTags tags denied (Tag name relation contents) = Taken denied ((given : List ℕ) × (tags name ≡ Some given) × Stands relation given contents)
+SaysOfTags tags denied (Fen pattern) = Unit {0}
+SaysOfTags tags denied (Material white black) = Unit {0}
+SaysOfTags tags denied (Moves words) = Unit {0}
+SaysOfTags tags denied (Turn side) = Unit {0}
+SaysOfTags tags denied Check = Unit {0}
+SaysOfTags tags denied Mate = Unit {0}
+SaysOfTags tags denied Stalemate = Unit {0}
+
+abbrev pub OfTags : Tags → Condition (List ℕ) → Type 0
+OfTags tags condition = SaysOfTags tags condition.is_denied condition.claim
+
+abbrev pub AllOfTags : Tags → List (Condition (List ℕ)) → Type 0
+AllOfTags tags [] = Unit {0}
+AllOfTags tags (condition ∷ more) = OfTags tags condition × AllOfTags tags more
+
+-- the claim does not speak of the moves of the game
+abbrev pub IsFreeOfMoves : Claim (List ℕ) → Type 0
+IsFreeOfMoves (Tag name relation contents) = Unit {0}
+IsFreeOfMoves (Fen pattern) = Unit {0}
+IsFreeOfMoves (Material white black) = Unit {0}
+IsFreeOfMoves (Moves words) = ⊥
+IsFreeOfMoves (Turn side) = Unit {0}
+IsFreeOfMoves Check = Unit {0}
+IsFreeOfMoves Mate = Unit {0}
+IsFreeOfMoves Stalemate = Unit {0}
+
+abbrev pub AreFreeOfMoves : List (Condition (List ℕ)) → Type 0
+AreFreeOfMoves [] = Unit {0}
+AreFreeOfMoves (condition ∷ more) = IsFreeOfMoves condition.claim × AreFreeOfMoves more
+
+-- a claim asks for no more than so many first moves
+abbrev pub AsksWithin : ℕ → Claim (List ℕ) → Type 0
+AsksWithin most (Tag name relation contents) = Unit {0}
+AsksWithin most (Fen pattern) = Unit {0}
+AsksWithin most (Material white black) = Unit {0}
+AsksWithin most (Moves words) = length (words_of words) ≤ most
+AsksWithin most (Turn side) = Unit {0}
+AsksWithin most Check = Unit {0}
+AsksWithin most Mate = Unit {0}
+AsksWithin most Stalemate = Unit {0}
+
+abbrev pub AllAskWithin : ℕ → List (Condition (List ℕ)) → Type 0
+AllAskWithin most [] = Unit {0}
+AllAskWithin most (condition ∷ more) = AsksWithin most condition.claim × AllAskWithin most more
+
+abbrev pub EachAsksWithin : ℕ → List (List (Condition (List ℕ))) → Type 0
+EachAsksWithin most [] = Unit {0}
+EachAsksWithin most (alternative ∷ more) = AllAskWithin most alternative × EachAsksWithin most more
+
+-- so many first moves of a game fit the same words of either replay
+abbrev pub FitTheSame : ℕ → Replay → Replay → Type 0
+FitTheSame most replay other = (words : List (List ℕ)) → length words ≤ most → FitMoves replay 0 words ↔ FitMoves other 0 words
+
 -- what a condition says of the position alone
+abbrev pub SaysOfPosition : State → Bool → Claim (List ℕ) → Type 0
+SaysOfPosition P denied (Tag name relation contents) = Unit {0}
+SaysOfPosition P denied (Fen pattern) = Taken denied (FitsPattern P.men pattern)
+SaysOfPosition P denied (Material white black) = Taken denied (FitsMaterial P.men white black)
+SaysOfPosition P denied (Moves words) = Unit {0}
+SaysOfPosition P denied (Turn side) = Taken denied (P.turn ≡ side)
+SaysOfPosition P denied Check = Taken denied (IsCheck P.men P.turn)
+SaysOfPosition P denied Mate = Taken denied (IsMate P)
+SaysOfPosition P denied Stalemate = Taken denied (IsStalemate P)
+
 abbrev pub OfPosition : State → Condition (List ℕ) → Type 0
-OfPosition P (Tag name relation contents) = Unit {0}
-OfPosition P (Fen pattern) = FitsPattern P.men pattern
-OfPosition P (Material white black) = FitsMaterial P.men white black
-OfPosition P (Moves words) = Unit {0}
-OfPosition P (Turn side) = P.turn ≡ side
-OfPosition P Check = IsCheck P.men P.turn
-OfPosition P Mate = IsMate P
-OfPosition P Stalemate = IsStalemate P
+OfPosition P condition = SaysOfPosition P condition.is_denied condition.claim
 
 abbrev pub AllOfPosition : State → List (Condition (List ℕ)) → Type 0
 AllOfPosition P [] = Unit {0}
 AllOfPosition P (condition ∷ more) = OfPosition P condition × AllOfPosition P more
 
 -- the conditions that speak of positions
+abbrev pub is_on_position : Claim (List ℕ) → Bool
+is_on_position (Tag name relation contents) = false
+is_on_position (Fen pattern) = true
+is_on_position (Material white black) = true
+is_on_position (Moves words) = false
+is_on_position (Turn side) = true
+is_on_position Check = true
+is_on_position Mate = true
+is_on_position Stalemate = true
+
 abbrev pub on_positions : List (Condition (List ℕ)) → List (Condition (List ℕ))
 on_positions [] = []
-on_positions (Tag name relation contents ∷ more) = on_positions more
-on_positions (Fen pattern ∷ more) = Fen pattern ∷ on_positions more
-on_positions (Material white black ∷ more) = Material white black ∷ on_positions more
-on_positions (Moves words ∷ more) = on_positions more
-on_positions (Turn side ∷ more) = Turn side ∷ on_positions more
-on_positions (Check ∷ more) = Check ∷ on_positions more
-on_positions (Mate ∷ more) = Mate ∷ on_positions more
-on_positions (Stalemate ∷ more) = Stalemate ∷ on_positions more
+on_positions (condition ∷ more) = if is_on_position condition.claim then condition ∷ on_positions more else on_positions more
 
 -- what they say of the position behind so many plies is so
 abbrev pub FitsAt : Replay → List (Condition (List ℕ)) → ℕ → Type 0
 FitsAt replay conditions plies = (P : State) × (slice_get replay.positions plies ≡ Some P) × AllOfPosition P conditions
 
--- at which stage it is tried, and what the conditions of a stage say
-abbrev pub stage_of : Condition (List ℕ) → Stage
+-- at which stage a claim is tried, and what the conditions of a stage say
+abbrev pub stage_of : Claim (List ℕ) → Stage
 stage_of (Tag name relation contents) = Game
 stage_of (Fen pattern) = Men
 stage_of (Material white black) = Men
@@ -110,7 +179,7 @@ stage_of Stalemate = Replies
 
 abbrev pub AllOfStage : Stage → State → List (Condition (List ℕ)) → Type 0
 AllOfStage stage P [] = Unit {0}
-AllOfStage stage P (condition ∷ more) = (stage_of condition ≡ stage → OfPosition P condition) × AllOfStage stage P more
+AllOfStage stage P (condition ∷ more) = (stage_of condition.claim ≡ stage → OfPosition P condition) × AllOfStage stage P more
 
 -- the least number from one on and before another that has the fact, or none where none has
 abbrev pub IsFirstBefore : (ℕ → Type 0) → ℕ → ℕ → Option ℕ → Type 0

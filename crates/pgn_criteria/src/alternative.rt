@@ -2,11 +2,11 @@
 ghost use Rattle.std.specs.Prelude.{◌≡◌, ◌↔◌, List, map, IsTrue, IfOk};
 ghost use Rattle.pgn_text.specs.GameTexts.{tag_in};
 ghost use Rattle.pgn_criteria.specs.Layouts.{Lays};
-ghost use Rattle.pgn_criteria.specs.Stages.{AreLegal, AreGood, AllOfGame, OfPosition, AllOfPosition, seen};
+ghost use Rattle.pgn_criteria.specs.Stages.{AreLegal, AreGood, AllOfGame, AllOfTags, AllAskWithin, AreFreeOfMoves, OfPosition, AllOfPosition, seen};
 
-use crate::condition::Condition;
+use crate::condition::{Claim, Condition};
 use crate::layout::Layout;
-use crate::meets::{are_of_game, are_of_position};
+use crate::meets::{are_free_of_moves, are_of_game, are_of_position, are_of_tags, longest_opening};
 use chess::SquareSet;
 use pgn_game::{GamePosition, Replayed};
 use pgn_text::RawGame;
@@ -40,14 +40,14 @@ impl Model for Alternative {
     } };
 }
 
-/// Lays out what a condition asks of squares, if it is a pattern. Answers whether that is all that it says of positions.
+/// Lays out what a condition asks of squares, if it is a pattern that is not denied. Answers whether that is all that it says of positions.
 fn lay_out(layout: &mut Layout, condition: &Condition<Vec<u8>>) -> Result<bool, AllocError>
     ensures { IfOk result (Lays (λ P. OfPosition P (seen (λ text. text.items) condition.now)) (λ P. Unit {0}) layout.old layout.new) }
 {
-    match condition {
-        Condition::Fen(pattern) => layout.add_pattern(pattern),
-        Condition::Tag { .. } => Ok(true),
-        Condition::Moves(_) => Ok(true),
+    match &condition.claim {
+        Claim::Tag { .. } => Ok(true),
+        Claim::Moves(_) => Ok(true),
+        Claim::Fen(pattern) if !condition.is_denied => layout.add_pattern(pattern),
         _ => Ok(false),
     }
 }
@@ -89,6 +89,28 @@ impl Alternative {
         ensures { IsTrue result ↔ AllOfGame (λ name. tag_in name game.now.tags) replayed.now self.now }
     {
         are_of_game(&self.conditions, game, replayed)
+    }
+
+    /// Whether what the conditions say of the tags of the game is so.
+    pub(crate) fn is_of_tags<'a>(&'a self, game: &RawGame<'a>) -> bool
+        requires good { AreGood self.now }
+        ensures { IsTrue result ↔ AllOfTags (λ name. tag_in name game.now.tags) self.now }
+    {
+        are_of_tags(&self.conditions, game)
+    }
+
+    /// How many first moves of the game the conditions ask for at most.
+    pub(crate) fn opening(&self) -> usize
+        ensures { AllAskWithin result self.now }
+    {
+        longest_opening(&self.conditions)
+    }
+
+    /// Whether none of the conditions speaks of the moves of the game.
+    pub(crate) fn is_free_of_moves(&self) -> bool
+        ensures { IsTrue result ↔ AreFreeOfMoves self.now }
+    {
+        are_free_of_moves(&self.conditions)
     }
 
     /// Whether what the conditions say of the position is so. What is laid out is looked at first.

@@ -6,11 +6,13 @@ ghost use Rattle.chess.specs.Positions.{State};
 ghost use Rattle.chess.specs.declared.board.man.Kind.{Kind};
 ghost use Rattle.chess.specs.declared.board.man.Side.{Side};
 ghost use Rattle.pgn_criteria.specs.Items.{IsOf};
-ghost use Rattle.pgn_criteria.specs.Layouts.{IsRest, EachFrom, Laid, Lays, KindWithin};
+ghost use Rattle.pgn_criteria.specs.declared.rank.Class.TheVariants.{Not, Other};
+ghost use Rattle.pgn_criteria.specs.Layouts.{IsRest, EachFrom, AllStand, Laid, Lays, KindWithin, NoneOf};
 ghost use Rattle.pgn_criteria.specs.Patterns.{CanBeSplit, FitsPattern};
+ghost use Rattle.pgn_criteria.specs.Items.{items_of};
 
 use crate::cut::next_part;
-use crate::rank::{Class, Item, is_of, item_of, size_of};
+use crate::rank::{Class, Item, Kinds, Men, is_of, next_item, size_of};
 use chess::{Kind, Man, Side, Square, SquareSet};
 use pgn_game::GamePosition;
 use std::alloc::{AllocError, Global};
@@ -31,16 +33,31 @@ impl Asked {
         position.known();
         match self.class {
             Class::This(man) => position.squares_of(man).has(self.square),
+            Class::Not(man) => !position.squares_of(man).has(self.square),
             class => is_of(class, position.at(self.square)),
         }
     }
 }
 
-/// Squares with what must stand on them, and squares that must be empty.
+/// Squares with what must stand on them, squares with a man who must not, and squares that must be empty.
 #[derive(Drop)]
 pub(crate) struct Layout {
     asked: Vec<Asked>,
+    barred: Vec<Asked>,
     empty: SquareSet,
+}
+
+/// Whether on each of the squares stands what must stand there.
+#[inline(always)]
+fn all_stand(all: &[Asked], position: &GamePosition) -> bool
+    ensures { IsTrue result ↔ AllStand position.now.men all.now }
+{
+    for asked in all {
+        if !asked.is_met(position) {
+            return false;
+        }
+    }
+    true
 }
 
 impl Layout {
@@ -50,8 +67,84 @@ impl Layout {
     {
         Layout {
             asked: Vec::new(alloc),
+            barred: Vec::new(alloc),
             empty: SquareSet::new(),
         }
+    }
+
+    /// Adds a square on which a man must not stand, if that is so.
+    fn bar(&mut self, is_barred: bool, man: Man, square: Square) -> Result<(), AllocError>
+        ensures { OnOk result (Lays (λ P. IsTrue is_barred → IsOf (Not man) (man_at P.men square)) (λ P. Unit {0}) self.old self.new true) }
+    {
+        if is_barred {
+            let class = Class::Not(man);
+            self.barred.push(Asked { class, square })?;
+        }
+        Ok(())
+    }
+
+    /// Adds a square on which no man of these kinds must stand.
+    fn bar_kinds(&mut self, side: Side, kinds: Kinds, square: Square) -> Result<(), AllocError>
+        ensures { OnOk result (Lays (λ P. NoneOf side kinds (man_at P.men square)) (λ P. Unit {0}) self.old self.new true) }
+    {
+        self.bar(
+            kinds.pawn,
+            Man {
+                side,
+                kind: Kind::Pawn,
+            },
+            square,
+        )?;
+        self.bar(
+            kinds.knight,
+            Man {
+                side,
+                kind: Kind::Knight,
+            },
+            square,
+        )?;
+        self.bar(
+            kinds.bishop,
+            Man {
+                side,
+                kind: Kind::Bishop,
+            },
+            square,
+        )?;
+        self.bar(
+            kinds.rook,
+            Man {
+                side,
+                kind: Kind::Rook,
+            },
+            square,
+        )?;
+        self.bar(
+            kinds.queen,
+            Man {
+                side,
+                kind: Kind::Queen,
+            },
+            square,
+        )?;
+        self.bar(
+            kinds.king,
+            Man {
+                side,
+                kind: Kind::King,
+            },
+            square,
+        )?;
+        Ok(())
+    }
+
+    /// Adds a square on which none of the men must stand.
+    fn bar_men(&mut self, men: Men, square: Square) -> Result<(), AllocError>
+        ensures { OnOk result (Lays (λ P. IsOf (Other men) (man_at P.men square)) (λ P. Unit {0}) self.old self.new true) }
+    {
+        self.bar_kinds(Side::White, men.white, square)?;
+        self.bar_kinds(Side::Black, men.black, square)?;
+        Ok(())
     }
 
     /// Adds a square and what must stand on it.
@@ -64,6 +157,7 @@ impl Layout {
                 self.empty.insert(square);
                 Ok(())
             }
+            Class::Other(men) => self.bar_men(men, square),
             _ => {
                 self.asked.push(Asked { class, square })?;
                 Ok(())
@@ -86,37 +180,37 @@ impl Layout {
         Ok(())
     }
 
-    /// Adds what an item asks, where so many squares of the rank are taken. Answers how many are taken then, if that is known.
-    fn add_item(
+    /// Adds what the first of some items asks, where so many squares of the rank are taken. Answers the items behind it, and how many
+    /// squares are taken then, if that is known.
+    fn add_item<'a>(
         &mut self,
-        byte: u8,
-        behind: &[u8],
+        items: &'a [u8],
         taken: u8,
         rank: u8,
-    ) -> Result<Option<u8>, AllocError>
+    ) -> Result<Option<(&'a [u8], u8)>, AllocError>
         requires within { taken ≤ 8 }
         requires low { 1 ≤ rank }
         requires high { rank ≤ 8 }
-        ensures { IfOk result (λ next. MatchOption next (self.new ≡ self.old) (λ next. (next ≤ 8)
-            × Lays (λ P. CanBeSplit (byte ∷ behind.now) (drop taken (row P.men rank))) (λ P. CanBeSplit behind.now (drop next (row P.men rank)))
+        ensures { IfOk result (λ next. MatchOption next (self.new ≡ self.old) (λ next. (next.1 ≤ 8) × (length next.0.now < length items.now)
+            × Lays (λ P. CanBeSplit (items_of items.now) (drop taken (row P.men rank))) (λ P. CanBeSplit (items_of next.0.now) (drop next.1 (row P.men rank)))
             self.old self.new true)) }
     {
-        match item_of(byte) {
-            Some(Item::Run(class, count)) => {
+        match next_item(items) {
+            Some((Item::Run(class, count), behind)) => {
                 if 8 - taken < count {
                     return Ok(None);
                 }
                 self.add_run(class, count, taken, rank)?;
-                Ok(Some(taken + count))
+                Ok(Some((behind, taken + count)))
             }
-            Some(Item::Many) => {
+            Some((Item::Many, behind)) => {
                 let Some(size) = size_of(behind) else {
                     return Ok(None);
                 };
                 if 8 - size < taken {
                     return Ok(None);
                 }
-                Ok(Some(8 - size))
+                Ok(Some((behind, 8 - size)))
             }
             None => Ok(None),
         }
@@ -126,12 +220,12 @@ impl Layout {
     fn add_rank(&mut self, items: &[u8], rank: u8) -> Result<bool, AllocError>
         requires low { 1 ≤ rank }
         requires high { rank ≤ 8 }
-        ensures { IfOk result (Lays (λ P. CanBeSplit items.now (row P.men rank)) (λ P. Unit {0}) self.old self.new) }
+        ensures { IfOk result (Lays (λ P. CanBeSplit (items_of items.now) (row P.men rank)) (λ P. Unit {0}) self.old self.new) }
     {
         let mut taken = 0u8;
         let mut rest = items;
-        while let [byte, behind @ ..] = rest {
-            let Some(next) = self.add_item(*byte, behind, taken, rank)? else {
+        while !rest.is_empty() {
+            let Some((behind, next)) = self.add_item(rest, taken, rank)? else {
                 return Ok(false);
             };
             taken = next;
@@ -180,10 +274,8 @@ impl Layout {
         requires { IsRest self.now.empty free.now }
         ensures { IsTrue result ↔ Laid position.now.men self.now }
     {
-        for asked in &self.asked {
-            if !asked.is_met(position) {
-                return false;
-            }
+        if !all_stand(&self.asked, position) || !all_stand(&self.barred, position) {
+            return false;
         }
         position.known();
         self.empty.is_empty() || are_within(position, free)

@@ -1,13 +1,17 @@
 //! The plies of one game that meet criteria, looked for one after the other.
-ghost use Rattle.std.specs.Prelude.{◌≡◌, ◌↔◌, ◌≤◌, ◌<◌, ℕ, List, length, IsTrue, IfOk};
+ghost use Rattle.std.specs.Prelude.{◌≡◌, ◌↔◌, ◌==◌, ℕ, List, length, IsTrue, IfOk, IfSome, MatchResult};
+ghost use Rattle.chess.specs.Positions.{State};
 ghost use Rattle.pgn_text.specs.GameTexts.{tag_in};
-ghost use Rattle.pgn_game.specs.Replays.{Replay, IsSomeReplay};
+ghost use Rattle.pgn_game.specs.Faults.{IsFault};
+ghost use Rattle.pgn_game.specs.Replays.{Replay, IsSomeReplay, fault_of};
 ghost use Rattle.pgn_game.specs.Starts.{fen_tag};
-ghost use Rattle.pgn_criteria.specs.Meeting.{Tags, SomeHold, Meets, IsFirst};
+ghost use Rattle.pgn_game.specs.declared.replayer.Lines.TheVariants.{Main};
+ghost use Rattle.pgn_criteria.specs.Meeting.{Tags, SomeHold, Meets};
+ghost use Rattle.pgn_criteria.specs.Stages.{AllGood, AreLegal, EachAsksWithin};
 
 use crate::alternative::Alternative;
-use crate::meets::{Criteria, first_of};
-use pgn_game::{GamePosition, Replayed};
+use crate::meets::Criteria;
+use pgn_game::{GameFault, GamePosition, Replayed, replay_opening};
 use pgn_text::RawGame;
 use std::alloc::{AllocError, Global};
 use std::marker::Model;
@@ -30,8 +34,16 @@ impl<'a> Model for Search<'a> {
 }
 
 impl<'a> Search<'a> {
-    /// Whether some alternative that is left holds at the position.
-    fn is_met(&self, position: &GamePosition) -> bool
+    /// Whether no position can meet what is asked: no alternative is left.
+    pub fn is_empty(&self) -> bool
+        ensures { result ≡ (length self.now == 0) }
+    {
+        self.left.is_empty()
+    }
+
+    /// Whether the position meets what is asked: some alternative that is left holds there.
+    #[inline(always)]
+    pub fn is_met(&self, position: &GamePosition) -> bool
         ensures { (tags : Tags) (replay : Replay) → IsTrue result ↔ SomeHold tags replay position.now self.now }
     {
         for alternative in &self.left {
@@ -41,45 +53,71 @@ impl<'a> Search<'a> {
         }
         false
     }
+}
 
-    /// The least ply from `min` to `max`, both included, whose position meets what is asked. It is `None` where there is none. The replay
-    /// is to be that of the game. No memory is needed.
-    pub fn first(&self, replayed: &Replayed, min: u32, max: u32) -> Option<usize>
-        ensures { (tags : Tags) → IsFirst (λ ply. Meets tags replayed.now ply self.now) min max result }
-    {
-        if let [only] = self.left.as_slice() {
-            return first_of(only, replayed, min as usize, max as usize + 1);
+/// What the alternatives ask of the positions of a game that begins with the moves of this replay. Conditions on tags and on the moves are
+/// decided here.
+fn left_after<'a>(
+    alloc: Global,
+    alternatives: &'a [Alternative],
+    game: &RawGame<'a>,
+    opening: &Replayed,
+) -> Result<Search<'a>, AllocError>
+    requires good { AllGood alternatives.now }
+    requires legal { AreLegal opening.now }
+    ensures kept { IfOk result (λ search. (P : State) → SomeHold (λ name. tag_in name game.now.tags) opening.now P search
+        ↔ SomeHold (λ name. tag_in name game.now.tags) opening.now P alternatives.now) }
+    ensures free { IfOk result (EachAsksWithin 0) }
+{
+    let mut left = Vec::new(alloc);
+    for alternative in alternatives {
+        if alternative.is_of_game(game, opening) {
+            left.push(alternative)?;
         }
-        let end = (max as usize).min(replayed.plies()) + 1;
-        for ply in min as usize..end {
-            if self.is_met(replayed.position(ply)) {
-                return Some(ply);
-            }
-        }
-        None
     }
+    Ok(Search { left })
 }
 
 impl Criteria {
-    /// What the criteria ask of the positions of the game, by which its plies are found one after the other. Conditions on tags and on the
-    /// moves are decided here, once. The replay is to be that of the game, of its main line or of all its lines.
-    pub fn search<'a>(
+    /// What the criteria ask of the positions of the game, where that does not depend on its moves. It is `None` where an alternative
+    /// whose conditions on tags hold has one on the moves.
+    fn watch_tags<'a>(
         &'a self,
         alloc: Global,
         game: &RawGame<'a>,
-        replayed: &Replayed,
-    ) -> Result<Search<'a>, AllocError>
-        requires of_game { IsSomeReplay (tag_in fen_tag game.now.tags) game.now.elements replayed.now }
-        ensures { IfOk result (λ search. (ply : ℕ) → Meets (λ name. tag_in name game.now.tags) replayed.now ply search
-            ↔ Meets (λ name. tag_in name game.now.tags) replayed.now ply self.now) }
+    ) -> Result<Option<Search<'a>>, AllocError>
+        ensures { IfOk result (λ watched. IfSome watched (λ search. (replay : Replay) (ply : ℕ)
+            → Meets (λ name. tag_in name game.now.tags) replay ply search ↔ Meets (λ name. tag_in name game.now.tags) replay ply self.now)) }
     {
-        pgn_game::laws::one_legal_move();
         let mut left = Vec::new(alloc);
         for alternative in &self.alternatives {
-            if alternative.is_of_game(game, replayed) {
+            if alternative.is_of_tags(game) {
+                if !alternative.is_free_of_moves() {
+                    return Ok(None);
+                }
                 left.push(alternative)?;
             }
         }
-        Ok(Search { left })
+        Ok(Some(Search { left }))
+    }
+
+    /// What the criteria ask of the positions of the game, by which its plies are found while it is played. Conditions on tags and on the
+    /// moves are decided here, once. No more of the main line is played than conditions on its moves ask for; where it is faulty there,
+    /// the fault is answered.
+    pub fn watch<'a>(
+        &'a self,
+        alloc: Global,
+        game: &RawGame<'a>,
+    ) -> Result<Search<'a>, GameFault<'a>>
+        ensures { MatchResult result
+            (λ search. (replay : Replay) → IsSomeReplay (tag_in fen_tag game.now.tags) game.now.elements replay
+            → (ply : ℕ) → Meets (λ name. tag_in name game.now.tags) replay ply search ↔ Meets (λ name. tag_in name game.now.tags) replay ply self.now)
+            (λ fault. IfSome (fault_of fault) (IsFault Main (tag_in fen_tag game.now.tags) game.now.elements)) }
+    {
+        if let Some(search) = self.watch_tags(alloc, game)? {
+            return Ok(search);
+        }
+        let opening = replay_opening(alloc, game, self.opening)?;
+        Ok(left_after(alloc, &self.alternatives, game, &opening)?)
     }
 }

@@ -36,16 +36,21 @@ fn replayed(alloc: Global, game: &RawGame) -> Result<Replayed, Fail>
     }
 }
 
-/// Whether these plies of the game, and no others, meet the criteria. Each is asked alone. Then they are looked for one after the other,
-/// in the criteria and by a search.
+/// Whether these plies of the game, and no others, meet the criteria. Each is asked alone, by the criteria and by what they ask of the
+/// positions of this game. Then they are looked for one after the other.
 fn are_met(alloc: Global, criteria: &[u8], block: &[u8], plies: &[usize]) -> Result<bool, Fail> {
     let criteria = read(alloc, criteria)?;
     let game = first_game(alloc, block)?;
     let replayed = replayed(alloc, &game)?;
-    let search = criteria.search(alloc, &game, &replayed)?;
+    let Ok(search) = criteria.watch(alloc, &game) else {
+        return Ok(false);
+    };
     let mut min = 0u32;
     for ply in 0..=replayed.plies() {
         if criteria.meets(&game, &replayed, ply) != plies.contains(&ply) {
+            return Ok(false);
+        }
+        if search.is_met(replayed.position(ply)) != plies.contains(&ply) {
             return Ok(false);
         }
     }
@@ -53,33 +58,23 @@ fn are_met(alloc: Global, criteria: &[u8], block: &[u8], plies: &[usize]) -> Res
         if criteria.first(&game, &replayed, min, u32::MAX) != Some(*ply) {
             return Ok(false);
         }
-        if search.first(&replayed, min, u32::MAX) != Some(*ply) {
-            return Ok(false);
-        }
         min = u32::try_from(*ply).unwrap_or(u32::MAX).saturating_add(1);
-    }
-    if search.first(&replayed, min, u32::MAX).is_some() {
-        return Ok(false);
     }
     Ok(criteria.first(&game, &replayed, min, u32::MAX).is_none())
 }
 
-/// The first ply of the game within the bounds that meets the criteria, looked for in the criteria and by a search.
+/// The first ply of the game within the bounds that meets the criteria.
 fn first_within(
     alloc: Global,
     criteria: &[u8],
     block: &[u8],
     min: u32,
     max: u32,
-) -> Result<[Option<usize>; 2], Fail> {
+) -> Result<Option<usize>, Fail> {
     let criteria = read(alloc, criteria)?;
     let game = first_game(alloc, block)?;
     let replayed = replayed(alloc, &game)?;
-    let search = criteria.search(alloc, &game, &replayed)?;
-    Ok([
-        criteria.first(&game, &replayed, min, max),
-        search.first(&replayed, min, max),
-    ])
+    Ok(criteria.first(&game, &replayed, min, max))
 }
 
 const SHORT: &[u8] = b"1. e4 e5 *";
@@ -161,12 +156,21 @@ fn one_alternative_is_enough(rt: HostRuntime) -> Result<(), Fail> {
 #[test]
 fn tags_and_moves_hold_of_a_whole_game(rt: HostRuntime) -> Result<(), Fail> {
     let alloc = rt.alloc();
-    let rows: [(&[u8], &[u8], &[usize]); 15] = [
+    let rows: [(&[u8], &[u8], &[usize]); 24] = [
         (b"tag Round < \"10\"", ENDING, &[0, 1]),
         (b"tag Round < \"9\"", ENDING, &[]),
         (b"tag White = \"O\\\"Neil\"", ENDING, &[0, 1]),
         (b"tag Black <> \"X\"", ENDING, &[]),
         (b"tag Black = \"\"", ENDING, &[]),
+        (b"tag White begins \"O\\\"\"", ENDING, &[0, 1]),
+        (b"tag White begins \"Neil\"", ENDING, &[]),
+        (b"tag White has \"Neil\"", ENDING, &[0, 1]),
+        (b"tag White has \"neil\"", ENDING, &[]),
+        (b"tag White has \"\\\\\"", ENDING, &[]),
+        (b"tag Round has \"\"", ENDING, &[0, 1]),
+        (b"tag Round begins \"09\"", ENDING, &[]),
+        (b"tag Black has \"\"", ENDING, &[]),
+        (b"tag Black begins \"\"", ENDING, &[]),
         (b"moves e4", SHORT, &[0, 1, 2]),
         (b"moves e4 e5", SHORT, &[0, 1, 2]),
         (b"moves * e5", SHORT, &[0, 1, 2]),
@@ -254,6 +258,61 @@ fn ranks_hold_at_their_plies(rt: HostRuntime) -> Result<(), Fail> {
     Ok(())
 }
 
+/// Criteria with `not`, a game and the plies of its positions that meet them.
+const DENIED: [(&[u8], &[u8], &[usize]); 29] = [
+    (b"not check", MATE, &[0, 1, 2, 3, 4, 5, 6]),
+    (b"not mate", MATE, &[0, 1, 2, 3, 4, 5, 6]),
+    (b"not mate", STALEMATE, &[0]),
+    (b"not stalemate", STALEMATE, &[]),
+    (b"not stalemate", SHORT, &[0, 1, 2]),
+    (b"not turn white", SHORT, &[1]),
+    (b"not turn black", SHORT, &[0, 2]),
+    (b"turn black\nnot check", MATE, &[1, 3, 5]),
+    (b"mate\nnot mate", MATE, &[]),
+    (b"mate\nor\nnot mate", MATE, &[0, 1, 2, 3, 4, 5, 6, 7]),
+    // A tag that is missing stands in no relation.
+    (b"not tag Black = \"X\"", ENDING, &[0, 1]),
+    (b"not tag Black <> \"X\"", ENDING, &[0, 1]),
+    (b"not tag Round = \"9\"", ENDING, &[]),
+    (b"not tag Round = \"09\"", ENDING, &[]),
+    (b"not tag Round > \"9\"", ENDING, &[0, 1]),
+    (b"not tag Round < \"10\"\nor\nturn black", ENDING, &[1]),
+    (b"not moves e4", SHORT, &[]),
+    (b"not moves * d5", SHORT, &[0, 1, 2]),
+    // The game has fewer moves than words.
+    (b"not moves e4 e5 *", SHORT, &[0, 1, 2]),
+    (b"moves e4\nnot moves * c5\nturn black", SHORT, &[1]),
+    (b"not moves d4\nor\nmoves e4", SHORT, &[0, 1, 2]),
+    (
+        b"not fen rnbqkbnr/pppppppp/8/8/8/8/PPPPPPPP/RNBQKBNR",
+        SHORT,
+        &[1, 2],
+    ),
+    (b"not fen */*/*/*/*/*/*/*", SHORT, &[]),
+    (b"not fen 7/*/*/*/*/*/*/*", SHORT, &[0, 1, 2]),
+    (b"not fen */*/*/*/[^P]8*/*/*/*", SHORT, &[0, 1, 2]),
+    (
+        b"fen */*/*/*/*P*/*/*/*\nnot fen */*/*/*p*/*/*/*/*",
+        SHORT,
+        &[1],
+    ),
+    (b"not material KP v KP", ENDING, &[]),
+    (b"not material KP v K", ENDING, &[0, 1]),
+    (b"not material K v K\nturn black", ENDING, &[1]),
+];
+
+#[test]
+fn denied_claims_hold_where_they_are_not_so(rt: HostRuntime) -> Result<(), Fail> {
+    let alloc = rt.alloc();
+    for &(criteria, block, plies) in &DENIED {
+        assert!(rt;
+            are_met(alloc, criteria, block, plies)?,
+            "{criteria:?} in {block:?}"
+        );
+    }
+    Ok(())
+}
+
 #[test]
 fn the_first_stands_within_its_bounds(rt: HostRuntime) -> Result<(), Fail> {
     let alloc = rt.alloc();
@@ -275,7 +334,7 @@ fn the_first_stands_within_its_bounds(rt: HostRuntime) -> Result<(), Fail> {
     for (criteria, min, max, expected) in rows {
         assert_eq!(rt;
             first_within(alloc, criteria, SHORT, min, max)?,
-            [expected, expected],
+            expected,
             "{criteria:?} from {min} to {max}"
         );
     }

@@ -95,9 +95,9 @@ listed_plies aim number offset plies end no_criteria range tags replay size =
     (λ some. let last = (range (end - 1)).1 (omega arith, omega arith) in let within = last.0 in omega arith)
 
 -- one line more
-pub adds_line : (number offset from ply : ℕ) (before now next line : List ℕ) → from ≤ ply → now ≡ before ++ listing (plies_from number offset from (ply - from))
-    → line ≡ entry_line (entry_at number offset ply) → next ≡ now ++ line → next ≡ before ++ listing (plies_from number offset from (ply + 1 - from))
-adds_line number offset from ply before now next line above written is added =
+pub adds_line : (name : Option (List ℕ)) (number offset from ply : ℕ) (before now next line : List ℕ) → from ≤ ply → now ≡ before ++ listing name (plies_from number offset from (ply - from))
+    → line ≡ entry_line name (entry_at number offset ply) → next ≡ now ++ line → next ≡ before ++ listing name (plies_from number offset from (ply + 1 - from))
+adds_line name number offset from ply before now next line above written is added =
     let count = ply - from in
     let more : ply + 1 - from ≡ suc count = omega arith in
     let here : from + count ≡ ply = omega arith in
@@ -105,12 +105,12 @@ adds_line number offset from ply before now next line above written is added =
     let entry = entry_at number offset ply in
     let all : plies_from number offset from (ply + 1 - from) ≡ picked ++ entry ∷ [] =
     ap (plies_from number offset from) more ∙ plies_more number offset from count ∙ ap (λ n. picked ++ entry_at number offset n ∷ []) here in
-    added ∙ ap (λ t. t ++ line) written ∙ ap (λ t. (before ++ listing picked) ++ t) is ∙ append_assoc before (listing picked) (entry_line entry)
-    ∙ ap (λ t. before ++ t) (ap (λ t. listing picked ++ t) (sym (append-nil (entry_line entry))) ∙ sym (listing-append picked (entry ∷ [])) ∙ ap listing (sym all))
+    added ∙ ap (λ t. t ++ line) written ∙ ap (λ t. (before ++ listing name picked) ++ t) is ∙ append_assoc before (listing name picked) (entry_line name entry)
+    ∙ ap (λ t. before ++ t) (ap (λ t. listing name picked ++ t) (sym (append-nil (entry_line name entry))) ∙ sym (listing-append name picked (entry ∷ [])) ∙ ap (listing name) (sym all))
 
 -- at first none is
-pub no_line : (number offset from : ℕ) (text : List ℕ) → text ≡ text ++ listing (plies_from number offset from (from - from))
+pub no_line : (name : Option (List ℕ)) (number offset from : ℕ) (text : List ℕ) → text ≡ text ++ listing name (plies_from number offset from (from - from))
 unfolding plies_from
-no_line number offset from text =
+no_line name number offset from text =
     let none : from - from ≡ 0 = omega arith in
-    sym (ap (λ n. text ++ listing (plies_from number offset from n)) none ∙ append-nil text)
+    sym (ap (λ n. text ++ listing name (plies_from number offset from n)) none ∙ append-nil text)

@@ -4,14 +4,14 @@ use Rattle.pgn_text.specs.GameTexts.{GameText, IsGameText, ShowsGame, tag_in}
 use Rattle.pgn_text.specs.Games.{Item, items_of}
 use Rattle.pgn_text.specs.Parts.{Part}
 use Rattle.pgn_text.proofs.ShownOnce.{one_game_text}
-use Rattle.pgn_game.specs.Exports.{AreMovetextTokens}
+use Rattle.pgn_game.specs.Exports.{AreMovetextTokens, lines_with}
 use Rattle.pgn_game.specs.Replays.{Replay, IsReplay}
 use Rattle.pgn_game.specs.Starts.{fen_tag, IsStart}
 use Rattle.pgn_game.specs.TagLines.{AreTagLines}
 use Rattle.pgn_game.proofs.OneExport.{one_export}
 use Rattle.pgn_game.proofs.SomeExport.{some_export}
 use Rattle.pgn_game.specs.declared.style.Style.{Style}
-use Rattle.pgn_extract.specs.Exports.{lines_with, IsExportOf}
+use Rattle.pgn_extract.specs.Exports.{IsExportOf}
 use Rattle.pgn_extract.specs.GameReports.{IsReplayOf}
 
 -- the game of some parts has one export in a style

@@ -66,7 +66,7 @@ module _ (lines : Lines) {at : ℕ} {game : GameText} {parts : List Part} (shows
 -- by the listing, the entries of its replay
 pub listed_replay : (aim : Aim) {old new : Report} {number offset : ℕ} {game : GameText} (replay : Replay) (entries : List Entry)
     → IsReplay Main (tag_in fen_tag game.tags) game.elements replay → AreListed aim number offset (λ name. tag_in name game.tags) replay entries
-    → AddsOutput old new (listing entries) → AddsListed aim old new number offset game
+    → AddsOutput old new (listing aim.name entries) → AddsListed aim old new number offset game
 listed_replay aim {old} {new} {number} {offset} {game} replay entries is these adds at parts shows =
     let own = λ (name : List ℕ). tag_in name game.tags in
     let listed : AreListed aim number offset (tags_in parts) replay entries =
@@ -74,14 +74,14 @@ listed_replay aim {old} {new} {number} {offset} {game} replay entries is these a
     (λ entry. entry_same own (tags_in parts) shows.tags replay aim entry.ply)
     (λ entry. entry_same (tags_in parts) own (λ name. sym (shows.tags name)) replay aim entry.ply)
     (entries_from number offset 0 replay.positions) entries these in
-    (SoundGame (listing entries), (replay, entries, shown_replay Main shows replay is, listed, refl), verdict_sound old new (listing entries) adds)
+    (SoundGame (listing aim.name entries), (replay, entries, shown_replay Main shows replay is, listed, refl), verdict_sound old new (listing aim.name entries) adds)
 
 -- or its fault
 pub listed_fault : (aim : Aim) {old new : Report} {number offset : ℕ} {game : GameText} (fault : Fault) (note : List ℕ)
     → IsFault Main (tag_in fen_tag game.tags) game.elements fault → IsNote aim.explain note
-    → AddsVerdict old new (FaultyGame [] (fault_text number offset (cause_text fault)) note) 0 → AddsListed aim old new number offset game
+    → AddsVerdict old new (FaultyGame [] (fault_text aim.name number offset (cause_text fault)) note) 0 → AddsListed aim old new number offset game
 listed_fault aim {old} {new} {number} {offset} {game} fault note is noted adds at parts shows =
-    (FaultyGame [] (fault_text number offset (cause_text fault)) note, (fault, shown_fault Main shows fault is, refl, noted, refl), adds)
+    (FaultyGame [] (fault_text aim.name number offset (cause_text fault)) note, (fault, shown_fault Main shows fault is, refl, noted, refl), adds)
 
 -- by the export, what is written of it
 pub exported_replay : (aim : Aim) {old new : Report} {number offset : ℕ} {game : GameText} → IsGameText game → (replay : Replay) (text : List ℕ)
@@ -123,22 +123,22 @@ verdict_behind {old} {mid} {new} text line note put adds = record {
 pub exported_fault : (aim : Aim) {old mid new : Report} {number offset : ℕ} {game : GameText} (fault : Fault) (note : List ℕ)
     → IsFault (written_lines aim) (tag_in fen_tag game.tags) game.elements fault → IsNote aim.explain note
     → AddsOutput old mid (faulty_text modes.Export aim.select game.text)
-    → AddsVerdict mid new (FaultyGame [] (fault_text number offset (cause_text fault)) note) 0 → AddsExported aim old new number offset game
+    → AddsVerdict mid new (FaultyGame [] (fault_text aim.name number offset (cause_text fault)) note) 0 → AddsExported aim old new number offset game
 exported_fault aim {old} {mid} {new} {number} {offset} {game} fault note is noted put adds at parts shows =
     let text = faulty_text modes.Export aim.select game.text in
-    let line = fault_text number offset (cause_text fault) in (
+    let line = fault_text aim.name number offset (cause_text fault) in (
       FaultyGame text line note,
       (fault, shown_fault (written_lines aim) shows fault is, refl, noted, ap (faulty_text modes.Export aim.select) shows.text),
       verdict_behind text line note put adds,
     )
 
 -- by the index, its mark
-pub game_indexed : {old new : Report} (aim : Aim) (number offset : ℕ) (game : GameText) → aim.mode ≡ modes.Index → AddsOutput old new (mark_line number offset)
+pub game_indexed : {old new : Report} (aim : Aim) (number offset : ℕ) (game : GameText) → aim.mode ≡ modes.Index → AddsOutput old new (mark_line aim.name number offset)
     → AddsGame aim old new number offset game
 game_indexed {old} {new} aim number offset game is adds at parts shows = (
-  SoundGame (mark_line number offset),
-  subst (λ m. IsVerdictIn m aim number offset parts (SoundGame (mark_line number offset))) (sym is) refl,
-  verdict_sound old new (mark_line number offset) adds,
+  SoundGame (mark_line aim.name number offset),
+  subst (λ m. IsVerdictIn m aim number offset parts (SoundGame (mark_line aim.name number offset))) (sym is) refl,
+  verdict_sound old new (mark_line aim.name number offset) adds,
 )
 
 -- by the listing, what that reports
@@ -192,12 +192,12 @@ stop_alone true offset block at bytes note (before, behind, are) (place, (agreei
 -- the verdict on bytes of a block that are no game is that on the piece at the same place
 pub unreadable_there : (aim : Aim) (number offset : ℕ) (block : List ℕ) (place at : ℕ) (bytes : List ℕ) (verdict : Verdict) → place ≡ at
     → IsPieceOf offset block (spec.Unreadable at bytes) → IsBlockVerdict aim number offset block place verdict
-    → IsUnreadableVerdict aim (offset + at) bytes (fault_text number (offset + at) (codes "unreadable")) verdict
+    → IsUnreadableVerdict aim (offset + at) bytes (fault_text aim.name number (offset + at) (codes "unreadable")) verdict
 unreadable_there aim number offset block place at bytes verdict is among by =
     alone (subst (λ (p : ℕ). IsBlockVerdict aim number offset block p verdict) is by)
   where
     line : List ℕ
-    line = fault_text number (offset + at) (codes "unreadable")
+    line = fault_text aim.name number (offset + at) (codes "unreadable")
 
     alone : IsBlockVerdict aim number offset block at verdict → IsUnreadableVerdict aim (offset + at) bytes line verdict
     alone (note, noted, names, says) = (
@@ -226,11 +226,11 @@ piece_unreadable aim {old} {mid} {new} number offset block piece place verdict i
 
 -- the mark of a piece that is a game is counted, and reported
 pub mark_game : (aim : Aim) {old new : Report} (number offset : ℕ) (block : List ℕ) (place : ℕ) (mark : Mark) → mark ≡ marks.Game place
-    → new.output.items ≡ old.output.items ++ mark_line number (offset + place)
+    → new.output.items ≡ old.output.items ++ mark_line aim.name number (offset + place)
     → new.faults.items ≡ old.faults.items → new.games ≡ old.games + 1 → new.faulty ≡ old.faulty
     → (verdict : Verdict) × IsMarkVerdict aim number offset block mark verdict × AddsVerdict old new verdict 1
 mark_game aim {old} {new} number offset block place mark is output faults games faulty =
-    let verdict = SoundGame (mark_line number (offset + place)) in (
+    let verdict = SoundGame (mark_line aim.name number (offset + place)) in (
       verdict,
       subst (λ m. IsMarkVerdict aim number offset block m verdict) (sym is) refl,
       record { output = output; faults = faults ∙ sym (append-nil old.faults.items); games = games; faulty = faulty ∙ omega arith },

@@ -25,7 +25,7 @@ mark_is_verdict : (aim : Aim) (number offset : ℕ) (block : List ℕ) (mark : M
     → aim.mode ≡ modes.Index → IsMark mark shown → IsPieceOf offset block shown
     → IsMarkVerdict aim number offset block mark verdict → IsVerdict aim number (marked offset shown) verdict
 mark_is_verdict aim number offset block (Game place) (spec.Game at parts) verdict index is among by =
-    subst (λ m. IsVerdictIn m aim number (offset + at) parts verdict) (sym index) (by ∙ ap (λ n. SoundGame (mark_line number (offset + n))) is)
+    subst (λ m. IsVerdictIn m aim number (offset + at) parts verdict) (sym index) (by ∙ ap (λ n. SoundGame (mark_line aim.name number (offset + n))) is)
 mark_is_verdict aim number offset block (Game place) (spec.Unreadable at bytes) verdict index is among by = absurd is
 mark_is_verdict aim number offset block (Unreadable place) (spec.Game at parts) verdict index is among by = absurd is
 mark_is_verdict aim number offset block (Unreadable place) (spec.Unreadable at bytes) verdict index is among by =

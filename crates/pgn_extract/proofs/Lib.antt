@@ -1,3 +1,4 @@
+pub mod AllTaken
 pub mod Beginnings
 pub mod BegunAll
 pub mod BlockWritten
@@ -19,6 +20,7 @@ pub mod OneOfThree
 pub mod OneReport
 pub mod OneVerdict
 pub mod Picks
+pub mod Found
 pub mod RestOfBlock
 pub mod Resumed
 pub mod RunProgress
@@ -36,3 +38,4 @@ pub mod RunEnds
 pub mod NoteOnce
 pub mod FirstExports
 pub mod PartsReported
+pub mod Sought

@@ -1,5 +1,5 @@
 -- What is reported to the output of pieces in a row is their index, the listing of their entries, or the exports of their games.
-use Rattle.std.proofs.Common.{◌≡◌, ℕ, ◌+◌, List, [], ◌∷◌, ◌++◌, refl, sym, ap, ◌∙◌, subst, append_assoc}
+use Rattle.std.proofs.Common.{◌≡◌, ℕ, ◌+◌, List, [], ◌∷◌, ◌++◌, refl, sym, ap, ◌∙◌, subst, append_assoc, Option}
 use Rattle.pgn_text.specs.Marks.{PieceKind, ReadableGame, UnreadableRest, TooLongBlock, MarkedPiece}
 use Rattle.pgn_text.specs.Parts.{Part}
 use Rattle.pgn_extract.specs.Index.{index, index_line}
@@ -13,19 +13,20 @@ use Rattle.pgn_extract.specs.Aims.{Aim}
 use Rattle.pgn_extract.specs.declared.settings.Mode.TheVariants as modes
 
 -- the lines of entries, and then of others
-pub listing-append : (xs ys : List Entry) → listing (xs ++ ys) ≡ listing xs ++ listing ys
-listing-append [] ys = refl
-listing-append (x ∷ xs) ys = ap (λ t. entry_line x ++ t) (listing-append xs ys) ∙ sym (append_assoc (entry_line x) (listing xs) (listing ys))
+pub listing-append : (name : Option (List ℕ)) (xs ys : List Entry) → listing name (xs ++ ys) ≡ listing name xs ++ listing name ys
+listing-append name [] ys = refl
+listing-append name (x ∷ xs) ys =
+    ap (λ t. entry_line name x ++ t) (listing-append name xs ys) ∙ sym (append_assoc (entry_line name x) (listing name xs) (listing name ys))
 
 -- a game's entries
 of_game : (aim : Aim) (verdict : Verdict) (number offset : ℕ) (parts : List Part) → IsListed aim verdict number offset parts
-    → (own : List Entry) × AreGameEntries aim number offset parts own × (output_of verdict ≡ listing own)
+    → (own : List Entry) × AreGameEntries aim number offset parts own × (output_of verdict ≡ listing aim.name own)
 of_game aim (SoundGame text) number offset parts (replay, entries, is, these, here) = (entries, sound replay is these, here)
 of_game aim (FaultyGame text line note) number offset parts (fault, is, here, noted, empty) = ([], faulty fault is refl, empty)
 
 -- a piece's entries
 of_piece : (kind : PieceKind) (aim : Aim) → aim.mode ≡ modes.List → (number offset : ℕ) (verdict : Verdict) → IsPieceVerdict kind aim number offset verdict
-    → (own : List Entry) × ArePieceEntries aim kind number offset own × (output_of verdict ≡ listing own)
+    → (own : List Entry) × ArePieceEntries aim kind number offset own × (output_of verdict ≡ listing aim.name own)
 of_piece (ReadableGame parts) aim lists number offset verdict is = of_game aim verdict number offset parts (subst (λ m. IsVerdictIn m aim number offset parts verdict) lists is)
 of_piece (UnreadableRest bytes) aim lists number offset verdict (note, noted, names, is) =
     ([], refl, ap output_of is ∙ ap (λ m. faulty_text m aim.select bytes) lists)
@@ -33,14 +34,14 @@ of_piece TooLongBlock aim lists number offset verdict (note, noted, is) = ([], r
 
 -- the entries of pieces in a row
 pub of_pieces : (aim : Aim) → aim.mode ≡ modes.List → (number : ℕ) (pieces : List MarkedPiece) (verdicts : List Verdict) → AreVerdicts aim number pieces verdicts
-    → (entries : List Entry) × AreEntryRows aim number pieces entries × (output_text verdicts ≡ listing entries)
+    → (entries : List Entry) × AreEntryRows aim number pieces entries × (output_text verdicts ≡ listing aim.name entries)
 of_pieces aim lists number [] verdicts none = ([], refl, ap output_text none)
 of_pieces aim lists number (piece ∷ more) verdicts (verdict, rest, parted, is, others) =
     let own = of_piece piece.kind aim lists number piece.offset verdict is in
     let later = of_pieces aim lists (number + 1) more rest others in (
       own.0 ++ later.0,
       (own.0, later.0, refl, own.1, later.1),
-      ap output_text parted ∙ ap (λ t. t ++ output_text rest) own.2 ∙ ap (λ t. listing own.0 ++ t) later.2 ∙ sym (listing-append own.0 later.0),
+      ap output_text parted ∙ ap (λ t. t ++ output_text rest) own.2 ∙ ap (λ t. listing aim.name own.0 ++ t) later.2 ∙ sym (listing-append aim.name own.0 later.0),
     )
 
 -- a game's export
@@ -71,7 +72,7 @@ exports_of_pieces aim exports number (piece ∷ more) verdicts (verdict, rest, p
 
 -- a piece's line in the index
 indexed_piece : (kind : PieceKind) (aim : Aim) → aim.mode ≡ modes.Index → (number offset : ℕ) (verdict : Verdict) → IsPieceVerdict kind aim number offset verdict
-    → output_of verdict ≡ index_line number (record { offset = offset; kind = kind })
+    → output_of verdict ≡ index_line aim.name number (record { offset = offset; kind = kind })
 indexed_piece (ReadableGame parts) aim indexes number offset verdict is = ap output_of (subst (λ m. IsVerdictIn m aim number offset parts verdict) indexes is)
 indexed_piece (UnreadableRest bytes) aim indexes number offset verdict (note, noted, names, is) =
     ap output_of is ∙ ap (λ m. faulty_text m aim.select bytes) indexes
@@ -79,11 +80,11 @@ indexed_piece TooLongBlock aim indexes number offset verdict (note, noted, is) =
 
 -- the index of pieces in a row
 indexed_pieces : (aim : Aim) → aim.mode ≡ modes.Index → (number : ℕ) (pieces : List MarkedPiece) (verdicts : List Verdict) → AreVerdicts aim number pieces verdicts
-    → output_text verdicts ≡ index number pieces
+    → output_text verdicts ≡ index aim.name number pieces
 indexed_pieces aim indexes number [] verdicts none = ap output_text none
 indexed_pieces aim indexes number (piece ∷ more) verdicts (verdict, rest, parted, is, others) =
     ap output_text parted ∙ ap (λ t. t ++ output_text rest) (indexed_piece piece.kind aim indexes number piece.offset verdict is)
-    ∙ ap (λ t. index_line number piece ++ t) (indexed_pieces aim indexes (number + 1) more rest others)
+    ∙ ap (λ t. index_line aim.name number piece ++ t) (indexed_pieces aim indexes (number + 1) more rest others)
 
 module _ (job : Job) (io : Io) (whole : List ℕ) (summary : Summary) (e : Completes job io whole summary) where
   -- a run for the index wrote it

@@ -167,6 +167,7 @@ rest_entries aim before rest number entries are = record {
 -- the aim of a listing
 abbrev listing_aim : Aim → Aim
 listing_aim aim = record {
+  name = aim.name;
   mode = modes.List;
   criteria = aim.criteria;
   min_ply = aim.min_ply;

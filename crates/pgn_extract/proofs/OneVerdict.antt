@@ -52,11 +52,11 @@ module _ (one_replay : GameHasOneReplay) (one_fault : GameHasOneFault) (no_fault
       let same : xs ≡ ys =
       one_chosen (λ entry. IsEntry aim (tags_in parts) first entry.ply) (entries_from number offset 0 first.positions) xs ys these
       (subst (λ (r : Replay). AreListed aim number offset (tags_in parts) r ys) of those) in
-      ap SoundGame (text ∙ ap listing same ∙ sym other)
+      ap SoundGame (text ∙ ap (listing aim.name) same ∙ sym other)
   one_listed aim (SoundGame x) (FaultyGame z y v) number offset parts (first, xs, is, these, text) (second, also, other, note, out) = absurd (no_fault Main (first_tag fen_tag parts) (items_of parts) second (first, is) also)
   one_listed aim (FaultyGame w x u) (SoundGame y) number offset parts (first, is, text, note, out) (second, ys, also, those, other) = absurd (no_fault Main (first_tag fen_tag parts) (items_of parts) first (second, also) is)
   one_listed aim (FaultyGame w x u) (FaultyGame z y v) number offset parts (first, is, text, note, out) (second, also, other, noted, written) =
-      ap (λ (t : List ℕ). FaultyGame t x []) (out ∙ sym written) ∙ ap (λ (l : List ℕ). FaultyGame z l []) (text ∙ ap (λ (f : Fault). fault_text number offset (cause_text f)) (one_fault Main (first_tag fen_tag parts) (items_of parts) first second is also) ∙ sym other)
+      ap (λ (t : List ℕ). FaultyGame t x []) (out ∙ sym written) ∙ ap (λ (l : List ℕ). FaultyGame z l []) (text ∙ ap (λ (f : Fault). fault_text aim.name number offset (cause_text f)) (one_fault Main (first_tag fen_tag parts) (items_of parts) first second is also) ∙ sym other)
 
   -- a game in the export
   one_exported : (aim : Aim) (a b : Verdict) (number offset : ℕ) (parts : List Part) → IsExported aim a number offset parts → IsExported aim b number offset parts → without_note a ≡ without_note b
@@ -70,7 +70,7 @@ module _ (one_replay : GameHasOneReplay) (one_fault : GameHasOneFault) (no_fault
   one_exported aim (FaultyGame w x u) (FaultyGame z y v) number offset parts (first, is, text, note, out) (second, also, other, noted, written) =
       ap (λ (t : List ℕ). FaultyGame t x []) (out ∙ sym written)
       ∙ ap (λ (l : List ℕ). FaultyGame z l [])
-      (text ∙ ap (λ (f : Fault). fault_text number offset (cause_text f)) (one_fault (written_lines aim) (first_tag fen_tag parts) (items_of parts) first second is also) ∙ sym other)
+      (text ∙ ap (λ (f : Fault). fault_text aim.name number offset (cause_text f)) (one_fault (written_lines aim) (first_tag fen_tag parts) (items_of parts) first second is also) ∙ sym other)
 
   -- a game in a mode
   one_in : (mode : Mode) (aim : Aim) (number offset : ℕ) (parts : List Part) (a b : Verdict) → IsVerdictIn mode aim number offset parts a → IsVerdictIn mode aim number offset parts b → without_note a ≡ without_note b
@@ -82,8 +82,8 @@ module _ (one_replay : GameHasOneReplay) (one_fault : GameHasOneFault) (no_fault
   one_verdict : (kind : PieceKind) (aim : Aim) (number offset : ℕ) (a b : Verdict) → IsPieceVerdict kind aim number offset a → IsPieceVerdict kind aim number offset b → without_note a ≡ without_note b
   one_verdict (ReadableGame parts) aim number offset a b x y = one_in aim.mode aim number offset parts a b x y
   one_verdict (UnreadableRest bytes) aim number offset a b x y =
-      one_line aim (faulty_text aim.mode aim.select bytes) (fault_text number offset (codes "unreadable")) a b (reported_by aim offset bytes _ a x) (reported_by aim offset bytes _ b y)
-  one_verdict TooLongBlock aim number offset a b x y = one_line aim [] (fault_text number offset (codes "too long")) a b x y
+      one_line aim (faulty_text aim.mode aim.select bytes) (fault_text aim.name number offset (codes "unreadable")) a b (reported_by aim offset bytes _ a x) (reported_by aim offset bytes _ b y)
+  one_verdict TooLongBlock aim number offset a b x y = one_line aim [] (fault_text aim.name number offset (codes "too long")) a b x y
 
   -- pieces in a row
   pub all_one_verdict : (aim : Aim) (number : ℕ) (pieces : List MarkedPiece) (xs ys : List Verdict) → AreVerdicts aim number pieces xs → AreVerdicts aim number pieces ys
@@ -117,8 +117,8 @@ module _ (aim : Aim) (plain : aim.explain ≡ false) where
   bare_piece : (kind : PieceKind) (number offset : ℕ) (v : Verdict) → IsPieceVerdict kind aim number offset v → without_note v ≡ v
   bare_piece (ReadableGame parts) number offset v is = bare_in aim.mode number offset parts v is
   bare_piece (UnreadableRest bytes) number offset v is =
-      bare_line v (faulty_text aim.mode aim.select bytes) (fault_text number offset (codes "unreadable")) (reported_by aim offset bytes _ v is)
-  bare_piece TooLongBlock number offset v is = bare_line v [] (fault_text number offset (codes "too long")) is
+      bare_line v (faulty_text aim.mode aim.select bytes) (fault_text aim.name number offset (codes "unreadable")) (reported_by aim offset bytes _ v is)
+  bare_piece TooLongBlock number offset v is = bare_line v [] (fault_text aim.name number offset (codes "too long")) is
 
   pub bare_verdicts : (number : ℕ) (pieces : List MarkedPiece) (verdicts : List Verdict) → AreVerdicts aim number pieces verdicts → map without_note verdicts ≡ verdicts
   bare_verdicts number [] verdicts none = ap (map without_note) none ∙ sym none

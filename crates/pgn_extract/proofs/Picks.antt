@@ -64,7 +64,7 @@ pub record Picks (aim : Aim) (number offset : ℕ) (tags : Tags) (replay : Repla
   pub picked : List Entry
   pub completes : (later : List Entry) → AreChosen (λ entry. IsEntry aim tags replay entry.ply) (entries_from number offset from left) later
       → AreListed aim number offset tags replay (picked ++ later)
-  pub written : now ≡ before ++ listing picked
+  pub written : now ≡ before ++ listing aim.name picked
   pub low : aim.min_ply ≤ from
   pub quiet : aim.first ≡ true → (n : ℕ) → n < from → IsWanted aim tags replay n → ⊥
 
@@ -98,7 +98,7 @@ module _ {aim : Aim} {number offset : ℕ} {tags : Tags} {replay : Replay} {befo
   -- no other ply is found
   pub picks_none : (found : Option ℕ) → ((ply : ℕ) → found ≡ Some ply → ⊥)
       → IsFirst (λ ply. (ply < length replay.positions) × IsMet aim.criteria tags replay ply) from aim.max_ply found
-      → (entries : List Entry) × AreListed aim number offset tags replay entries × (now ≡ before ++ listing entries)
+      → (entries : List Entry) × AreListed aim number offset tags replay entries × (now ≡ before ++ listing aim.name entries)
   picks_none (Some ply) is h = absurd (is ply refl)
   picks_none None is h = (
     p.picked,
@@ -111,8 +111,8 @@ module _ {aim : Aim} {number offset : ℕ} {tags : Tags} {replay : Replay} {befo
   -- the next one is found, and its line is appended
   picks_more : {next : List ℕ} (ply : ℕ) (found : Option ℕ) → found ≡ Some ply
       → IsFirst (λ ply. (ply < length replay.positions) × IsMet aim.criteria tags replay ply) from aim.max_ply found
-      → next ≡ now ++ entry_line (entry_at number offset ply)
-      → (entries : List Entry) × (left : List State) × (ply + 1 + length left ≡ length replay.positions) × (next ≡ before ++ listing entries)
+      → next ≡ now ++ entry_line aim.name (entry_at number offset ply)
+      → (entries : List Entry) × (left : List State) × (ply + 1 + length left ≡ length replay.positions) × (next ≡ before ++ listing aim.name entries)
       × IsWanted aim tags replay ply
       × ((later : List Entry) → AreChosen (λ entry. IsEntry aim tags replay entry.ply) (entries_from number offset (ply + 1) left) later → AreListed aim number offset tags replay (entries ++ later))
   picks_more {next} ply None is h added = absurd (cc)
@@ -122,15 +122,15 @@ module _ {aim : Aim} {number offset : ℕ} {tags : Tags} {replay : Replay} {befo
       same = cc
 
       of_ply : IsFirst (λ ply. (ply < length replay.positions) × IsMet aim.criteria tags replay ply) from aim.max_ply (Some ply)
-          → (entries : List Entry) × (left : List State) × (ply + 1 + length left ≡ length replay.positions) × (next ≡ before ++ listing entries)
+          → (entries : List Entry) × (left : List State) × (ply + 1 + length left ≡ length replay.positions) × (next ≡ before ++ listing aim.name entries)
           × IsWanted aim tags replay ply
           × ((later : List Entry) → AreChosen (λ entry. IsEntry aim tags replay entry.ply) (entries_from number offset (ply + 1) left) later → AreListed aim number offset tags replay (entries ++ later))
       of_ply (low, high, (within, met), least) = (
         p.picked ++ entry ∷ [],
         of.1,
         (let size = of.3 in let fits = p.fits (let s = p.size in omega arith) in let s = p.size in omega arith),
-        added ∙ ap (λ t. t ++ entry_line entry) p.written ∙ append_assoc before (listing p.picked) (entry_line entry)
-            ∙ ap (λ t. before ++ t) (ap (λ t. listing p.picked ++ t) (sym (append-nil (entry_line entry))) ∙ sym (listing-append p.picked (entry ∷ []))),
+        added ∙ ap (λ t. t ++ entry_line aim.name entry) p.written ∙ append_assoc before (listing aim.name p.picked) (entry_line aim.name entry)
+            ∙ ap (λ t. before ++ t) (ap (λ t. listing aim.name p.picked ++ t) (sym (append-nil (entry_line aim.name entry))) ∙ sym (listing-append aim.name p.picked (entry ∷ []))),
         wanted,
         λ later chosen.
             subst (AreListed aim number offset tags replay) (sym (append_assoc p.picked (entry ∷ []) later))
@@ -174,8 +174,8 @@ module _ {aim : Aim} {number offset : ℕ} {tags : Tags} {replay : Replay} {befo
   -- it is the last one
   pub picks_last : {next : List ℕ} (ply : ℕ) (found : Option ℕ) → found ≡ Some ply
       → IsFirst (λ ply. (ply < length replay.positions) × IsMet aim.criteria tags replay ply) from aim.max_ply found
-      → next ≡ now ++ entry_line (entry_at number offset ply) → (aim.first ≡ true) ⊎ (aim.max_ply ≤ ply)
-      → (entries : List Entry) × AreListed aim number offset tags replay entries × (next ≡ before ++ listing entries)
+      → next ≡ now ++ entry_line aim.name (entry_at number offset ply) → (aim.first ≡ true) ⊎ (aim.max_ply ≤ ply)
+      → (entries : List Entry) × AreListed aim number offset tags replay entries × (next ≡ before ++ listing aim.name entries)
   picks_last ply found is h added last =
       let of = picks_more ply found is h added in (
         of.0,
@@ -189,7 +189,7 @@ module _ {aim : Aim} {number offset : ℕ} {tags : Tags} {replay : Replay} {befo
   -- or there may be more
   pub picks_next : {next : List ℕ} (ply : ℕ) (found : Option ℕ) → found ≡ Some ply
       → IsFirst (λ ply. (ply < length replay.positions) × IsMet aim.criteria tags replay ply) from aim.max_ply found
-      → next ≡ now ++ entry_line (entry_at number offset ply) → aim.first ≡ false → Picks aim number offset tags replay before next (ply + 1)
+      → next ≡ now ++ entry_line aim.name (entry_at number offset ply) → aim.first ≡ false → Picks aim number offset tags replay before next (ply + 1)
   picks_next ply found is h added every =
       let of = picks_more ply found is h added in record {
         left = of.1;

@@ -42,7 +42,7 @@ module _ (job : Job) (io : Io) where
         subst (λ n. AreEntries job.aim n rest (entries_at_least n entries)) (sym mark.numbered)
         (rest_entries job.aim mark.before rest 1 entries (subst (λ p. AreEntries job.aim 1 p entries) mark.parted are)) in
         let one = one_listing job.aim job.number rest lists.entries (entries_at_least job.number entries) (subst (λ p. AreEntries job.aim job.number p lists.entries) same lists.are) kept in
-        subst (λ e. Adds io.out (listing e)) one lists.listed;
+        subst (λ e. Adds io.out (listing job.aim.name e)) one lists.listed;
   }
 
   -- what a run that is complete did, in each mode

@@ -1,22 +1,31 @@
 -- What is wanted of a game speaks of its tags by their names: where the same contents are found for each name, the same is wanted.
-use Rattle.std.proofs.Common.{◌≡◌, ℕ, List, [], ◌∷◌, Option, Some, None, sym, ◌∙◌, inl, inr}
+use Rattle.std.proofs.Common.{◌≡◌, ℕ, Bool, true, false, List, [], ◌∷◌, Option, Some, None, sym, ◌∙◌, inl, inr}
 use Rattle.chess.specs.Positions.{State}
 use Rattle.pgn_game.specs.Replays.{Replay}
-use Rattle.pgn_criteria.specs.Meeting.{Tags, Holds, AllHold, SomeHold}
+use Rattle.pgn_criteria.specs.Meeting.{Tags, IsSo, Taken, Holds, AllHold, SomeHold}
 use Rattle.pgn_criteria.specs.declared.condition.Condition.{Condition}
-use Rattle.pgn_criteria.specs.declared.condition.Condition.TheVariants.{Tag, Fen, Material, Moves, Turn, Check, Mate, Stalemate}
+use Rattle.pgn_criteria.specs.declared.condition.Claim.{Claim}
+use Rattle.pgn_criteria.specs.declared.condition.Claim.TheVariants.{Tag, Fen, Material, Moves, Turn, Check, Mate, Stalemate}
 use Rattle.pgn_extract.specs.Aims.{Aim, IsMet, IsWanted, IsEntry}
+
+taken_same : {A B : Type 0} (denied : Bool) → (A → B) → (B → A) → Taken denied A → Taken denied B
+taken_same false there back a = there a
+taken_same true there back none = λ b. none (back b)
+
+is_so_same : (f g : Tags) → ((name : List ℕ) → f name ≡ g name) → (replay : Replay) (P : State) (claim : Claim (List ℕ)) → IsSo f replay P claim → IsSo g replay P claim
+is_so_same f g same replay P (Tag name relation contents) (given, is, stands) = (given, sym (same name) ∙ is, stands)
+is_so_same f g same replay P (Fen pattern) h = h
+is_so_same f g same replay P (Material white black) h = h
+is_so_same f g same replay P (Moves words) h = h
+is_so_same f g same replay P (Turn side) h = h
+is_so_same f g same replay P Check h = h
+is_so_same f g same replay P Mate h = h
+is_so_same f g same replay P Stalemate h = h
 
 module _ (f g : Tags) (same : (name : List ℕ) → f name ≡ g name) (replay : Replay) where
   holds_same : (P : State) (condition : Condition (List ℕ)) → Holds f replay P condition → Holds g replay P condition
-  holds_same P (Tag name relation contents) (given, is, stands) = (given, sym (same name) ∙ is, stands)
-  holds_same P (Fen pattern) h = h
-  holds_same P (Material white black) h = h
-  holds_same P (Moves words) h = h
-  holds_same P (Turn side) h = h
-  holds_same P Check h = h
-  holds_same P Mate h = h
-  holds_same P Stalemate h = h
+  holds_same P condition =
+      taken_same condition.is_denied (is_so_same f g same replay P condition.claim) (is_so_same g f (λ name. sym (same name)) replay P condition.claim)
 
   all_same : (P : State) (conditions : List (Condition (List ℕ))) → AllHold f replay P conditions → AllHold g replay P conditions
   all_same P [] h = h

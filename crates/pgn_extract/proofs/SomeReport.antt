@@ -172,7 +172,7 @@ module _ (aim : Aim) (decided : IsDecided aim) (number offset : ℕ) (parts : Li
   ]
 
   game_reported : (mode : Mode) → (verdict : Verdict) × IsVerdictIn mode aim number offset parts verdict
-  game_reported modes.Index = (SoundGame (mark_line number offset), refl)
+  game_reported modes.Index = (SoundGame (mark_line aim.name number offset), refl)
   game_reported modes.List = elim (answers parts made Main) [
     | inl sound ↦
         let all = entries_from number offset 0 sound.0.positions in
@@ -181,14 +181,14 @@ module _ (aim : Aim) (decided : IsDecided aim) (number offset : ℕ) (parts : Li
         (λ entry has.
         let high = (of_positions number offset 0 sound.0.positions entry has).high in
         listed_or_not Main sound.0 sound.1 entry.ply (omega arith)) in
-        (SoundGame (listing some.0), (sound.0, some.0, sound.1, some.1, refl))
-    | inr faulty ↦ (FaultyGame [] (fault_text number offset (cause_text faulty.0)) [], (faulty.0, faulty.1, refl, empty_note aim.explain, refl))
+        (SoundGame (listing aim.name some.0), (sound.0, some.0, sound.1, some.1, refl))
+    | inr faulty ↦ (FaultyGame [] (fault_text aim.name number offset (cause_text faulty.0)) [], (faulty.0, faulty.1, refl, empty_note aim.explain, refl))
   ]
   game_reported modes.Export = elim (answers parts made (written_lines aim)) [
     | inl sound ↦ let text = written sound.0 sound.1 in (SoundGame text.0, (sound.0, sound.1, text.1))
     | inr faulty ↦
         let text = faulty_text modes.Export aim.select (spelled parts) in
-        (FaultyGame text (fault_text number offset (cause_text faulty.0)) [], (faulty.0, faulty.1, refl, empty_note aim.explain, refl))
+        (FaultyGame text (fault_text aim.name number offset (cause_text faulty.0)) [], (faulty.0, faulty.1, refl, empty_note aim.explain, refl))
   ]
 
 by_line : (aim : Aim) (line : List ℕ) → (verdict : Verdict) × IsReportedBy aim [] line verdict
@@ -203,8 +203,8 @@ piece_reported : (kind : PieceKind) (aim : Aim) → IsDecided aim → (number of
     → (verdict : Verdict) × IsPieceVerdict kind aim number offset verdict
 piece_reported (ReadableGame parts) aim decided number offset made = game_reported aim decided number offset parts made aim.mode
 piece_reported (UnreadableRest bytes) aim decided number offset made =
-    unreadable_reported aim offset bytes (fault_text number offset (codes "unreadable"))
-piece_reported TooLongBlock aim decided number offset made = by_line aim (fault_text number offset (codes "too long"))
+    unreadable_reported aim offset bytes (fault_text aim.name number offset (codes "unreadable"))
+piece_reported TooLongBlock aim decided number offset made = by_line aim (fault_text aim.name number offset (codes "too long"))
 
 all_reported : (aim : Aim) → IsDecided aim → (number : ℕ) (pieces : List MarkedPiece) → AreMade pieces
     → (reported : List Verdict) × AreVerdicts aim number pieces reported

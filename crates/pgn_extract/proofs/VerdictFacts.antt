@@ -79,10 +79,10 @@ joined front one whole e = ap (λ t. front ++ t) (sym (append-nil one)) ∙ sym 
 
 -- the one piece of a block over the limit
 pub reports_too_long : (aim : Aim) (report : Report) (number offset : ℕ) (note : List ℕ) → IsNote aim.explain note → report.output.items ≡ []
-    → report.faults.items ≡ fault_text number offset (codes "too long") ++ note → report.games ≡ 1 → report.faulty ≡ 1
+    → report.faults.items ≡ fault_text aim.name number offset (codes "too long") ++ note → report.games ≡ 1 → report.faulty ≡ 1
     → Reports aim report number (too_long_piece offset ∷ [])
 reports_too_long aim report number offset note noted output faults games faulty =
-    let line = fault_text number offset (codes "too long") in
+    let line = fault_text aim.name number offset (codes "too long") in
     record {
       verdicts = FaultyGame [] line note ∷ [];
       each = (FaultyGame [] line note, [], refl, (note, noted, refl), refl);

@@ -8,8 +8,9 @@ use Rattle.pgn_extract.specs.declared.settings.Mode.{Mode}
 use Rattle.pgn_extract.specs.declared.settings.Select.{Select}
 use Rattle.pgn_extract.specs.declared.settings.Settings.{Settings}
 
--- what is to be reported of each piece; the criteria are alternatives of conditions
+-- what is to be reported of each piece, and the name that its lines have, if they have one; the criteria are alternatives of conditions
 pub record Aim : Type 0 where
+  pub name : Option (List ℕ)
   pub mode : Mode
   pub criteria : Option (List (List (Condition (List ℕ))))
   pub min_ply : ℕ
@@ -23,6 +24,7 @@ pub record Aim : Type 0 where
 -- the aim of settings
 abbrev pub aim_of : Settings → Aim
 aim_of settings = record {
+  name = settings.name;
   mode = settings.mode;
   criteria = settings.criteria;
   min_ply = settings.min_ply;

@@ -1,12 +1,14 @@
 -- What the parts of a run do with the bytes dropped, with one block and with the blocks in a row: the words between the code and
 -- those of `Outcomes`.
-use Rattle.std.specs.Prelude.{◌≡◌, ◌⊎◌, ℕ, ◌+◌, ◌<◌, ◌≤◌, Bool, true, false, List, [], ◌∷◌, ◌++◌, length, drop, count_by, Option, IfSome, codes, if◌then◌else◌, ◌==◌}
+use Rattle.std.specs.Prelude.{◌≡◌, ◌⊎◌, ℕ, ◌+◌, ◌<◌, ◌≤◌, Bool, true, false, List, [], ◌∷◌, ◌++◌, length, drop, count_by, Option, None, IfSome, codes, if◌then◌else◌, ◌==◌}
 use Rattle.std.specs.Io.KnownBytes.{Appends}
 use Rattle.pgn_text.specs.GameTexts.{GameText, ShowsGame, tag_in}
 use Rattle.pgn_game.specs.Exports.{IsExport}
-use Rattle.pgn_game.specs.Replays.{Replay}
+use Rattle.pgn_game.specs.Faults.{Fault, IsFault}
+use Rattle.pgn_game.specs.Replays.{Replay, IsReplay}
+use Rattle.pgn_game.specs.Starts.{fen_tag}
 use Rattle.pgn_game.specs.declared.style.Style.{Style}
-use Rattle.pgn_extract.specs.Exports.{HasEntry, IsSelected, as_it_stands, faulty_text}
+use Rattle.pgn_extract.specs.Exports.{HasEntry, IsSelected, as_it_stands, faulty_text, written_lines}
 use Rattle.pgn_text.specs.Left.{IsPiece}
 use Rattle.pgn_text.specs.Limits.{depth_limit, largest_offset}
 use Rattle.pgn_text.specs.Marks.{TooLongBlock, MarkedPiece, marked, AreOfBlock, AreMarkedPieces}
@@ -32,6 +34,7 @@ use Rattle.pgn_extract.specs.declared.outcome.Summary.{Summary}
 use Rattle.pgn_criteria.specs.Meeting.{Tags}
 use Rattle.pgn_extract.specs.Aims.{Aim}
 use Rattle.pgn_extract.specs.Listing.{Entry, listing}
+use Rattle.pgn_extract.specs.declared.settings.Select.TheVariants.{Matching}
 use Rattle.pgn_extract.specs.GameReports.{AreListed}
 
 -- a body that is shown has no more bytes than the limit
@@ -69,7 +72,7 @@ IsPlainEntry aim plies ply = (ply ≤ plies) × (aim.min_ply ≤ ply) × (ply �
 abbrev pub AddsPlies : Aim → ℕ → ℕ → ℕ → List ℕ → List ℕ → Type 0
 AddsPlies aim number offset plies old new =
     (tags : Tags) (replay : Replay) → length replay.positions ≡ plies + 1
-    → (entries : List Entry) × AreListed aim number offset tags replay entries × (new ≡ old ++ listing entries)
+    → (entries : List Entry) × AreListed aim number offset tags replay entries × (new ≡ old ++ listing aim.name entries)
 
 -- the text of the game that is given: its export, or the game as it stands
 abbrev pub IsGivenText : Bool → Style → GameText → List ℕ → Type 0
@@ -84,6 +87,23 @@ IsGameSelected aim game replay = IsSelected aim.select (HasEntry aim (λ name. t
 abbrev pub IsGameWritten : Aim → GameText → Replay → List ℕ → Type 0
 IsGameWritten aim game replay text =
     (IsGameSelected aim game replay × IsGivenText aim.as_is aim.style game text) ⊎ ((IsGameSelected aim game replay → ⊥) × (text ≡ []))
+
+-- the lines of the game that are written are sound, and what is written of it is added
+abbrev pub AddsText : Aim → GameText → List ℕ → List ℕ → Type 0
+AddsText aim game old new =
+    (replay : Replay) × IsReplay (written_lines aim) (tag_in fen_tag game.tags) game.elements replay
+    × (text : List ℕ) × IsGameWritten aim game replay text × (new ≡ old ++ text)
+
+-- the lines of the game that are written have the fault, and nothing is added
+abbrev pub LeavesText : Aim → GameText → List ℕ → List ℕ → Fault → Type 0
+LeavesText aim game old new fault = IsFault (written_lines aim) (tag_in fen_tag game.tags) game.elements fault × (new ≡ old)
+
+-- each sound game is written in the export format, whatever its moves
+pub record TakesAll (aim : Aim) : Type 0 where
+  pub criteria : aim.criteria ≡ None
+  pub from_start : aim.min_ply ≡ 0
+  pub select : aim.select ≡ Matching
+  pub exported : aim.as_is ≡ false
 
 -- the same of what the export reports
 abbrev pub AddsExported : Aim → Report → Report → ℕ → ℕ → GameText → Type 0
@@ -119,11 +139,11 @@ NamesBlockStop true offset block begin note =
 abbrev pub IsBlockVerdict : Aim → ℕ → ℕ → List ℕ → ℕ → Verdict → Type 0
 IsBlockVerdict aim number offset block begin verdict =
     (note : List ℕ) × IsNote aim.explain note × NamesBlockStop aim.explain offset block begin note
-    × (verdict ≡ FaultyGame (faulty_text aim.mode aim.select (drop begin block)) (fault_text number (offset + begin) (codes "unreadable")) note)
+    × (verdict ≡ FaultyGame (faulty_text aim.mode aim.select (drop begin block)) (fault_text aim.name number (offset + begin) (codes "unreadable")) note)
 
 -- so the index reports the piece whose mark is given, in the block that begins at the offset
 abbrev pub IsMarkVerdict : Aim → ℕ → ℕ → List ℕ → Mark → Verdict → Type 0
-IsMarkVerdict aim number offset block (mark.Game place) verdict = verdict ≡ SoundGame (mark_line number (offset + place))
+IsMarkVerdict aim number offset block (mark.Game place) verdict = verdict ≡ SoundGame (mark_line aim.name number (offset + place))
 IsMarkVerdict aim number offset block (mark.Unreadable place) verdict = IsBlockVerdict aim number offset block place verdict
 
 -- of what is reported of these pieces a beginning is written; the report has the rest, and counts the pieces

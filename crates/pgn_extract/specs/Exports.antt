@@ -4,11 +4,10 @@ use Rattle.std.specs.Prelude.{◌≡◌, ℕ, ◌<◌, Bool, true, false, List, 
 use Rattle.pgn_text.specs.GameTexts.{GameText, IsGameText, ShowsGame}
 use Rattle.pgn_text.specs.Marks.{PieceKind, ReadableGame, UnreadableRest, TooLongBlock, MarkedPiece}
 use Rattle.pgn_text.specs.Parts.{Part, spelled}
-use Rattle.pgn_game.specs.Exports.{IsExport}
+use Rattle.pgn_game.specs.Exports.{IsExport, lines_with}
 use Rattle.pgn_game.specs.Faults.{Fault}
 use Rattle.pgn_game.specs.Replays.{Replay}
 use Rattle.pgn_game.specs.declared.replayer.Lines.{Lines}
-use Rattle.pgn_game.specs.declared.replayer.Lines.TheVariants.{Main, All}
 use Rattle.pgn_game.specs.declared.style.Style.{Style}
 use Rattle.pgn_criteria.specs.Meeting.{Tags}
 use Rattle.pgn_extract.specs.Aims.{Aim, IsEntry}
@@ -20,10 +19,6 @@ use Rattle.pgn_extract.specs.declared.settings.Select.{Select}
 use Rattle.pgn_extract.specs.declared.settings.Select.TheVariants.{Matching, Others, Faulty}
 
 -- the lines of a game that must be sound: all that are written
-abbrev pub lines_with : Bool → Lines
-lines_with true = All
-lines_with false = Main
-
 abbrev pub written_lines : Aim → Lines
 written_lines aim = lines_with aim.style.variations
 

@@ -67,6 +67,7 @@ TextHasOneExport =
 -- the aim that asks for all entries of each game, or for the first alone
 abbrev pub with_first : Bool → Aim → Aim
 with_first first aim = record {
+  name = aim.name;
   mode = aim.mode;
   criteria = aim.criteria;
   min_ply = aim.min_ply;
@@ -86,6 +87,7 @@ FirstChangesNoExport =
 -- the aim that selects these games, each to be written as it stands
 abbrev pub as_they_stand : Select → Aim → Aim
 as_they_stand select aim = record {
+  name = aim.name;
   mode = aim.mode;
   criteria = aim.criteria;
   min_ply = aim.min_ply;

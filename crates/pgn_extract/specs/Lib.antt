@@ -13,6 +13,7 @@ pub mod Laws
 -- Private words: what the parts of a run do. No public contract cites them.
 pub mod EntryRows
 pub mod Blockwise
+pub mod Finding
 pub mod RunParts
 pub mod NoteTexts
 pub mod MoveNotes

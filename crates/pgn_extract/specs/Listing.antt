@@ -1,5 +1,5 @@
 -- The listing of a text: the plies of its sound games whose position is looked for, each by the mark of its game.
-use Rattle.std.specs.Prelude.{◌≡◌, ◌↔◌, ◌⊎◌, ℕ, ◌+◌, ◌<◌, nat_le, List, [], ◌∷◌, ◌++◌, length, Some, decimal}
+use Rattle.std.specs.Prelude.{◌≡◌, ◌↔◌, ◌⊎◌, ℕ, ◌+◌, ◌<◌, nat_le, List, [], ◌∷◌, ◌++◌, length, Option, Some, codes, decimal}
 use Rattle.std.specs.List.{Contains, filter, slice_get}
 use Rattle.pgn_text.specs.Games.{items_of, first_tag}
 use Rattle.pgn_text.specs.Marks.{ReadableGame, MarkedPiece}
@@ -8,7 +8,7 @@ use Rattle.pgn_game.specs.Replays.{Replay, IsMainReplay}
 use Rattle.pgn_game.specs.Starts.{fen_tag}
 use Rattle.pgn_criteria.specs.Meeting.{Tags}
 use Rattle.pgn_extract.specs.Aims.{Aim, IsEntry}
-use Rattle.pgn_extract.specs.Index.{mark}
+use Rattle.pgn_extract.specs.Index.{mark, titled}
 
 -- an entry: a game, by its number and the offset of its first byte, and a ply of its main line
 pub record Entry : Type 0 where
@@ -16,14 +16,14 @@ pub record Entry : Type 0 where
   pub offset : ℕ
   pub ply : ℕ
 
--- its line, `N@O P`
-abbrev pub entry_line : Entry → List ℕ
-entry_line entry = mark entry.number entry.offset ++ 32 ∷ decimal entry.ply ++ 10 ∷ []
+-- its line, `N@O P`, after the name of its file where lines have one
+abbrev pub entry_line : Option (List ℕ) → Entry → List ℕ
+entry_line name entry = (titled (codes ":") name ++ mark entry.number entry.offset) ++ 32 ∷ decimal entry.ply ++ 10 ∷ []
 
 -- the lines of entries
-abbrev pub listing : List Entry → List ℕ
-listing [] = []
-listing (entry ∷ more) = entry_line entry ++ listing more
+abbrev pub listing : Option (List ℕ) → List Entry → List ℕ
+listing name [] = []
+listing name (entry ∷ more) = entry_line name entry ++ listing name more
 
 -- for a name, the contents of the first tag with it among the parts of a game
 abbrev pub tags_in : List Part → Tags

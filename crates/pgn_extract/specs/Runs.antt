@@ -103,7 +103,7 @@ Completed job io summary = OnInput io (λ whole. Completes job io whole summary)
 pub record Indexes (job : Job) (io : Io) (whole : List ℕ) : Type 0 where
   pub pieces : List MarkedPiece
   pub each : ArePieces job whole pieces
-  pub indexed : Adds io.out (index job.number pieces)
+  pub indexed : Adds io.out (index job.aim.name job.number pieces)
 
 abbrev pub Indexed : Job → Io → Type 0
 Indexed job io = OnInput io (λ whole. job.aim.mode ≡ mode.Index → Indexes job io whole)
@@ -114,7 +114,7 @@ pub record Lists (job : Job) (io : Io) (whole : List ℕ) : Type 0 where
   pub each : ArePieces job whole pieces
   pub entries : List Entry
   pub are : AreEntries job.aim job.number pieces entries
-  pub listed : Adds io.out (listing entries)
+  pub listed : Adds io.out (listing job.aim.name entries)
 
 abbrev pub Listed : Job → Io → Type 0
 Listed job io = OnInput io (λ whole. job.aim.mode ≡ mode.List → Lists job io whole)
@@ -122,7 +122,7 @@ Listed job io = OnInput io (λ whole. job.aim.mode ≡ mode.List → Lists job i
 -- which, where the run began at a mark of the whole input, are the lines of the whole listing from that game on,
 pub record ListsRest (job : Job) (io : Io) (whole : List ℕ) : Type 0 where
   pub rest : (pieces : List MarkedPiece) → AreMarkedPieces job.limit job.max_depth 0 whole pieces → IsMarkAmong job.number job.offset pieces
-      → (entries : List Entry) → AreEntries job.aim 1 pieces entries → Adds io.out (listing (entries_at_least job.number entries))
+      → (entries : List Entry) → AreEntries job.aim 1 pieces entries → Adds io.out (listing job.aim.name (entries_at_least job.number entries))
 
 abbrev pub RestListed : Job → Io → Type 0
 RestListed job io = OnInput io (λ whole. job.aim.mode ≡ mode.List → ListsRest job io whole)

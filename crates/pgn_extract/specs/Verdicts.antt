@@ -54,9 +54,9 @@ fault_lines (verdict ∷ more) = fault_line_of verdict ++ fault_lines more
 -- the game is reported in the listing: where it is sound, by the lines of the entries that it lists, else by the line of its fault
 abbrev pub IsListed : Aim → Verdict → ℕ → ℕ → List Part → Type 0
 IsListed aim (SoundGame text) number offset parts =
-    (replay : Replay) × (entries : List Entry) × IsReplayOf Main parts replay × AreListed aim number offset (tags_in parts) replay entries × (text ≡ listing entries)
+    (replay : Replay) × (entries : List Entry) × IsReplayOf Main parts replay × AreListed aim number offset (tags_in parts) replay entries × (text ≡ listing aim.name entries)
 IsListed aim (FaultyGame text line note) number offset parts =
-    (fault : Fault) × IsFaultOf Main parts fault × (line ≡ fault_text number offset (cause_text fault)) × IsNote aim.explain note × (text ≡ [])
+    (fault : Fault) × IsFaultOf Main parts fault × (line ≡ fault_text aim.name number offset (cause_text fault)) × IsNote aim.explain note × (text ≡ [])
 
 -- the game is reported in the export: where it is sound in the lines that are written, by what is written of it, else by the line of its fault,
 -- and by its bytes where the faulty ones are selected
@@ -64,12 +64,12 @@ abbrev pub IsExported : Aim → Verdict → ℕ → ℕ → List Part → Type 0
 IsExported aim (SoundGame text) number offset parts =
     (replay : Replay) × IsReplayOf (written_lines aim) parts replay × IsWritten aim parts replay text
 IsExported aim (FaultyGame text line note) number offset parts =
-    (fault : Fault) × IsFaultOf (written_lines aim) parts fault × (line ≡ fault_text number offset (cause_text fault)) × IsNote aim.explain note
+    (fault : Fault) × IsFaultOf (written_lines aim) parts fault × (line ≡ fault_text aim.name number offset (cause_text fault)) × IsNote aim.explain note
     × (text ≡ faulty_text modes.Export aim.select (spelled parts))
 
 -- a game that can be read is reported so in a mode: in the index by its mark, in the listing and in the export as above
 abbrev pub IsVerdictIn : Mode → Aim → ℕ → ℕ → List Part → Verdict → Type 0
-IsVerdictIn modes.Index aim number offset parts verdict = verdict ≡ SoundGame (mark_line number offset)
+IsVerdictIn modes.Index aim number offset parts verdict = verdict ≡ SoundGame (mark_line aim.name number offset)
 IsVerdictIn modes.List aim number offset parts verdict = IsListed aim verdict number offset parts
 IsVerdictIn modes.Export aim number offset parts verdict = IsExported aim verdict number offset parts
 
@@ -92,8 +92,8 @@ IsUnreadableVerdict aim offset bytes line verdict =
 abbrev pub IsPieceVerdict : PieceKind → Aim → ℕ → ℕ → Verdict → Type 0
 IsPieceVerdict (ReadableGame parts) aim number offset verdict = IsGameVerdict aim number offset parts verdict
 IsPieceVerdict (UnreadableRest bytes) aim number offset verdict =
-    IsUnreadableVerdict aim offset bytes (fault_text number offset (codes "unreadable")) verdict
-IsPieceVerdict TooLongBlock aim number offset verdict = IsReportedBy aim [] (fault_text number offset (codes "too long")) verdict
+    IsUnreadableVerdict aim offset bytes (fault_text aim.name number offset (codes "unreadable")) verdict
+IsPieceVerdict TooLongBlock aim number offset verdict = IsReportedBy aim [] (fault_text aim.name number offset (codes "too long")) verdict
 
 -- the piece with this number is reported so in the mode
 abbrev pub IsVerdict : Aim → ℕ → MarkedPiece → Verdict → Type 0

@@ -21,6 +21,8 @@ pub struct Request<'a> {
     pub width: u16,
     /// The path after `--criteria`.
     pub criteria: Option<&'a str>,
+    /// The texts after each `--where`, in their order.
+    pub conditions: Vec<&'a str>,
     /// The number after `--min-ply`, and 0 without it.
     pub min_ply: u32,
     /// The number after `--max-ply`, and the largest one without it.
@@ -37,12 +39,18 @@ pub struct Request<'a> {
     pub explain: bool,
     /// `--summary` was given.
     pub summary: bool,
+    /// `--progress` was given.
+    pub progress: bool,
     /// The text after `--from`.
     pub from: Option<&'a str>,
     /// The text after `--until`.
     pub until: Option<&'a str>,
-    /// The path of the input; without it standard input is read.
-    pub file: Option<&'a str>,
+    /// `--with-names` was given.
+    pub with_names: bool,
+    /// `--no-names` was given.
+    pub no_names: bool,
+    /// The paths of the inputs, in their order; without one standard input is read.
+    pub files: Vec<&'a str>,
 }
 
 /// The width of lines without `-w`.
@@ -58,22 +66,22 @@ const ABOUT: &str =
 
 const AFTER_HELP: &str =
     "Criteria, a condition a line; all of them hold (man pgn-extract-criteria):\n  \
-    tag White = \"Carlsen, M\"   the value of a tag; also <> < <= > >=\n  \
+    tag White = \"Carlsen, M\"   the value of a tag; also <> < <= > >= has begins\n  \
     fen */*/*/*/*/*/*PPP/*RK1  the men as FEN writes them; ? one square, ! a man,\n                             \
     A a man of White, a one of Black, * any squares\n  \
     material KRP* v KRP*       each side's men: P* any number, R2+ two or more\n  \
     moves e4 c5 * d6           how the main line begins; * is any one move\n  \
-    turn black                 who is to move; other lines: check, mate, stalemate\n  \
+    turn black, not check      not denies a condition; also mate and stalemate\n  \
     or                         between two alternatives: one is enough\n  \
     # a comment                nothing\n\
     \n\
     Examples:\n  \
     pgn-extract games.pgn > clean.pgn                 # the sound games, cleaned\n  \
     pgn-extract -CNV --roster games.pgn               # roster, and bare moves\n  \
-    echo mate > mate.txt                              # criteria: one condition\n  \
-    pgn-extract --criteria mate.txt games.pgn         # the games that end in mate\n  \
-    pgn-extract --list --criteria mate.txt games.pgn  # where they do: N@O P\n  \
-    pgn-extract --others --criteria mate.txt games.pgn  # all others\n  \
+    pgn-extract --where mate games.pgn                # the games that end in mate\n  \
+    pgn-extract --list --where mate games.pgn         # where they do: N@O P\n  \
+    pgn-extract --others --where mate games.pgn       # all others\n  \
+    pgn-extract --criteria wanted.txt games.pgn       # criteria in a file\n  \
     pgn-extract --faulty games.pgn > faulty.pgn       # the faulty ones, unchanged\n  \
     pgn-extract --list --first --min-ply 80 games.pgn # games of 80 plies and more\n  \
     gzip -dc games.pgn.gz | pgn-extract --index       # each game's mark: N@O\n\
@@ -132,6 +140,14 @@ fn search_options<'a>(alloc: Global, command: Command<'a>) -> Result<Command<'a>
             "Only those that meet the criteria in FILE\n\
              [default: all]",
         ))?
+        .arg(text_option(
+            alloc,
+            "where",
+            "LINE",
+            "A line of criteria, after those of FILE; any number\n\
+                 of times",
+        )
+        .action(ArgAction::Append))?
         .arg(ply_option(
             alloc,
             "min-ply",
@@ -196,17 +212,23 @@ fn report_options<'a>(alloc: Global, command: Command<'a>) -> Result<Command<'a>
             alloc,
             "explain",
             "Say after the line of each faulty game where it stops\n\
-             being one, and why",
+             being one, and why; the same of a refused line of\n\
+             criteria, and why a file cannot be read",
         ))?
         .arg(flag(
             alloc,
             "summary",
             "Say at the end how many games were read, and how many\n\
              were faulty",
+        ))?
+        .arg(flag(
+            alloc,
+            "progress",
+            "Show on a terminal how far the input is read",
         ))
 }
 
-/// The options for where the input begins and ends.
+/// The options for where the input begins and ends, and for its name.
 fn input_options<'a>(alloc: Global, command: Command<'a>) -> Result<Command<'a>, AllocError> {
     command
         .next_help_heading("Input")
@@ -223,7 +245,14 @@ fn input_options<'a>(alloc: Global, command: Command<'a>) -> Result<Command<'a>,
             "N@O",
             "End before the game with this mark\n\
              [default: the end of the input]",
-        ))
+        ))?
+        .arg(flag(
+            alloc,
+            "with-names",
+            "Begin each line with the name of its FILE, as is done\n\
+             with two or more",
+        ))?
+        .arg(flag(alloc, "no-names", "Leave names out"))
 }
 
 /// The options that print a text and end the program.
@@ -242,7 +271,10 @@ fn help_options<'a>(alloc: Global, command: Command<'a>) -> Result<Command<'a>, 
 
 /// The command with its options.
 fn make_command<'a>(alloc: Global) -> Result<Command<'a>, AllocError> {
-    let file = Arg::new(alloc, "FILE").help("The games [default: standard input]");
+    let file = Arg::new(alloc, "FILE")
+        .num_args(0..)
+        .action(ArgAction::Append)
+        .help("The games [default: standard input]");
     let command = Command::new(alloc, "pgn-extract")
         .bin_name("pgn-extract")?
         .version(VERSION)
@@ -262,6 +294,8 @@ fn make_command<'a>(alloc: Global) -> Result<Command<'a>, AllocError> {
 /// Reads the arguments, of which the first is the program's name.
 pub fn read_arguments<'a>(alloc: Global, arguments: &'a [String]) -> Result<Request<'a>, Error> {
     let matches = make_command(alloc)?.try_get_matches_from(arguments)?;
+    let conditions = Vec::from_slice(alloc, matches.get_strs("where").unwrap_or(&[]))?;
+    let files = Vec::from_slice(alloc, matches.get_strs("FILE").unwrap_or(&[]))?;
     Ok(Request {
         index: matches.get_flag("index"),
         list: matches.get_flag("list"),
@@ -271,6 +305,7 @@ pub fn read_arguments<'a>(alloc: Global, arguments: &'a [String]) -> Result<Requ
         roster: matches.get_flag("roster"),
         width: matches.get_one("width").unwrap_or(DEFAULT_WIDTH),
         criteria: matches.get_str("criteria"),
+        conditions,
         min_ply: matches.get_one("min-ply").unwrap_or(0),
         max_ply: matches.get_one("max-ply").unwrap_or(u32::MAX),
         first: matches.get_flag("first"),
@@ -279,8 +314,11 @@ pub fn read_arguments<'a>(alloc: Global, arguments: &'a [String]) -> Result<Requ
         as_is: matches.get_flag("as-is"),
         explain: matches.get_flag("explain"),
         summary: matches.get_flag("summary"),
+        progress: matches.get_flag("progress"),
         from: matches.get_str("from"),
         until: matches.get_str("until"),
-        file: matches.get_str("FILE"),
+        with_names: matches.get_flag("with-names"),
+        no_names: matches.get_flag("no-names"),
+        files,
     })
 }

@@ -1,16 +1,19 @@
 //! Which games are exported, and how.
-ghost use Rattle.std.specs.Prelude.{◌≡◌, ◌↔◌, ◌++◌, ℕ, List, OnOk, IsTrue};
-ghost use Rattle.pgn_text.specs.GameTexts.{tag_in};
-ghost use Rattle.pgn_game.specs.Exports.{IsReplayFor};
-ghost use Rattle.pgn_game.specs.Replays.{IsSomeReplay};
+ghost use Rattle.std.specs.Prelude.{◌≡◌, ◌↔◌, ◌++◌, MatchResult, IfSome, OnOk, IsTrue};
+ghost use Rattle.pgn_text.specs.GameTexts.{GameText, tag_in};
+ghost use Rattle.pgn_game.specs.Exports.{lines_with};
+ghost use Rattle.pgn_game.specs.Faults.{IsFault};
+ghost use Rattle.pgn_game.specs.Replays.{IsSoundGame, Replay, fault_of};
 ghost use Rattle.pgn_game.specs.Starts.{fen_tag};
+ghost use Rattle.pgn_game.specs.declared.replayer.Lines.TheVariants.{Main};
 ghost use Rattle.pgn_extract.specs.Aims.{aim_of};
-ghost use Rattle.pgn_extract.specs.Blockwise.{IsGameSelected, IsGameWritten};
-ghost use Rattle.pgn_extract.specs.Exports.{HasEntry, as_it_stands, faulty_text, lines_with};
+ghost use Rattle.pgn_extract.specs.Blockwise.{AddsText, IsGameSelected, LeavesText, TakesAll};
+ghost use Rattle.pgn_extract.specs.Exports.{HasEntry, as_it_stands, faulty_text};
+ghost use Rattle.pgn_extract.specs.Finding.{IsChosen, tags_of};
 
-use crate::listing::next_ply;
+use crate::choosing::has_entry;
 use crate::settings::{Mode, Select, Settings};
-use pgn_game::{Lines, Replayed, Style, export};
+use pgn_game::{GameFault, Lines, Style, check_lines, check_variations, export_played};
 use pgn_text::RawGame;
 use std::alloc::{AllocError, Global};
 
@@ -51,44 +54,119 @@ pub fn push_faulty(
     }
 }
 
-/// Whether a game has an entry.
-fn has_entry<'a>(settings: &'a Settings, game: &RawGame<'a>, replayed: &Replayed) -> bool
-    requires of_game { IsSomeReplay (tag_in fen_tag game.now.tags) game.now.elements replayed.now }
-    ensures { IsTrue result ↔ HasEntry (aim_of settings.now) (λ name. tag_in name game.now.tags) replayed.now }
-{
-    next_ply(settings, game, replayed, settings.min_ply).is_some()
-}
-
-/// Whether a sound game is selected.
-fn is_selected<'a>(settings: &'a Settings, game: &RawGame<'a>, replayed: &Replayed) -> bool
-    requires of_game { IsSomeReplay (tag_in fen_tag game.now.tags) game.now.elements replayed.now }
-    ensures { IsTrue result ↔ IsGameSelected (aim_of settings.now) game.now replayed.now }
+/// Whether a sound game is selected that has an entry or has none.
+fn is_selected(settings: &Settings, has: bool) -> bool
+    ensures { (game : GameText) (replay : Replay) → (IsTrue has ↔ HasEntry (aim_of settings.now) (tags_of game) replay)
+        → IsTrue result ↔ IsGameSelected (aim_of settings.now) game replay }
 {
     match settings.select {
-        Select::Matching => has_entry(settings, game, replayed),
-        Select::Others => !has_entry(settings, game, replayed),
+        Select::Matching => has,
+        Select::Others => !has,
         Select::Faulty => false,
     }
 }
 
-/// Appends the text of a sound game, if it is selected: its export, or the game as it stands.
-pub fn push_export<'a>(
+/// Whether each sound game is written in the export format, whatever its moves: ply 0 is looked for, and nothing else is asked.
+pub fn takes_all(settings: &Settings) -> bool
+    ensures { IsTrue result → TakesAll (aim_of settings.now) }
+{
+    settings.criteria.is_none()
+        && settings.min_ply == 0
+        && settings.select == Select::Matching
+        && !settings.as_is
+}
+
+/// The first fault of the lines that are written of a game whose main line has this fault.
+fn first_fault<'a>(
+    alloc: Global,
+    style: &Style,
+    game: &RawGame<'a>,
+    fault: GameFault<'a>,
+) -> GameFault<'a>
+    requires { IfSome (fault_of fault) (IsFault Main (tag_in fen_tag game.now.tags) game.now.elements) }
+    ensures { IfSome (fault_of result) (IsFault (lines_with style.now.variations) (tag_in fen_tag game.now.tags) game.now.elements) }
+{
+    if !style.variations {
+        return fault;
+    }
+    match check_lines(alloc, game, Lines::All) {
+        Ok(()) => fault,
+        Err(first) => first,
+    }
+}
+
+/// Whether the lines that are written are sound, of a game whose main line is; or their first fault.
+fn check_written<'a>(alloc: Global, style: &Style, game: &RawGame<'a>) -> Result<(), GameFault<'a>>
+    requires { IsSoundGame Main (tag_in fen_tag game.now.tags) game.now.elements }
+    ensures { MatchResult result
+        (λ _. IsSoundGame (lines_with style.now.variations) (tag_in fen_tag game.now.tags) game.now.elements)
+        (λ fault. IfSome (fault_of fault) (IsFault (lines_with style.now.variations) (tag_in fen_tag game.now.tags) game.now.elements)) }
+{
+    if !style.variations {
+        return Ok(());
+    }
+    check_variations(alloc, game)
+}
+
+/// Appends the text of a game whose main line is sound and has an entry or none, if it is selected; or answers the first fault of the
+/// lines that are written.
+fn put_chosen<'a>(
+    alloc: Global,
+    text: &mut Vec<u8>,
+    settings: &Settings,
+    game: &RawGame<'a>,
+    has: bool,
+) -> Result<(), GameFault<'a>>
+    requires { IsChosen (aim_of settings.now) game.now has }
+    ensures { MatchResult result
+        (λ _. AddsText (aim_of settings.now) game.now text.old.items text.new.items)
+        (λ fault. IfSome (fault_of fault) (LeavesText (aim_of settings.now) game.now text.old.items text.new.items)) }
+{
+    if !is_selected(settings, has) {
+        return check_written(alloc, &settings.style, game);
+    }
+    if settings.as_is {
+        check_written(alloc, &settings.style, game)?;
+        push_as_is(text, game.text())?;
+        return Ok(());
+    }
+    export_played(alloc, game, &settings.style, text)
+}
+
+/// Appends the text of a game, if the lines that are written are sound and it is selected by its entries; or answers their first fault.
+fn put_by_entry<'a>(
     alloc: Global,
     text: &mut Vec<u8>,
     settings: &'a Settings,
     game: &RawGame<'a>,
-    replayed: &Replayed,
-) -> Result<(), AllocError>
-    requires of_game { IsReplayFor settings.now.style (tag_in fen_tag game.now.tags) game.now.elements replayed.now }
-    ensures { OnOk result ((own : List ℕ) × IsGameWritten (aim_of settings.now) game.now replayed.now own
-        × (text.new.items ≡ text.old.items ++ own)) }
+) -> Result<(), GameFault<'a>>
+    ensures { MatchResult result
+        (λ _. AddsText (aim_of settings.now) game.now text.old.items text.new.items)
+        (λ fault. IfSome (fault_of fault) (LeavesText (aim_of settings.now) game.now text.old.items text.new.items)) }
 {
-    if !is_selected(settings, game, replayed) {
-        return Ok(());
+    match has_entry(alloc, settings, game) {
+        Ok(has) => put_chosen(alloc, text, settings, game, has),
+        Err(fault) => Err(first_fault(alloc, &settings.style, game, fault)),
     }
-    if settings.as_is {
-        push_as_is(text, game.text())
-    } else {
-        export(alloc, game, replayed, &settings.style, text)
+}
+
+/// Appends the text of a game, if the lines that are written are sound and it is selected: its export, or the game as it stands. Where one
+/// of these lines is faulty, the first fault is answered, and nothing is appended.
+pub fn put_selected<'a>(
+    alloc: Global,
+    text: &mut Vec<u8>,
+    settings: &'a Settings,
+    game: &RawGame<'a>,
+) -> Result<(), GameFault<'a>>
+    ensures { MatchResult result
+        (λ _. AddsText (aim_of settings.now) game.now text.old.items text.new.items)
+        (λ fault. IfSome (fault_of fault) (LeavesText (aim_of settings.now) game.now text.old.items text.new.items)) }
+{
+    if takes_all(settings) {
+        return export_played(alloc, game, &settings.style, text);
+    }
+    match settings.select {
+        Select::Faulty => check_lines(alloc, game, written_lines(&settings.style)),
+        Select::Matching | Select::Others => put_by_entry(alloc, text, settings, game),
     }
 }

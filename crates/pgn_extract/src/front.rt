@@ -1,16 +1,13 @@
 //! The first bytes of an input.
-ghost use Rattle.std.specs.Prelude.{◌≤◌, length, IfOk, IfSome};
+ghost use Rattle.std.specs.Prelude.{◌≤◌, length, IfOk};
 
-use std::alloc::{AllocError, Global};
+use std::alloc::Global;
+use std::io;
 use std::io::Read;
 
-/// Reads at most so many bytes of the input, and fewer only where it has no more. `None` where a read fails.
-pub fn read_front<R: Read>(
-    alloc: Global,
-    input: &mut R,
-    most: usize,
-) -> Result<Option<Vec<u8>>, AllocError>
-    ensures { IfOk result (λ found. IfSome found (λ front. length front.items ≤ most)) }
+/// Reads at most so many bytes of the input, and fewer only where it has no more.
+pub fn read_front<R: Read>(alloc: Global, input: &mut R, most: usize) -> io::Result<Vec<u8>>
+    ensures { IfOk result (λ front. length front.items ≤ most) }
 {
     let mut front = vec![in alloc; 0u8; most]?;
     let mut held = 0;
@@ -18,9 +15,9 @@ pub fn read_front<R: Read>(
         match input.read(&mut front[held..]) {
             Ok(0) => break,
             Ok(count) => held += count,
-            Err(_) => return Ok(None),
+            Err(error) => return Err(error),
         }
     }
     front.truncate(held);
-    Ok(Some(front))
+    Ok(front)
 }

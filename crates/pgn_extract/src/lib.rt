@@ -13,9 +13,15 @@
 //! The module `memory` has such a proved example for each fact of the contract of `run`.
 #![tactic(auto)]
 
+mod choosing;
 mod command;
+mod conditions;
+mod endings;
+mod entries;
 mod exporting;
 mod extract;
+mod file_name;
+mod files;
 mod front;
 pub mod laws;
 mod listing;
@@ -27,6 +33,7 @@ mod notes;
 mod outcome;
 mod piecewise;
 mod put;
+mod refusal_notes;
 mod report;
 mod settings;
 mod skip;
@@ -35,6 +42,8 @@ mod texts;
 mod tool;
 
 pub use extract::{run, run_skipping};
+pub use file_name::FileName;
+pub use files::Files;
 pub use outcome::{RunError, Summary};
 pub use settings::{Mode, Select, Settings};
-pub use tool::{Files, program};
+pub use tool::program;

@@ -29,7 +29,7 @@ pub fn index_text(alloc: Global, text: &[u8], settings: &Settings) -> Result<Wri
     requires offset { settings.now.offset ≤ largest_offset }
     requires mode { settings.now.mode ≡ Mode.Index }
     ensures { IfOk result (λ written. (pieces : List MarkedPiece) × AreMarkedPieces block_limit depth_limit settings.now.offset (drop settings.now.offset text.now) pieces
-        × (written.out.items ≡ index settings.now.number pieces)) }
+        × (written.out.items ≡ index settings.now.name settings.now.number pieces)) }
 {
     run_over(alloc, text, settings)
 }
@@ -40,7 +40,7 @@ pub fn list_text(alloc: Global, text: &[u8], settings: &Settings) -> Result<Writ
     requires offset { settings.now.offset ≤ largest_offset }
     requires mode { settings.now.mode ≡ Mode.List }
     ensures { IfOk result (λ written. (pieces : List MarkedPiece) × (entries : List Entry) × AreMarkedPieces block_limit depth_limit settings.now.offset (drop settings.now.offset text.now) pieces
-        × AreEntries (aim_of settings.now) settings.now.number pieces entries × (written.out.items ≡ listing entries)) }
+        × AreEntries (aim_of settings.now) settings.now.number pieces entries × (written.out.items ≡ listing settings.now.name entries)) }
 {
     run_over(alloc, text, settings)
 }
@@ -61,9 +61,9 @@ fn run_over(alloc: Global, text: &[u8], settings: &Settings) -> Result<Written, 
     requires number { (1 ≤ settings.now.number) × (settings.now.number ≤ 2 ^ 62) }
     requires offset { settings.now.offset ≤ largest_offset }
     ensures indexes { IfOk result (λ written. settings.now.mode ≡ Mode.Index → (pieces : List MarkedPiece) × AreMarkedPieces block_limit depth_limit settings.now.offset (drop settings.now.offset text.now) pieces
-        × (written.out.items ≡ index settings.now.number pieces)) }
+        × (written.out.items ≡ index settings.now.name settings.now.number pieces)) }
     ensures lists { IfOk result (λ written. settings.now.mode ≡ Mode.List → (pieces : List MarkedPiece) × (entries : List Entry)
-        × AreMarkedPieces block_limit depth_limit settings.now.offset (drop settings.now.offset text.now) pieces × AreEntries (aim_of settings.now) settings.now.number pieces entries × (written.out.items ≡ listing entries)) }
+        × AreMarkedPieces block_limit depth_limit settings.now.offset (drop settings.now.offset text.now) pieces × AreEntries (aim_of settings.now) settings.now.number pieces entries × (written.out.items ≡ listing settings.now.name entries)) }
     ensures exports { IfOk result (λ written. settings.now.mode ≡ Mode.Export → (pieces : List MarkedPiece) × AreMarkedPieces block_limit depth_limit settings.now.offset (drop settings.now.offset text.now) pieces
         × AreExports (aim_of settings.now) pieces written.out.items) }
 {
@@ -123,7 +123,7 @@ pub fn resume_text<'a>(
         × (out.new.inner.items ≡ out.old.inner.items ++ output_text own) × (err.new.inner.items ≡ err.old.inner.items ++ fault_lines own)) }
     ensures listed { OnOk result (settings.now.mode ≡ Mode.List → (pieces : List MarkedPiece) → AreMarkedPieces block_limit depth_limit 0 input.old.inner.now pieces
         → IsMarkAmong settings.now.number settings.now.offset pieces → (entries : List Entry) → AreEntries (aim_of settings.now) 1 pieces entries
-        → out.new.inner.items ≡ out.old.inner.items ++ listing (entries_at_least settings.now.number entries)) }
+        → out.new.inner.items ≡ out.old.inner.items ++ listing settings.now.name (entries_at_least settings.now.number entries)) }
 {
     run(alloc, input, out, err, settings)
 }

@@ -1,5 +1,8 @@
 //! The fixed lines of refusals and of failed runs, which go to standard error.
 
+/// How each line begins.
+pub const PROGRAM: &str = "pgn-extract: ";
+
 /// Two modes were asked for.
 pub const BOTH_MODES: &str = "pgn-extract: --list and --index exclude each other\n";
 
@@ -10,16 +13,28 @@ pub const BOTH_CHOICES: &str = "pgn-extract: --others and --faulty exclude each 
 pub const NO_GAMES_WRITTEN: &str =
     "pgn-extract: --others, --faulty and --as-is go with neither --list nor --index\n";
 
+/// Names are asked for, and refused.
+pub const BOTH_NAMINGS: &str = "pgn-extract: --with-names and --no-names exclude each other\n";
+
+/// A mark is of one file.
+pub const MARKS_TAKE_ONE_FILE: &str = "pgn-extract: --from and --until take one FILE\n";
+
+/// The name of standard input.
+pub const STANDARD_INPUT: &str = "(standard input)";
+
 /// The text of `--from` or `--until` is no mark.
 pub const BAD_MARK: &str = "pgn-extract: bad mark\n";
 
 /// The mark of `--until` does not stand after that of `--from`.
 pub const NOTHING_BETWEEN: &str = "pgn-extract: --until is not after --from\n";
 
+/// The text of `--where` has a line feed or a carriage return.
+pub const NOT_ONE_LINE: &str = "pgn-extract: --where takes one line\n";
+
 /// The file of criteria could not be opened, or a read of it failed.
 pub const CANNOT_READ_CRITERIA: &str = "pgn-extract: cannot read criteria\n";
 
-/// The file of criteria has more bytes than its limit.
+/// The criteria have more bytes than their limit.
 pub const CRITERIA_TOO_LONG: &str = "pgn-extract: criteria too long\n";
 
 /// The file of games could not be opened.

@@ -11,13 +11,15 @@ ghost use Rattle.pgn_extract.specs.Verdicts.{Verdict, FaultyGame};
 ghost use Rattle.pgn_game.specs.Faults.{Fault};
 ghost use Rattle.pgn_game.specs.Replays.{fault_of};
 
-use crate::exporting::{push_export, push_faulty, written_lines};
-use crate::listing::{push_entries, push_plies};
+use crate::entries::{GameMark, push_found};
+use crate::exporting::{push_faulty, put_selected, written_lines};
+use crate::listing::push_plies;
 use crate::move_notes::{Site, push_game_note};
 use crate::notes::{Origin, Spot, push_stop_note, push_too_long_note};
 use crate::settings::{Mode, Settings};
 use crate::texts::{push_fault_line, push_game_fault, push_mark_line};
-use pgn_game::{GameFault, Lines, count_plies, replay};
+use pgn_criteria::Criteria;
+use pgn_game::{GameFault, Lines, count_plies};
 use pgn_text::{Mark, Piece, RawGame};
 use std::alloc::{AllocError, Global};
 
@@ -109,9 +111,9 @@ fn add_fault<'a>(
     requires faulty { report.old.faulty + 1 < 2 ^ 64 }
     requires room { site.origin.offset + length site.block.now < 2 ^ 64 }
     ensures { OnOk result ((own : Fault) × (note : List ℕ) × (fault_of fault.entry ≡ Some own) × IsNote settings.now.explain note
-        × AddsVerdict report.old report.new (FaultyGame [] (fault_text number offset (cause_text own)) note) 0) }
+        × AddsVerdict report.old report.new (FaultyGame [] (fault_text settings.now.name number offset (cause_text own)) note) 0) }
 {
-    push_game_fault(&mut report.faults, number, offset, fault)?;
+    push_game_fault(&mut report.faults, &settings.name, number, offset, fault)?;
     report.faulty += 1;
     if !settings.explain {
         return Ok(());
@@ -132,26 +134,25 @@ fn add_entries<'a>(
     alloc: Global,
     report: &mut Report,
     settings: &'a Settings,
+    criteria: &'a Criteria,
     number: u64,
     offset: u64,
     site: Site<'a>,
     game: &RawGame<'a>,
 ) -> Result<(), AllocError>
+    requires criteria { settings.now.criteria ≡ Some criteria.now }
     requires faulty { report.old.faulty + 1 < 2 ^ 64 }
     requires room { site.origin.offset + length site.block.now < 2 ^ 64 }
     ensures { OnOk result (AddsListed (aim_of settings.now) report.old report.new number offset game.now) }
 {
-    match replay(alloc, game, Lines::Main) {
-        Ok(replayed) => push_entries(
-            alloc,
-            &mut report.output,
-            settings,
-            number,
-            offset,
-            game,
-            &replayed,
-        ),
-        Err(fault) => add_fault(alloc, report, settings, number, offset, site, game, fault),
+    let length = report.output.len();
+    let own = GameMark { number, offset };
+    match push_found(alloc, &mut report.output, settings, criteria, own, game) {
+        Ok(()) => Ok(()),
+        Err(fault) => {
+            report.output.truncate(length);
+            add_fault(alloc, report, settings, number, offset, site, game, fault)
+        }
     }
 }
 
@@ -191,7 +192,9 @@ fn add_listed<'a>(
     ensures { OnOk result (AddsListed (aim_of settings.now) report.old report.new number offset game.now) }
 {
     match &settings.criteria {
-        Some(_) => add_entries(alloc, report, settings, number, offset, site, game),
+        Some(criteria) => add_entries(
+            alloc, report, settings, criteria, number, offset, site, game,
+        ),
         None => add_plies(alloc, report, settings, number, offset, site, game),
     }
 }
@@ -211,8 +214,8 @@ fn add_exported<'a>(
     ensures { OnOk result (AddsExported (aim_of settings.now) report.old report.new number offset game.now) }
 {
     game.known();
-    match replay(alloc, game, written_lines(&settings.style)) {
-        Ok(replayed) => push_export(alloc, &mut report.output, settings, game, &replayed),
+    match put_selected(alloc, &mut report.output, settings, game) {
+        Ok(()) => Ok(()),
         Err(fault) => {
             let text = game.text();
             push_faulty(&mut report.output, Mode::Export, settings.select, text)?;
@@ -236,7 +239,7 @@ fn add_game<'a>(
     ensures { OnOk result (AddsGame (aim_of settings.now) report.old report.new number offset game.now) }
 {
     match settings.mode {
-        Mode::Index => push_mark_line(&mut report.output, number, offset),
+        Mode::Index => push_mark_line(&mut report.output, &settings.name, number, offset),
         Mode::List => add_listed(alloc, report, settings, number, offset, site, game),
         Mode::Export => add_exported(alloc, report, settings, number, offset, site, game),
     }
@@ -266,6 +269,7 @@ fn add_unreadable(
     )?;
     push_fault_line(
         &mut report.faults,
+        &settings.name,
         number,
         offset + at as u64,
         b"unreadable",
@@ -292,7 +296,13 @@ pub fn report_too_long(
     ensures { OnOk result (Reports (aim_of settings.now) report.new number (too_long_piece offset ∷ [])) }
 {
     report.clear();
-    push_fault_line(&mut report.faults, number, offset, b"too long")?;
+    push_fault_line(
+        &mut report.faults,
+        &settings.name,
+        number,
+        offset,
+        b"too long",
+    )?;
     report.games = 1;
     report.faulty = 1;
     if !settings.explain {
@@ -352,7 +362,12 @@ pub fn add_mark(
 {
     index.games += 1;
     match mark {
-        Mark::Game(at) => push_mark_line(&mut index.output, number, offset + at as u64),
+        Mark::Game(at) => push_mark_line(
+            &mut index.output,
+            &settings.name,
+            number,
+            offset + at as u64,
+        ),
         Mark::Unreadable(at) => add_unreadable(index, settings, number, offset, block, at),
     }
 }

@@ -1,4 +1,5 @@
 //! What a run is to do.
+use crate::file_name::FileName;
 use pgn_criteria::Criteria;
 use pgn_game::Style;
 
@@ -24,9 +25,11 @@ pub enum Select {
     Faulty,
 }
 
-/// What a run writes, and where in the file it begins. With [`Mode::Index`] only `explain`, `number` and `offset` have an effect.
+/// What a run writes, and where in the file it begins. With [`Mode::Index`] only `name`, `explain`, `number` and `offset` have an effect.
 #[derive(Drop)]
 pub struct Settings {
+    /// The name that the lines of games begin with, if they have one.
+    pub name: Option<FileName>,
     /// What is written.
     pub mode: Mode,
     /// Which positions are looked for; without criteria, every one.

@@ -2,15 +2,25 @@
 ghost use Rattle.std.specs.Prelude.{◌≡◌, ◌+◌, ◌<◌, Some, [], ◌∷◌, ◌++◌, codes, decimal, OnOk};
 ghost use Rattle.pgn_game.specs.Faults.{Fault};
 ghost use Rattle.pgn_game.specs.Replays.{fault_of};
-ghost use Rattle.pgn_extract.specs.Index.{mark, mark_line, fault_text};
+ghost use Rattle.pgn_extract.specs.Finding.{named_mark};
+ghost use Rattle.pgn_extract.specs.Index.{mark, titled, mark_line, fault_text};
 ghost use Rattle.pgn_extract.specs.GameReports.{cause_text};
 
+use crate::file_name::FileName;
 use itoa::Buffer;
 use pgn_game::GameFault;
 use std::alloc::AllocError;
 
+/// Appends a number in decimal.
+pub fn push_number(text: &mut Vec<u8>, number: usize) -> Result<(), AllocError>
+    ensures { OnOk result (text.new.items ≡ text.old.items ++ decimal number) }
+{
+    let mut buffer = Buffer::new();
+    text.extend_from_slice(buffer.format(number).as_bytes())
+}
+
 /// Appends the mark `N@O`.
-pub fn push_mark(text: &mut Vec<u8>, number: u64, offset: u64) -> Result<(), AllocError>
+fn push_mark(text: &mut Vec<u8>, number: u64, offset: u64) -> Result<(), AllocError>
     ensures { OnOk result (text.new.items ≡ text.old.items ++ mark number offset) }
 {
     let mut buffer = Buffer::new();
@@ -20,11 +30,41 @@ pub fn push_mark(text: &mut Vec<u8>, number: u64, offset: u64) -> Result<(), All
     Ok(())
 }
 
-/// Appends the line of a game in the index.
-pub fn push_mark_line(text: &mut Vec<u8>, number: u64, offset: u64) -> Result<(), AllocError>
-    ensures { OnOk result (text.new.items ≡ text.old.items ++ mark_line number offset) }
+/// Appends the name of a file and what parts it from the text after it, and nothing where lines have no name.
+#[inline(always)]
+fn push_title(text: &mut Vec<u8>, name: &Option<FileName>, gap: &[u8]) -> Result<(), AllocError>
+    ensures { OnOk result (text.new.items ≡ text.old.items ++ titled gap.now name.now) }
 {
-    push_mark(text, number, offset)?;
+    let Some(name) = name else {
+        return Ok(());
+    };
+    text.extend_from_slice(name.bytes())?;
+    text.extend_from_slice(gap)
+}
+
+/// Appends the mark that a line begins with, after the name of its file where lines have one.
+pub fn push_named_mark(
+    text: &mut Vec<u8>,
+    name: &Option<FileName>,
+    number: u64,
+    offset: u64,
+) -> Result<(), AllocError>
+    ensures { OnOk result (text.new.items ≡ text.old.items ++ named_mark name.now number offset) }
+{
+    push_title(text, name, b":")?;
+    push_mark(text, number, offset)
+}
+
+/// Appends the line of a game in the index.
+pub fn push_mark_line(
+    text: &mut Vec<u8>,
+    name: &Option<FileName>,
+    number: u64,
+    offset: u64,
+) -> Result<(), AllocError>
+    ensures { OnOk result (text.new.items ≡ text.old.items ++ mark_line name.now number offset) }
+{
+    push_named_mark(text, name, number, offset)?;
     text.push(b'\n')?;
     Ok(())
 }
@@ -56,11 +96,18 @@ pub fn count_up(line: &mut Vec<u8>, mark: &[u8], ply: usize) -> Result<(), Alloc
     Ok(())
 }
 
-/// Appends how the line of a faulty game begins: with its mark.
-fn push_faulty_mark(text: &mut Vec<u8>, number: u64, offset: u64) -> Result<(), AllocError>
-    ensures { OnOk result (text.new.items ≡ text.old.items ++ (codes "pgn-extract: game " ++ mark number offset ++ codes ": ")) }
+/// Appends how the line of a faulty game begins: with its mark, after the name of its file where lines have one.
+fn push_faulty_mark(
+    text: &mut Vec<u8>,
+    name: &Option<FileName>,
+    number: u64,
+    offset: u64,
+) -> Result<(), AllocError>
+    ensures { OnOk result (text.new.items ≡ text.old.items ++ (codes "pgn-extract: " ++ titled (codes ": ") name.now ++ codes "game " ++ mark number offset ++ codes ": ")) }
 {
-    text.extend_from_slice(b"pgn-extract: game ")?;
+    text.extend_from_slice(b"pgn-extract: ")?;
+    push_title(text, name, b": ")?;
+    text.extend_from_slice(b"game ")?;
     push_mark(text, number, offset)?;
     text.extend_from_slice(b": ")?;
     Ok(())
@@ -69,13 +116,14 @@ fn push_faulty_mark(text: &mut Vec<u8>, number: u64, offset: u64) -> Result<(), 
 /// Appends the line that reports a faulty game.
 pub fn push_fault_line(
     text: &mut Vec<u8>,
+    name: &Option<FileName>,
     number: u64,
     offset: u64,
     cause: &[u8],
 ) -> Result<(), AllocError>
-    ensures { OnOk result (text.new.items ≡ text.old.items ++ fault_text number offset cause.now) }
+    ensures { OnOk result (text.new.items ≡ text.old.items ++ fault_text name.now number offset cause.now) }
 {
-    push_faulty_mark(text, number, offset)?;
+    push_faulty_mark(text, name, number, offset)?;
     text.extend_from_slice(cause)?;
     text.push(b'\n')?;
     Ok(())
@@ -113,13 +161,14 @@ fn push_cause(text: &mut Vec<u8>, fault: GameFault<'_>) -> Result<(), AllocError
 /// Appends the line that reports a game that cannot be replayed.
 pub fn push_game_fault(
     text: &mut Vec<u8>,
+    name: &Option<FileName>,
     number: u64,
     offset: u64,
     fault: GameFault<'_>,
 ) -> Result<(), AllocError>
-    ensures { OnOk result ((own : Fault) × (fault_of fault.entry ≡ Some own) × (text.new.items ≡ text.old.items ++ fault_text number offset (cause_text own))) }
+    ensures { OnOk result ((own : Fault) × (fault_of fault.entry ≡ Some own) × (text.new.items ≡ text.old.items ++ fault_text name.now number offset (cause_text own))) }
 {
-    push_faulty_mark(text, number, offset)?;
+    push_faulty_mark(text, name, number, offset)?;
     push_cause(text, fault)?;
     text.push(b'\n')?;
     Ok(())

@@ -2,32 +2,24 @@
 ghost use Rattle.std.specs.Prelude.{◌≡◌, ◌≤◌, ◌^◌, false, OnErr};
 
 use crate::command::{Request, read_arguments};
-use crate::extract::run_skipping;
+use crate::conditions::{is_one_line, push_lines};
+use crate::endings::{flush_rest, line_of, put_summary, report_bytes, report_failure, report_line};
+use crate::files::{Files, Task, Total, name_file, run_files, run_input};
 use crate::front::read_front;
 use crate::mark::{Mark, read_mark};
 use crate::messages;
-use crate::outcome::{RunError, Summary};
-use crate::put::{finish, put};
+use crate::put::put;
+use crate::refusal_notes::{file_note, line_note};
 use crate::settings::{Mode, Select, Settings};
 use crate::status::{FAILED, FAULTY, REFUSED, SOUND};
 use clap::Error;
 use clap::error::ErrorKind;
 use pgn_criteria::{Criteria, CriteriaError};
 use pgn_game::Style;
-use pgn_text::{Skip, Tally};
+use pgn_text::Tally;
 use std::alloc::{AllocError, Global};
-use std::io::{Read, Write};
-
-/// Where the program's input comes from: files by their paths, and standard input.
-pub trait Files {
-    type Input: Skip;
-
-    /// Opens the file at `path`: `Ok(None)` where it cannot be opened, an error where memory runs out.
-    fn open(&mut self, path: &str) -> Result<Option<Self::Input>, AllocError>;
-
-    /// Standard input.
-    fn standard(&mut self) -> Self::Input;
-}
+use std::io;
+use std::io::Write;
 
 /// Why the program ends before its run.
 #[derive(Drop)]
@@ -38,6 +30,8 @@ enum Refusal {
     Text(String),
     /// One of the program's own refusals, with its line.
     Line(&'static str),
+    /// A refusal with a note below it.
+    Note(Vec<u8>),
     OutOfMemory,
 }
 
@@ -73,7 +67,8 @@ struct Order<'a> {
     end: u64,
 }
 
-/// Reads the arguments and tests them in the order of the refusals: the arguments, the mode, the choice of games, the mark.
+/// Reads the arguments and tests them in the order of the refusals: the arguments, the mode, the choice of games, the names and the
+/// number of files, the marks, the lines of criteria.
 fn read_order<'a>(alloc: Global, arguments: &'a [String]) -> Result<Order<'a>, Refusal> {
     let request = match read_arguments(alloc, arguments) {
         Ok(request) => request,
@@ -87,6 +82,9 @@ fn read_order<'a>(alloc: Global, arguments: &'a [String]) -> Result<Order<'a>, R
         Ok(select) => select,
         Err(line) => return Err(Refusal::Line(line)),
     };
+    if let Some(line) = refused_files(&request) {
+        return Err(Refusal::Line(line));
+    }
     let Some(mark) = mark_of(&request) else {
         return Err(Refusal::Line(messages::BAD_MARK));
     };
@@ -94,6 +92,9 @@ fn read_order<'a>(alloc: Global, arguments: &'a [String]) -> Result<Order<'a>, R
         Ok(end) => end,
         Err(line) => return Err(Refusal::Line(line)),
     };
+    if !request.conditions.iter().all(|line| is_one_line(line)) {
+        return Err(Refusal::Line(messages::NOT_ONE_LINE));
+    }
     Ok(Order {
         request,
         mode,
@@ -101,6 +102,23 @@ fn read_order<'a>(alloc: Global, arguments: &'a [String]) -> Result<Order<'a>, R
         mark,
         end,
     })
+}
+
+/// The line that refuses names that are both asked for and refused, or marks of several files.
+fn refused_files(request: &Request<'_>) -> Option<&'static str> {
+    if request.with_names && request.no_names {
+        return Some(messages::BOTH_NAMINGS);
+    }
+    let has_mark = request.from.is_some() || request.until.is_some();
+    if has_mark && request.files.len() > 1 {
+        return Some(messages::MARKS_TAKE_ONE_FILE);
+    }
+    None
+}
+
+/// Whether lines have the names of their files.
+fn has_names(request: &Request<'_>) -> bool {
+    request.with_names || (request.files.len() > 1 && !request.no_names)
 }
 
 /// What the run writes, or the line that refuses it.
@@ -138,6 +156,28 @@ fn style_of(request: &Request<'_>) -> Style {
     }
 }
 
+/// What a run is to write, with no name yet.
+fn settings_of(order: &Order<'_>, criteria: Option<Criteria>) -> Settings
+    ensures number { result.number ≡ order.now.mark.number }
+    ensures offset { result.offset ≡ order.now.mark.offset }
+{
+    let request = &order.request;
+    Settings {
+        name: None,
+        mode: order.mode,
+        criteria,
+        min_ply: request.min_ply,
+        max_ply: request.max_ply,
+        first: request.first,
+        select: order.select,
+        as_is: request.as_is,
+        style: style_of(request),
+        explain: request.explain,
+        number: order.mark.number,
+        offset: order.mark.offset,
+    }
+}
+
 /// The mark that the run begins at: that of `--from`, and `1@0` without it. `None` for a bad one.
 fn mark_of(request: &Request<'_>) -> Option<Mark> {
     match request.from {
@@ -161,27 +201,86 @@ fn end_of(request: &Request<'_>, begin: Mark) -> Result<u64, &'static str> {
 /// The most bytes that are read of a file of criteria: one more than it may have.
 const CRITERIA_READ: usize = 65_537;
 
-/// The criteria in the file at the path, if one is given.
+/// The refusal of a file that could not be opened or read: with this line, unless memory ran out; where it is to be explained, with the
+/// file's name and the system's reason.
+fn refused_file(
+    alloc: Global,
+    error: &io::Error,
+    line: &'static str,
+    path: &str,
+    explain: bool,
+) -> Refusal {
+    if error.kind() == io::ErrorKind::OutOfMemory {
+        return Refusal::OutOfMemory;
+    }
+    if !explain {
+        return Refusal::Line(line);
+    }
+    match file_note(alloc, line, path, error) {
+        Ok(note) => Refusal::Note(note),
+        Err(AllocError) => Refusal::OutOfMemory,
+    }
+}
+
+/// The first bytes of the file at the path.
+fn read_path<F: Files>(alloc: Global, files: &mut F, path: &str) -> io::Result<Vec<u8>>
+where
+    F::Input: Drop,
+{
+    let mut input = files.open(path)?;
+    read_front(alloc, &mut input, CRITERIA_READ)
+}
+
+/// The bytes of the file of criteria, and none without one.
+fn read_file<F: Files>(
+    alloc: Global,
+    files: &mut F,
+    request: &Request<'_>,
+) -> Result<Vec<u8>, Refusal>
+where
+    F::Input: Drop,
+{
+    let Some(path) = request.criteria else {
+        return Ok(Vec::new(alloc));
+    };
+    match read_path(alloc, files, path) {
+        Ok(text) => Ok(text),
+        Err(error) => {
+            let line = messages::CANNOT_READ_CRITERIA;
+            Err(refused_file(alloc, &error, line, path, request.explain))
+        }
+    }
+}
+
+/// The criteria of the file that is asked for and of the lines after it, if there are any.
 fn read_criteria<F: Files>(
     alloc: Global,
     files: &mut F,
-    path: Option<&str>,
+    request: &Request<'_>,
 ) -> Result<Option<Criteria>, Refusal>
 where
     F::Input: Drop,
 {
-    let Some(path) = path else {
+    if request.criteria.is_none() && request.conditions.is_empty() {
         return Ok(None);
-    };
-    let Some(mut input) = files.open(path)? else {
-        return Err(Refusal::Line(messages::CANNOT_READ_CRITERIA));
-    };
-    let Some(text) = read_front(alloc, &mut input, CRITERIA_READ)? else {
-        return Err(Refusal::Line(messages::CANNOT_READ_CRITERIA));
-    };
+    }
+    let mut text = read_file(alloc, files, request)?;
+    push_lines(&mut text, &request.conditions)?;
     match Criteria::parse(alloc, &text) {
         Ok(criteria) => Ok(Some(criteria)),
+        Err(error) if request.explain => Err(explained_criteria(alloc, &error, &text)),
         Err(error) => Err(refused_criteria(alloc, &error)),
+    }
+}
+
+/// The refusal of criteria with this text, which is to be explained.
+fn explained_criteria(alloc: Global, error: &CriteriaError, text: &[u8]) -> Refusal {
+    let CriteriaError::Line(number) = error else {
+        return refused_criteria(alloc, error);
+    };
+    match line_note(alloc, text, *number) {
+        Ok(note) => Refusal::Note(note),
+        Err(AllocError) => Refusal::OutOfMemory,
     }
 }
 
@@ -199,14 +298,21 @@ fn refused_criteria(alloc: Global, error: &CriteriaError) -> Refusal {
     }
 }
 
-/// Opens the input: the file at the path, or standard input without one.
-fn open_input<F: Files>(files: &mut F, file: Option<&str>) -> Result<F::Input, Refusal> {
-    let Some(path) = file else {
-        return Ok(files.standard());
+/// The name and the input of the one file, or of standard input without one.
+fn open_input<'a, F: Files>(
+    alloc: Global,
+    files: &mut F,
+    request: &Request<'a>,
+) -> Result<(&'a str, F::Input), Refusal> {
+    let Some(path) = request.files.get(0).copied() else {
+        return Ok((messages::STANDARD_INPUT, files.standard()));
     };
-    match files.open(path)? {
-        Some(input) => Ok(input),
-        None => Err(Refusal::Line(messages::CANNOT_OPEN_INPUT)),
+    match files.open(path) {
+        Ok(input) => Ok((path, input)),
+        Err(error) => {
+            let line = messages::CANNOT_OPEN_INPUT;
+            Err(refused_file(alloc, &error, line, path, request.explain))
+        }
     }
 }
 
@@ -225,78 +331,49 @@ where
 {
     let order = read_order(alloc, arguments)?;
     let request = &order.request;
-    let criteria = read_criteria(alloc, files, request.criteria)?;
-    let input = open_input(files, request.file)?.take(order.end);
-    let settings = Settings {
-        mode: order.mode,
-        criteria,
-        min_ply: request.min_ply,
-        max_ply: request.max_ply,
-        first: request.first,
-        select: order.select,
-        as_is: request.as_is,
-        style: style_of(request),
-        explain: request.explain,
-        number: order.mark.number,
-        offset: order.mark.offset,
-    };
-    Ok(
-        match run_skipping(alloc, &mut Tally::new(input), out, err, &settings) {
-            Ok(summary) => end_run(alloc, err, request.summary, &summary),
-            Err(error) => {
-                flush_rest(out);
-                report_line(err, line_of(error));
-                FAILED
-            }
-        },
-    )
-}
-
-/// Writes how many games were read, and how many of them were faulty.
-fn put_summary<E: Write>(
-    alloc: Global,
-    err: &mut Tally<E>,
-    summary: &Summary,
-) -> Result<(), RunError>
-    requires { err.old.faulted ≡ false }
-{
-    let Summary { games, faulty } = *summary;
-    let noun = if games == 1 { "game" } else { "games" };
-    match format!(in alloc; "pgn-extract: {games} {noun}, {faulty} of them faulty\n") {
-        Ok(line) => {
-            put(err, line.as_bytes())?;
-            finish(err)
-        }
-        Err(_) => Err(RunError::OutOfMemory),
+    let criteria = read_criteria(alloc, files, request)?;
+    if request.progress {
+        files.show_progress();
     }
+    let mut task = Task {
+        settings: settings_of(&order, criteria),
+        paths: &request.files,
+        with_names: has_names(request),
+        summary: request.summary,
+        end: order.end,
+    };
+    let ended = if request.files.len() < 2 {
+        let (name, input) = open_input(alloc, files, request)?;
+        name_file(alloc, &mut task, name)?;
+        run_input(alloc, &task, input, out, err).map(Total::of)
+    } else {
+        run_files(alloc, &mut task, files, out, err)
+    };
+    Ok(match ended {
+        Ok(total) => end_runs(alloc, err, request.summary, &total),
+        Err(error) => {
+            flush_rest(out);
+            report_failure(err, &task.settings.name, error);
+            FAILED
+        }
+    })
 }
 
-/// Ends a run that came to the end of its input, with a summary where it is asked for: the status.
-fn end_run<E: Write>(alloc: Global, err: &mut Tally<E>, asked: bool, summary: &Summary) -> u8
+/// Ends runs that came to the ends of their inputs, with a summary where it is asked for: the status.
+fn end_runs<E: Write>(alloc: Global, err: &mut Tally<E>, asked: bool, total: &Total) -> u8
     requires { err.old.faulted ≡ false }
 {
-    if asked && let Err(error) = put_summary(alloc, err, summary) {
+    if asked && let Err(error) = put_summary(alloc, err, &None, &total.summary) {
         report_line(err, line_of(error));
         return FAILED;
     }
-    if summary.faulty == 0 { SOUND } else { FAULTY }
-}
-
-/// Writes what was gathered before a run failed. After a write that failed nothing is written.
-fn flush_rest<O: Write>(out: &mut Tally<O>) {
-    if out.faulted() {
-        return;
+    if total.unopened {
+        return REFUSED;
     }
-    let _ = out.flush();
-}
-
-/// The line that reports a failed run.
-fn line_of(error: RunError) -> &'static str {
-    match error {
-        RunError::Read => messages::READ_FAILED,
-        RunError::Write => messages::WRITE_FAILED,
-        RunError::OutOfMemory => messages::OUT_OF_MEMORY,
-        RunError::InputTooLong => messages::INPUT_TOO_LONG,
+    if total.summary.faulty == 0 {
+        SOUND
+    } else {
+        FAULTY
     }
 }
 
@@ -312,6 +389,10 @@ fn refuse<O: Write, E: Write>(refusal: Refusal, out: &mut Tally<O>, err: &mut Ta
         }
         Refusal::Line(line) => {
             report_line(err, line);
+            REFUSED
+        }
+        Refusal::Note(note) => {
+            report_bytes(err, &note);
             REFUSED
         }
         Refusal::OutOfMemory => {
@@ -330,15 +411,6 @@ fn help<O: Write, E: Write>(text: &str, out: &mut Tally<O>, err: &mut Tally<E>) 
     }
     report_line(err, messages::WRITE_FAILED);
     FAILED
-}
-
-/// Writes a text to standard error. A fault in that is ignored: there is nowhere left to report it.
-fn report_line<E: Write>(err: &mut Tally<E>, text: &str) {
-    if err.faulted() {
-        return;
-    }
-    let _ = put(err, text.as_bytes());
-    let _ = err.flush();
 }
 
 /// Does what the arguments ask for, of which the first is the program's name, and answers the exit status:

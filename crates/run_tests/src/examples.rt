@@ -75,6 +75,7 @@ fn listed(alloc: Global, text: &[u8], settings: &Settings) -> Result<Vec<u8>, Ru
 /// Whether that example lists these lines.
 fn is_listed(alloc: Global, text: &[u8], first: bool, wanted: &[u8]) -> bool {
     let settings = Settings {
+        name: None,
         mode: Mode::List,
         criteria: None,
         min_ply: 1,

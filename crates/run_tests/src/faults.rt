@@ -25,6 +25,7 @@ fn all(mode: Mode) -> Settings
     ensures offset { result.offset ≤ 2 ^ 62 }
 {
     Settings {
+        name: None,
         mode,
         criteria: None,
         min_ply: 0,
@@ -45,6 +46,7 @@ fn rest(mode: Mode) -> Settings
     ensures offset { result.offset ≤ 2 ^ 62 }
 {
     Settings {
+        name: None,
         mode,
         criteria: None,
         min_ply: 0,

@@ -4,6 +4,8 @@
 #[cfg(test)]
 mod choices;
 #[cfg(test)]
+mod conditions;
+#[cfg(test)]
 mod criteria;
 #[cfg(test)]
 mod examples;
@@ -13,6 +15,8 @@ mod explained;
 mod export_rows;
 #[cfg(test)]
 mod faults;
+#[cfg(test)]
+mod files;
 #[cfg(test)]
 mod index;
 #[cfg(test)]

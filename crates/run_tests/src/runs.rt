@@ -2,6 +2,8 @@
 use pgn_extract::{Files, program};
 use pgn_text::Tally;
 use std::alloc::{AllocError, Global};
+use std::io;
+use std::io::ErrorKind;
 use test_support::{Fails, Page, Pieces};
 
 /// 46 bytes; the first game lacks its closing brace.
@@ -82,19 +84,21 @@ impl<'a> Shelf<'a> {
 impl<'a> Files for Shelf<'a> {
     type Input = Pieces<'a>;
 
-    fn open(&mut self, path: &str) -> Result<Option<Pieces<'a>>, AllocError> {
+    fn open(&mut self, path: &str) -> io::Result<Pieces<'a>> {
         match path {
-            "games.pgn" => Ok(Some(self.reader())),
-            "wanted.txt" => Ok(Some(Pieces::new(self.criteria, PIECE))),
-            "folder" => Ok(Some(Pieces::failing(b"", PIECE))),
-            "huge.pgn" => Err(AllocError),
-            _ => Ok(None),
+            "games.pgn" => Ok(self.reader()),
+            "wanted.txt" => Ok(Pieces::new(self.criteria, PIECE)),
+            "folder" => Ok(Pieces::failing(b"", PIECE)),
+            "huge.pgn" => Err(io::Error::from(ErrorKind::OutOfMemory)),
+            _ => Err(io::Error::from(ErrorKind::NotFound)),
         }
     }
 
     fn standard(&mut self) -> Pieces<'a> {
         self.reader()
     }
+
+    fn show_progress(&mut self) {}
 }
 
 /// What a run of the program ended with.
@@ -135,17 +139,20 @@ pub fn words_behind_name(alloc: Global, words: &[&str]) -> Result<Vec<String>, A
 }
 
 /// Runs the program with these arguments after its name.
-pub fn run_words(
+pub fn run_words<F: Files>(
     alloc: Global,
     words: &[&str],
-    shelf: &mut Shelf<'_>,
+    files: &mut F,
     out: Page,
     err: Page,
-) -> Result<Ending, AllocError> {
+) -> Result<Ending, AllocError>
+where
+    F::Input: Drop,
+{
     let list = words_behind_name(alloc, words)?;
     let mut out = Tally::new(out);
     let mut err = Tally::new(err);
-    let status = program(alloc, list, shelf, &mut out, &mut err);
+    let status = program(alloc, list, files, &mut out, &mut err);
     Ok(Ending {
         status,
         out: out.into_inner(),

@@ -508,7 +508,9 @@ fn clap_refuses_the_words_that_it_does_not_know(rt: HostRuntime) -> Result<(), F
     let lines = [
         ["--index", "--unknown"],
         ["--index=yes", "games.pgn"],
-        ["games.pgn", "more.pgn"],
+        ["--with-names=yes", "games.pgn"],
+        ["--with-names", "--with-names"],
+        ["--no-names", "--no-names"],
         ["--index", "--index"],
         ["--list", "--list"],
         ["--list=yes", "games.pgn"],
@@ -541,11 +543,11 @@ fn prints(alloc: Global, word: &str, texts: &[&[u8]]) -> Result<bool, AllocError
 #[test]
 fn help_goes_to_standard_output(rt: HostRuntime) -> Result<(), Fail> {
     let texts = [
-        b"Usage: pgn-extract [OPTIONS] [FILE]\n".as_slice(),
+        b"Usage: pgn-extract [OPTIONS] [FILE]...\n".as_slice(),
         b"\nPositions looked for:\n      --criteria <FILE>  Only those ",
         b"\n  -w, --width <N>      Fill lines of moves up to N bytes, 1 to 9999\n                       [default: 79]\n",
-        b"\nReports, on standard error:\n      --explain  Say after the line of each faulty game where it stops\n                 being one, and why\n",
-        b"\n      --summary  Say at the end how many games were read, and how many\n                 were faulty\n",
+        b"\nReports, on standard error:\n      --explain   Say after the line of each faulty game where it stops\n                  being one, and why; the same of a refused line of\n                  criteria, and why a file cannot be read\n",
+        b"\n      --summary   Say at the end how many games were read, and how many\n                  were faulty\n      --progress  Show on a terminal how far the input is read\n",
         b"\n      --until <N@O>  End before the game with this mark\n                     [default: the end of the input]\n",
         b"\nCriteria, a condition a line; ",
         b"\nExamples:\n  pgn-extract games.pgn > clean.pgn ",

@@ -70,3 +70,59 @@ fn values_stand_in_relations(rt: HostRuntime) -> Result<(), Fail> {
     }
     Ok(())
 }
+
+/// What holds of a value, the contents of two strings, and whether it holds of their values.
+const PARTS: [(Relation, &[u8], &[u8], bool); 40] = [
+    (Relation::Begins, b"Carlsen, Magnus", b"Carlsen", true),
+    (Relation::Begins, b"Carlsen", b"Carlsen, Magnus", false),
+    (Relation::Begins, b"Carlsen", b"Carlsen", true),
+    (Relation::Begins, b"Carlsen", b"carlsen", false),
+    (Relation::Begins, b"Magnus Carlsen", b"Carlsen", false),
+    (Relation::Begins, b"Karpov", b"Karpow", false),
+    (Relation::Begins, b"", b"", true),
+    (Relation::Begins, b"", b"a", false),
+    (Relation::Begins, b"a", b"", true),
+    (Relation::Begins, b"10", b"1", true),
+    (Relation::Begins, b"007", b"7", false),
+    (Relation::Begins, b"7", b"007", false),
+    (Relation::Begins, b"\\\"Tal\\\"", b"\\\"T", true),
+    (Relation::Begins, b"\\\"Tal\\\"", b"T", false),
+    (Relation::Begins, b"\\\\\\\"", b"\\\\", true),
+    (Relation::Begins, b"a\\x", b"a\\\\", true),
+    (Relation::Begins, b"a\\\\x", b"a\\x", true),
+    (Relation::Begins, b"a\\\"", b"a\\\\", false),
+    (Relation::Has, b"Carlsen, Magnus", b"Carlsen", true),
+    (Relation::Has, b"Carlsen, Magnus", b"sen, M", true),
+    (Relation::Has, b"Carlsen, Magnus", b"Magnus", true),
+    (Relation::Has, b"Carlsen, Magnus", b"s", true),
+    (Relation::Has, b"Carlsen, Magnus", b"magnus", false),
+    (Relation::Has, b"Carlsen, Magnus", b"Magnus ", false),
+    (Relation::Has, b"Carlsen", b"Carlsen", true),
+    (Relation::Has, b"Carlsen", b"Carlsen, Magnus", false),
+    (Relation::Has, b"", b"", true),
+    (Relation::Has, b"", b"a", false),
+    (Relation::Has, b"a", b"", true),
+    (Relation::Has, b"aaab", b"aab", true),
+    (Relation::Has, b"abaabab", b"abab", true),
+    (Relation::Has, b"abaabaa", b"abab", false),
+    (Relation::Has, b"007", b"7", true),
+    (Relation::Has, b"7", b"007", false),
+    (Relation::Has, b"\xC3\xA4", b"\xA4", true),
+    (Relation::Has, b"O\\\"Neil", b"\\\"N", true),
+    (Relation::Has, b"O\\\"Neil", b"\\\\", false),
+    (Relation::Has, b"a\\\\\\\"", b"\\\\\\\"", true),
+    (Relation::Has, b"a\\x", b"\\\\x", true),
+    (Relation::Has, b"a\\xy", b"xy", true),
+];
+
+#[test]
+fn values_have_parts(rt: HostRuntime) -> Result<(), Fail> {
+    for &(relation, given, text, expected) in &PARTS {
+        assert_eq!(rt;
+            compare(relation, given, text),
+            expected,
+            "{given:?} {relation:?} {text:?}"
+        );
+    }
+    Ok(())
+}

@@ -3,10 +3,10 @@ ghost use Rattle.std.specs.Prelude.{◌≡◌, ◌≢◌, ◌↔◌, ◌≤◌, 
 ghost use Rattle.chess.specs.Fen.{has_byte};
 ghost use Rattle.chess.specs.Letters.{kind_letter};
 ghost use Rattle.chess.specs.declared.board.man.Kind.{Kind};
-ghost use Rattle.pgn_criteria.specs.Lines.{SpellsCondition, SpellsLimits};
+ghost use Rattle.pgn_criteria.specs.Lines.{SpellsClaim, SpellsLimits};
 ghost use Rattle.pgn_criteria.specs.Reading.{AreEntries, digit_limit, first_limit, limit_behind};
 ghost use Rattle.pgn_criteria.specs.declared.material.Limits.{Limits};
-ghost use Rattle.pgn_criteria.specs.declared.condition.Condition.TheVariants.{Material};
+ghost use Rattle.pgn_criteria.specs.declared.condition.Claim.TheVariants.{Material};
 
 use crate::material::{Limit, Limits};
 use crate::words::{behind_key, split_first};
@@ -108,7 +108,7 @@ fn limit_in(text: &[u8], kind: Kind) -> Limit
 }
 
 /// The limits that the text spells, if it does.
-fn limits_of(text: &[u8]) -> Option<Limits>
+pub(super) fn limits_of(text: &[u8]) -> Option<Limits>
     ensures { MatchOption result ((limits : Limits) → SpellsLimits text.now limits → ⊥) (λ limits. SpellsLimits text.now limits) }
 {
     if text.is_empty() {
@@ -129,7 +129,7 @@ fn limits_of(text: &[u8]) -> Option<Limits>
 
 /// The limits for White and for Black of a condition on the material, if the text is one.
 pub(super) fn material_of(text: &[u8]) -> Option<(Limits, Limits)>
-    ensures { MatchOption result ((white black : Limits) → SpellsCondition text.now (Material white black) → ⊥) (λ found. SpellsCondition text.now (Material found.0 found.1)) }
+    ensures { MatchOption result ((white black : Limits) → SpellsClaim text.now (Material white black) → ⊥) (λ found. SpellsClaim text.now (Material found.0 found.1)) }
 {
     let rest = behind_key(text, b"material")?;
     let (white, rest) = split_first(rest);

@@ -1,8 +1,8 @@
 //! Conditions on the first moves.
 ghost use Rattle.std.specs.Prelude.{◌≡◌, ◌↔◌, ℕ, List, IsTrue, MatchOption};
 ghost use Rattle.std.specs.List.{list_all};
-ghost use Rattle.pgn_criteria.specs.Lines.{SpellsCondition, is_move_byte, IsMoveWord, AreMoveWords};
-ghost use Rattle.pgn_criteria.specs.declared.condition.Condition.TheVariants.{Moves};
+ghost use Rattle.pgn_criteria.specs.Lines.{SpellsClaim, is_move_byte, IsMoveWord, AreMoveWords};
+ghost use Rattle.pgn_criteria.specs.declared.condition.Claim.TheVariants.{Moves};
 
 use crate::words::{behind_blanks, behind_key, split_word};
 
@@ -21,7 +21,7 @@ fn are_move_bytes(word: &[u8]) -> bool
 }
 
 /// Whether the word is one for a move: a star, or 2 to 7 letters, digits, `=` and `-`.
-fn is_move_word(word: &[u8]) -> bool
+pub(super) fn is_move_word(word: &[u8]) -> bool
     ensures { IsTrue result ↔ IsMoveWord word.now }
 {
     if word == b"*".as_slice() {
@@ -52,7 +52,7 @@ fn are_move_words(text: &[u8]) -> bool
 
 /// The words of a condition on the moves, if the text is one.
 pub(super) fn moves_of(text: &[u8]) -> Option<&[u8]>
-    ensures { MatchOption result ((words : List ℕ) → SpellsCondition text.now (Moves words) → ⊥) (λ words. SpellsCondition text.now (Moves words.now)) }
+    ensures { MatchOption result ((words : List ℕ) → SpellsClaim text.now (Moves words) → ⊥) (λ words. SpellsClaim text.now (Moves words.now)) }
 {
     let words = behind_key(text, b"moves")?;
     if are_move_words(words) {

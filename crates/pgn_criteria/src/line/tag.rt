@@ -3,18 +3,18 @@ ghost use Rattle.std.specs.Prelude.{◌≡◌, ◌≢◌, ◌↔◌, ◌∷◌, 
 ghost use Rattle.std.specs.List.{list_all};
 ghost use Rattle.pgn_text.specs.Bytes.{is_name_byte};
 ghost use Rattle.pgn_text.specs.Strings.{IsContents};
-ghost use Rattle.pgn_criteria.specs.Lines.{SpellsCondition, relation_text};
-ghost use Rattle.pgn_criteria.specs.Stages.{seen};
+ghost use Rattle.pgn_criteria.specs.Lines.{SpellsClaim, relation_text};
+ghost use Rattle.pgn_criteria.specs.Stages.{claim_seen};
 ghost use Rattle.pgn_criteria.specs.declared.compare.Relation.{Relation};
-ghost use Rattle.pgn_criteria.specs.declared.condition.Condition.TheVariants.{Tag};
+ghost use Rattle.pgn_criteria.specs.declared.condition.Claim.TheVariants.{Tag};
 
 use crate::compare::Relation;
-use crate::condition::Condition;
+use crate::condition::Claim;
 use crate::words::{behind_key, split_first};
 use pgn_text::is_contents;
 
 /// The relation that is written so.
-fn relation_of(text: &[u8]) -> Option<Relation>
+pub(super) fn relation_of(text: &[u8]) -> Option<Relation>
     ensures { MatchOption result ((relation : Relation) → text.now ≡ relation_text relation → ⊥) (λ relation. text.now ≡ relation_text relation) }
 {
     match text {
@@ -24,6 +24,8 @@ fn relation_of(text: &[u8]) -> Option<Relation>
         b"<=" => Some(Relation::LessOrEqual),
         b">" => Some(Relation::Greater),
         b">=" => Some(Relation::GreaterOrEqual),
+        b"has" => Some(Relation::Has),
+        b"begins" => Some(Relation::Begins),
         _ => None,
     }
 }
@@ -43,7 +45,7 @@ fn are_name_bytes(text: &[u8]) -> bool
 }
 
 /// Whether the text is a tag's name.
-fn is_name(text: &[u8]) -> bool
+pub(super) fn is_name(text: &[u8]) -> bool
     ensures { IsTrue result ↔ ((text.now ≢ []) × IsTrue (list_all is_name_byte text.now)) }
 {
     !text.is_empty() && are_name_bytes(text)
@@ -59,9 +61,9 @@ fn contents_of(text: &[u8]) -> Option<&[u8]>
     }
 }
 
-/// The condition on a tag that the text spells, if it is one.
-pub(super) fn tag_of(text: &[u8]) -> Option<Condition<&[u8]>>
-    ensures { MatchOption result ((name contents : List ℕ) (relation : Relation) → SpellsCondition text.now (Tag name relation contents) → ⊥) (λ found. SpellsCondition text.now (seen (λ bytes. bytes.now) found)) }
+/// The claim on a tag that the text spells, if it is one.
+pub(super) fn tag_of(text: &[u8]) -> Option<Claim<&[u8]>>
+    ensures { MatchOption result ((name contents : List ℕ) (relation : Relation) → SpellsClaim text.now (Tag name relation contents) → ⊥) (λ found. SpellsClaim text.now (claim_seen (λ bytes. bytes.now) found)) }
 {
     let rest = behind_key(text, b"tag")?;
     let (name, rest) = split_first(rest);
@@ -71,7 +73,7 @@ pub(super) fn tag_of(text: &[u8]) -> Option<Condition<&[u8]>>
     let (operator, string) = split_first(rest);
     let relation = relation_of(operator)?;
     let contents = contents_of(string)?;
-    Some(Condition::Tag {
+    Some(Claim::Tag {
         name,
         relation,
         contents,

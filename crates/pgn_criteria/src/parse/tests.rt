@@ -34,7 +34,7 @@ fn spells(alloc: Global, text: &[u8], alternatives: usize, conditions: usize) ->
 }
 
 /// A text, and the number of the line that it is refused for.
-const BAD_LINES: [(&[u8], usize); 44] = [
+const BAD_LINES: [(&[u8], usize); 60] = [
     (b"check\nchek", 2),
     (b"chek\nchek", 1),
     (b"check\n\n# x\nmate x\n", 4),
@@ -54,6 +54,22 @@ const BAD_LINES: [(&[u8], usize); 44] = [
     (b"tag A == \"x\"", 1),
     (b"tag A-B = \"x\"", 1),
     (b"tag = \"x\"", 1),
+    (b"tag A has", 1),
+    (b"tag A has x", 1),
+    (b"tag A HAS \"x\"", 1),
+    (b"tag A hasnt \"x\"", 1),
+    (b"tag A has\"x\"", 1),
+    (b"tag A has \"x", 1),
+    (b"tag A has = \"x\"", 1),
+    (b"tag A has \"x\" \"y\"", 1),
+    (b"tag has \"x\"", 1),
+    (b"tag A begins", 1),
+    (b"tag A begins x", 1),
+    (b"tag A Begins \"x\"", 1),
+    (b"tag A begin \"x\"", 1),
+    (b"tag A begins\"x\"", 1),
+    (b"tag A begins \"x\"y", 1),
+    (b"A has \"x\"", 1),
     (b"turn green", 1),
     (b"turn", 1),
     (b"turn white black", 1),
@@ -90,8 +106,57 @@ fn bad_lines_are_refused_by_their_number(rt: HostRuntime) -> Result<(), Fail> {
     Ok(())
 }
 
+/// A pattern's first rank with brackets that are no set.
+const BAD_SETS: [&[u8]; 14] = [
+    b"[]7", b"[^]7", b"[", b"[P", b"[^P", b"[P]]", b"P]7", b"[[P]]", b"[x]7", b"[^x]7", b"[P^]7",
+    b"[^^P]7", b"[1]7", b"[P p]6",
+];
+
+#[test]
+fn brackets_that_are_no_set_are_refused(rt: HostRuntime) -> Result<(), Fail> {
+    let alloc = rt.alloc();
+    for rank in &BAD_SETS {
+        let mut text = b"check\nfen ".to_vec(alloc)?;
+        text.extend_from_slice(rank)?;
+        text.extend_from_slice(b"/*/*/*/*/*/*/*")?;
+        assert!(rt; is_refused(alloc, &text, 2), "{rank:?}");
+    }
+    Ok(())
+}
+
+/// A last line with `not` that is not of the language.
+const BAD_DENIALS: [&[u8]; 16] = [
+    b"not",
+    b"not ",
+    b"notcheck",
+    b"nott check",
+    b"Not check",
+    b"not or",
+    b"not # x",
+    b"not not check",
+    b"not not",
+    b"not chek",
+    b"not check not",
+    b"check not",
+    b"not check mate",
+    b"not turn",
+    b"not moves e4+",
+    b"not fen 9/*/*/*/*/*/*/*",
+];
+
+#[test]
+fn what_denies_no_claim_is_refused(rt: HostRuntime) -> Result<(), Fail> {
+    let alloc = rt.alloc();
+    for line in &BAD_DENIALS {
+        let mut text = b"not check\n\n".to_vec(alloc)?;
+        text.extend_from_slice(line)?;
+        assert!(rt; is_refused(alloc, &text, 3), "{line:?}");
+    }
+    Ok(())
+}
+
 /// A text, how many alternatives it spells, and how many conditions the last of them has.
-const ACCEPTED: [(&[u8], usize, usize); 26] = [
+const ACCEPTED: [(&[u8], usize, usize); 31] = [
     (b"", 1, 0),
     (b"# x", 1, 0),
     (b"  # x", 1, 0),
@@ -108,11 +173,16 @@ const ACCEPTED: [(&[u8], usize, usize); 26] = [
     (b"tag A < \"x y\tz\" ", 1, 1),
     (b"tag A <= \"\xFF\"", 1, 1),
     (b"tag A > \"#\"", 1, 1),
+    (b"tag A has \"x y\"", 1, 1),
+    (b"tag\tA  begins\t\"\\\"\" ", 1, 1),
+    (b"tag has begins \"\"", 1, 1),
     (b"turn\tblack", 1, 1),
     (b"moves 0-0 zz --", 1, 1),
     (b"moves * e8=Q \t Nb1xd2", 1, 1),
     (b"fen 1PPP1*/*/*/*/*/*/*/*", 1, 1),
     (b"fen ?!Aa1234/KQRBNP/kqrbnp/****/8/*/88/*", 1, 1),
+    (b"fen [KQp]*/*[^Pp]/[P]8*/*[kk]*/*/*/*/*", 1, 1),
+    (b"fen [^KQRBNPkqrbnp]7/*/*/*/*/*/*/*", 1, 1),
     (b"material K v K", 1, 1),
     (b"material KQ0 v K", 1, 1),
     (b"material KQ1R2B3N4P9+ v P0-N*K1", 1, 1),
@@ -124,6 +194,28 @@ const ACCEPTED: [(&[u8], usize, usize); 26] = [
 fn lines_of_the_language_are_accepted(rt: HostRuntime) -> Result<(), Fail> {
     let alloc = rt.alloc();
     for &(text, alternatives, conditions) in &ACCEPTED {
+        assert!(rt; spells(alloc, text, alternatives, conditions), "{text:?}");
+    }
+    Ok(())
+}
+
+/// Conditions that are denied, in the same form.
+const DENIED: [(&[u8], usize, usize); 9] = [
+    (b"not check", 1, 1),
+    (b" \tnot \t mate \r\n", 1, 1),
+    (b"not\tstalemate", 1, 1),
+    (b"not turn\twhite", 1, 1),
+    (b"not tag A = \"not\"", 1, 1),
+    (b"not tag not <> \"\"\ntag not = \"x\"", 1, 2),
+    (b"not moves e4  *", 1, 1),
+    (b"not material KQ v K\nnot fen */*/*/*/*/*/*/*", 1, 2),
+    (b"not check\nor\nmate\nnot turn black\nnot moves d4", 2, 3),
+];
+
+#[test]
+fn denied_conditions_are_accepted(rt: HostRuntime) -> Result<(), Fail> {
+    let alloc = rt.alloc();
+    for &(text, alternatives, conditions) in &DENIED {
         assert!(rt; spells(alloc, text, alternatives, conditions), "{text:?}");
     }
     Ok(())

@@ -77,3 +77,35 @@ fn items_match_ranks(rt: HostRuntime) -> Result<(), Fail> {
     }
     Ok(())
 }
+
+/// Items with sets, a rank, and whether they match it.
+const SETS: [(&[u8], &[u8; 8], bool); 20] = [
+    (b"[QR]7", b"Q.......", true),
+    (b"[QR]7", b"R.......", true),
+    (b"[QR]7", b"q.......", false),
+    (b"[QR]7", b"........", false),
+    (b"[P]7", b"P.......", true),
+    (b"[Pp]*", b"p.......", true),
+    (b"[PP]*", b"P.......", true),
+    (b"[^P]7", b"........", true),
+    (b"[^P]7", b"p.......", true),
+    (b"[^P]7", b"P.......", false),
+    (b"[^Pp]7", b"p.......", false),
+    (b"[^pp]*", b"r.......", true),
+    (b"*[^P]P[^P]*", b"..PPP...", false),
+    (b"*[^P]P[^P]*", b"PP.P.PP.", true),
+    (b"*[KQRBNP]", b"nnnnnnnN", true),
+    (b"*[KQRBNP]", b"NNNNNNNn", false),
+    (b"??[^P]?[^P]???", b"PP.P.PPP", true),
+    (b"??[^P]?[^P]???", b"PPPPPPPP", false),
+    (b"[kq][kq][kq]5", b"kqk.....", true),
+    (b"[kq][kq][kq]5", b"kqr.....", false),
+];
+
+#[test]
+fn sets_match_ranks(rt: HostRuntime) -> Result<(), Fail> {
+    for &(items, rank, is_match) in &SETS {
+        assert!(rt; matches(items, rank) == is_match, "{items:?} {rank:?}");
+    }
+    Ok(())
+}

@@ -1,37 +1,40 @@
-use Rattle.std.proofs.Common.{rules, ◌≢◌, ℕ, List}
-use Rattle.std.specs.Prelude.{codes, Option, Some, None, MatchOption}
-use Rattle.chess.specs.declared.board.man.Side.{Side}
-use Rattle.pgn_criteria.specs.Lines.{SpellsCondition}
-use Rattle.pgn_criteria.specs.Stages.{seen}
-use Rattle.pgn_criteria.specs.declared.compare.Relation.{Relation}
-use Rattle.pgn_criteria.specs.declared.material.Limits.{Limits}
+use Rattle.std.proofs.Common.{◌≡◌, ◌≢◌, ℕ, Bool, true, false, List, sym, subst}
+use Rattle.std.specs.Prelude.{codes}
+use Rattle.pgn_criteria.specs.Lines.{SpellsClaim, SpellsTaken, SpellsCondition}
+use Rattle.pgn_criteria.specs.Reading.{run_of, behind_word}
+use Rattle.pgn_criteria.specs.Stages.{claim_seen}
+use Rattle.pgn_criteria.specs.declared.condition.Claim.{Claim}
 use Rattle.pgn_criteria.specs.declared.condition.Condition.{Condition}
-use Rattle.pgn_criteria.specs.declared.condition.Condition.TheVariants.{Tag, Fen, Material, Moves, Turn, Check, Mate, Stalemate}
+use Rattle.pgn_criteria.proofs.ClaimFacts.{claim_not, not_read, not_spelled}
 use Rattle.pgn_criteria.proofs.line.condition_of.Goals as goal
 
--- a text that is no condition of seven kinds is one on a tag, or none
-or_tag : {T : Type 0} (bytes : T → List ℕ) (text : List ℕ) (found : Option (Condition T)) → text ≢ codes "check" → text ≢ codes "mate" → text ≢ codes "stalemate"
-    → ((side : Side) → SpellsCondition text (Turn side) → ⊥) → ((pattern : List ℕ) → SpellsCondition text (Fen pattern) → ⊥)
-    → ((words : List ℕ) → SpellsCondition text (Moves words) → ⊥) → ((white black : Limits) → SpellsCondition text (Material white black) → ⊥)
-    → MatchOption found ((name contents : List ℕ) (relation : Relation) → SpellsCondition text (Tag name relation contents) → ⊥) (λ f. SpellsCondition text (seen bytes f))
-    → MatchOption found ((condition : Condition (List ℕ)) → SpellsCondition text condition → ⊥) (λ f. SpellsCondition text (seen bytes f))
-or_tag bytes text (Some f) check mate stalemate turn fen moves material tag = tag
-or_tag bytes text None check mate stalemate turn fen moves material tag = none
+-- what follows `not` is no claim, or the text does not begin with it and is no claim
+none_denied : (text own : List ℕ) → run_of text ≡ codes "not" → own ≡ behind_word text → ((claim : Claim (List ℕ)) → SpellsClaim own claim → ⊥)
+    → (condition : Condition (List ℕ)) → SpellsCondition text condition → ⊥
+none_denied text own run is none condition = by condition.is_denied condition.claim
   where
-    none : (condition : Condition (List ℕ)) → SpellsCondition text condition → ⊥
-    none (Tag name relation contents) spells = tag name contents relation spells
-    none (Fen pattern) spells = fen pattern spells
-    none (Material white black) spells = material white black spells
-    none (Moves words) spells = moves words spells
-    none (Turn side) spells = turn side spells
-    none Check spells = check spells
-    none Mate spells = mate spells
-    none Stalemate spells = stalemate spells
+    by : (denied : Bool) (claim : Claim (List ℕ)) → SpellsTaken text denied claim → ⊥
+    by false claim spells = claim_not text claim run spells
+    by true claim spells = none claim (subst (λ x. SpellsClaim x claim) (sym is) (not_read text claim spells).1)
 
-pub returns : goal.returns
-returns c =
-    let no_check : c.args.text.now ≢ codes "check" = search rules in
-    let no_mate : c.args.text.now ≢ codes "mate" = search rules in
-    let no_stalemate : c.args.text.now ≢ codes "stalemate" = search rules in
-    or_tag (λ bytes. bytes.now) c.args.text.now c.tag_of.result no_check no_mate no_stalemate c.in_default.ensures c.in_default-pattern_of.ensures
-    c.in_default-moves_of.ensures c.in_default-material_of.ensures c.tag_of.ensures
+none_claimed : (text : List ℕ) → run_of text ≢ codes "not" → ((claim : Claim (List ℕ)) → SpellsClaim text claim → ⊥)
+    → (condition : Condition (List ℕ)) → SpellsCondition text condition → ⊥
+none_claimed text other none condition = by condition.is_denied condition.claim
+  where
+    by : (denied : Bool) (claim : Claim (List ℕ)) → SpellsTaken text denied claim → ⊥
+    by false claim spells = none claim spells
+    by true claim spells = other (not_read text claim spells).0
+
+pub returns-in_err-claim_of-in-Some : goal.returns-in_err-claim_of-in-Some
+returns-in_err-claim_of-in-Some c =
+    rw c.from_residual.ensures
+    (none_denied c.args.text.now c.in-Some.own.now c.in-Some.ensures.0 c.in-Some.ensures.1 c.in_err-claim_of-in-Some.ensures)
+
+pub returns-in_err-claim_of-in-None : goal.returns-in_err-claim_of-in-None
+returns-in_err-claim_of-in-None c =
+    rw c.from_residual-in_err-claim_of-in-None.ensures (none_claimed c.args.text.now c.in-None.ensures c.in_err-claim_of-in-None.ensures)
+
+pub returns-in_ok-claim_of-in-Some : goal.returns-in_ok-claim_of-in-Some
+returns-in_ok-claim_of-in-Some c =
+    let claim = claim_seen (λ bytes. bytes.now) c.in_ok-claim_of-in-Some.field-0 in
+    not_spelled c.args.text.now claim c.in-Some.ensures.0 (subst (λ x. SpellsClaim x claim) c.in-Some.ensures.1 c.in_ok-claim_of-in-Some.ensures)

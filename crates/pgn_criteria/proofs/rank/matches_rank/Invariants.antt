@@ -1,7 +1,11 @@
-use Rattle.std.proofs.Common.{◌↔◌, ◌<◌, ◌^◌, drop}
+use Rattle.std.proofs.Common.{◌↔◌, ◌<◌, ◌^◌, length}
 use Rattle.pgn_criteria.specs.Patterns.{CanBeSplit}
+use Rattle.pgn_criteria.specs.Items.{items_of}
 use Rattle.pgn_criteria.specs.Items.{Ends}
 use Rattle.pgn_criteria.proofs.rank.matches_rank.Given as goal
 
-abbrev pub invariant-loop-byte : goal.invariant-loop-byte
-invariant-loop-byte l = record { low : l.reached < 2 ^ 9; goes_on : Ends l.squares l.reached (drop l.byte-index l.items) ↔ CanBeSplit l.items l.squares }
+abbrev pub invariant-loop-rest : goal.invariant-loop-rest
+invariant-loop-rest l = record { low : l.reached < 2 ^ 9; goes_on : Ends l.squares l.reached (items_of l.rest) ↔ CanBeSplit (items_of l.items) l.squares }
+
+abbrev pub decreases-loop-rest : goal.decreases-loop-rest
+decreases-loop-rest l = length l.rest

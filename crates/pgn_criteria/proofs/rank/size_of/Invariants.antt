@@ -1,13 +1,14 @@
 use Rattle.std.proofs.Common.{◌≡◌, ◌≤◌, ◌+◌, ℕ, List, Option, length}
 use Rattle.chess.specs.declared.board.man.Man.{Man}
 use Rattle.pgn_criteria.specs.Patterns.{CanBeSplit}
+use Rattle.pgn_criteria.specs.Items.{items_of}
 use Rattle.pgn_criteria.proofs.rank.size_of.Given as goal
 
 abbrev pub invariant-loop-rest : goal.invariant-loop-rest
 invariant-loop-rest l = record {
   small : l.size ≤ 8;
-  sized : (left : ℕ) → ((own : List (Option Man)) → CanBeSplit l.rest own → length own ≡ left)
-      → (own : List (Option Man)) → CanBeSplit l.items own → length own ≡ l.size + left;
+  sized : (left : ℕ) → ((own : List (Option Man)) → CanBeSplit (items_of l.rest) own → length own ≡ left)
+      → (own : List (Option Man)) → CanBeSplit (items_of l.items) own → length own ≡ l.size + left;
 }
 
 abbrev pub decreases-loop-rest : goal.decreases-loop-rest

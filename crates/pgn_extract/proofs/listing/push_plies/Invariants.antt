@@ -9,6 +9,6 @@ invariant-loop-ply l =
     record {
       above : l.settings.min_ply ≤ l.ply;
       within : l.ply - l.settings.min_ply ≤ l.ply-end - l.settings.min_ply;
-      line : l.line.items ≡ entry_line (entry_at l.number l.offset l.ply);
-      written : l.text.items ≡ l.initial.text.items ++ listing (plies_from l.number l.offset l.settings.min_ply (l.ply - l.settings.min_ply));
+      line : l.line.items ≡ entry_line l.settings.name (entry_at l.number l.offset l.ply);
+      written : l.text.items ≡ l.initial.text.items ++ listing l.settings.name (plies_from l.number l.offset l.settings.min_ply (l.ply - l.settings.min_ply));
     }

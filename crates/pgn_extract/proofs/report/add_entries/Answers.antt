@@ -1,23 +1,27 @@
-use Rattle.std.proofs.Common.{refl, subst}
+use Rattle.std.proofs.Common.{◌≡◌, ◌++◌, [], take, length, refl, ap, ◌∙◌, subst, arith}
 use Rattle.std.specs.Prelude.{IfSome}
+use Rattle.std.proofs.Math.Seq.{take-append_seam}
 use Rattle.std.proofs.lemmas.Result.{on_ok_weaker}
-use Rattle.pgn_text.specs.GameTexts.{tag_in}
-use Rattle.pgn_game.specs.Faults.{IsFault}
-use Rattle.pgn_game.specs.declared.replayer.Lines.TheVariants.{Main}
-use Rattle.pgn_game.specs.Starts.{fen_tag}
 use Rattle.pgn_extract.specs.Aims.{aim_of}
+use Rattle.pgn_extract.specs.Finding.{StopsAtFault}
 use Rattle.pgn_extract.proofs.GameVerdict.{listed_replay, listed_fault}
 use Rattle.pgn_extract.proofs.report.add_entries.Goals as goal
 
 pub returns-in-Ok : goal.returns-in-Ok
 returns-in-Ok c =
-    on_ok_weaker c.push_entries.result
-    (λ lines. listed_replay (aim_of c.args.settings.now) c.in-Ok.replayed lines.0 c.in-Ok.ensures lines.1 (record { output = lines.2; faults = refl; games = refl; faulty = refl }))
-    c.push_entries.ensures
+    let adds = c.in-Ok.ensures in
+    listed_replay (aim_of c.args.settings.now) adds.0 adds.2 adds.1 adds.3 (record { output = adds.4; faults = refl; games = refl; faulty = refl })
 
 pub returns-in-Err : goal.returns-in-Err
 returns-in-Err c =
+    let old = c.args.report.now.output.items in
+    let new = c.push_found.new.text.items in
+    let size : c.len-length.result ≡ length old = let ok = c.args.report.now.output.ok in let is = c.len-length.ensures in omega arith in
     on_ok_weaker c.add_fault.result
-    (λ of. listed_fault (aim_of c.args.settings.now) of.0 of.1
-    (subst (λ o. IfSome o (IsFault Main (tag_in fen_tag c.args.game.now.tags) c.args.game.now.elements)) of.2 c.in-Err.ensures) of.3 of.4)
+    (λ of.
+    let stops : StopsAtFault c.args.game.now old new of.0 = subst (λ o. IfSome o (StopsAtFault c.args.game.now old new)) of.2 c.in-Err.ensures in
+    let cut : c.truncate.new.self.items ≡ old =
+    c.truncate.ensures.items ∙ ap (λ n. take n new) size ∙ ap (take (length old)) stops.2 ∙ take-append_seam old stops.1 in
+    listed_fault (aim_of c.args.settings.now) of.0 of.1 stops.0 of.3
+    (record { output = of.4.output ∙ ap (λ t. t ++ []) cut; faults = of.4.faults; games = of.4.games; faulty = of.4.faulty }))
     c.add_fault.ensures

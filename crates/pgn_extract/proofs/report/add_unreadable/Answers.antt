@@ -11,7 +11,7 @@ use Rattle.pgn_extract.proofs.report.add_unreadable.Goals as goal
 
 pub returns : goal.returns
 returns c =
-    let line = fault_text c.args.number (c.args.offset + c.args.at) (codes "unreadable") in
+    let line = fault_text c.args.settings.now.name c.args.number (c.args.offset + c.args.at) (codes "unreadable") in
     let text = faulty_text c.args.settings.now.mode c.args.settings.now.select (drop c.args.at c.args.block.now) in
     let written = c.in_ok-push_faulty.ensures ∙ ap (λ bytes. c.args.report.now.output.items ++ faulty_text c.args.settings.now.mode c.args.settings.now.select bytes) (rest_taken c.args.at c.args.block.now) in
     let origin : Origin = record { offset = c.args.offset; line = c.args.report.now.line } in
@@ -35,7 +35,7 @@ returns c =
 
 pub returns-then-not-settings : goal.returns-then-not-settings
 returns-then-not-settings c =
-    let line = fault_text c.args.number (c.args.offset + c.args.at) (codes "unreadable") in
+    let line = fault_text c.args.settings.now.name c.args.number (c.args.offset + c.args.at) (codes "unreadable") in
     let text = faulty_text c.args.settings.now.mode c.args.settings.now.select (drop c.args.at c.args.block.now) in
     let written = c.in_ok-push_faulty.ensures ∙ ap (λ bytes. c.args.report.now.output.items ++ faulty_text c.args.settings.now.mode c.args.settings.now.select bytes) (rest_taken c.args.at c.args.block.now) in
     let none = no_note c.args.settings.now.explain c.if-not-settings.true c.args.offset c.args.block.now c.args.at in (

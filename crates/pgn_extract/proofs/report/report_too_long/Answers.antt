@@ -12,13 +12,13 @@ use Rattle.pgn_extract.proofs.report.report_too_long.Goals as goal
 
 pub returns-then-not-settings : goal.returns-then-not-settings
 returns-then-not-settings c =
-    let line = fault_text c.args.number c.args.offset (codes "too long") in
+    let line = fault_text c.args.settings.now.name c.args.number c.args.offset (codes "too long") in
     reports_too_long (aim_of c.args.settings.now) _ c.args.number c.args.offset [] (empty_note c.args.settings.now.explain) c.clear.ensures.output
     (c.in_ok-push_fault_line.ensures ∙ ap (λ t. t ++ line) c.clear.ensures.faults ∙ sym (append-nil line)) refl refl
 
 pub returns : goal.returns
 returns c =
-    let line = fault_text c.args.number c.args.offset (codes "too long") in
+    let line = fault_text c.args.settings.now.name c.args.number c.args.offset (codes "too long") in
     let note = indented (too_long_text c.args.size block_limit ∷ []) in
     on_ok_weaker c.push_too_long_note.result
     (λ is. reports_too_long (aim_of c.args.settings.now) _ c.args.number c.args.offset note

@@ -1,23 +1,27 @@
-use Rattle.std.proofs.Common.{◌∷◌, ◌+◌, ◌-◌, true, Some, drop, refl, sym, ap, ◌∙◌, arith}
+use Rattle.std.proofs.Common.{◌+◌, ◌-◌, true, drop, refl, subst, arith}
 use Rattle.chess.specs.Fen.{row}
+use Rattle.pgn_criteria.specs.Items.{IsNextItem}
 use Rattle.pgn_criteria.specs.Layouts.{EachFrom}
 use Rattle.pgn_criteria.specs.Patterns.{CanBeSplit}
-use Rattle.pgn_criteria.proofs.LayoutFacts.{lays_start, lays_step, lays_same, run_split, many_split}
+use Rattle.pgn_criteria.specs.Items.{items_of}
+use Rattle.pgn_criteria.specs.declared.rank.Item.{Item}
+use Rattle.pgn_criteria.proofs.LayoutFacts.{lays_start, lays_step, lays_same, next_run, next_many}
 use Rattle.pgn_criteria.proofs.layout.Layout.add_item.Goals as goal
 
-pub returns-in_ok-add_run-in-Some-Run : goal.returns-in_ok-add_run-in-Some-Run
-returns-in_ok-add_run-in-Some-Run c =
+pub returns-in_ok-add_run-in-Some-Run-default : goal.returns-in_ok-add_run-in-Some-Run-default
+returns-in_ok-add_run-in-Some-Run-default c =
     let rank = c.args.rank in
     let taken = c.args.taken in
-    let count = c.in-Some-Run.count in
-    let class = c.in-Some-Run.class in
-    let behind = c.args.behind.now in
-    let is = sym c.item_of.ensures ∙ c.in-Some-Run.is ∙ ap Some c.in-Some-Run.field-0-is in (
+    let some = c.in-Some-Run-default in
+    let items = c.args.items.now in
+    let behind = some.behind.now in
+    let next = subst (λ (i : Item). IsNextItem items i behind) some.field-0-0-is some.ensures.next in (
       omega arith,
-      lays_step (λ P. CanBeSplit (c.args.byte ∷ behind) (drop taken (row P.men rank))) (λ P. CanBeSplit (c.args.byte ∷ behind) (drop taken (row P.men rank)))
-          (λ P. EachFrom P.men class rank taken 0 count) (λ P. CanBeSplit behind (drop (taken + count) (row P.men rank)))
-          c.args.self.now c.args.self.now c.add_run.new.self true true true (lays_start (λ P. CanBeSplit (c.args.byte ∷ behind) (drop taken (row P.men rank))) c.args.self.now)
-          c.in_ok-add_run-in-Some-Run.ensures (λ P. run_split P.men rank taken count c.args.byte class behind is (omega arith)) (λ t. (refl, refl)),
+      some.ensures.shorter,
+      lays_step (λ P. CanBeSplit (items_of items) (drop taken (row P.men rank))) (λ P. CanBeSplit (items_of items) (drop taken (row P.men rank)))
+          (λ P. EachFrom P.men some.class rank taken 0 some.count) (λ P. CanBeSplit (items_of behind) (drop (taken + some.count) (row P.men rank)))
+          c.args.self.now c.args.self.now c.add_run.new.self true true true (lays_start (λ P. CanBeSplit (items_of items) (drop taken (row P.men rank))) c.args.self.now)
+          c.in_ok-add_run-in-Some-Run-default.ensures (λ P. next_run P.men rank taken some.count items behind some.class next (omega arith)) (λ t. (refl, refl)),
     )
 
 pub returns-else-size-taken : goal.returns-else-size-taken
@@ -25,11 +29,14 @@ returns-else-size-taken c =
     let rank = c.args.rank in
     let taken = c.args.taken in
     let size = c.in-Some.size in
-    let behind = c.args.behind.now in
-    let is = sym c.item_of.ensures ∙ c.in-Some-Many.is in (
+    let some = c.in-Some-Many-default in
+    let items = c.args.items.now in
+    let behind = some.behind.now in
+    let next = subst (λ (i : Item). IsNextItem items i behind) some.field-0-0-is some.ensures.next in (
       omega arith,
-      lays_same (λ P. CanBeSplit (c.args.byte ∷ behind) (drop taken (row P.men rank))) (λ P. CanBeSplit (c.args.byte ∷ behind) (drop taken (row P.men rank)))
-          (λ P. CanBeSplit behind (drop (8 - size) (row P.men rank))) c.args.self.now c.args.self.now true
-          (lays_start (λ P. CanBeSplit (c.args.byte ∷ behind) (drop taken (row P.men rank))) c.args.self.now)
-          (λ P. many_split P.men rank taken size c.args.byte behind (is ∙ ap Some c.in-Some-Many.field-0-is) c.in-Some.ensures.small (omega arith) c.in-Some.ensures.size),
+      some.ensures.shorter,
+      lays_same (λ P. CanBeSplit (items_of items) (drop taken (row P.men rank))) (λ P. CanBeSplit (items_of items) (drop taken (row P.men rank)))
+          (λ P. CanBeSplit (items_of behind) (drop (8 - size) (row P.men rank))) c.args.self.now c.args.self.now true
+          (lays_start (λ P. CanBeSplit (items_of items) (drop taken (row P.men rank))) c.args.self.now)
+          (λ P. next_many P.men rank taken size items behind next c.in-Some.ensures.small (omega arith) c.in-Some.ensures.size),
     )

@@ -2,6 +2,7 @@ use Rattle.std.proofs.Common.{◌≡◌, ◌+◌, ◌-◌, ◌==◌, true, refl,
 use Rattle.std.proofs.lemmas.Bool.{eqb-true}
 use Rattle.chess.specs.Fen.{row, parted_at}
 use Rattle.pgn_criteria.specs.Patterns.{CanBeSplit, FitRanks, FitsPattern}
+use Rattle.pgn_criteria.specs.Items.{items_of}
 use Rattle.pgn_criteria.proofs.LayoutFacts.{lays_step, lays_end}
 use Rattle.pgn_criteria.proofs.PatternFacts.{next_rank, last_rank}
 use Rattle.pgn_criteria.proofs.layout.Layout.add_pattern.Goals as goal
@@ -14,7 +15,7 @@ returns-then-is_all c =
     let rest = c.loop-step.rest.now in
     let parts = rw c.in_default.is at c.next_part.ensures in
     lays_end (λ P. FitsPattern P.men c.args.pattern.now) (λ P. 8 - step - 1 ≡ 0) c.args.self.now c.add_rank.new.self true (step == 7)
-    (lays_step (λ P. FitsPattern P.men c.args.pattern.now) (λ P. FitRanks P.men (8 - step) (parted_at 47 rest)) (λ P. CanBeSplit items (row P.men (8 - step))) (λ P. 8 - step - 1 ≡ 0)
+    (lays_step (λ P. FitsPattern P.men c.args.pattern.now) (λ P. FitRanks P.men (8 - step) (parted_at 47 rest)) (λ P. CanBeSplit (items_of items) (row P.men (8 - step))) (λ P. 8 - step - 1 ≡ 0)
     c.args.self.now c.loop-step.self c.add_rank.new.self c.loop-step.is_all c.in_ok-is_all.is_all true c.loop-step.invariant c.in_ok-is_all.ensures
     (λ P. last_rank P.men rest items step c.loop-step-test.true parts)
     (λ t. elim c.if-branch.branch [
@@ -29,7 +30,7 @@ loop-step-preserved c =
     let items = c.next_part.result.0.now in
     let rest = c.loop-step.rest.now in
     let parts = rw c.in-Some.is at c.next_part.ensures in
-    lays_step (λ P. FitsPattern P.men c.args.pattern.now) (λ P. FitRanks P.men (8 - step) (parted_at 47 rest)) (λ P. CanBeSplit items (row P.men (8 - step)))
+    lays_step (λ P. FitsPattern P.men c.args.pattern.now) (λ P. FitRanks P.men (8 - step) (parted_at 47 rest)) (λ P. CanBeSplit (items_of items) (row P.men (8 - step)))
     (λ P. FitRanks P.men (8 - (step + 1)) (parted_at 47 c.in-Some.behind.now))
     c.args.self.now c.loop-step.self c.add_rank.new.self c.loop-step.is_all c.in_ok-is_all.is_all c.if-branch.is_all c.loop-step.invariant c.in_ok-is_all.ensures
     (λ P. next_rank P.men rest items c.in-Some.behind.now step c.loop-step-test.true parts)

@@ -2,12 +2,13 @@ use Rattle.std.proofs.Common.{◌≤◌, true, drop, length}
 use Rattle.chess.specs.Fen.{row}
 use Rattle.pgn_criteria.specs.Layouts.{Lays}
 use Rattle.pgn_criteria.specs.Patterns.{CanBeSplit}
+use Rattle.pgn_criteria.specs.Items.{items_of}
 use Rattle.pgn_criteria.proofs.layout.Layout.add_rank.Given as goal
 
 abbrev pub invariant-loop-rest : goal.invariant-loop-rest
 invariant-loop-rest l = record {
   within : l.taken ≤ 8;
-  lays : Lays (λ P. CanBeSplit l.items (row P.men l.rank)) (λ P. CanBeSplit l.rest (drop l.taken (row P.men l.rank))) l.fn.self l.self true;
+  lays : Lays (λ P. CanBeSplit (items_of l.items) (row P.men l.rank)) (λ P. CanBeSplit (items_of l.rest) (drop l.taken (row P.men l.rank))) l.fn.self l.self true;
 }
 
 abbrev pub decreases-loop-rest : goal.decreases-loop-rest

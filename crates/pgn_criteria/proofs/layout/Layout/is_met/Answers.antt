@@ -1,5 +1,4 @@
-use Rattle.std.proofs.Common.{◌≡◌, [], true, false, None, Some, length, drop, refl, sym, ap, ◌∙◌, subst, arith}
-use Rattle.std.proofs.Math.Seq.{drop-length}
+use Rattle.std.proofs.Common.{◌≡◌, true, false, None, Some, refl, sym, ap, ◌∙◌, subst}
 use Rattle.chess.specs.Placements.{man_at}
 use Rattle.chess.specs.Sets.{is_in}
 use Rattle.chess.specs.SetFacts.{is_in-empty}
@@ -8,27 +7,22 @@ use Rattle.pgn_criteria.specs.Layouts.{AllStand, KindWithin}
 use Rattle.pgn_criteria.proofs.layout.Layout.is_met.Goals as goal
 
 pub returns-then-is_empty : goal.returns-then-is_empty
-returns-then-is_empty c =
-    let men = c.args.position.now.men in
-    let all = c.args.self.now.asked.items in
-    let end : c.loop-asked.asked-index ≡ length all = omega arith in
-    let none : drop c.loop-asked.asked-index all ≡ [] = ap (λ n. drop n all) end ∙ drop-length all in (
-      λ t. (
-        c.loop-asked.invariant.0 (subst (AllStand men) (sym none) tt),
-        λ s here. let clash : true ≡ false = sym here ∙ ap (λ set. is_in set s) (c.is_empty.ensures.0 t) ∙ is_in-empty s in cc,
-      ),
-      λ laid. c.if-is_empty.true,
-    )
+returns-then-is_empty c = (
+  λ t. (
+    subst (AllStand c.args.position.now.men) c.deref.ensures.value (c.all_stand.ensures.0 c.if-not-all_stand.false),
+    subst (AllStand c.args.position.now.men) c.deref-else-not-all_stand.ensures.value (c.all_stand-else-not-all_stand.ensures.0 c.if-not-all_stand-2.false),
+    λ s here. let clash : true ≡ false = sym here ∙ ap (λ set. is_in set s) (c.is_empty.ensures.0 t) ∙ is_in-empty s in cc,
+  ),
+  λ laid. c.if-is_empty.true,
+)
 
 pub returns-else-is_empty : goal.returns-else-is_empty
 unfolding KindWithin
 returns-else-is_empty c =
-    let men = c.args.position.now.men in
-    let all = c.args.self.now.asked.items in
-    let end : c.loop-asked.asked-index ≡ length all = omega arith in
-    let none : drop c.loop-asked.asked-index all ≡ [] = ap (λ n. drop n all) end ∙ drop-length all in (
+    let men = c.args.position.now.men in (
       λ t. (
-        c.loop-asked.invariant.0 (subst (AllStand men) (sym none) tt),
+        subst (AllStand c.args.position.now.men) c.deref.ensures.value (c.all_stand.ensures.0 c.if-not-all_stand.false),
+        subst (AllStand c.args.position.now.men) c.deref-else-not-all_stand.ensures.value (c.all_stand-else-not-all_stand.ensures.0 c.if-not-all_stand-2.false),
         λ s here.
             elim (man_at men s) as (λ o. man_at men s ≡ o → man_at men s ≡ None) [
               | None ↦ λ is. is
@@ -36,5 +30,5 @@ returns-else-is_empty c =
             ] refl,
       ),
       λ laid. c.are_within.ensures.1 (λ side kind s is.
-          (c.requires s (c.known.ensures.on_board s (record { side = side; kind = kind }) is)).1 (λ here. some_not_none (man_at men s) (record { side = side; kind = kind }) (laid.1 s here) is)),
+          (c.requires s (c.known.ensures.on_board s (record { side = side; kind = kind }) is)).1 (λ here. some_not_none (man_at men s) (record { side = side; kind = kind }) (laid.2 s here) is)),
     )

@@ -7,5 +7,6 @@ use Rattle.pgn_criteria.proofs.layout.Layout.new.Goals as goal
 pub returns : goal.returns
 returns c men = (
   subst (AllStand men) (sym c.new.ensures.items) tt,
-  λ s here. let clash : true ≡ false = sym here ∙ ap (λ set. is_in set s) c.new-2.ensures ∙ is_in-empty s in cc,
+  subst (AllStand men) (sym c.new-2.ensures.items) tt,
+  λ s here. let clash : true ≡ false = sym here ∙ ap (λ set. is_in set s) c.new-3.ensures ∙ is_in-empty s in cc,
 )

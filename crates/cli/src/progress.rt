@@ -1,0 +1,224 @@
+//! How far an input is read, on a terminal.
+use std::alloc::{AllocError, Global};
+use std::cell::Cell;
+use std::io::{IsTerminal, Write};
+use std::time::Instant;
+use std::{fmt, io};
+
+/// How many milliseconds pass at least from one line to the next.
+const PAUSE: u64 = 250;
+
+/// How each game begins.
+const EVENT: &[u8] = b"[Event ";
+
+/// The most characters that are shown of a name: its last ones.
+const NAME_SHOWN: usize = 24;
+
+/// A line on the terminal that is drawn anew, and taken away before anything else is written there.
+#[derive(Drop)]
+pub struct StatusLine {
+    rt: HostRuntime,
+    is_drawn: Cell<bool>,
+}
+
+impl StatusLine {
+    /// A line that is not drawn.
+    pub fn new(rt: HostRuntime) -> Self {
+        StatusLine {
+            rt,
+            is_drawn: Cell::new(false),
+        }
+    }
+
+    /// Whether there is a terminal for it.
+    fn has_terminal(&self) -> bool {
+        self.rt.stderr().is_terminal()
+    }
+
+    /// Draws it in place of what it was. A fault in that is ignored: the line is no part of what is reported.
+    fn draw(&self, text: &str) {
+        let _ = self.rt.eprint(text);
+        self.is_drawn.set(true);
+    }
+
+    /// Takes it away, if it is drawn.
+    pub fn clear(&self) {
+        if self.is_drawn.get() {
+            let _ = self.rt.eprint("\r\x1b[K");
+            self.is_drawn.set(false);
+        }
+    }
+}
+
+/// A writer that takes the line away first, where it writes to a terminal.
+#[derive(Drop)]
+pub struct Beside<'a, W> {
+    inner: W,
+    line: &'a StatusLine,
+    is_terminal: bool,
+}
+
+impl<'a, W: IsTerminal> Beside<'a, W> {
+    pub fn new(inner: W, line: &'a StatusLine) -> Self {
+        let is_terminal = inner.is_terminal();
+        Beside {
+            inner,
+            line,
+            is_terminal,
+        }
+    }
+}
+
+impl<'a, W: Write> Write for Beside<'a, W> {
+    fn write(&mut self, buf: &[u8]) -> io::Result<usize> {
+        if self.is_terminal {
+            self.line.clear();
+        }
+        self.inner.write(buf)
+    }
+
+    fn flush(&mut self) -> io::Result<()> {
+        self.inner.flush()
+    }
+}
+
+/// How many games begin in bytes that come in pieces.
+#[derive(Clone, Copy)]
+struct Beginnings {
+    count: u64,
+    /// How many bytes of a beginning the last piece ended with.
+    matched: usize,
+}
+
+impl Beginnings {
+    /// Looks at the next piece.
+    fn add(&mut self, bytes: &[u8]) {
+        for &byte in bytes {
+            if EVENT.get(self.matched) == Some(&byte) {
+                self.matched = self.matched.saturating_add(1);
+            } else {
+                self.matched = usize::from(byte == b'[');
+            }
+            if self.matched == EVENT.len() {
+                self.count = self.count.saturating_add(1);
+                self.matched = 0;
+            }
+        }
+    }
+}
+
+/// Bytes as megabytes, with one decimal.
+#[derive(Clone, Copy)]
+struct Megabytes(u64);
+
+impl fmt::Display for Megabytes {
+    fn fmt<W: fmt::Write>(&self, f: &mut fmt::Formatter<W>) -> fmt::Result {
+        let tenths = self.0 / 100_000;
+        write!(f, "{}.{} MB", tenths / 10, tenths % 10)
+    }
+}
+
+/// How far one input is read.
+#[derive(Drop)]
+pub struct Progress<'a> {
+    line: &'a StatusLine,
+    alloc: Global,
+    /// Its name, as far as it is shown.
+    name: String,
+    /// Its bytes, where they are known.
+    size: Option<u64>,
+    read: u64,
+    games: Beginnings,
+    begun: Instant,
+    drawn: Instant,
+}
+
+/// The last characters of a name, with `?` for control characters.
+fn shown_name(alloc: Global, name: &str) -> io::Result<String> {
+    let mut shown = String::new(alloc);
+    let left = name.chars().count().saturating_sub(NAME_SHOWN);
+    for character in name.chars().skip(left) {
+        shown.push(if character.is_control() {
+            '?'
+        } else {
+            character
+        })?;
+    }
+    Ok(shown)
+}
+
+/// The milliseconds from one time to another.
+fn millis(from: Instant, to: Instant) -> u64 {
+    let passed = to.duration_since(from);
+    let whole = passed.as_secs().saturating_mul(1000);
+    whole.saturating_add(u64::from(passed.subsec_millis()))
+}
+
+impl<'a> Progress<'a> {
+    /// That of an input with this name of which nothing is read, where there is a terminal for it.
+    pub fn new(
+        alloc: Global,
+        line: &'a StatusLine,
+        name: &str,
+        size: Option<u64>,
+    ) -> io::Result<Option<Self>> {
+        if !line.has_terminal() {
+            return Ok(None);
+        }
+        let now = Instant::now(&line.rt)?;
+        Ok(Some(Progress {
+            line,
+            alloc,
+            name: shown_name(alloc, name)?,
+            size,
+            read: 0,
+            games: Beginnings {
+                count: 0,
+                matched: 0,
+            },
+            begun: now,
+            drawn: now,
+        }))
+    }
+
+    /// Counts bytes that were read.
+    pub fn add(&mut self, bytes: &[u8]) {
+        self.games.add(bytes);
+        self.pass(bytes.len() as u64);
+    }
+
+    /// Counts bytes that were read or passed over, and draws the line where it is time.
+    pub fn pass(&mut self, count: u64) {
+        self.read = self.read.saturating_add(count);
+        let Ok(now) = Instant::now(&self.line.rt) else {
+            return;
+        };
+        if millis(self.drawn, now) < PAUSE {
+            return;
+        }
+        self.drawn = now;
+        if let Ok(text) = self.text(millis(self.begun, now)) {
+            self.line.draw(text.as_str());
+        }
+    }
+
+    /// The line after so many milliseconds.
+    fn text(&self, passed: u64) -> Result<String, AllocError> {
+        // (bytes a millisecond)
+        let rate = self.read / passed.max(1);
+        let games = self.games.count;
+        let name = self.name.as_str();
+        let speed = Megabytes(rate.saturating_mul(1000));
+        let Some(size) = self.size else {
+            let read = Megabytes(self.read);
+            return format!(in self.alloc; "\r{name}: {read}, {games} games, {speed}/s\x1b[K");
+        };
+        let percent = self.read.min(size).saturating_mul(100) / size.max(1);
+        let left = size.saturating_sub(self.read) / rate.max(1) / 1000;
+        let size = Megabytes(size);
+        let (minutes, seconds) = (left / 60, left % 60);
+        format!(in self.alloc;
+            "\r{name}: {percent} % of {size}, {games} games, {speed}/s, {minutes}:{seconds:02} left\x1b[K"
+        )
+    }
+}

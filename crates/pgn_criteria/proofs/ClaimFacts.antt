@@ -1,0 +1,102 @@
+-- The text of a claim begins and ends with a solid byte, and its first word is that of its kind, so it is never that of a denied claim.
+use Rattle.std.proofs.Common.{◌≡◌, ℕ, List, [], ◌∷◌, ◌++◌, refl, sym, ap, ◌∙◌, subst, arith}
+use Rattle.std.specs.Prelude.{codes, true, ◌+◌}
+use Rattle.pgn_criteria.specs.Reading.{run_of, behind_word}
+use Rattle.pgn_criteria.specs.Lines.{SpellsClaim, SpellsTaken, side_text, relation_text}
+use Rattle.pgn_criteria.specs.declared.condition.Claim.{Claim}
+use Rattle.pgn_criteria.specs.declared.condition.Claim.TheVariants.{Tag, Fen, Material, Moves, Turn, Check, Mate, Stalemate}
+use Rattle.pgn_criteria.proofs.SolidFacts.{BeginsSolid, EndsSolid, solid_ends, ends_behind, begins_some, word_read, word_spelled}
+use Rattle.pgn_criteria.proofs.TurnFacts.{side_ends, turn_read}
+use Rattle.pgn_criteria.proofs.FenFacts.{pattern_some, pattern_solid, fen_read}
+use Rattle.pgn_criteria.proofs.TagFacts.{tag_read}
+use Rattle.pgn_criteria.proofs.MaterialFacts.{material_read}
+use Rattle.pgn_criteria.proofs.LimitFacts.{limits_some, limits_solid}
+use Rattle.pgn_criteria.proofs.MoveWordFacts.{words_end, moves_read}
+
+-- both ends of its text
+pub claim_begins : (text : List ℕ) (claim : Claim (List ℕ)) → SpellsClaim text claim → BeginsSolid text
+claim_begins text (Tag name relation contents) s = (116, _, s.3, refl)
+claim_begins text (Fen pattern) s = (102, _, s.1, refl)
+claim_begins text (Material white black) s = (109, _, s.5, refl)
+claim_begins text (Moves words) s = (109, _, s.1, refl)
+claim_begins text (Turn side) s = (116, _, s.1, refl)
+claim_begins text Check s = (99, _, s, refl)
+claim_begins text Mate s = (109, _, s, refl)
+claim_begins text Stalemate s = (115, _, s, refl)
+
+pub ends_as : (text whole : List ℕ) → text ≡ whole → EndsSolid whole → EndsSolid text
+ends_as text whole is (front, b, ends, solid) = (front, b, is ∙ ends, solid)
+
+pub claim_ends : (text : List ℕ) (claim : Claim (List ℕ)) → SpellsClaim text claim → EndsSolid text
+claim_ends text (Tag name relation contents) (first, second, third, is, g, h, k, some, each, good) =
+    let string = 34 ∷ (contents ++ 34 ∷ []) in
+    ends_as text _ is (ends_behind (codes "tag") (first ++ (name ++ (second ++ (relation_text relation ++ (third ++ string)))))
+    (ends_behind first (name ++ (second ++ (relation_text relation ++ (third ++ string))))
+    (ends_behind name (second ++ (relation_text relation ++ (third ++ string)))
+    (ends_behind second (relation_text relation ++ (third ++ string))
+    (ends_behind (relation_text relation) (third ++ string) (ends_behind third string (34 ∷ contents, 34, refl, refl)))))))
+claim_ends text (Fen pattern) (gap, is, g, good) =
+    ends_as text _ is (ends_behind (codes "fen") (gap ++ pattern) (ends_behind gap pattern (solid_ends pattern (pattern_some pattern good) (pattern_solid pattern good))))
+claim_ends text (Material white black) (first, second, third, of_white, of_black, is, g, h, k, spells_white, spells_black) =
+    let last = ends_behind third of_black (solid_ends of_black (limits_some of_black black spells_black) (limits_solid of_black black spells_black)) in
+    ends_as text _ is (ends_behind (codes "material") (first ++ (of_white ++ (second ++ (codes "v" ++ (third ++ of_black)))))
+    (ends_behind first (of_white ++ (second ++ (codes "v" ++ (third ++ of_black))))
+    (ends_behind of_white (second ++ (codes "v" ++ (third ++ of_black)))
+    (ends_behind second (codes "v" ++ (third ++ of_black)) (ends_behind (codes "v") (third ++ of_black) last)))))
+claim_ends text (Moves words) (gap, is, g, are) =
+    ends_as text _ is (ends_behind (codes "moves") (gap ++ words) (ends_behind gap words (words_end words are)))
+claim_ends text (Turn side) (gap, is, g) =
+    ends_as text _ is (ends_behind (codes "turn") (gap ++ side_text side) (ends_behind gap (side_text side) (side_ends side)))
+claim_ends text Check is = ends_as text _ is (codes "chec", 107, refl, refl)
+claim_ends text Mate is = ends_as text _ is (codes "mat", 101, refl, refl)
+claim_ends text Stalemate is = ends_as text _ is (codes "stalemat", 101, refl, refl)
+
+-- the first word of a claim
+abbrev pub key : Claim (List ℕ) → List ℕ
+key (Tag name relation contents) = codes "tag"
+key (Fen pattern) = codes "fen"
+key (Material white black) = codes "material"
+key (Moves words) = codes "moves"
+key (Turn side) = codes "turn"
+key Check = codes "check"
+key Mate = codes "mate"
+key Stalemate = codes "stalemate"
+
+pub key_read : (text : List ℕ) (claim : Claim (List ℕ)) → SpellsClaim text claim → run_of text ≡ key claim
+key_read text (Tag name relation contents) spells = (tag_read text name relation contents spells).key_is
+key_read text (Fen pattern) spells = (fen_read text pattern spells).0
+key_read text (Material white black) spells = (material_read text white black spells).key_is
+key_read text (Moves words) spells = (moves_read text words spells).0
+key_read text (Turn side) spells = (turn_read text side spells).0
+key_read text Check spells = ap run_of spells
+key_read text Mate spells = ap run_of spells
+key_read text Stalemate spells = ap run_of spells
+
+-- these words, and `not`, differ in the sum of their bytes
+abbrev pub total : List ℕ → ℕ
+total [] = 0
+total (b ∷ x) = b + total x
+
+not_apart : (claim : Claim (List ℕ)) → 337 ≡ total (key claim) → ⊥
+not_apart (Tag name relation contents) same = omega arith
+not_apart (Fen pattern) same = omega arith
+not_apart (Material white black) same = omega arith
+not_apart (Moves words) same = omega arith
+not_apart (Turn side) same = omega arith
+not_apart Check same = omega arith
+not_apart Mate same = omega arith
+not_apart Stalemate same = omega arith
+
+pub claim_not : (text : List ℕ) (claim : Claim (List ℕ)) → run_of text ≡ codes "not" → SpellsClaim text claim → ⊥
+claim_not text claim run spells = not_apart claim (ap total (sym run ∙ key_read text claim spells))
+
+-- a denied claim is read behind its first word, and the other way round
+pub not_read : (text : List ℕ) (claim : Claim (List ℕ)) → SpellsTaken text true claim → (run_of text ≡ codes "not") × SpellsClaim (behind_word text) claim
+not_read text claim (gap, own, is, g, spells) =
+    let parts = word_read text (codes "not") gap own is refl g (claim_begins own claim spells) in
+    (parts.0, subst (λ x. SpellsClaim x claim) (sym parts.1) spells)
+
+pub not_spelled : (text : List ℕ) (claim : Claim (List ℕ)) → run_of text ≡ codes "not" → SpellsClaim (behind_word text) claim → SpellsTaken text true claim
+not_spelled text claim run spells =
+    let two = word_spelled text (codes "not") (behind_word text) run refl (begins_some (behind_word text) (claim_begins (behind_word text) claim spells)) in
+    (two.0, behind_word text, two.1, two.2, spells)

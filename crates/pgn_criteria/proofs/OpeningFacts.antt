@@ -1,0 +1,114 @@
+-- Conditions on the first moves of a game, decided by its opening.
+use Rattle.std.proofs.Common.{◌↔◌, ◌+◌, ◌<◌, ◌≤◌, ◌≡◌, if◌then◌else◌, ℕ, Bool, true, false, List, [], ◌∷◌, length, map, Option, inl, inr, refl, sym, ◌∙◌, arith}
+use Rattle.chess.specs.Positions.{State}
+use Rattle.pgn_text.specs.Games.{Item}
+use Rattle.pgn_game.specs.Openings.{IsOpening}
+use Rattle.pgn_game.specs.Replays.{Replay, IsSomeReplay}
+use Rattle.pgn_game.proofs.Openings.{AgreeAt, opening_agrees}
+use Rattle.pgn_criteria.specs.Meeting.{Tags, IsSo, Taken, Holds, AllHold, SomeHold}
+use Rattle.pgn_criteria.specs.MoveTexts.{FitMoves}
+use Rattle.pgn_criteria.specs.Words.{words_of}
+use Rattle.pgn_criteria.specs.Stages.{AsksWithin, AllAskWithin, EachAsksWithin, FitTheSame, is_on_position, on_positions}
+use Rattle.pgn_criteria.specs.declared.condition.Condition.{Condition}
+use Rattle.pgn_criteria.specs.declared.condition.Claim.{Claim}
+use Rattle.pgn_criteria.specs.declared.condition.Claim.TheVariants.{Tag, Fen, Material, Moves, Turn, Check, Mate, Stalemate}
+
+-- where two replays agree before so many plies, the same words fit
+fit_on : (most plies : ℕ) (replay other : Replay) → ((i : ℕ) → i < most → AgreeAt replay.positions replay.played other.positions other.played i)
+    → (words : List (List ℕ)) → plies + length words ≤ most → FitMoves replay plies words → FitMoves other plies words
+fit_on most plies replay other agree [] within fit = tt
+fit_on most plies replay other agree (word ∷ more) within fit =
+    let here = agree plies (omega (arith, within)) in (
+      record {
+        position = fit.0.position;
+        move = fit.0.move;
+        here = sym here.0 ∙ fit.0.here;
+        played = sym here.1 ∙ fit.0.played;
+        fits = fit.0.fits;
+      },
+      fit_on most (plies + 1) replay other agree more (omega (arith, within)) fit.1,
+    )
+
+-- what an opening fits each replay of the game fits
+pub opening_fits : (fen : Option (List ℕ)) (items : List Item) (most : ℕ) (opening replay : Replay) → IsOpening fen items most opening → IsSomeReplay fen items replay
+    → FitTheSame most opening replay
+opening_fits fen items most opening replay is whole words within =
+    let agree = opening_agrees fen items most opening replay is whole in (
+      fit_on most 0 opening replay agree words (omega (arith, within)),
+      fit_on most 0 replay opening (λ i less. (sym (agree i less).0, sym (agree i less).1)) words (omega (arith, within)),
+    )
+
+-- what is taken of facts that are the same is the same
+same_taken : {A B : Type 0} (denied : Bool) → A ↔ B → Taken denied A ↔ Taken denied B
+same_taken false same = same
+same_taken true same = (λ none b. none (same.1 b), λ none a. none (same.0 a))
+
+-- so the same conditions hold
+module _ (tags : Tags) (most : ℕ) (replay other : Replay) (same : FitTheSame most replay other) (P : State) where
+  one_so_there : (claim : Claim (List ℕ)) → AsksWithin most claim → IsSo tags replay P claim ↔ IsSo tags other P claim
+  one_so_there (Tag name relation contents) within = (λ holds. holds, λ holds. holds)
+  one_so_there (Fen pattern) within = (λ holds. holds, λ holds. holds)
+  one_so_there (Material white black) within = (λ holds. holds, λ holds. holds)
+  one_so_there (Moves words) within = same (words_of words) within
+  one_so_there (Turn side) within = (λ holds. holds, λ holds. holds)
+  one_so_there Check within = (λ holds. holds, λ holds. holds)
+  one_so_there Mate within = (λ holds. holds, λ holds. holds)
+  one_so_there Stalemate within = (λ holds. holds, λ holds. holds)
+
+  one_holds_there : (condition : Condition (List ℕ)) → AsksWithin most condition.claim → Holds tags replay P condition ↔ Holds tags other P condition
+  one_holds_there condition within = same_taken condition.is_denied (one_so_there condition.claim within)
+
+  all_hold_there : (conditions : List (Condition (List ℕ))) → AllAskWithin most conditions → AllHold tags replay P conditions ↔ AllHold tags other P conditions
+  all_hold_there [] within = (λ hold. tt, λ hold. tt)
+  all_hold_there (condition ∷ more) within =
+      let here = one_holds_there condition within.0 in
+      let there = all_hold_there more within.1 in
+      (λ hold. (here.0 hold.0, there.0 hold.1), λ hold. (here.1 hold.0, there.1 hold.1))
+
+  pub some_hold_there : (alternatives : List (List (Condition (List ℕ)))) → EachAsksWithin most alternatives
+      → SomeHold tags replay P alternatives ↔ SomeHold tags other P alternatives
+  some_hold_there [] within = (λ hold. hold, λ hold. hold)
+  some_hold_there (alternative ∷ more) within =
+      let here = all_hold_there alternative within.0 in
+      let there = some_hold_there more within.1 in (
+        λ hold. elim hold [ inl all ↦ inl (here.0 all) | inr some ↦ inr (there.0 some) ],
+        λ hold. elim hold [ inl all ↦ inl (here.1 all) | inr some ↦ inr (there.1 some) ],
+      )
+
+-- conditions on positions ask for no moves
+asks_none : (claim : Claim (List ℕ)) → is_on_position claim ≡ true → AsksWithin 0 claim
+asks_none (Tag name relation contents) on = tt
+asks_none (Fen pattern) on = tt
+asks_none (Material white black) on = tt
+asks_none (Moves words) on = cc
+asks_none (Turn side) on = tt
+asks_none Check on = tt
+asks_none Mate on = tt
+asks_none Stalemate on = tt
+
+pub positions_ask_none : (conditions : List (Condition (List ℕ))) → AllAskWithin 0 (on_positions conditions)
+positions_ask_none [] = tt
+positions_ask_none (condition ∷ more) =
+    elim (is_on_position condition.claim) as (λ t. is_on_position condition.claim ≡ t → AllAskWithin 0 (if t then condition ∷ on_positions more else on_positions more)) [
+      | true ↦ λ on. (asks_none condition.claim on, positions_ask_none more)
+      | false ↦ λ off. positions_ask_none more
+    ] refl
+
+pub none_of_none : {V : Type 0} (value : V → List (Condition (List ℕ))) (left : List V) → EachAsksWithin 0 (map (λ a. on_positions (value a)) left)
+none_of_none value [] = tt
+none_of_none value (a ∷ left) = (positions_ask_none (value a), none_of_none value left)
+
+-- what asks within so many asks within more
+pub asks_more : (least most : ℕ) → least ≤ most → (claim : Claim (List ℕ)) → AsksWithin least claim → AsksWithin most claim
+asks_more least most up (Tag name relation contents) within = tt
+asks_more least most up (Fen pattern) within = tt
+asks_more least most up (Material white black) within = tt
+asks_more least most up (Moves words) within = omega (arith, within, up)
+asks_more least most up (Turn side) within = tt
+asks_more least most up Check within = tt
+asks_more least most up Mate within = tt
+asks_more least most up Stalemate within = tt
+
+pub all_ask_more : (least most : ℕ) → least ≤ most → (conditions : List (Condition (List ℕ))) → AllAskWithin least conditions → AllAskWithin most conditions
+all_ask_more least most up [] within = tt
+all_ask_more least most up (condition ∷ more) within = (asks_more least most up condition.claim within.0, all_ask_more least most up more within.1)

@@ -1,0 +1,15 @@
+use Rattle.std.proofs.Common.{◌↔◌, length}
+use Rattle.pgn_text.specs.Strings.{IsContents}
+use Rattle.pgn_text.specs.Reading.{value_of}
+use Rattle.pgn_criteria.specs.Comparing.{Allows}
+use Rattle.pgn_criteria.specs.declared.compare.Relation.TheVariants.{Has}
+use Rattle.pgn_criteria.proofs.compare.has.Given as goal
+
+abbrev pub invariant-loop-rest : goal.invariant-loop-rest
+invariant-loop-rest l = record {
+  good : IsContents l.rest;
+  rest : Allows Has (value_of l.rest) (value_of l.text) ↔ Allows Has (value_of l.fn.given) (value_of l.text);
+}
+
+abbrev pub decreases-loop-rest : goal.decreases-loop-rest
+decreases-loop-rest l = length l.rest

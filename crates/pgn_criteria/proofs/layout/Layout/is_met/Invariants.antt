@@ -1,6 +1,0 @@
-use Rattle.std.proofs.Common.{◌↔◌, drop}
-use Rattle.pgn_criteria.specs.Layouts.{AllStand}
-use Rattle.pgn_criteria.proofs.layout.Layout.is_met.Given as goal
-
-abbrev pub invariant-loop-asked : goal.invariant-loop-asked
-invariant-loop-asked l = AllStand l.position.men (drop l.asked-index l.self.asked.items) ↔ AllStand l.position.men l.self.asked.items

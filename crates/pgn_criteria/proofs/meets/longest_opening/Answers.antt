@@ -1,0 +1,15 @@
+use Rattle.std.proofs.Common.{map, sym, subst, arith}
+use Rattle.pgn_criteria.specs.Stages.{AllAskWithin, seen, claim_seen}
+use Rattle.pgn_criteria.proofs.MeetFacts.{alternatives_from}
+use Rattle.pgn_criteria.proofs.OpeningFacts.{asks_more}
+use Rattle.pgn_criteria.proofs.meets.longest_opening.Goals as goal
+
+pub loop-condition-preserved : goal.loop-condition-preserved
+loop-condition-preserved c n above rest =
+    let all = c.args.conditions.now in
+    let i = c.loop-condition.condition-index in
+    let own = c.condition-item.result in
+    let front = alternatives_from all i own c.loop-condition-test.true c.condition-item.is in
+    c.loop-condition.invariant n (omega (arith, above, c.larger-most.ensures))
+    (subst (λ cs. AllAskWithin n (map (seen (λ text. text.items)) cs)) (sym front)
+    (asks_more c.opening_of.result n (omega (arith, above, c.larger-most.ensures)) (claim_seen (λ text. text.items) own.claim) c.opening_of.ensures, rest))

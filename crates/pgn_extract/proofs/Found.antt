@@ -1,0 +1,193 @@
+-- The entries of a game, found while its main line is played.
+use Rattle.std.proofs.Common.{◌≡◌, ◌↔◌, ℕ, ◌+◌, ◌<◌, ◌≤◌, Bool, true, false, List, [], ◌∷◌, ◌++◌, length, Option, Some, IsTrue, refl, sym, ap, ◌∙◌, subst, append_assoc, append-nil, length-append, inl, inr, not, arith}
+use Rattle.std.proofs.lemmas.Bool.{cases_lt, both_ways}
+use Rattle.std.specs.List.{slice_get}
+use Rattle.chess.specs.Positions.{State}
+use Rattle.chess.specs.declared.moves.Move.{Move}
+use Rattle.pgn_text.specs.GameTexts.{GameText}
+use Rattle.pgn_text.specs.Games.{Item}
+use Rattle.pgn_game.specs.Faults.{IsMoveFault}
+use Rattle.pgn_game.specs.MainLines.{main_words, IsMainLine}
+use Rattle.pgn_game.specs.PlayedLines.{PlayedLine, IsBegun, PlaysWord}
+use Rattle.pgn_game.specs.Replays.{Replay, IsReplay}
+use Rattle.pgn_game.specs.declared.replayer.Lines.TheVariants.{Main}
+use Rattle.pgn_criteria.specs.Meeting.{Tags, SomeHold}
+use Rattle.pgn_criteria.specs.declared.condition.Condition.{Condition}
+use Rattle.pgn_criteria.proofs.MeetFacts.{meets_at}
+use Rattle.pgn_extract.specs.Aims.{Aim, IsWanted, IsEntry}
+use Rattle.pgn_extract.specs.Finding.{AsksFor, IsOfGame, IsPlayedTo, Finds, tags_of}
+use Rattle.pgn_extract.specs.GameReports.{entries_from, AreChosen, AreListed}
+use Rattle.pgn_extract.specs.GameReports.AreChosen.{none, keep, leave}
+use Rattle.pgn_extract.specs.Listing.{Entry, entry_line, listing}
+use Rattle.pgn_extract.proofs.ModeOutputs.{listing-append}
+use Rattle.pgn_extract.proofs.Picks.{entry_at}
+
+-- the line at its start
+pub played_none : {fen : Option (List ℕ)} {items : List Item} {line : PlayedLine} → IsBegun fen items line → IsPlayedTo fen items line [] []
+played_none {fen} {items} {line} begun = record {
+  start = line.position;
+  is_start = begun.start;
+  count = sym begun.plies;
+  completes = λ later more is. subst (λ ws. IsMainLine line.position ws later more) begun.words is;
+  faults = λ fault met. subst (λ ws. IsMoveFault line.position 0 ws fault) begun.words
+      (subst (λ n. IsMoveFault line.position n line.words fault) begun.plies met);
+}
+
+-- after one more move
+pub played_on : {fen : Option (List ℕ)} {items : List Item} {old new : PlayedLine} {before : List State} {played : List Move}
+    → IsPlayedTo fen items old before played → (word : PlaysWord old new) → IsPlayedTo fen items new (before ++ old.position ∷ []) (played ++ word.m ∷ [])
+played_on {fen} {items} {old} {new} {before} {played} to word = record {
+  start = to.start;
+  is_start = to.is_start;
+  count = length-append before (old.position ∷ []) ∙ ap (λ n. n + 1) to.count ∙ sym word.plies;
+  completes = λ later more line.
+      subst (λ ps. IsMainLine to.start (main_words items 0) ps ((played ++ word.m ∷ []) ++ more)) (sym (append_assoc before (old.position ∷ []) later))
+      (subst (λ ms. IsMainLine to.start (main_words items 0) (before ++ old.position ∷ later) ms) (sym (append_assoc played (word.m ∷ []) more))
+      (to.completes (old.position ∷ later) (word.m ∷ more)
+      (subst (λ ws. IsMainLine old.position ws (old.position ∷ later) (word.m ∷ more)) (sym word.words)
+      (word.m, later, more, refl, refl, word.named, subst (λ s. IsMainLine s new.words later more) word.position line))));
+  faults = λ fault met. to.faults fault
+      (subst (λ ws. IsMoveFault old.position old.plies ws fault) (sym word.words)
+      (inr (
+        word.m,
+        word.named,
+        subst (λ s. IsMoveFault s (old.plies + 1) new.words fault) word.position (subst (λ n. IsMoveFault new.position n new.words fault) word.plies met),
+      )));
+}
+
+-- after the last
+pub played_all : {fen : Option (List ℕ)} {items : List Item} {line : PlayedLine} {before : List State} {played : List Move}
+    → IsPlayedTo fen items line before played → line.words ≡ []
+    → IsReplay Main fen items (record { positions = before ++ line.position ∷ []; played = played; turns = [] })
+played_all {fen} {items} {line} {before} {played} to ends = record {
+  start = to.start;
+  is_start = to.is_start;
+  line = subst (λ ms. IsMainLine to.start (main_words items 0) (before ++ line.position ∷ []) ms) (append-nil played)
+      (to.completes (line.position ∷ []) [] (subst (λ ws. IsMainLine line.position ws (line.position ∷ []) []) (sym ends) (refl, refl)));
+  turns = refl;
+}
+
+-- where no position is asked yet, none is an entry if nothing can be met
+pub finds_none : (aim : Aim) (number offset : ℕ) (game : GameText) (asked : List (List (Condition (List ℕ)))) (text : List ℕ) (on : Bool) → AsksFor aim game asked
+    → (on ≡ false → length asked ≡ 0) → Finds aim number offset game [] text text on
+finds_none aim number offset game asked text on asks off = record {
+  found = [];
+  written = sym (append-nil text);
+  completes = λ replay own rest is later chosen.
+      subst (λ ps. AreChosen (λ entry. IsEntry aim (tags_of game) replay entry.ply) (entries_from number offset 0 ps) later) (sym is) chosen;
+  quiet = λ is first replay own rest at n less. absurd (omega arith);
+  shut = λ is replay own rest at n low entry. let met = (asks replay own n).1 entry.0.2 in no_met replay met.position asked (off is) met.hold;
+}
+  where
+    no_met : (replay : Replay) (P : State) (asked : List (List (Condition (List ℕ)))) → length asked ≡ 0 → SomeHold (tags_of game) replay P asked → ⊥
+    no_met replay P [] empty hold = hold
+    no_met replay P (first ∷ more) empty hold = absurd (omega arith)
+
+-- all are asked
+pub finds_all : {aim : Aim} {number offset : ℕ} {game : GameText} {asked : List State} {old new : List ℕ} {on : Bool} (all : Finds aim number offset game asked old new on)
+    (replay : Replay) → IsOfGame game replay → replay.positions ≡ asked → AreListed aim number offset (tags_of game) replay all.found
+finds_all {aim} {number} {offset} {game} {asked} all replay own is =
+    subst (AreListed aim number offset (tags_of game) replay) (append-nil all.found) (all.completes replay own [] (is ∙ sym (append-nil asked)) [] none)
+
+pub at_seam : (before : List State) (P : State) (rest : List State) → slice_get (before ++ P ∷ rest) (length before) ≡ Some P
+at_seam [] P rest = refl
+at_seam (first ∷ before) P rest = at_seam before P rest
+
+first_by : (b : Bool) → not b ≡ false → b ≡ true
+first_by true is = refl
+first_by false is = absurd (cc)
+
+-- one more position
+module _ {aim : Aim} {number offset : ℕ} {game : GameText} {before : List State} {old new : List ℕ} {on : Bool} (P : State) (so_far : Finds aim number offset game before old new on) where
+  behind : (replay : Replay) (rest : List State) → replay.positions ≡ (before ++ P ∷ []) ++ rest → replay.positions ≡ before ++ P ∷ rest
+  behind replay rest is = is ∙ append_assoc before (P ∷ []) rest
+
+  grown : length (before ++ P ∷ []) ≡ length before + 1
+  grown = length-append before (P ∷ [])
+
+  leaves_one : (still : Bool)
+      → ((replay : Replay) → IsOfGame game replay → (rest : List State) → replay.positions ≡ before ++ P ∷ rest → IsEntry aim (tags_of game) replay (length before) → ⊥)
+      → (still ≡ true → aim.first ≡ true → (replay : Replay) → IsOfGame game replay → (rest : List State) → replay.positions ≡ before ++ P ∷ rest
+      → (n : ℕ) → n < length before + 1 → IsWanted aim (tags_of game) replay n → ⊥)
+      → (still ≡ false → (replay : Replay) → IsOfGame game replay → (rest : List State) → replay.positions ≡ before ++ P ∷ rest
+      → (n : ℕ) → length before + 1 ≤ n → IsEntry aim (tags_of game) replay n → ⊥)
+      → Finds aim number offset game (before ++ P ∷ []) old new still
+  leaves_one still fails quiet shut = record {
+    found = so_far.found;
+    written = so_far.written;
+    completes = λ replay own rest is later chosen.
+        so_far.completes replay own (P ∷ rest) (behind replay rest is) later
+        (leave (entry_at number offset (length before)) (entries_from number offset (length before + 1) rest) later (fails replay own rest (behind replay rest is))
+        (subst (λ n. AreChosen (λ entry. IsEntry aim (tags_of game) replay entry.ply) (entries_from number offset n rest) later) grown chosen));
+    quiet = λ is first replay own rest at n less. quiet is first replay own rest (behind replay rest at) n (subst (λ k. n < k) grown less);
+    shut = λ is replay own rest at n low. shut is replay own rest (behind replay rest at) n (subst (λ k. k ≤ n) grown low);
+  }
+
+  -- it is no longer on
+  pub leaves_shut : on ≡ false → Finds aim number offset game (before ++ P ∷ []) old new false
+  leaves_shut off =
+      leaves_one false
+      (λ replay own rest is. so_far.shut off replay own (P ∷ rest) is (length before) (omega arith))
+      (λ is. absurd (cc))
+      (λ same replay own rest is n low. so_far.shut off replay own (P ∷ rest) is n (omega arith))
+
+  -- the last ply that is looked for is past
+  pub leaves_past : aim.max_ply < length before → Finds aim number offset game (before ++ P ∷ []) old new false
+  leaves_past past =
+      leaves_one false
+      (λ replay own rest is entry. let most = entry.0.1 in omega arith)
+      (λ is. absurd (cc))
+      (λ same replay own rest is n low entry. let most = entry.0.1 in omega arith)
+
+  -- it is not wanted
+  pub leaves_unwanted : on ≡ true → ((replay : Replay) → IsOfGame game replay → (rest : List State) → replay.positions ≡ before ++ P ∷ rest → IsWanted aim (tags_of game) replay (length before) → ⊥)
+      → Finds aim number offset game (before ++ P ∷ []) old new true
+  leaves_unwanted still fails =
+      leaves_one true
+      (λ replay own rest is entry. fails replay own rest is entry.0)
+      (λ same first replay own rest is n less wanted. elim (cases_lt n (length before)) [
+        | inl under ↦ so_far.quiet still first replay own (P ∷ rest) is n under wanted
+        | inr over ↦ let here : n ≡ length before = omega arith in fails replay own rest is (subst (IsWanted aim (tags_of game) replay) here wanted)
+      ])
+      (λ is. absurd (cc))
+
+  -- it is an entry
+  pub keeps_one : {next : List ℕ} → on ≡ true
+      → ((replay : Replay) → IsOfGame game replay → (rest : List State) → replay.positions ≡ before ++ P ∷ rest → IsWanted aim (tags_of game) replay (length before))
+      → next ≡ new ++ entry_line aim.name (entry_at number offset (length before)) → Finds aim number offset game (before ++ P ∷ []) old next (not aim.first)
+  keeps_one {next} still wanted added = record {
+    found = so_far.found ++ entry ∷ [];
+    written = added ∙ ap (λ t. t ++ entry_line aim.name entry) so_far.written ∙ append_assoc old (listing aim.name so_far.found) (entry_line aim.name entry)
+        ∙ ap (λ t. old ++ t) (ap (λ t. listing aim.name so_far.found ++ t) (sym (append-nil (entry_line aim.name entry))) ∙ sym (listing-append aim.name so_far.found (entry ∷ [])));
+    completes = λ replay own rest is later chosen.
+        subst (AreListed aim number offset (tags_of game) replay) (sym (append_assoc so_far.found (entry ∷ []) later))
+        (so_far.completes replay own (P ∷ rest) (behind replay rest is) (entry ∷ later)
+        (keep entry (entries_from number offset (length before + 1) rest) later (listed replay own rest (behind replay rest is))
+        (subst (λ n. AreChosen (λ entry. IsEntry aim (tags_of game) replay entry.ply) (entries_from number offset n rest) later) grown chosen)));
+    quiet = λ is first replay own rest at n less. let no : not aim.first ≡ false = ap not first in absurd (both_ways (not aim.first) no is);
+    shut = λ is replay own rest at n low is_entry.
+        is_entry.1 (first_by aim.first is) (length before) (let size = grown in omega arith) (wanted replay own rest (behind replay rest at));
+  }
+    where
+      entry : Entry
+      entry = entry_at number offset (length before)
+
+      listed : (replay : Replay) → IsOfGame game replay → (rest : List State) → replay.positions ≡ before ++ P ∷ rest → IsEntry aim (tags_of game) replay (length before)
+      listed replay own rest is = (wanted replay own rest is, λ first n less earlier. so_far.quiet still first replay own (P ∷ rest) is n less earlier)
+
+-- what is asked of a position decides whether it is wanted
+module _ (aim : Aim) (game : GameText) (asked : List (List (Condition (List ℕ)))) (asks : AsksFor aim game asked) (before : List State) (P : State) (r : Bool)
+    (told : (tags : Tags) (replay : Replay) → IsTrue r ↔ SomeHold tags replay P asked) where
+  pub is_wanted : r ≡ true → aim.min_ply ≤ length before → length before ≤ aim.max_ply
+      → (replay : Replay) → IsOfGame game replay → (rest : List State) → replay.positions ≡ before ++ P ∷ rest → IsWanted aim (tags_of game) replay (length before)
+  is_wanted holds low high replay own rest is = (
+    low,
+    high,
+    (asks replay own (length before)).0
+        ((meets_at (tags_of game) replay (length before) asked P r (ap (λ ps. slice_get ps (length before)) is ∙ at_seam before P rest) (told (tags_of game) replay)).0 holds),
+  )
+
+  pub not_wanted : r ≡ false → (replay : Replay) → IsOfGame game replay → (rest : List State) → replay.positions ≡ before ++ P ∷ rest → IsWanted aim (tags_of game) replay (length before) → ⊥
+  not_wanted fails replay own rest is wanted =
+      let t : IsTrue r = (meets_at (tags_of game) replay (length before) asked P r (ap (λ ps. slice_get ps (length before)) is ∙ at_seam before P rest) (told (tags_of game) replay)).1
+      ((asks replay own (length before)).1 wanted.2) in absurd (cc)

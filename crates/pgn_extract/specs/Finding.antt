@@ -1,0 +1,97 @@
+-- The entries of a game, found while its main line is played: what is found so far, and what is left completes the whole.
+use Rattle.std.specs.Prelude.{◌≡◌, ◌↔◌, ◌<◌, ◌≤◌, ◌++◌, ◌∷◌, ℕ, Bool, true, false, List, [], length, Option, MatchOption, IsTrue, codes}
+use Rattle.chess.specs.Positions.{State}
+use Rattle.chess.specs.declared.moves.Move.{Move}
+use Rattle.pgn_text.specs.GameTexts.{GameText, tag_in}
+use Rattle.pgn_text.specs.Games.{Item}
+use Rattle.pgn_game.specs.Faults.{Fault, IsMoveFault, IsFault}
+use Rattle.pgn_game.specs.MainLines.{main_words, IsMainLine}
+use Rattle.pgn_game.specs.PlayedLines.{PlayedLine}
+use Rattle.pgn_game.specs.Replays.{Replay, IsReplay, IsSomeReplay, IsSoundGame}
+use Rattle.pgn_game.specs.Starts.{fen_tag, IsStart}
+use Rattle.pgn_game.specs.declared.replayer.Lines.TheVariants.{Main}
+use Rattle.pgn_criteria.specs.Meeting.{Tags, Meets}
+use Rattle.pgn_criteria.specs.declared.condition.Condition.{Condition}
+use Rattle.pgn_extract.specs.Aims.{Aim, IsMet, IsWanted, IsEntry}
+use Rattle.pgn_extract.specs.Exports.{HasEntry}
+use Rattle.pgn_extract.specs.GameReports.{entries_from, AreChosen, AreListed}
+use Rattle.pgn_extract.specs.Index.{mark, titled}
+use Rattle.pgn_extract.specs.Listing.{Entry, listing}
+
+-- the mark that a line begins with, after the name of its file where lines have one: `NAME:N@O`
+abbrev pub named_mark : Option (List ℕ) → ℕ → ℕ → List ℕ
+named_mark name number offset = titled (codes ":") name ++ mark number offset
+
+-- for a name, the contents of the string of the game's first tag with it
+abbrev pub tags_of : GameText → Tags
+tags_of game name = tag_in name game.tags
+
+-- it is a replay of the game: of its main line or of all its lines
+abbrev pub IsOfGame : GameText → Replay → Type 0
+IsOfGame game replay = IsSomeReplay (tag_in fen_tag game.tags) game.elements replay
+
+-- a game is asked in place of the criteria: the same plies of it are met
+abbrev pub AsksFor : Aim → GameText → List (List (Condition (List ℕ))) → Type 0
+AsksFor aim game asked =
+    (replay : Replay) → IsOfGame game replay → (ply : ℕ) → Meets (tags_of game) replay ply asked ↔ IsMet aim.criteria (tags_of game) replay ply
+
+-- the lines of the entries of the game are added
+abbrev pub AddsEntries : Aim → ℕ → ℕ → GameText → List ℕ → List ℕ → Type 0
+AddsEntries aim number offset game old new =
+    (replay : Replay) × IsReplay Main (tag_in fen_tag game.tags) game.elements replay
+    × (entries : List Entry) × AreListed aim number offset (tags_of game) replay entries × (new ≡ old ++ listing aim.name entries)
+
+-- the game has the fault, and something may be added already
+abbrev pub StopsAtFault : GameText → List ℕ → List ℕ → Fault → Type 0
+StopsAtFault game old new fault = IsFault Main (tag_in fen_tag game.tags) game.elements fault × (more : List ℕ) × (new ≡ old ++ more)
+
+-- the game is played up to the line: these are the positions before the one that is reached, and what is left completes the whole
+pub record IsPlayedTo (fen : Option (List ℕ)) (items : List Item) (line : PlayedLine) (before : List State) (played : List Move) : Type 0 where
+  pub start : State
+  pub is_start : IsStart fen start
+  pub count : length before ≡ line.plies
+  pub completes : (later : List State) (more : List Move) → IsMainLine line.position line.words later more
+      → IsMainLine start (main_words items 0) (before ++ later) (played ++ more)
+  pub faults : (fault : Fault) → IsMoveFault line.position line.plies line.words fault → IsMoveFault start 0 (main_words items 0) fault
+
+-- the entries at these positions are found, and their lines added; once it isn't on, no later ply is an entry
+pub record Finds (aim : Aim) (number offset : ℕ) (game : GameText) (asked : List State) (old new : List ℕ) (on : Bool) : Type 0 where
+  pub found : List Entry
+  pub written : new ≡ old ++ listing aim.name found
+  pub completes : (replay : Replay) → IsOfGame game replay → (rest : List State) → replay.positions ≡ asked ++ rest → (later : List Entry)
+      → AreChosen (λ entry. IsEntry aim (tags_of game) replay entry.ply) (entries_from number offset (length asked) rest) later
+      → AreListed aim number offset (tags_of game) replay (found ++ later)
+  pub quiet : on ≡ true → aim.first ≡ true → (replay : Replay) → IsOfGame game replay → (rest : List State) → replay.positions ≡ asked ++ rest
+      → (n : ℕ) → n < length asked → IsWanted aim (tags_of game) replay n → ⊥
+  pub shut : on ≡ false → (replay : Replay) → IsOfGame game replay → (rest : List State) → replay.positions ≡ asked ++ rest
+      → (n : ℕ) → length asked ≤ n → IsEntry aim (tags_of game) replay n → ⊥
+
+-- at the next position no entry is left out
+abbrev pub GoesOn : Aim → ℕ → ℕ → List (List (Condition (List ℕ))) → PlayedLine → List ℕ → List ℕ → Bool → Bool → Type 0
+GoesOn aim number offset asked line old new on still =
+    (game : GameText) → AsksFor aim game asked → (before : List State) (text : List ℕ) → length before ≡ line.plies
+    → Finds aim number offset game before text old on → Finds aim number offset game (before ++ line.position ∷ []) text new still
+
+-- the main line of the game is sound, and has an entry or has none
+abbrev pub IsChosen : Aim → GameText → Bool → Type 0
+IsChosen aim game has =
+    IsSoundGame Main (tag_in fen_tag game.tags) game.elements
+    × ((replay : Replay) → IsOfGame game replay → IsTrue has ↔ HasEntry aim (tags_of game) replay)
+
+-- the position that is reached is wanted or not
+abbrev pub WantsHere : Aim → List (List (Condition (List ℕ))) → PlayedLine → Bool → Type 0
+WantsHere aim asked line wanted =
+    (game : GameText) → AsksFor aim game asked → (before : List State) → length before ≡ line.plies
+    → (replay : Replay) → IsOfGame game replay → (rest : List State) → replay.positions ≡ before ++ line.position ∷ rest → IsTrue wanted ↔ IsWanted aim (tags_of game) replay (length before)
+
+-- of these positions this is the first that is wanted
+abbrev pub IsFirstWanted : Aim → GameText → List State → Option ℕ → Type 0
+IsFirstWanted aim game asked found =
+    (replay : Replay) → IsOfGame game replay → (rest : List State) → replay.positions ≡ asked ++ rest → MatchOption found
+    ((n : ℕ) → n < length asked → IsWanted aim (tags_of game) replay n → ⊥)
+    (λ n. (n < length asked) × IsWanted aim (tags_of game) replay n × ((m : ℕ) → m < n → IsWanted aim (tags_of game) replay m → ⊥))
+
+abbrev pub SeeksOn : Aim → List (List (Condition (List ℕ))) → PlayedLine → Option ℕ → Option ℕ → Type 0
+SeeksOn aim asked line found next =
+    (game : GameText) → AsksFor aim game asked → (before : List State) → length before ≡ line.plies → IsFirstWanted aim game before found
+    → IsFirstWanted aim game (before ++ line.position ∷ []) next

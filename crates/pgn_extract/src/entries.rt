@@ -1,0 +1,103 @@
+//! The entries of a game, found while its main line is played.
+ghost use Rattle.std.specs.Prelude.{◌≡◌, MatchResult, IfOk, IfSome, Some};
+ghost use Rattle.pgn_game.specs.Replays.{fault_of};
+ghost use Rattle.pgn_extract.specs.Aims.{aim_of};
+ghost use Rattle.pgn_extract.specs.Finding.{named_mark, AsksFor, AddsEntries, StopsAtFault, GoesOn};
+
+use crate::listing::MARK_ROOM;
+use crate::settings::Settings;
+use crate::texts::{push_entry, push_named_mark};
+use pgn_criteria::{Criteria, Search};
+use pgn_game::{GameFault, MainLine};
+use pgn_text::RawGame;
+use std::alloc::{AllocError, Global};
+
+/// Which game it is.
+#[derive(Clone, Copy)]
+pub struct GameMark {
+    /// Its number among the pieces.
+    pub number: u64,
+    /// The offset of its first byte.
+    pub offset: u64,
+}
+
+/// What is asked of the positions of a game, and what the lines of its entries begin with.
+#[derive(Drop)]
+struct Finder<'s, 'a> {
+    settings: &'s Settings,
+    search: Search<'a>,
+    own: GameMark,
+    mark: Vec<u8>,
+}
+
+impl<'s, 'a> Finder<'s, 'a> {
+    /// Adds the line of the position that is reached, if it is an entry. Answers whether a later one may be one.
+    #[inline(always)]
+    fn ask(
+        &self,
+        text: &mut Vec<u8>,
+        line: &MainLine<'_, '_>,
+        is_open: bool,
+    ) -> Result<bool, AllocError>
+        requires marked { self.now.mark.items ≡ named_mark self.now.settings.now.name self.now.own.number self.now.own.offset }
+        ensures { IfOk result (GoesOn (aim_of self.now.settings.now) self.now.own.number self.now.own.offset self.now.search line.now text.old.items text.new.items is_open) }
+    {
+        let ply = line.plies();
+        if !is_open || ply > self.settings.max_ply as usize {
+            return Ok(false);
+        }
+        if ply < (self.settings.min_ply as usize) || !self.search.is_met(line.position()) {
+            return Ok(true);
+        }
+        push_entry(text, &self.mark, ply)?;
+        Ok(!self.settings.first)
+    }
+
+    /// Plays the main line of the game, and adds the lines of its entries.
+    #[inline(never)]
+    fn play<'b>(
+        &self,
+        alloc: Global,
+        text: &mut Vec<u8>,
+        game: &RawGame<'b>,
+    ) -> Result<(), GameFault<'b>>
+        requires asks { AsksFor (aim_of self.now.settings.now) game.now self.now.search }
+        requires marked { self.now.mark.items ≡ named_mark self.now.settings.now.name self.now.own.number self.now.own.offset }
+        ensures { MatchResult result
+            (λ _. AddsEntries (aim_of self.now.settings.now) self.now.own.number self.now.own.offset game.now text.old.items text.new.items)
+            (λ fault. IfSome (fault_of fault) (StopsAtFault game.now text.old.items text.new.items)) }
+    {
+        let mut line = MainLine::begin(alloc, game)?;
+        let mut is_open = self.ask(text, &line, !self.search.is_empty())?;
+        while line.advance()? {
+            is_open = self.ask(text, &line, is_open)?;
+        }
+        Ok(())
+    }
+}
+
+/// Adds the lines of the entries of a game by criteria, or answers its fault. Each position is asked as it is reached, and none is kept.
+pub fn push_found<'a>(
+    alloc: Global,
+    text: &mut Vec<u8>,
+    settings: &'a Settings,
+    criteria: &'a Criteria,
+    own: GameMark,
+    game: &RawGame<'a>,
+) -> Result<(), GameFault<'a>>
+    requires { settings.now.criteria ≡ Some criteria.now }
+    ensures { MatchResult result
+        (λ _. AddsEntries (aim_of settings.now) own.number own.offset game.now text.old.items text.new.items)
+        (λ fault. IfSome (fault_of fault) (StopsAtFault game.now text.old.items text.new.items)) }
+{
+    let search = criteria.watch(alloc, game)?;
+    let mut mark = Vec::with_capacity(alloc, MARK_ROOM)?;
+    push_named_mark(&mut mark, &settings.name, own.number, own.offset)?;
+    let finder = Finder {
+        settings,
+        search,
+        own,
+        mark,
+    };
+    finder.play(alloc, text, game)
+}

@@ -1,0 +1,171 @@
+//! The files of the command line, each of which is read as if it were the only one.
+ghost use Rattle.std.specs.Prelude.{◌≡◌, ◌↔◌, ◌⊎◌, ◌≤◌, ◌^◌, false, true, IsErrOf};
+ghost use Rattle.pgn_text.specs.Limits.{largest_offset};
+
+use crate::endings::put_summary;
+use crate::extract::run_skipping;
+use crate::file_name::FileName;
+use crate::outcome::{RunError, Summary};
+use crate::put::{finish, put};
+use crate::refusal_notes::push_reason;
+use crate::settings::Settings;
+use pgn_text::{Skip, Tally};
+use std::alloc::{AllocError, Global};
+use std::io;
+use std::io::{ErrorKind, Read, Write};
+
+/// Where the program's input comes from: files by their paths, and standard input.
+pub trait Files {
+    type Input: Skip;
+
+    /// Opens the file at `path`. An error of the kind `OutOfMemory` means that memory ran out.
+    fn open(&mut self, path: &str) -> io::Result<Self::Input>;
+
+    /// Standard input.
+    fn standard(&mut self) -> Self::Input;
+
+    /// From now on each input shows on a terminal how far it is read. Nothing else changes.
+    fn show_progress(&mut self);
+}
+
+/// What is to be done with each file.
+#[derive(Drop)]
+pub struct Task<'a> {
+    /// What a run writes; the name in them is that of the file that is read.
+    pub settings: Settings,
+    /// The paths of the files; none for standard input.
+    pub paths: &'a [&'a str],
+    /// Whether lines have the name of their file.
+    pub with_names: bool,
+    /// Whether a summary is asked for.
+    pub summary: bool,
+    /// The offset before which a run ends.
+    pub end: u64,
+}
+
+/// What the runs met.
+#[derive(Clone, Copy)]
+pub struct Total {
+    /// What they met together.
+    pub summary: Summary,
+    /// Whether a file could not be opened.
+    pub unopened: bool,
+}
+
+impl Total {
+    /// That of no run.
+    const NONE: Total = Total {
+        summary: Summary {
+            games: 0,
+            faulty: 0,
+        },
+        unopened: false,
+    };
+
+    /// That of one run.
+    pub fn of(summary: Summary) -> Total {
+        Total {
+            summary,
+            unopened: false,
+        }
+    }
+
+    /// Adds what a run met.
+    fn add(&mut self, own: &Summary) {
+        self.summary.games = self.summary.games.saturating_add(own.games);
+        self.summary.faulty = self.summary.faulty.saturating_add(own.faulty);
+    }
+}
+
+/// Gives the lines of the next run the name of a file, where lines have names.
+pub fn name_file(alloc: Global, task: &mut Task<'_>, name: &str) -> Result<(), AllocError>
+    ensures number { task.new.settings.number ≡ task.old.settings.number }
+    ensures offset { task.new.settings.offset ≡ task.old.settings.offset }
+{
+    if task.with_names {
+        task.settings.name = Some(FileName::of_path(alloc, name)?);
+    }
+    Ok(())
+}
+
+/// Runs over one input; where lines have its name, its summary has a line of its own.
+pub fn run_input<I: Skip, O: Write, E: Write>(
+    alloc: Global,
+    task: &Task<'_>,
+    input: I,
+    out: &mut Tally<O>,
+    err: &mut Tally<E>,
+) -> Result<Summary, RunError>
+where
+    I: Drop,
+    requires sound { (out.old.faulted ≡ false) × (err.old.faulted ≡ false) }
+    requires number { (1 ≤ task.now.settings.number) × (task.now.settings.number ≤ 2 ^ 62) }
+    requires offset { task.now.settings.offset ≤ largest_offset }
+    ensures faults { IsErrOf result RunError.Write ↔ ((out.new.faulted ≡ true) ⊎ (err.new.faulted ≡ true)) }
+{
+    let mut input = Tally::new(input.take(task.end));
+    let own = run_skipping(alloc, &mut input, out, err, &task.settings)?;
+    if task.summary && task.settings.name.is_some() {
+        put_summary(alloc, err, &task.settings.name, &own)?;
+    }
+    Ok(own)
+}
+
+/// Names a file that could not be opened, and the system's reason.
+fn put_unopened<E: Write>(
+    alloc: Global,
+    err: &mut Tally<E>,
+    path: &str,
+    error: &io::Error,
+) -> Result<(), RunError>
+    requires { err.old.faulted ≡ false }
+    ensures fault { IsErrOf result RunError.Write ↔ (err.new.faulted ≡ true) }
+{
+    if error.kind() == ErrorKind::OutOfMemory {
+        return Err(RunError::OutOfMemory);
+    }
+    let line = unopened_line(alloc, path, error)?;
+    put(err, &line)?;
+    finish(err)
+}
+
+/// The line of a file that could not be opened.
+fn unopened_line(alloc: Global, path: &str, error: &io::Error) -> Result<Vec<u8>, AllocError> {
+    let name = FileName::of_path(alloc, path)?;
+    let mut line = Vec::from_slice(alloc, b"pgn-extract: cannot open input: ")?;
+    line.extend_from_slice(name.bytes())?;
+    line.extend_from_slice(b": ")?;
+    push_reason(alloc, &mut line, error)?;
+    line.push(b'\n')?;
+    Ok(line)
+}
+
+/// Runs over the files in their order, each by itself. One that cannot be opened is named, and the others are read.
+pub fn run_files<F: Files, O: Write, E: Write>(
+    alloc: Global,
+    task: &mut Task<'_>,
+    files: &mut F,
+    out: &mut Tally<O>,
+    err: &mut Tally<E>,
+) -> Result<Total, RunError>
+where
+    F::Input: Drop,
+    requires sound { (out.old.faulted ≡ false) × (err.old.faulted ≡ false) }
+    requires number { (1 ≤ task.old.settings.number) × (task.old.settings.number ≤ 2 ^ 62) }
+    requires offset { task.old.settings.offset ≤ largest_offset }
+    ensures faults { IsErrOf result RunError.Write ↔ ((out.new.faulted ≡ true) ⊎ (err.new.faulted ≡ true)) }
+{
+    let mut total = Total::NONE;
+    let paths = task.paths;
+    for path in paths {
+        name_file(alloc, task, path)?;
+        match files.open(path) {
+            Ok(input) => total.add(&run_input(alloc, task, input, out, err)?),
+            Err(error) => {
+                put_unopened(alloc, err, path, &error)?;
+                total.unopened = true;
+            }
+        }
+    }
+    Ok(total)
+}
