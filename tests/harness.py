@@ -90,6 +90,32 @@ def run(command, text=b"", seconds=60, **more):
     return Ended(running.returncode, out or b"", err or b"")
 
 
+class Measured(NamedTuple):
+    """What a run took: its status, its processor seconds and the most MiB that it held."""
+
+    status: int
+    seconds: float
+    held: float
+
+
+# Runs a command in a process that holds little itself, since what a child holds is counted from what its parent held.
+MEASURE = """
+import resource, subprocess, sys
+status = subprocess.run(sys.argv[2:], stdin=subprocess.DEVNULL, stdout=open(sys.argv[1], "wb"), stderr=subprocess.DEVNULL).returncode
+used = resource.getrusage(resource.RUSAGE_CHILDREN)
+print(status, used.ru_utime + used.ru_stime, used.ru_maxrss / 1024)
+"""
+
+
+def measured(command, out, seconds=300, **more):
+    """What a run of a list of arguments took; its output goes to the file `out`."""
+    ended = run([sys.executable, "-c", MEASURE, out, *command], seconds=seconds, **more)
+    if ended.status != 0:
+        return Measured(ended.status, 0.0, 0.0)
+    status, used, held = ended.out.split()
+    return Measured(int(status), float(used), float(held))
+
+
 def shown(thing, begin=0):
     """A thing for a message, from a place of it on, cut where it is long."""
     text = repr(thing)
