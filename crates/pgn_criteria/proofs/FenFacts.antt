@@ -1,8 +1,8 @@
 -- Conditions on the men: what spells one is read as it, and the other way round.
-use Rattle.std.proofs.Common.{◌≡◌, ◌≢◌, ℕ, true, false, Bool, List, [], ◌∷◌, ◌++◌, IsTrue, refl, sym, ap, subst, arith}
+use Rattle.std.proofs.Common.{◌≡◌, ◌≢◌, ℕ, true, false, Bool, List, [], ◌∷◌, ◌++◌, IsTrue, refl, sym, subst, arith}
 use Rattle.std.specs.Prelude.{codes, Option, ◌+◌, ◌-◌, ◌==◌, if◌then◌else◌}
 use Rattle.std.specs.List.{list_all}
-use Rattle.std.proofs.lemmas.Bool.{eqb-true, and_parts}
+use Rattle.std.proofs.lemmas.Bool.{and_parts}
 use Rattle.std.proofs.lemmas.Bool.Decides.{nat_tests}
 use Rattle.chess.specs.Fen.{IsSquares, letter, step, parted_at, before_first}
 use Rattle.chess.specs.Letters.{man_letter}
@@ -17,7 +17,7 @@ use Rattle.pgn_criteria.specs.Reading.{run_of, behind_word}
 use Rattle.pgn_criteria.specs.Lines.{SpellsClaim}
 use Rattle.pgn_criteria.specs.declared.condition.Claim.TheVariants.{Fen}
 use Rattle.pgn_criteria.proofs.SetFacts.{all_men, letter_in, are_split}
-use Rattle.pgn_criteria.proofs.SolidFacts.{is_solid, AreSolid, all_solid, both_true, solid_begins, word_read, word_spelled}
+use Rattle.pgn_criteria.proofs.SolidFacts.{is_solid, AreSolid, EachSolid, all_solid, both_true, front_solid, parts_solid, solid_begins, word_read, word_spelled}
 
 letter_solid : (side : Side) (kind : Kind) → is_solid (man_letter (record { side = side; kind = kind })) ≡ true
 letter_solid White King = refl
@@ -62,14 +62,6 @@ stretch_solid _ _ (among letters man are has) = set_solid letters (letters_solid
 stretch_solid _ _ (other letters square are none) = set_solid (94 ∷ letters) (letters_solid letters are.1)
 
 -- so is a text that is cut into items
-abbrev pub EachSolid : List (List ℕ) → Type 0
-EachSolid [] = Unit {0}
-EachSolid (item ∷ more) = AreSolid item × EachSolid more
-
-front_solid : (b : ℕ) (items : List (List ℕ)) → EachSolid (before_first b items) → (is_solid b ≡ true) × EachSolid items
-front_solid b [] each = let parts = and_parts (is_solid b) true each.0 in (parts.0, tt)
-front_solid b (first ∷ more) each = let parts = and_parts (is_solid b) (list_all is_solid first) each.0 in (parts.0, (parts.1, each.1))
-
 cut_solid : (in_set : Bool) (x : List ℕ) → EachSolid (items_where in_set x) → AreSolid x
 cut_solid in_set [] each = refl
 cut_solid true (b ∷ x) each =
@@ -92,17 +84,8 @@ ranks_solid : (n : ℕ) (ranks : List (List ℕ)) → AreRanks n ranks → EachS
 ranks_solid n [] are = tt
 ranks_solid n (rank ∷ more) are = (cut_solid false rank (each_solid (items_of rank) ((are_split (items_of rank)).1 (are.1.1, are.1.2))), ranks_solid (n - 1) more are.2)
 
-parts_solid : (x : List ℕ) → EachSolid (parted_at 47 x) → AreSolid x
-parts_solid [] each = refl
-parts_solid (b ∷ x) each =
-    elim (b == 47) as (λ t. (b == 47) ≡ t → EachSolid (if t then [] ∷ parted_at 47 x else before_first b (parted_at 47 x)) → AreSolid (b ∷ x)) [
-      | true ↦ λ same solid. both_true (is_solid b) (list_all is_solid x) (ap is_solid (eqb-true b 47 same)) (parts_solid x solid.1)
-      | false ↦ λ other solid.
-          let parts = front_solid b (parted_at 47 x) solid in both_true (is_solid b) (list_all is_solid x) parts.0 (parts_solid x parts.1)
-    ] refl each
-
 pub pattern_solid : (pattern : List ℕ) → IsPattern pattern → AreSolid pattern
-pattern_solid pattern is = parts_solid pattern (ranks_solid 8 (parted_at 47 pattern) is)
+pattern_solid pattern is = parts_solid 47 refl pattern (ranks_solid 8 (parted_at 47 pattern) is)
 
 pub pattern_some : (pattern : List ℕ) → IsPattern pattern → pattern ≢ []
 pattern_some [] is none = is.1.0 refl

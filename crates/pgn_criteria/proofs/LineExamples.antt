@@ -5,7 +5,7 @@ use Rattle.chess.specs.declared.board.man.Kind.{Kind}
 use Rattle.chess.specs.declared.board.man.Kind.TheVariants.{King, Queen, Rook, Bishop, Knight, Pawn}
 use Rattle.chess.specs.declared.board.man.Side.TheVariants.{White}
 use Rattle.pgn_text.specs.Strings.{Single}
-use Rattle.pgn_criteria.specs.Lines.{SpellsClaim, SpellsTaken, Spells, SpellsLimits, IsLimitIn, IsMoveWord, a_word, and_words, IsLine, Accepts, alternatives_of}
+use Rattle.pgn_criteria.specs.Lines.{SpellsClaim, AreNames, SpellsTaken, Spells, SpellsLimits, IsLimitIn, IsMoveWord, a_word, and_words, IsLine, Accepts, alternatives_of}
 use Rattle.pgn_criteria.specs.Lines.SpellsLimit.{one, exactly, at_least, at_most, any}
 use Rattle.pgn_criteria.specs.Materials.{limit_of}
 use Rattle.pgn_criteria.specs.declared.compare.Relation.TheVariants.{GreaterOrEqual, Begins}
@@ -34,8 +34,7 @@ tag = (
   ((λ none. cc), refl),
   ((λ none. cc), refl),
   ((λ none. cc), refl),
-  (λ none. cc),
-  refl,
+  (((λ none. cc), refl), tt),
   (Single 49 ∷ Single 48 ∷ [], refl, refl),
 )
 
@@ -49,10 +48,27 @@ tag_begins = (
   ((λ none. cc), refl),
   ((λ none. cc), refl),
   ((λ none. cc), refl),
-  (λ none. cc),
-  refl,
+  (((λ none. cc), refl), tt),
   (Single 67 ∷ [], refl, refl),
 )
+
+-- tag A|B begins "C" names two tags
+two_tags : SpellsClaim (codes "tag A|B begins " ++ (34 ∷ 67 ∷ 34 ∷ [])) (Tag (codes "A|B") Begins (codes "C"))
+two_tags = (
+  codes " ",
+  codes " ",
+  codes " ",
+  refl,
+  ((λ none. cc), refl),
+  ((λ none. cc), refl),
+  ((λ none. cc), refl),
+  (((λ none. cc), refl), (((λ none. cc), refl), tt)),
+  (Single 67 ∷ [], refl, refl),
+)
+
+-- each name has a byte
+no_last_name : AreNames (parted_at 124 (codes "A|")) → ⊥
+no_last_name are = are.1.0.0 refl
 
 -- a king, two pawns or more, at most three knights, any rooks, and no man of the other kinds
 abbrev pub limits : Limits

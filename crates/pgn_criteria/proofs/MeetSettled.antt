@@ -2,6 +2,7 @@
 use Rattle.std.proofs.Common.{◌≡◌, ℕ, ◌+◌, Bool, true, false, List, [], ◌∷◌, Option, Some, None, refl, ap, ◌∙◌, inl, inr}
 use Rattle.std.specs.Prelude.{codes}
 use Rattle.std.specs.List.{slice_get}
+use Rattle.chess.specs.Fen.{parted_at}
 use Rattle.chess.specs.Placements.{AreOnBoard}
 use Rattle.chess.specs.Positions.{State}
 use Rattle.chess.specs.Moves.{IsLegal}
@@ -16,7 +17,7 @@ use Rattle.pgn_game.specs.MainLines.{main_words}
 use Rattle.pgn_game.specs.Replays.{Replay}
 use Rattle.pgn_game.proofs.AnAnswer.{start_on_board}
 use Rattle.pgn_game.proofs.OnBoard.{line_on_board, line_legal}
-use Rattle.pgn_criteria.specs.Meeting.{Tags, IsSo, Taken, Holds, AllHold, SomeHold, Meets}
+use Rattle.pgn_criteria.specs.Meeting.{Tags, HasOneOf, IsSo, Taken, Holds, AllHold, SomeHold, Meets}
 use Rattle.pgn_criteria.specs.MoveTexts.{without_marks, FitsWord, FitsMove, FitMoves}
 use Rattle.pgn_criteria.specs.Stages.{AreLegal}
 use Rattle.pgn_criteria.specs.Words.{words_of}
@@ -38,6 +39,11 @@ settled_tag : (given : Option (List ℕ)) (relation : Relation) (contents : List
     → Settled ((own : List ℕ) × (given ≡ Some own) × Stands relation own contents)
 settled_tag given relation contents =
     settled_held given (λ own. Stands relation own contents) (λ own. settled_stands relation own contents)
+
+settled_one_of : (tags : Tags) (relation : Relation) (contents : List ℕ) (names : List (List ℕ)) → Settled (HasOneOf tags relation contents names)
+settled_one_of tags relation contents [] = inr (λ h. h)
+settled_one_of tags relation contents (name ∷ more) =
+    settled_either (settled_tag (tags name) relation contents) (settled_one_of tags relation contents more)
 
 -- ---- moves
 
@@ -80,7 +86,7 @@ settled_taken true (inr none) = inl none
 
 settled_claim : (tags : Tags) (replay : Replay) (P : State) (claim : Claim (List ℕ)) → AllOnBoard replay → AreLegal replay
     → AreOnBoard P.men → Settled (IsSo tags replay P claim)
-settled_claim tags replay P (Tag name relation contents) all legal on_board = settled_tag (tags name) relation contents
+settled_claim tags replay P (Tag name relation contents) all legal on_board = settled_one_of tags relation contents (parted_at 124 name)
 settled_claim tags replay P (Fen pattern) all legal on_board = settled_pattern P.men pattern
 settled_claim tags replay P (Material white black) all legal on_board = settled_material P.men white black
 settled_claim tags replay P (Moves words) all legal on_board = settled_moves replay 0 (words_of words) all legal

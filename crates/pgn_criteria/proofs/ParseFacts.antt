@@ -175,7 +175,7 @@ condition_added done begun condition more =
 
 -- conditions that are spelled have the contents of strings
 claim_good : (text : List ℕ) (claim : Claim (List ℕ)) → SpellsClaim text claim → IsGood claim
-claim_good text (Tag name relation contents) spells = spells.9
+claim_good text (Tag name relation contents) spells = spells.8
 claim_good text (Fen pattern) spells = tt
 claim_good text (Material white black) spells = tt
 claim_good text (Moves words) spells = tt

@@ -2,8 +2,9 @@
 use Rattle.std.proofs.Common.{◌≡◌, ◌≢◌, ℕ, Bool, true, false, List, [], ◌∷◌, ◌++◌, refl, sym, ap, ◌∙◌, IsTrue, append_assoc, append-nil, arith}
 use Rattle.std.specs.Prelude.{if◌then◌else◌, ◌==◌, ◌&&◌, nat_le}
 use Rattle.std.specs.List.{list_all}
-use Rattle.std.proofs.lemmas.Bool.{and_parts}
+use Rattle.std.proofs.lemmas.Bool.{eqb-true, and_parts}
 use Rattle.std.proofs.lemmas.Bool.Decides.{nat_tests}
+use Rattle.chess.specs.Fen.{parted_at, before_first}
 use Rattle.pgn_criteria.specs.Words.{is_blank}
 use Rattle.pgn_criteria.specs.Reading.{run_of, after_run, behind_blanks, behind_word}
 use Rattle.pgn_criteria.specs.Lines.{AreBlanks, IsGap}
@@ -31,6 +32,26 @@ all_solid test each [] all = refl
 all_solid test each (b ∷ x) all =
     let parts : (test b ≡ true) × (list_all test x ≡ true) = and_parts _ _ all in
     both_true (is_solid b) (list_all is_solid x) (each b parts.0) (all_solid test each x parts.1)
+
+-- parts of a text are
+abbrev pub EachSolid : List (List ℕ) → Type 0
+EachSolid [] = Unit {0}
+EachSolid (item ∷ more) = AreSolid item × EachSolid more
+
+pub front_solid : (b : ℕ) (items : List (List ℕ)) → EachSolid (before_first b items) → (is_solid b ≡ true) × EachSolid items
+front_solid b [] each = let parts = and_parts (is_solid b) true each.0 in (parts.0, tt)
+front_solid b (first ∷ more) each = let parts = and_parts (is_solid b) (list_all is_solid first) each.0 in (parts.0, (parts.1, each.1))
+
+-- so is a text whose parts are, if what parts them is
+pub parts_solid : (separator : ℕ) → is_solid separator ≡ true → (x : List ℕ) → EachSolid (parted_at separator x) → AreSolid x
+parts_solid separator solid [] each = refl
+parts_solid separator solid (b ∷ x) each =
+    elim (b == separator) as (λ t. (b == separator) ≡ t → EachSolid (if t then [] ∷ parted_at separator x else before_first b (parted_at separator x)) → AreSolid (b ∷ x)) [
+      | true ↦ λ same parts.
+          both_true (is_solid b) (list_all is_solid x) (ap is_solid (eqb-true b separator same) ∙ solid) (parts_solid separator solid x parts.1)
+      | false ↦ λ other parts.
+          let both = front_solid b (parted_at separator x) parts in both_true (is_solid b) (list_all is_solid x) both.0 (parts_solid separator solid x both.1)
+    ] refl each
 
 -- a text begins, and ends, with a solid byte
 abbrev pub BeginsSolid : List ℕ → Type 0

@@ -1,5 +1,6 @@
 -- Conditions by what they are tried on: the game alone, or a position.
 use Rattle.std.specs.Prelude.{◌≡◌, ◌↔◌, ◌≤◌, ◌<◌, if◌then◌else◌, ℕ, Bool, true, false, List, [], ◌∷◌, length, Option, Some, None}
+use Rattle.chess.specs.Fen.{parted_at}
 use Rattle.chess.specs.Positions.{State, IsCheck}
 use Rattle.std.specs.List.{slice_get}
 use Rattle.chess.specs.Moves.{IsLegal, IsMate, IsStalemate}
@@ -10,8 +11,7 @@ use Rattle.pgn_criteria.specs.Patterns.{FitsPattern}
 use Rattle.pgn_criteria.specs.Materials.{FitsMaterial}
 use Rattle.pgn_criteria.specs.MoveTexts.{FitMoves}
 use Rattle.pgn_criteria.specs.Words.{words_of}
-use Rattle.pgn_criteria.specs.Comparing.{Stands}
-use Rattle.pgn_criteria.specs.Meeting.{Tags, Taken}
+use Rattle.pgn_criteria.specs.Meeting.{Tags, HasOneOf, Taken}
 use Rattle.pgn_criteria.specs.declared.meets.Stage.{Stage}
 use Rattle.pgn_criteria.specs.declared.meets.Stage.TheVariants.{Game, Men, Attacks, Replies}
 use Rattle.pgn_criteria.specs.declared.condition.Condition.{Condition}
@@ -57,7 +57,7 @@ AreLegal replay = (i : ℕ) (P : State) (m : Move) → slice_get replay.position
 
 -- what a condition says of the game alone
 abbrev pub SaysOfGame : Tags → Replay → Bool → Claim (List ℕ) → Type 0
-SaysOfGame tags replay denied (Tag name relation contents) = Taken denied ((given : List ℕ) × (tags name ≡ Some given) × Stands relation given contents)
+SaysOfGame tags replay denied (Tag names relation contents) = Taken denied (HasOneOf tags relation contents (parted_at 124 names))
 SaysOfGame tags replay denied (Fen pattern) = Unit {0}
 SaysOfGame tags replay denied (Material white black) = Unit {0}
 SaysOfGame tags replay denied (Moves words) = Taken denied (FitMoves replay 0 (words_of words))
@@ -75,7 +75,7 @@ AllOfGame tags replay (condition ∷ more) = OfGame tags replay condition × All
 
 -- what a condition says of the tags of the game
 abbrev pub SaysOfTags : Tags → Bool → Claim (List ℕ) → Type 0
-SaysOfTags tags denied (Tag name relation contents) = Taken denied ((given : List ℕ) × (tags name ≡ Some given) × Stands relation given contents)
+SaysOfTags tags denied (Tag names relation contents) = Taken denied (HasOneOf tags relation contents (parted_at 124 names))
 SaysOfTags tags denied (Fen pattern) = Unit {0}
 SaysOfTags tags denied (Material white black) = Unit {0}
 SaysOfTags tags denied (Moves words) = Unit {0}

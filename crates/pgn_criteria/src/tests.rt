@@ -195,6 +195,42 @@ fn tags_and_moves_hold_of_a_whole_game(rt: HostRuntime) -> Result<(), Fail> {
     Ok(())
 }
 
+const PLAYERS: &[u8] = b"[White \"Euwe, Max\"]\n[Black \"Tal\"]\n[WhiteElo \"9\"]\n\n1. e4 *";
+
+/// Criteria with several names of tags, and whether they hold of a game of Euwe against Tal without an Elo of Black.
+const NAMES: [(&[u8], bool); 17] = [
+    (b"tag White|Black = \"Tal\"", true),
+    (b"tag Black|White = \"Tal\"", true),
+    (b"tag White|Black = \"Keres\"", false),
+    (b"tag White|Black begins \"Euwe\"", true),
+    (b"tag Black|Site begins \"Euwe\"", false),
+    (b"tag White|Black has \"a\"", true),
+    (b"tag WhiteElo|BlackElo >= \"10\"", false),
+    (b"tag WhiteElo|BlackElo < \"10\"", true),
+    (b"tag BlackElo|WhiteElo < \"10\"", true),
+    (b"tag BlackElo|Site <> \"x\"", false),
+    (b"tag Site|BlackElo|Black > \"Keres\"", true),
+    (b"tag White|White <= \"Euwe, Max\"", true),
+    (b"tag White|Black <> \"Tal\"", true),
+    (b"not tag White|Black = \"Tal\"", false),
+    (b"not tag White|Black = \"Keres\"", true),
+    (b"not tag Site|BlackElo = \"\"", true),
+    (
+        b"tag White|Black = \"Tal\"\nnot tag White|Site = \"Tal\"",
+        true,
+    ),
+];
+
+#[test]
+fn one_of_several_tags_is_enough(rt: HostRuntime) -> Result<(), Fail> {
+    let alloc = rt.alloc();
+    for &(criteria, holds) in &NAMES {
+        let plies: &[usize] = if holds { &[0, 1] } else { &[] };
+        assert!(rt; are_met(alloc, criteria, PLAYERS, plies)?, "{criteria:?}");
+    }
+    Ok(())
+}
+
 #[test]
 fn patterns_hold_at_their_plies(rt: HostRuntime) -> Result<(), Fail> {
     let alloc = rt.alloc();

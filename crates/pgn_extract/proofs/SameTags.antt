@@ -1,8 +1,10 @@
 -- What is wanted of a game speaks of its tags by their names: where the same contents are found for each name, the same is wanted.
 use Rattle.std.proofs.Common.{◌≡◌, ℕ, Bool, true, false, List, [], ◌∷◌, Option, Some, None, sym, ◌∙◌, inl, inr}
+use Rattle.chess.specs.Fen.{parted_at}
 use Rattle.chess.specs.Positions.{State}
 use Rattle.pgn_game.specs.Replays.{Replay}
-use Rattle.pgn_criteria.specs.Meeting.{Tags, IsSo, Taken, Holds, AllHold, SomeHold}
+use Rattle.pgn_criteria.specs.Meeting.{Tags, HasOneOf, IsSo, Taken, Holds, AllHold, SomeHold}
+use Rattle.pgn_criteria.specs.declared.compare.Relation.{Relation}
 use Rattle.pgn_criteria.specs.declared.condition.Condition.{Condition}
 use Rattle.pgn_criteria.specs.declared.condition.Claim.{Claim}
 use Rattle.pgn_criteria.specs.declared.condition.Claim.TheVariants.{Tag, Fen, Material, Moves, Turn, Check, Mate, Stalemate}
@@ -12,8 +14,14 @@ taken_same : {A B : Type 0} (denied : Bool) → (A → B) → (B → A) → Take
 taken_same false there back a = there a
 taken_same true there back none = λ b. none (back b)
 
+one_of_same : (f g : Tags) → ((name : List ℕ) → f name ≡ g name) → (relation : Relation) (contents : List ℕ) (names : List (List ℕ))
+    → HasOneOf f relation contents names → HasOneOf g relation contents names
+one_of_same f g same relation contents [] h = h
+one_of_same f g same relation contents (name ∷ more) (inl (given, is, stands)) = inl (given, sym (same name) ∙ is, stands)
+one_of_same f g same relation contents (name ∷ more) (inr h) = inr (one_of_same f g same relation contents more h)
+
 is_so_same : (f g : Tags) → ((name : List ℕ) → f name ≡ g name) → (replay : Replay) (P : State) (claim : Claim (List ℕ)) → IsSo f replay P claim → IsSo g replay P claim
-is_so_same f g same replay P (Tag name relation contents) (given, is, stands) = (given, sym (same name) ∙ is, stands)
+is_so_same f g same replay P (Tag names relation contents) h = one_of_same f g same relation contents (parted_at 124 names) h
 is_so_same f g same replay P (Fen pattern) h = h
 is_so_same f g same replay P (Material white black) h = h
 is_so_same f g same replay P (Moves words) h = h

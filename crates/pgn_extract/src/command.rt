@@ -66,7 +66,7 @@ const ABOUT: &str =
 
 const AFTER_HELP: &str =
     "Criteria, a condition a line; all of them hold (man pgn-extract-criteria):\n  \
-    tag White = \"Carlsen, M\"   the value of a tag; also <> < <= > >= has begins\n  \
+    tag White|Black = \"Tal\"    the value of a tag; also <> < <= > >= has begins\n  \
     fen */*/*/*/*/*/*PPP/*RK1  the men as FEN writes them; ? one square, ! a man,\n                             \
     A a man of White, a one of Black, * any squares\n  \
     material KRP* v KRP*       each side's men: P* any number, R2+ two or more\n  \

@@ -253,10 +253,14 @@ const SET: &str = "fen: a set of men between brackets, such as [Qq] or [^Pp]";
 
 const MEN: &str = "material: letters of KQRBNP, each once, with a count such as P2, P2+, P2- or P*";
 
+const NAME: &str = "tag: a name of letters, digits and _, or several with | between";
+
+const OPERATOR: &str = "tag: an operator, one of = <> < <= > >= has begins";
+
 const DENIED_ALONE: &str = "a condition after not, and no second not";
 
 /// Where lines stop being of the language, and what is expected there.
-const EXPLAINED: [Complaint; 26] = [
+const EXPLAINED: [Complaint; 28] = [
     ("chek", 0, "did you mean check?"),
     ("  stlaemate", 2, "did you mean stalemate?"),
     ("Turn white", 0, "did you mean turn?"),
@@ -285,16 +289,10 @@ const EXPLAINED: [Complaint; 26] = [
     ),
     ("material KPP v K", 9, MEN),
     ("material K v", 12, MEN),
-    (
-        "tag Whi-te = \"x\"",
-        4,
-        "tag: a name of letters, digits and _",
-    ),
-    (
-        "tag White ~ \"x\"",
-        10,
-        "tag: an operator, one of = <> < <= > >= has begins",
-    ),
+    ("tag Whi-te = \"x\"", 4, NAME),
+    ("tag White|| = \"x\"", 4, NAME),
+    ("not tag White |Black = \"x\"", 14, OPERATOR),
+    ("tag White ~ \"x\"", 10, OPERATOR),
     ("tag White = x", 12, "tag: a text between double quotes"),
     ("\tturn gray  ", 6, "turn: white or black"),
     ("not", 3, DENIED_ALONE),

@@ -2,7 +2,7 @@
 use super::core_of;
 use super::limits::limits_of;
 use super::move_words::is_move_word;
-use super::tag::{is_name, relation_of};
+use super::tag::{are_names, relation_of};
 use crate::cut::next_part;
 use crate::rank::next_item;
 use crate::words::{behind_blanks, split_first, split_word};
@@ -47,7 +47,7 @@ const MEN: &str = "material: letters of KQRBNP, each once, with a count such as 
 
 const VERSUS: &str = "material: v between White's men and Black's";
 
-const NAME: &str = "tag: a name of letters, digits and _";
+const NAME: &str = "tag: a name of letters, digits and _, or several with | between";
 
 const OPERATOR: &str = "tag: an operator, one of = <> < <= > >= has begins";
 
@@ -193,8 +193,8 @@ fn material_stop(text: &[u8]) -> Stop {
 
 /// Where a condition on a tag that is refused stops.
 fn tag_stop(text: &[u8]) -> Stop {
-    let (name, rest) = split_first(text);
-    if !is_name(name) {
+    let (names, rest) = split_first(text);
+    if !are_names(names) {
         return Stop::before(text, NAME);
     }
     let (operator, string) = split_first(rest);

@@ -1,15 +1,17 @@
 //! Conditions on a tag.
 ghost use Rattle.std.specs.Prelude.{◌≡◌, ◌≢◌, ◌↔◌, ◌∷◌, ◌++◌, [], ℕ, List, IsTrue, MatchOption};
 ghost use Rattle.std.specs.List.{list_all};
+ghost use Rattle.chess.specs.Fen.{parted_at};
 ghost use Rattle.pgn_text.specs.Bytes.{is_name_byte};
 ghost use Rattle.pgn_text.specs.Strings.{IsContents};
-ghost use Rattle.pgn_criteria.specs.Lines.{SpellsClaim, relation_text};
+ghost use Rattle.pgn_criteria.specs.Lines.{SpellsClaim, IsName, AreNames, relation_text};
 ghost use Rattle.pgn_criteria.specs.Stages.{claim_seen};
 ghost use Rattle.pgn_criteria.specs.declared.compare.Relation.{Relation};
 ghost use Rattle.pgn_criteria.specs.declared.condition.Claim.TheVariants.{Tag};
 
 use crate::compare::Relation;
 use crate::condition::Claim;
+use crate::cut::next_part;
 use crate::words::{behind_key, split_first};
 use pgn_text::is_contents;
 
@@ -45,10 +47,27 @@ fn are_name_bytes(text: &[u8]) -> bool
 }
 
 /// Whether the text is a tag's name.
-pub(super) fn is_name(text: &[u8]) -> bool
-    ensures { IsTrue result ↔ ((text.now ≢ []) × IsTrue (list_all is_name_byte text.now)) }
+fn is_name(text: &[u8]) -> bool
+    ensures { IsTrue result ↔ IsName text.now }
 {
     !text.is_empty() && are_name_bytes(text)
+}
+
+/// Whether the text is names of tags, with `|` between.
+pub(super) fn are_names(text: &[u8]) -> bool
+    ensures { IsTrue result ↔ AreNames (parted_at 124 text.now) }
+{
+    let mut rest = text;
+    loop {
+        let (name, behind) = next_part(b'|', rest);
+        if !is_name(name) {
+            return false;
+        }
+        let Some(behind) = behind else {
+            return true;
+        };
+        rest = behind;
+    }
 }
 
 /// What stands between the quotes of a string, if the text is one.
@@ -63,18 +82,18 @@ fn contents_of(text: &[u8]) -> Option<&[u8]>
 
 /// The claim on a tag that the text spells, if it is one.
 pub(super) fn tag_of(text: &[u8]) -> Option<Claim<&[u8]>>
-    ensures { MatchOption result ((name contents : List ℕ) (relation : Relation) → SpellsClaim text.now (Tag name relation contents) → ⊥) (λ found. SpellsClaim text.now (claim_seen (λ bytes. bytes.now) found)) }
+    ensures { MatchOption result ((names contents : List ℕ) (relation : Relation) → SpellsClaim text.now (Tag names relation contents) → ⊥) (λ found. SpellsClaim text.now (claim_seen (λ bytes. bytes.now) found)) }
 {
     let rest = behind_key(text, b"tag")?;
-    let (name, rest) = split_first(rest);
-    if !is_name(name) {
+    let (names, rest) = split_first(rest);
+    if !are_names(names) {
         return None;
     }
     let (operator, string) = split_first(rest);
     let relation = relation_of(operator)?;
     let contents = contents_of(string)?;
     Some(Claim::Tag {
-        name,
+        names,
         relation,
         contents,
     })

@@ -106,6 +106,31 @@ fn bad_lines_are_refused_by_their_number(rt: HostRuntime) -> Result<(), Fail> {
     Ok(())
 }
 
+/// A line with names of tags that is not of the language.
+const BAD_NAMES: [&[u8]; 10] = [
+    b"tag A| = \"x\"",
+    b"tag |A = \"x\"",
+    b"tag A||B = \"x\"",
+    b"tag | = \"x\"",
+    b"tag A |B = \"x\"",
+    b"tag A| B = \"x\"",
+    b"tag A|B-C = \"x\"",
+    b"tag A,B = \"x\"",
+    b"tag A|B=\"x\"",
+    b"not tag A|B| = \"x\"",
+];
+
+#[test]
+fn names_that_are_none_are_refused(rt: HostRuntime) -> Result<(), Fail> {
+    let alloc = rt.alloc();
+    for line in &BAD_NAMES {
+        let mut text = b"tag A|B = \"x\"\n".to_vec(alloc)?;
+        text.extend_from_slice(line)?;
+        assert!(rt; is_refused(alloc, &text, 2), "{line:?}");
+    }
+    Ok(())
+}
+
 /// A pattern's first rank with brackets that are no set.
 const BAD_SETS: [&[u8]; 14] = [
     b"[]7", b"[^]7", b"[", b"[P", b"[^P", b"[P]]", b"P]7", b"[[P]]", b"[x]7", b"[^x]7", b"[P^]7",
@@ -156,7 +181,7 @@ fn what_denies_no_claim_is_refused(rt: HostRuntime) -> Result<(), Fail> {
 }
 
 /// A text, how many alternatives it spells, and how many conditions the last of them has.
-const ACCEPTED: [(&[u8], usize, usize); 31] = [
+const ACCEPTED: [(&[u8], usize, usize); 33] = [
     (b"", 1, 0),
     (b"# x", 1, 0),
     (b"  # x", 1, 0),
@@ -176,6 +201,8 @@ const ACCEPTED: [(&[u8], usize, usize); 31] = [
     (b"tag A has \"x y\"", 1, 1),
     (b"tag\tA  begins\t\"\\\"\" ", 1, 1),
     (b"tag has begins \"\"", 1, 1),
+    (b"tag A|B_2|A  has \t\"|\"", 1, 1),
+    (b"not tag White|Black < \"x\"", 1, 1),
     (b"turn\tblack", 1, 1),
     (b"moves 0-0 zz --", 1, 1),
     (b"moves * e8=Q \t Nb1xd2", 1, 1),

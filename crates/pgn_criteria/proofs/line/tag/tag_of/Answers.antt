@@ -1,6 +1,6 @@
-use Rattle.std.proofs.Common.{◌≡◌, ◌≢◌, ℕ, List, [], sym, ap, ◌∙◌, subst, IsTrue}
-use Rattle.std.specs.List.{list_all}
-use Rattle.pgn_text.specs.Bytes.{is_name_byte}
+use Rattle.std.proofs.Common.{◌≡◌, sym, ap, ◌∙◌, subst}
+use Rattle.chess.specs.Fen.{parted_at}
+use Rattle.pgn_criteria.specs.Lines.{AreNames}
 use Rattle.pgn_criteria.specs.Reading.{run_of, behind_word}
 use Rattle.pgn_criteria.proofs.TagFacts.{tag_read, tag_spelled}
 use Rattle.pgn_criteria.proofs.line.tag.tag_of.Goals as goal
@@ -10,12 +10,12 @@ returns-in_err-rest c =
     rw c.from_residual.ensures λ name contents relation spells.
     c.in_err-rest.ensures (tag_read c.args.text.now name relation contents spells).key_is
 
-pub returns-then-not-is_name : goal.returns-then-not-is_name
-returns-then-not-is_name c name contents relation spells =
+pub returns-then-not-are_names : goal.returns-then-not-are_names
+returns-then-not-are_names c name contents relation spells =
     let read = tag_read c.args.text.now name relation contents spells in
     let same : name ≡ c.split_first.result.0.now = sym read.name_is ∙ ap run_of (sym c.in_ok-rest.ensures.1) ∙ sym c.split_first.ensures.word in
-    let t = c.is_name.ensures.1 (subst (λ (x : List ℕ). (x ≢ []) × IsTrue (list_all is_name_byte x)) same (spells.7, spells.8)) in
-    absurd (cc (t, c.if-not-is_name.true))
+    let t = c.are_names.ensures.1 (subst (λ x. AreNames (parted_at 124 x)) same spells.7) in
+    absurd (cc (t, c.if-not-are_names.true))
 
 pub returns-in_err-relation : goal.returns-in_err-relation
 returns-in_err-relation c =
@@ -29,12 +29,12 @@ returns-in_err-contents c =
     rw c.from_residual-in_err-contents.ensures λ name contents relation spells.
     let read = tag_read c.args.text.now name relation contents spells in
     let rest : c.split_first.result.1.now ≡ behind_word (behind_word c.args.text.now) = c.split_first.ensures.rest ∙ ap behind_word c.in_ok-rest.ensures.1 in
-    c.in_err-contents.ensures contents (c.split_first-2.ensures.rest ∙ ap behind_word rest ∙ read.string_is) spells.9
+    c.in_err-contents.ensures contents (c.split_first-2.ensures.rest ∙ ap behind_word rest ∙ read.string_is) spells.8
 
 pub returns : goal.returns
 returns c =
     let rest : c.split_first.result.1.now ≡ behind_word (behind_word c.args.text.now) = c.split_first.ensures.rest ∙ ap behind_word c.in_ok-rest.ensures.1 in
-    let good = c.is_name.ensures.0 c.if-not-is_name.false in
+    let good = c.are_names.ensures.0 c.if-not-are_names.false in
     tag_spelled c.args.text.now c.split_first.result.0.now c.in_ok-relation.relation c.in_ok-contents.contents.now
     (record {
       key_is = c.in_ok-rest.ensures.0;
@@ -42,4 +42,4 @@ returns c =
       operator_is = ap run_of (sym rest) ∙ sym c.split_first-2.ensures.word ∙ c.in_ok-relation.ensures;
       string_is = ap behind_word (sym rest) ∙ sym c.split_first-2.ensures.rest ∙ c.in_ok-contents.ensures.0;
     })
-    good.0 good.1 c.in_ok-contents.ensures.1
+    good c.in_ok-contents.ensures.1
