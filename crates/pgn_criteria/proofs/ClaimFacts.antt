@@ -4,10 +4,10 @@ use Rattle.std.specs.Prelude.{codes, true, ◌+◌}
 use Rattle.pgn_criteria.specs.Reading.{run_of, behind_word}
 use Rattle.pgn_criteria.specs.Lines.{SpellsClaim, SpellsTaken, side_text, relation_text}
 use Rattle.pgn_criteria.specs.declared.condition.Claim.{Claim}
-use Rattle.pgn_criteria.specs.declared.condition.Claim.TheVariants.{Tag, Fen, Material, Moves, Turn, Check, Mate, Stalemate}
+use Rattle.pgn_criteria.specs.declared.condition.Claim.TheVariants.{Tag, Fen, Flip, Material, Moves, Turn, Check, Mate, Stalemate}
 use Rattle.pgn_criteria.proofs.SolidFacts.{BeginsSolid, EndsSolid, solid_ends, ends_behind, begins_some, word_read, word_spelled}
 use Rattle.pgn_criteria.proofs.TurnFacts.{side_ends, turn_read}
-use Rattle.pgn_criteria.proofs.FenFacts.{pattern_some, pattern_solid, fen_read}
+use Rattle.pgn_criteria.proofs.FenFacts.{pattern_some, pattern_solid, fen_read, flip_read}
 use Rattle.pgn_criteria.proofs.TagFacts.{tag_read}
 use Rattle.pgn_criteria.proofs.MaterialFacts.{material_read}
 use Rattle.pgn_criteria.proofs.LimitFacts.{limits_some, limits_solid}
@@ -17,6 +17,7 @@ use Rattle.pgn_criteria.proofs.MoveWordFacts.{words_end, moves_read}
 pub claim_begins : (text : List ℕ) (claim : Claim (List ℕ)) → SpellsClaim text claim → BeginsSolid text
 claim_begins text (Tag name relation contents) s = (116, _, s.3, refl)
 claim_begins text (Fen pattern) s = (102, _, s.1, refl)
+claim_begins text (Flip pattern) s = (102, _, s.2, refl)
 claim_begins text (Material white black) s = (109, _, s.5, refl)
 claim_begins text (Moves words) s = (109, _, s.1, refl)
 claim_begins text (Turn side) s = (116, _, s.1, refl)
@@ -37,6 +38,9 @@ claim_ends text (Tag name relation contents) (first, second, third, is, g, h, k,
     (ends_behind (relation_text relation) (third ++ string) (ends_behind third string (34 ∷ contents, 34, refl, refl)))))))
 claim_ends text (Fen pattern) (gap, is, g, good) =
     ends_as text _ is (ends_behind (codes "fen") (gap ++ pattern) (ends_behind gap pattern (solid_ends pattern (pattern_some pattern good) (pattern_solid pattern good))))
+claim_ends text (Flip pattern) (first, own, is, g, (gap, own_is, h, good)) =
+    ends_as text _ is (ends_behind (codes "flip") (first ++ own) (ends_behind first own (ends_as own _ own_is
+    (ends_behind (codes "fen") (gap ++ pattern) (ends_behind gap pattern (solid_ends pattern (pattern_some pattern good) (pattern_solid pattern good)))))))
 claim_ends text (Material white black) (first, second, third, of_white, of_black, is, g, h, k, spells_white, spells_black) =
     let last = ends_behind third of_black (solid_ends of_black (limits_some of_black black spells_black) (limits_solid of_black black spells_black)) in
     ends_as text _ is (ends_behind (codes "material") (first ++ (of_white ++ (second ++ (codes "v" ++ (third ++ of_black)))))
@@ -55,6 +59,7 @@ claim_ends text Stalemate is = ends_as text _ is (codes "stalemat", 101, refl, r
 abbrev pub key : Claim (List ℕ) → List ℕ
 key (Tag name relation contents) = codes "tag"
 key (Fen pattern) = codes "fen"
+key (Flip pattern) = codes "flip"
 key (Material white black) = codes "material"
 key (Moves words) = codes "moves"
 key (Turn side) = codes "turn"
@@ -65,6 +70,7 @@ key Stalemate = codes "stalemate"
 pub key_read : (text : List ℕ) (claim : Claim (List ℕ)) → SpellsClaim text claim → run_of text ≡ key claim
 key_read text (Tag name relation contents) spells = (tag_read text name relation contents spells).key_is
 key_read text (Fen pattern) spells = (fen_read text pattern spells).0
+key_read text (Flip pattern) spells = (flip_read text pattern spells).0
 key_read text (Material white black) spells = (material_read text white black spells).key_is
 key_read text (Moves words) spells = (moves_read text words spells).0
 key_read text (Turn side) spells = (turn_read text side spells).0
@@ -72,7 +78,7 @@ key_read text Check spells = ap run_of spells
 key_read text Mate spells = ap run_of spells
 key_read text Stalemate spells = ap run_of spells
 
--- these words, and `not`, differ in the sum of their bytes
+-- these words, `not` and `either` differ in the sum of their bytes
 abbrev pub total : List ℕ → ℕ
 total [] = 0
 total (b ∷ x) = b + total x
@@ -80,12 +86,27 @@ total (b ∷ x) = b + total x
 not_apart : (claim : Claim (List ℕ)) → 337 ≡ total (key claim) → ⊥
 not_apart (Tag name relation contents) same = omega arith
 not_apart (Fen pattern) same = omega arith
+not_apart (Flip pattern) same = omega arith
 not_apart (Material white black) same = omega arith
 not_apart (Moves words) same = omega arith
 not_apart (Turn side) same = omega arith
 not_apart Check same = omega arith
 not_apart Mate same = omega arith
 not_apart Stalemate same = omega arith
+
+either_apart : (claim : Claim (List ℕ)) → 641 ≡ total (key claim) → ⊥
+either_apart (Tag name relation contents) same = omega arith
+either_apart (Fen pattern) same = omega arith
+either_apart (Flip pattern) same = omega arith
+either_apart (Material white black) same = omega arith
+either_apart (Moves words) same = omega arith
+either_apart (Turn side) same = omega arith
+either_apart Check same = omega arith
+either_apart Mate same = omega arith
+either_apart Stalemate same = omega arith
+
+pub claim_either : (text : List ℕ) (claim : Claim (List ℕ)) → run_of text ≡ codes "either" → SpellsClaim text claim → ⊥
+claim_either text claim run spells = either_apart claim (ap total (sym run ∙ key_read text claim spells))
 
 pub claim_not : (text : List ℕ) (claim : Claim (List ℕ)) → run_of text ≡ codes "not" → SpellsClaim text claim → ⊥
 claim_not text claim run spells = not_apart claim (ap total (sym run ∙ key_read text claim spells))

@@ -1,14 +1,15 @@
 -- The text of a condition begins and ends with a solid byte, and is that of one condition.
-use Rattle.std.proofs.Common.{◌≡◌, ℕ, Bool, true, false, List, ◌++◌, refl, sym, ap, ◌∙◌, subst, inl, inr}
-use Rattle.std.specs.Prelude.{codes}
-use Rattle.pgn_criteria.specs.Reading.{core_of}
-use Rattle.pgn_criteria.specs.Lines.{SpellsTaken, SpellsCondition, Spells, IsLine}
+use Rattle.std.proofs.Common.{◌≡◌, ℕ, Bool, true, false, List, ◌++◌, IsTrue, refl, sym, ap, ◌∙◌, subst, inl, inr}
+use Rattle.std.specs.Prelude.{codes, ◌==◌}
+use Rattle.pgn_criteria.specs.Mirrors.{can_be_mirrored}
+use Rattle.pgn_criteria.specs.Reading.{core_of, run_of, behind_word}
+use Rattle.pgn_criteria.specs.Lines.{SpellsTaken, SpellsTurned, SpellsCondition, Spells, IsLine}
 use Rattle.pgn_criteria.specs.declared.condition.Condition.{Condition}
 use Rattle.pgn_criteria.specs.declared.condition.Claim.{Claim}
 use Rattle.pgn_criteria.specs.declared.line.Meaning.{Meaning}
 use Rattle.pgn_criteria.specs.declared.line.Meaning.TheVariants.{Nothing, Or, Asks}
-use Rattle.pgn_criteria.proofs.SolidFacts.{BeginsSolid, EndsSolid, ends_behind}
-use Rattle.pgn_criteria.proofs.ClaimFacts.{claim_begins, claim_ends, ends_as}
+use Rattle.pgn_criteria.proofs.SolidFacts.{BeginsSolid, EndsSolid, ends_behind, begins_some, word_read, word_spelled}
+use Rattle.pgn_criteria.proofs.ClaimFacts.{claim_begins, claim_ends, ends_as, claim_either, not_read, total}
 use Rattle.pgn_criteria.proofs.CoreFacts.{core_about, solid_core, empty_core, comment_core}
 
 taken_begins : (text : List ℕ) (denied : Bool) (claim : Claim (List ℕ)) → SpellsTaken text denied claim → BeginsSolid text
@@ -16,7 +17,11 @@ taken_begins text false claim spells = claim_begins text claim spells
 taken_begins text true claim (gap, own, is, g, spells) = (110, _, is, refl)
 
 condition_begins : (text : List ℕ) (condition : Condition (List ℕ)) → SpellsCondition text condition → BeginsSolid text
-condition_begins text condition spells = taken_begins text condition.is_denied condition.claim spells
+condition_begins text condition spells = begins condition.is_either spells
+  where
+    begins : (either : Bool) → SpellsTurned text either condition.is_denied condition.claim → BeginsSolid text
+    begins false spells = taken_begins text condition.is_denied condition.claim spells
+    begins true (gap, own, is, g, of, spells) = (101, _, is, refl)
 
 taken_ends : (text : List ℕ) (denied : Bool) (claim : Claim (List ℕ)) → SpellsTaken text denied claim → EndsSolid text
 taken_ends text false claim spells = claim_ends text claim spells
@@ -24,7 +29,29 @@ taken_ends text true claim (gap, own, is, g, spells) =
     ends_as text _ is (ends_behind (codes "not") (gap ++ own) (ends_behind gap own (claim_ends own claim spells)))
 
 condition_ends : (text : List ℕ) (condition : Condition (List ℕ)) → SpellsCondition text condition → EndsSolid text
-condition_ends text condition spells = taken_ends text condition.is_denied condition.claim spells
+condition_ends text condition spells = ends condition.is_either spells
+  where
+    ends : (either : Bool) → SpellsTurned text either condition.is_denied condition.claim → EndsSolid text
+    ends false spells = taken_ends text condition.is_denied condition.claim spells
+    ends true (gap, own, is, g, of, spells) =
+        ends_as text _ is (ends_behind (codes "either") (gap ++ own) (ends_behind gap own (taken_ends own condition.is_denied condition.claim spells)))
+
+-- a condition with `either` is read behind its first word, and the other way round
+pub either_read : (text : List ℕ) (denied : Bool) (claim : Claim (List ℕ)) → SpellsTurned text true denied claim
+    → (run_of text ≡ codes "either") × IsTrue (can_be_mirrored claim) × SpellsTaken (behind_word text) denied claim
+either_read text denied claim (gap, own, is, g, of, spells) =
+    let parts = word_read text (codes "either") gap own is refl g (taken_begins own denied claim spells) in
+    (parts.0, of, subst (λ x. SpellsTaken x denied claim) (sym parts.1) spells)
+
+pub either_spelled : (text own : List ℕ) (denied : Bool) (claim : Claim (List ℕ)) → run_of text ≡ codes "either" → own ≡ behind_word text → IsTrue (can_be_mirrored claim)
+    → SpellsTaken own denied claim → SpellsTurned text true denied claim
+either_spelled text own denied claim run behind of spells =
+    let two = word_spelled text (codes "either") own run (sym behind) (begins_some own (taken_begins own denied claim spells)) in (two.0, own, two.1, two.2, of, spells)
+
+-- and any other is read without it
+pub taken_either : (text : List ℕ) (denied : Bool) (claim : Claim (List ℕ)) → run_of text ≡ codes "either" → SpellsTaken text denied claim → ⊥
+taken_either text false claim run spells = claim_either text claim run spells
+taken_either text true claim run spells = let clash : false ≡ true = ap (λ x. total x == 337) (sym run ∙ (not_read text claim spells).0) in cc
 
 -- a line's meaning is spelled by its core
 pub line_read : (line : List ℕ) (means : Meaning (List ℕ)) → IsLine line means → Spells (core_of line) means

@@ -14,6 +14,7 @@ use Rattle.pgn_criteria.specs.Items.{items_of}
 use Rattle.pgn_criteria.specs.Patterns.IsStretch.{spelled, any, occupied, white, black, many, among, other}
 use Rattle.pgn_criteria.specs.Materials.{is_man}
 use Rattle.pgn_criteria.specs.Materials as material
+use Rattle.pgn_criteria.specs.Mirrors.{across, beside}
 use Rattle.pgn_criteria.specs.MoveTexts.{without_marks}
 use Rattle.pgn_criteria.specs.Meeting.{IsFirst}
 use Rattle.pgn_criteria.specs.declared.compare.Relation.TheVariants.{Equal, Has, Begins}
@@ -230,3 +231,10 @@ third = (omega arith, omega arith, omega arith, λ m low less here. absurd (omeg
 
 bounds_first : IsFirst (λ n. 1 ≤ n) 2 1 None
 bounds_first n low high here = absurd (omega arith)
+
+-- e4 stands across from e5 and beside d4
+e4_across : across (record { file = 5; rank = 4 }) ≡ record { file = 5; rank = 5 }
+e4_across = refl
+
+e4_beside : beside (record { file = 5; rank = 4 }) ≡ record { file = 4; rank = 4 }
+e4_beside = refl

@@ -14,10 +14,10 @@ use Rattle.chess.specs.declared.board.man.Kind.TheVariants.{King, Queen, Rook, B
 use Rattle.pgn_criteria.specs.Patterns.{IsStretch, spelled, any, occupied, white, black, many, among, other, AreRanks, IsPattern, items_where}
 use Rattle.pgn_criteria.specs.Items.{AreItems, is_letter, items_of}
 use Rattle.pgn_criteria.specs.Reading.{run_of, behind_word}
-use Rattle.pgn_criteria.specs.Lines.{SpellsClaim}
-use Rattle.pgn_criteria.specs.declared.condition.Claim.TheVariants.{Fen}
+use Rattle.pgn_criteria.specs.Lines.{SpellsFen, SpellsClaim}
+use Rattle.pgn_criteria.specs.declared.condition.Claim.TheVariants.{Fen, Flip}
 use Rattle.pgn_criteria.proofs.SetFacts.{all_men, letter_in, are_split}
-use Rattle.pgn_criteria.proofs.SolidFacts.{is_solid, AreSolid, EachSolid, all_solid, both_true, front_solid, parts_solid, solid_begins, word_read, word_spelled}
+use Rattle.pgn_criteria.proofs.SolidFacts.{is_solid, AreSolid, EachSolid, all_solid, both_true, front_solid, parts_solid, solid_begins, word_read, word_spelled, BeginsSolid, begins_some}
 
 letter_solid : (side : Side) (kind : Kind) → is_solid (man_letter (record { side = side; kind = kind })) ≡ true
 letter_solid White King = refl
@@ -98,3 +98,16 @@ fen_read text pattern (gap, is, g, good) =
 pub fen_spelled : (text pattern : List ℕ) → run_of text ≡ codes "fen" → pattern ≡ behind_word text → IsPattern pattern → SpellsClaim text (Fen pattern)
 fen_spelled text pattern run behind good =
     let two = word_spelled text (codes "fen") pattern run (sym behind) (pattern_some pattern good) in (two.0, two.1, two.2, good)
+
+-- so it is behind `flip`
+fen_begins : (text pattern : List ℕ) → SpellsFen text pattern → BeginsSolid text
+fen_begins text pattern (gap, is, g, good) = (102, _, is, refl)
+
+pub flip_read : (text pattern : List ℕ) → SpellsClaim text (Flip pattern) → (run_of text ≡ codes "flip") × SpellsFen (behind_word text) pattern
+flip_read text pattern (gap, own, is, g, spells) =
+    let parts = word_read text (codes "flip") gap own is refl g (fen_begins own pattern spells) in
+    (parts.0, subst (λ x. SpellsFen x pattern) (sym parts.1) spells)
+
+pub flip_spelled : (text own pattern : List ℕ) → run_of text ≡ codes "flip" → own ≡ behind_word text → SpellsFen own pattern → SpellsClaim text (Flip pattern)
+flip_spelled text own pattern run behind spells =
+    let two = word_spelled text (codes "flip") own run (sym behind) (begins_some own (fen_begins own pattern spells)) in (two.0, own, two.1, two.2, spells)

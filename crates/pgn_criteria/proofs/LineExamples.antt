@@ -1,13 +1,14 @@
 -- What the definitions say of lines that every reader can check.
-use Rattle.std.proofs.Common.{◌≡◌, ◌≤◌, ℕ, Bool, true, false, List, [], ◌∷◌, ◌++◌, length, get_or, refl, ap, inl, inr, arith, codes}
+use Rattle.std.proofs.Common.{◌==◌, ◌≡◌, ◌≤◌, ℕ, Bool, true, false, List, [], ◌∷◌, ◌++◌, length, get_or, refl, sym, ap, ◌∙◌, inl, inr, arith, codes}
 use Rattle.chess.specs.Fen.{parted_at}
 use Rattle.chess.specs.declared.board.man.Kind.{Kind}
 use Rattle.chess.specs.declared.board.man.Kind.TheVariants.{King, Queen, Rook, Bishop, Knight, Pawn}
 use Rattle.chess.specs.declared.board.man.Side.TheVariants.{White}
 use Rattle.pgn_text.specs.Strings.{Single}
-use Rattle.pgn_criteria.specs.Lines.{SpellsClaim, AreNames, SpellsTaken, Spells, SpellsLimits, IsLimitIn, IsMoveWord, a_word, and_words, IsLine, Accepts, alternatives_of}
+use Rattle.pgn_criteria.specs.Lines.{SpellsClaim, AreNames, SpellsTaken, Spells, SpellsLimits, IsLimitIn, IsMoveWord, a_word, and_words, IsLine, Accepts, alternatives_of, SpellsTurned}
 use Rattle.pgn_criteria.specs.Lines.SpellsLimit.{one, exactly, at_least, at_most, any}
 use Rattle.pgn_criteria.specs.Materials.{limit_of}
+use Rattle.pgn_criteria.specs.Mirrors.{can_be_mirrored}
 use Rattle.pgn_criteria.specs.declared.compare.Relation.TheVariants.{GreaterOrEqual, Begins}
 use Rattle.pgn_criteria.specs.declared.material.Limit.{Limit}
 use Rattle.pgn_criteria.specs.declared.material.Limit.TheVariants.{Exactly, AtLeast, AtMost, AnyNumber}
@@ -18,7 +19,7 @@ use Rattle.pgn_criteria.specs.declared.condition.Claim.TheVariants.{Tag, Moves, 
 use Rattle.pgn_criteria.specs.declared.line.Meaning.{Meaning}
 use Rattle.pgn_criteria.specs.declared.line.Meaning.TheVariants.{Nothing, Or, Asks}
 use Rattle.pgn_criteria.proofs.ClaimFacts.{claim_not, not_read}
-use Rattle.pgn_criteria.proofs.ConditionFacts.{line_read}
+use Rattle.pgn_criteria.proofs.ConditionFacts.{line_read, either_read, taken_either}
 
 -- more blanks may stand where one stands
 turn : SpellsClaim (codes "turn  white") (Turn White)
@@ -140,10 +141,10 @@ not_eight_letters is = let many : 8 ≤ 7 = (bytes_of (codes "Nb1xd2ef") is (λ 
 
 -- a claim that is to be so, and one that is denied
 abbrev pub so : Claim (List ℕ) → Condition (List ℕ)
-so claim = record { is_denied = false; claim = claim }
+so claim = record { is_either = false; is_denied = false; claim = claim }
 
 abbrev pub denied : Claim (List ℕ) → Condition (List ℕ)
-denied claim = record { is_denied = true; claim = claim }
+denied claim = record { is_either = false; is_denied = true; claim = claim }
 
 not_check : IsLine (codes "not check") (Asks (denied Check))
 not_check = record {
@@ -166,11 +167,35 @@ not_twice means is = no_meaning means (line_read (codes "not not check") means i
     no_claim false claim spells = claim_not (codes "not not check") claim refl spells
     no_claim true claim spells = claim_not (codes "not check") claim refl (not_read (codes "not not check") claim spells).1
 
+    no_condition : (either taken : Bool) (claim : Claim (List ℕ)) → SpellsTurned (codes "not not check") either taken claim → ⊥
+    no_condition false taken claim spells = no_claim taken claim spells
+    no_condition true taken claim spells =
+        let clash : false ≡ true = ap (λ x. get_or x 0 0 == 101) (either_read (codes "not not check") taken claim spells).0 in cc
+
     no_meaning : (means : Meaning (List ℕ)) → Spells (codes "not not check") means → ⊥
     no_meaning Nothing (inl none) = cc
     no_meaning Nothing (inr comment) = let first : get_or (codes "not not check") 0 0 ≡ 35 = ap (λ x. get_or x 0 0) comment.1 in omega arith
     no_meaning Or or = let short : length (codes "not not check") ≡ 2 = ap length or in omega arith
-    no_meaning (Asks condition) spells = no_claim condition.is_denied condition.claim spells
+    no_meaning (Asks condition) spells = no_condition condition.is_either condition.is_denied condition.claim spells
+
+-- a line with `either`
+either_turn : IsLine (codes "either not turn white") (Asks (record { is_either = true; is_denied = true; claim = Turn White }))
+either_turn = record {
+  before = [];
+  text = codes "either not turn white";
+  after = [];
+  last = [];
+  whole = refl;
+  blank_before = refl;
+  blank_after = refl;
+  end = inl refl;
+  spells = (codes " ", codes "not turn white", refl, ((λ none. cc), refl), refl, (codes " ", codes "turn white", refl, ((λ none. cc), refl), (codes " ", refl, ((λ none. cc), refl))));
+}
+
+-- check is not seen from the other side
+not_either_check : (taken : Bool) (claim : Claim (List ℕ)) → SpellsTurned (codes "either check") true taken claim → claim ≡ Check → ⊥
+not_either_check taken claim spells is =
+    let so : false ≡ true = ap (λ (c : Claim (List ℕ)). can_be_mirrored c) (sym is) ∙ (either_read (codes "either check") taken claim spells).1 in cc
 
 -- blanks about a line do not count, nor does one carriage return
 ended : IsLine (32 ∷ 9 ∷ 99 ∷ 104 ∷ 101 ∷ 99 ∷ 107 ∷ 32 ∷ 13 ∷ []) (Asks (so Check))

@@ -1,6 +1,6 @@
 -- Whether a position of a sound game meets criteria is settled.
 use Rattle.std.proofs.Common.{◌≡◌, ℕ, ◌+◌, Bool, true, false, List, [], ◌∷◌, Option, Some, None, refl, ap, ◌∙◌, inl, inr}
-use Rattle.std.specs.Prelude.{codes}
+use Rattle.std.specs.Prelude.{codes, if◌then◌else◌}
 use Rattle.std.specs.List.{slice_get}
 use Rattle.chess.specs.Fen.{parted_at}
 use Rattle.chess.specs.Placements.{AreOnBoard}
@@ -17,7 +17,8 @@ use Rattle.pgn_game.specs.MainLines.{main_words}
 use Rattle.pgn_game.specs.Replays.{Replay}
 use Rattle.pgn_game.proofs.AnAnswer.{start_on_board}
 use Rattle.pgn_game.proofs.OnBoard.{line_on_board, line_legal}
-use Rattle.pgn_criteria.specs.Meeting.{Tags, HasOneOf, IsSo, Taken, Holds, AllHold, SomeHold, Meets}
+use Rattle.pgn_criteria.specs.Meeting.{Tags, HasOneOf, IsSo, Taken, Holds, AllHold, SomeHold, Meets, is_turned, EachHold}
+use Rattle.pgn_criteria.specs.Mirrors.{flipped_men, mirror}
 use Rattle.pgn_criteria.specs.MoveTexts.{without_marks, FitsWord, FitsMove, FitMoves}
 use Rattle.pgn_criteria.specs.Stages.{AreLegal}
 use Rattle.pgn_criteria.specs.Words.{words_of}
@@ -25,10 +26,11 @@ use Rattle.pgn_criteria.specs.Comparing.{Stands}
 use Rattle.pgn_criteria.specs.Laws.{EachPositionMeetsOrDoesNot}
 use Rattle.pgn_criteria.specs.declared.condition.Condition.{Condition}
 use Rattle.pgn_criteria.specs.declared.condition.Claim.{Claim}
-use Rattle.pgn_criteria.specs.declared.condition.Claim.TheVariants.{Tag, Fen, Material, Moves, Turn, Check, Mate, Stalemate}
+use Rattle.pgn_criteria.specs.declared.condition.Claim.TheVariants.{Tag, Fen, Flip, Material, Moves, Turn, Check, Mate, Stalemate}
 use Rattle.pgn_criteria.specs.declared.compare.Relation.{Relation}
 use Rattle.pgn_criteria.proofs.MeetFacts.{meets_at}
 use Rattle.pgn_criteria.proofs.MoveFacts.{by_move}
+use Rattle.pgn_criteria.proofs.MirrorFacts.{mirrored_on}
 use Rattle.pgn_criteria.proofs.MenSettled.{settled_material}
 use Rattle.pgn_criteria.proofs.SplitSettled.{settled_pattern}
 use Rattle.pgn_criteria.proofs.StandsSettled.{settled_by, settled_stands}
@@ -88,6 +90,7 @@ settled_claim : (tags : Tags) (replay : Replay) (P : State) (claim : Claim (List
     → AreOnBoard P.men → Settled (IsSo tags replay P claim)
 settled_claim tags replay P (Tag name relation contents) all legal on_board = settled_one_of tags relation contents (parted_at 124 name)
 settled_claim tags replay P (Fen pattern) all legal on_board = settled_pattern P.men pattern
+settled_claim tags replay P (Flip pattern) all legal on_board = settled_either (settled_pattern P.men pattern) (settled_pattern (flipped_men P.men) pattern)
 settled_claim tags replay P (Material white black) all legal on_board = settled_material P.men white black
 settled_claim tags replay P (Moves words) all legal on_board = settled_moves replay 0 (words_of words) all legal
 settled_claim tags replay P (Turn side) all legal on_board = cases_side P.turn side
@@ -100,11 +103,23 @@ settled_condition : (tags : Tags) (replay : Replay) (P : State) (condition : Con
 settled_condition tags replay P condition all legal on_board =
     settled_taken condition.is_denied (settled_claim tags replay P condition.claim all legal on_board)
 
+tried_on_board : (P other : State) (turned : Bool) → AreOnBoard P.men → AreOnBoard other.men → AreOnBoard (if turned then other else P).men
+tried_on_board P other true on_board other_on = other_on
+tried_on_board P other false on_board other_on = on_board
+
+settled_each : (tags : Tags) (replay : Replay) (P other : State) (conditions : List (Condition (List ℕ))) → AllOnBoard replay → AreLegal replay
+    → AreOnBoard P.men → AreOnBoard other.men → Settled (EachHold tags replay P other conditions)
+settled_each tags replay P other [] all legal on_board other_on = inl tt
+settled_each tags replay P other (condition ∷ more) all legal on_board other_on =
+    settled_both
+    (settled_condition tags replay (if is_turned condition then other else P) condition all legal (tried_on_board P other (is_turned condition) on_board other_on))
+    (settled_each tags replay P other more all legal on_board other_on)
+
 settled_all : (tags : Tags) (replay : Replay) (P : State) (conditions : List (Condition (List ℕ))) → AllOnBoard replay → AreLegal replay
     → AreOnBoard P.men → Settled (AllHold tags replay P conditions)
-settled_all tags replay P [] all legal on_board = inl tt
-settled_all tags replay P (condition ∷ more) all legal on_board =
-    settled_both (settled_condition tags replay P condition all legal on_board) (settled_all tags replay P more all legal on_board)
+settled_all tags replay P conditions all legal on_board =
+    settled_either (settled_each tags replay P P conditions all legal on_board on_board)
+    (settled_each tags replay P (mirror P) conditions all legal on_board (mirrored_on P.men))
 
 settled_some : (tags : Tags) (replay : Replay) (P : State) (alternatives : List (List (Condition (List ℕ)))) → AllOnBoard replay
     → AreLegal replay → AreOnBoard P.men → Settled (SomeHold tags replay P alternatives)

@@ -9,24 +9,24 @@ use Rattle.chess.specs.declared.board.man.Kind.{Kind}
 use Rattle.chess.specs.declared.board.man.Kind.TheVariants.{King, Queen, Rook, Bishop, Knight, Pawn}
 use Rattle.pgn_criteria.specs.Reading.{run_of, behind_word, core_of}
 use Rattle.pgn_criteria.specs.Materials.{limit_of}
-use Rattle.pgn_criteria.specs.Lines.{SpellsClaim, SpellsTaken, SpellsCondition, SpellsLimits, Spells, IsLine, AreLines, side_text, relation_text, alternatives_of, IsFirstBad}
+use Rattle.pgn_criteria.specs.Lines.{SpellsFen, SpellsClaim, SpellsTaken, SpellsTurned, SpellsCondition, SpellsLimits, Spells, IsLine, AreLines, side_text, relation_text, alternatives_of, IsFirstBad}
 use Rattle.pgn_criteria.specs.Laws.{TextHasOneMeaning, TextHasOneAnswer, MemoryIsTheOnlyFault}
 use Rattle.pgn_criteria.specs.declared.compare.Relation.{Relation}
 use Rattle.pgn_criteria.specs.declared.compare.Relation.TheVariants.{Equal, Unequal, Less, LessOrEqual, Greater, GreaterOrEqual, Has, Begins}
 use Rattle.pgn_criteria.specs.declared.material.Limits.{Limits}
 use Rattle.pgn_criteria.specs.declared.condition.Condition.{Condition}
 use Rattle.pgn_criteria.specs.declared.condition.Claim.{Claim}
-use Rattle.pgn_criteria.specs.declared.condition.Claim.TheVariants.{Tag, Fen, Material, Moves, Turn, Check, Mate, Stalemate}
+use Rattle.pgn_criteria.specs.declared.condition.Claim.TheVariants.{Tag, Fen, Flip, Material, Moves, Turn, Check, Mate, Stalemate}
 use Rattle.pgn_criteria.specs.declared.line.Meaning.{Meaning}
 use Rattle.pgn_criteria.specs.declared.line.Meaning.TheVariants.{Nothing, Or, Asks}
 use Rattle.pgn_criteria.proofs.TurnFacts.{turn_read}
-use Rattle.pgn_criteria.proofs.FenFacts.{fen_read}
+use Rattle.pgn_criteria.proofs.FenFacts.{fen_read, flip_read}
 use Rattle.pgn_criteria.proofs.TagFacts.{IsTagRead, tag_read}
 use Rattle.pgn_criteria.proofs.MoveWordFacts.{moves_read}
 use Rattle.pgn_criteria.proofs.MaterialFacts.{IsMaterialRead, material_read}
 use Rattle.pgn_criteria.proofs.LimitFacts.{limits_given}
 use Rattle.pgn_criteria.proofs.ClaimFacts.{key, key_read, total, claim_not, not_read}
-use Rattle.pgn_criteria.proofs.ConditionFacts.{line_read}
+use Rattle.pgn_criteria.proofs.ConditionFacts.{line_read, either_read, taken_either}
 
 -- texts of relations and sides are those of one
 abbrev pub relation_at : ℕ → Relation
@@ -90,10 +90,15 @@ one_material text white black first second is has =
 apart : (text : List ℕ) (c d : Claim (List ℕ)) → SpellsClaim text c → SpellsClaim text d → total (key c) ≡ total (key d)
 apart text c d spells has = ap total (sym (key_read text c spells) ∙ key_read text d has)
 
+one_fen : (text pattern other : List ℕ) → SpellsFen text pattern → SpellsFen text other → pattern ≡ other
+one_fen text pattern other spells has = sym (fen_read text pattern spells).1 ∙ (fen_read text other has).1
+
 one_claim : (text : List ℕ) (c d : Claim (List ℕ)) → SpellsClaim text c → SpellsClaim text d → c ≡ d
 one_claim text (Tag name relation contents) (Tag other reverse more) spells has =
     one_tag text name other relation reverse contents more (tag_read text name relation contents spells) (tag_read text other reverse more has)
-one_claim text (Fen pattern) (Fen other) spells has = ap Fen (sym (fen_read text pattern spells).1 ∙ (fen_read text other has).1)
+one_claim text (Fen pattern) (Fen other) spells has = ap Fen (one_fen text pattern other spells has)
+one_claim text (Flip pattern) (Flip other) spells has =
+    ap Flip (one_fen (behind_word text) pattern other (flip_read text pattern spells).1 (flip_read text other has).1)
 one_claim text (Material white black) (Material first second) spells has =
     one_material text white black first second (material_read text white black spells) (material_read text first second has)
 one_claim text (Moves words) (Moves other) spells has = ap Moves (sym (moves_read text words spells).1 ∙ (moves_read text other has).1)
@@ -104,30 +109,41 @@ one_claim text Stalemate Stalemate spells has = refl
 one_claim text c d spells has = let e : total (key c) ≡ total (key d) = apart text c d spells has in absurd (omega arith)
 
 -- and conditions of one claim, which both are denied or are not
-one_taken : (text : List ℕ) (p q : Bool) (a b : Claim (List ℕ)) → SpellsTaken text p a → SpellsTaken text q b → (p ≡ q) × (a ≡ b)
+pub one_taken : (text : List ℕ) (p q : Bool) (a b : Claim (List ℕ)) → SpellsTaken text p a → SpellsTaken text q b → (p ≡ q) × (a ≡ b)
 one_taken text false false a b spells has = (refl, one_claim text a b spells has)
 one_taken text false true a b spells has = absurd (claim_not text a (not_read text b has).0 spells)
 one_taken text true false a b spells has = absurd (claim_not text b (not_read text a spells).0 has)
 one_taken text true true a b spells has = (refl, one_claim (behind_word text) a b (not_read text a spells).1 (not_read text b has).1)
 
+-- which both have `either` or have not
+one_turned : (text : List ℕ) (e f p q : Bool) (a b : Claim (List ℕ)) → SpellsTurned text e p a → SpellsTurned text f q b → (e ≡ f) × (p ≡ q) × (a ≡ b)
+one_turned text false false p q a b spells has = let same = one_taken text p q a b spells has in (refl, same.0, same.1)
+one_turned text false true p q a b spells has = absurd (taken_either text p a (either_read text q b has).0 spells)
+one_turned text true false p q a b spells has = absurd (taken_either text q b (either_read text p a spells).0 has)
+one_turned text true true p q a b spells has =
+    let same = one_taken (behind_word text) p q a b (either_read text p a spells).2 (either_read text q b has).2 in (refl, same.0, same.1)
+
 one_condition : (text : List ℕ) (c d : Condition (List ℕ)) → SpellsCondition text c → SpellsCondition text d → c ≡ d
 one_condition text c d spells has =
-    let same = one_taken text c.is_denied d.is_denied c.claim d.claim spells has in
-    λ i. record { is_denied = same.0 i; claim = same.1 i }
+    let same = one_turned text c.is_either d.is_either c.is_denied d.is_denied c.claim d.claim spells has in
+    λ i. record { is_either = same.0 i; is_denied = same.1 i; claim = same.2 i }
 
 -- the first word of a condition
-abbrev pub word : Bool → Claim (List ℕ) → List ℕ
-word false claim = key claim
-word true claim = codes "not"
+abbrev pub word : Bool → Bool → Claim (List ℕ) → List ℕ
+word false false claim = key claim
+word false true claim = codes "not"
+word true denied claim = codes "either"
 
-word_is : (text : List ℕ) (denied : Bool) (claim : Claim (List ℕ)) → SpellsTaken text denied claim → run_of text ≡ word denied claim
-word_is text false claim spells = key_read text claim spells
-word_is text true claim spells = (not_read text claim spells).0
+word_is : (text : List ℕ) (either denied : Bool) (claim : Claim (List ℕ)) → SpellsTurned text either denied claim → run_of text ≡ word either denied claim
+word_is text false false claim spells = key_read text claim spells
+word_is text false true claim spells = (not_read text claim spells).0
+word_is text true denied claim spells = (either_read text denied claim spells).0
 
 -- a condition is no comment, not empty, and not `or`
 key_high : (claim : Claim (List ℕ)) → 300 ≤ total (key claim)
 key_high (Tag name relation contents) = omega arith
 key_high (Fen pattern) = omega arith
+key_high (Flip pattern) = omega arith
 key_high (Material white black) = omega arith
 key_high (Moves words) = omega arith
 key_high (Turn side) = omega arith
@@ -135,9 +151,10 @@ key_high Check = omega arith
 key_high Mate = omega arith
 key_high Stalemate = omega arith
 
-word_high : (denied : Bool) (claim : Claim (List ℕ)) → 300 ≤ total (word denied claim)
-word_high false claim = key_high claim
-word_high true claim = omega arith
+word_high : (either denied : Bool) (claim : Claim (List ℕ)) → 300 ≤ total (word either denied claim)
+word_high false false claim = key_high claim
+word_high false true claim = omega arith
+word_high true denied claim = omega arith
 
 abbrev pub first_byte : List ℕ → ℕ
 first_byte [] = 0
@@ -146,6 +163,7 @@ first_byte (b ∷ x) = b
 key_first : (claim : Claim (List ℕ)) → 99 ≤ first_byte (key claim)
 key_first (Tag name relation contents) = omega arith
 key_first (Fen pattern) = omega arith
+key_first (Flip pattern) = omega arith
 key_first (Material white black) = omega arith
 key_first (Moves words) = omega arith
 key_first (Turn side) = omega arith
@@ -153,9 +171,10 @@ key_first Check = omega arith
 key_first Mate = omega arith
 key_first Stalemate = omega arith
 
-word_first : (denied : Bool) (claim : Claim (List ℕ)) → 99 ≤ first_byte (word denied claim)
-word_first false claim = key_first claim
-word_first true claim = omega arith
+word_first : (either denied : Bool) (claim : Claim (List ℕ)) → 99 ≤ first_byte (word either denied claim)
+word_first false false claim = key_first claim
+word_first false true claim = omega arith
+word_first true denied claim = omega arith
 
 nothing_first : (text : List ℕ) → Spells text Nothing → first_byte (run_of text) ≤ 35
 nothing_first text (inl none) = let e : first_byte (run_of text) ≡ 0 = ap (λ x. first_byte (run_of x)) none in omega arith
@@ -169,13 +188,15 @@ nothing_or text spells is =
 nothing_condition : (text : List ℕ) (condition : Condition (List ℕ)) → Spells text Nothing → SpellsCondition text condition → ⊥
 nothing_condition text condition spells has =
     let low = nothing_first text spells in
-    let high = word_first condition.is_denied condition.claim in
-    let e : first_byte (run_of text) ≡ first_byte (word condition.is_denied condition.claim) = ap first_byte (word_is text condition.is_denied condition.claim has) in omega arith
+    let high = word_first condition.is_either condition.is_denied condition.claim in
+    let e : first_byte (run_of text) ≡ first_byte (word condition.is_either condition.is_denied condition.claim) =
+    ap first_byte (word_is text condition.is_either condition.is_denied condition.claim has) in omega arith
 
 or_condition : (text : List ℕ) (condition : Condition (List ℕ)) → text ≡ codes "or" → SpellsCondition text condition → ⊥
 or_condition text condition is has =
-    let high = word_high condition.is_denied condition.claim in
-    let e : 225 ≡ total (word condition.is_denied condition.claim) = ap (λ x. total (run_of x)) (sym is) ∙ ap total (word_is text condition.is_denied condition.claim has) in omega arith
+    let high = word_high condition.is_either condition.is_denied condition.claim in
+    let e : 225 ≡ total (word condition.is_either condition.is_denied condition.claim) =
+    ap (λ x. total (run_of x)) (sym is) ∙ ap total (word_is text condition.is_either condition.is_denied condition.claim has) in omega arith
 
 one_spelled : (text : List ℕ) (first second : Meaning (List ℕ)) → Spells text first → Spells text second → first ≡ second
 one_spelled text Nothing Nothing is has = refl

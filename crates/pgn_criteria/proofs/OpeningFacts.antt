@@ -5,13 +5,14 @@ use Rattle.pgn_text.specs.Games.{Item}
 use Rattle.pgn_game.specs.Openings.{IsOpening}
 use Rattle.pgn_game.specs.Replays.{Replay, IsSomeReplay}
 use Rattle.pgn_game.proofs.Openings.{AgreeAt, opening_agrees}
-use Rattle.pgn_criteria.specs.Meeting.{Tags, IsSo, Taken, Holds, AllHold, SomeHold}
+use Rattle.pgn_criteria.specs.Meeting.{Tags, IsSo, Taken, is_turned, Holds, EachHold, AllHold, SomeHold}
+use Rattle.pgn_criteria.specs.Mirrors.{mirror}
 use Rattle.pgn_criteria.specs.MoveTexts.{FitMoves}
 use Rattle.pgn_criteria.specs.Words.{words_of}
 use Rattle.pgn_criteria.specs.Stages.{AsksWithin, AllAskWithin, EachAsksWithin, FitTheSame, is_on_position, on_positions}
 use Rattle.pgn_criteria.specs.declared.condition.Condition.{Condition}
 use Rattle.pgn_criteria.specs.declared.condition.Claim.{Claim}
-use Rattle.pgn_criteria.specs.declared.condition.Claim.TheVariants.{Tag, Fen, Material, Moves, Turn, Check, Mate, Stalemate}
+use Rattle.pgn_criteria.specs.declared.condition.Claim.TheVariants.{Tag, Fen, Flip, Material, Moves, Turn, Check, Mate, Stalemate}
 
 -- where two replays agree before so many plies, the same words fit
 fit_on : (most plies : ℕ) (replay other : Replay) → ((i : ℕ) → i < most → AgreeAt replay.positions replay.played other.positions other.played i)
@@ -39,38 +40,47 @@ opening_fits fen items most opening replay is whole words within =
     )
 
 -- what is taken of facts that are the same is the same
-same_taken : {A B : Type 0} (denied : Bool) → A ↔ B → Taken denied A ↔ Taken denied B
+pub same_taken : {A B : Type 0} (denied : Bool) → A ↔ B → Taken denied A ↔ Taken denied B
 same_taken false same = same
 same_taken true same = (λ none b. none (same.1 b), λ none a. none (same.0 a))
 
 -- so the same conditions hold
-module _ (tags : Tags) (most : ℕ) (replay other : Replay) (same : FitTheSame most replay other) (P : State) where
-  one_so_there : (claim : Claim (List ℕ)) → AsksWithin most claim → IsSo tags replay P claim ↔ IsSo tags other P claim
-  one_so_there (Tag name relation contents) within = (λ holds. holds, λ holds. holds)
-  one_so_there (Fen pattern) within = (λ holds. holds, λ holds. holds)
-  one_so_there (Material white black) within = (λ holds. holds, λ holds. holds)
-  one_so_there (Moves words) within = same (words_of words) within
-  one_so_there (Turn side) within = (λ holds. holds, λ holds. holds)
-  one_so_there Check within = (λ holds. holds, λ holds. holds)
-  one_so_there Mate within = (λ holds. holds, λ holds. holds)
-  one_so_there Stalemate within = (λ holds. holds, λ holds. holds)
+module _ (tags : Tags) (most : ℕ) (replay other : Replay) (same : FitTheSame most replay other) where
+  one_so_there : (P : State) (claim : Claim (List ℕ)) → AsksWithin most claim → IsSo tags replay P claim ↔ IsSo tags other P claim
+  one_so_there P (Tag name relation contents) within = (λ holds. holds, λ holds. holds)
+  one_so_there P (Fen pattern) within = (λ holds. holds, λ holds. holds)
+  one_so_there P (Flip pattern) within = (λ holds. holds, λ holds. holds)
+  one_so_there P (Material white black) within = (λ holds. holds, λ holds. holds)
+  one_so_there P (Moves words) within = same (words_of words) within
+  one_so_there P (Turn side) within = (λ holds. holds, λ holds. holds)
+  one_so_there P Check within = (λ holds. holds, λ holds. holds)
+  one_so_there P Mate within = (λ holds. holds, λ holds. holds)
+  one_so_there P Stalemate within = (λ holds. holds, λ holds. holds)
 
-  one_holds_there : (condition : Condition (List ℕ)) → AsksWithin most condition.claim → Holds tags replay P condition ↔ Holds tags other P condition
-  one_holds_there condition within = same_taken condition.is_denied (one_so_there condition.claim within)
+  one_holds_there : (P : State) (condition : Condition (List ℕ)) → AsksWithin most condition.claim → Holds tags replay P condition ↔ Holds tags other P condition
+  one_holds_there P condition within = same_taken condition.is_denied (one_so_there P condition.claim within)
 
-  all_hold_there : (conditions : List (Condition (List ℕ))) → AllAskWithin most conditions → AllHold tags replay P conditions ↔ AllHold tags other P conditions
-  all_hold_there [] within = (λ hold. tt, λ hold. tt)
-  all_hold_there (condition ∷ more) within =
-      let here = one_holds_there condition within.0 in
-      let there = all_hold_there more within.1 in
+  each_hold_there : (P Q : State) (conditions : List (Condition (List ℕ))) → AllAskWithin most conditions → EachHold tags replay P Q conditions ↔ EachHold tags other P Q conditions
+  each_hold_there P Q [] within = (λ hold. tt, λ hold. tt)
+  each_hold_there P Q (condition ∷ more) within =
+      let here = one_holds_there (if is_turned condition then Q else P) condition within.0 in
+      let there = each_hold_there P Q more within.1 in
       (λ hold. (here.0 hold.0, there.0 hold.1), λ hold. (here.1 hold.0, there.1 hold.1))
 
-  pub some_hold_there : (alternatives : List (List (Condition (List ℕ)))) → EachAsksWithin most alternatives
+  all_hold_there : (P : State) (conditions : List (Condition (List ℕ))) → AllAskWithin most conditions → AllHold tags replay P conditions ↔ AllHold tags other P conditions
+  all_hold_there P conditions within =
+      let plain = each_hold_there P P conditions within in
+      let turned = each_hold_there P (mirror P) conditions within in (
+        λ hold. elim hold [ inl h ↦ inl (plain.0 h) | inr h ↦ inr (turned.0 h) ],
+        λ hold. elim hold [ inl h ↦ inl (plain.1 h) | inr h ↦ inr (turned.1 h) ],
+      )
+
+  pub some_hold_there : (P : State) (alternatives : List (List (Condition (List ℕ)))) → EachAsksWithin most alternatives
       → SomeHold tags replay P alternatives ↔ SomeHold tags other P alternatives
-  some_hold_there [] within = (λ hold. hold, λ hold. hold)
-  some_hold_there (alternative ∷ more) within =
-      let here = all_hold_there alternative within.0 in
-      let there = some_hold_there more within.1 in (
+  some_hold_there P [] within = (λ hold. hold, λ hold. hold)
+  some_hold_there P (alternative ∷ more) within =
+      let here = all_hold_there P alternative within.0 in
+      let there = some_hold_there P more within.1 in (
         λ hold. elim hold [ inl all ↦ inl (here.0 all) | inr some ↦ inr (there.0 some) ],
         λ hold. elim hold [ inl all ↦ inl (here.1 all) | inr some ↦ inr (there.1 some) ],
       )
@@ -79,6 +89,7 @@ module _ (tags : Tags) (most : ℕ) (replay other : Replay) (same : FitTheSame m
 asks_none : (claim : Claim (List ℕ)) → is_on_position claim ≡ true → AsksWithin 0 claim
 asks_none (Tag name relation contents) on = tt
 asks_none (Fen pattern) on = tt
+asks_none (Flip pattern) on = tt
 asks_none (Material white black) on = tt
 asks_none (Moves words) on = cc
 asks_none (Turn side) on = tt
@@ -102,6 +113,7 @@ none_of_none value (a ∷ left) = (positions_ask_none (value a), none_of_none va
 pub asks_more : (least most : ℕ) → least ≤ most → (claim : Claim (List ℕ)) → AsksWithin least claim → AsksWithin most claim
 asks_more least most up (Tag name relation contents) within = tt
 asks_more least most up (Fen pattern) within = tt
+asks_more least most up (Flip pattern) within = tt
 asks_more least most up (Material white black) within = tt
 asks_more least most up (Moves words) within = omega (arith, within, up)
 asks_more least most up (Turn side) within = tt

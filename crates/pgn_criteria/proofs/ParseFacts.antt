@@ -2,12 +2,12 @@
 use Rattle.std.proofs.Common.{◌≡◌, ◌≤◌, ◌<◌, ℕ, Bool, true, false, List, [], ◌∷◌, ◌++◌, length, refl, sym, ap, ◌∙◌, subst, append_assoc, append-nil, length-append, arith}
 use Rattle.std.specs.Prelude.{◌+◌, ◌==◌, if◌then◌else◌, Option, Some, None, MatchOption}
 use Rattle.chess.specs.Fen.{parted_at, before_first}
-use Rattle.pgn_criteria.specs.Lines.{SpellsClaim, SpellsTaken, IsLine, AreLines, alternatives_of, onto_first, SpellsCriteria, IsFirstBad}
+use Rattle.pgn_criteria.specs.Lines.{SpellsClaim, SpellsTaken, SpellsTurned, IsLine, AreLines, alternatives_of, onto_first, SpellsCriteria, IsFirstBad}
 use Rattle.pgn_criteria.specs.Reading.{with_open}
 use Rattle.pgn_criteria.specs.Stages.{IsGood, AllGood}
 use Rattle.pgn_criteria.specs.declared.condition.Condition.{Condition}
 use Rattle.pgn_criteria.specs.declared.condition.Claim.{Claim}
-use Rattle.pgn_criteria.specs.declared.condition.Claim.TheVariants.{Tag, Fen, Material, Moves, Turn, Check, Mate, Stalemate}
+use Rattle.pgn_criteria.specs.declared.condition.Claim.TheVariants.{Tag, Fen, Flip, Material, Moves, Turn, Check, Mate, Stalemate}
 use Rattle.pgn_criteria.specs.declared.line.Meaning.{Meaning}
 use Rattle.pgn_criteria.specs.declared.line.Meaning.TheVariants.{Nothing, Or, Asks}
 
@@ -38,11 +38,14 @@ parted_size separator (b ∷ x) =
     ]
 
 -- what follows a part is shorter
-pub rest_shorter : (text part rest : List ℕ) → parted_at 10 text ≡ part ∷ parted_at 10 rest → length rest < length text
-rest_shorter text part rest parts =
-    let whole : length text + 1 ≡ length part + 1 + size_of (parted_at 10 rest) = sym (parted_size 10 text) ∙ ap size_of parts in
-    let behind : size_of (parted_at 10 rest) ≡ length rest + 1 = parted_size 10 rest in
+pub part_shorter : (separator : ℕ) (text part rest : List ℕ) → parted_at separator text ≡ part ∷ parted_at separator rest → length rest < length text
+part_shorter separator text part rest parts =
+    let whole : length text + 1 ≡ length part + 1 + size_of (parted_at separator rest) = sym (parted_size separator text) ∙ ap size_of parts in
+    let behind : size_of (parted_at separator rest) ≡ length rest + 1 = parted_size separator rest in
     omega arith
+
+pub rest_shorter : (text part rest : List ℕ) → parted_at 10 text ≡ part ∷ parted_at 10 rest → length rest < length text
+rest_shorter text part rest parts = part_shorter 10 text part rest parts
 
 -- the lines up to the rest have meanings, and so many are they
 pub record IsUpTo (text rest : List ℕ) (number : ℕ) : Type 0 where
@@ -177,6 +180,7 @@ condition_added done begun condition more =
 claim_good : (text : List ℕ) (claim : Claim (List ℕ)) → SpellsClaim text claim → IsGood claim
 claim_good text (Tag name relation contents) spells = spells.8
 claim_good text (Fen pattern) spells = tt
+claim_good text (Flip pattern) spells = tt
 claim_good text (Material white black) spells = tt
 claim_good text (Moves words) spells = tt
 claim_good text (Turn side) spells = tt
@@ -188,6 +192,10 @@ taken_good : (text : List ℕ) (denied : Bool) (claim : Claim (List ℕ)) → Sp
 taken_good text false claim spells = claim_good text claim spells
 taken_good text true claim (gap, own, is, g, spells) = claim_good own claim spells
 
+turned_good : (text : List ℕ) (either denied : Bool) (claim : Claim (List ℕ)) → SpellsTurned text either denied claim → IsGood claim
+turned_good text false denied claim spells = taken_good text denied claim spells
+turned_good text true denied claim (gap, own, is, g, of, spells) = taken_good own denied claim spells
+
 onto_good : (condition : Condition (List ℕ)) (alternatives : List (List (Condition (List ℕ)))) → IsGood condition.claim → AllGood alternatives → AllGood (onto_first condition alternatives)
 onto_good condition [] good all = ((good, tt), tt)
 onto_good condition (first ∷ more) good all = ((good, all.0), all.1)
@@ -195,7 +203,7 @@ onto_good condition (first ∷ more) good all = ((good, all.0), all.1)
 with_own : (line : List ℕ) (own : Meaning (List ℕ)) (more : List (Meaning (List ℕ))) → IsLine line own → AllGood (alternatives_of more) → AllGood (alternatives_of (own ∷ more))
 with_own line Nothing more is all = all
 with_own line Or more is all = (tt, all)
-with_own line (Asks condition) more is all = onto_good condition (alternatives_of more) (taken_good is.text condition.is_denied condition.claim is.spells) all
+with_own line (Asks condition) more is all = onto_good condition (alternatives_of more) (turned_good is.text condition.is_either condition.is_denied condition.claim is.spells) all
 
 lines_good : (lines : List (List ℕ)) (means : List (Meaning (List ℕ))) → AreLines lines means → AllGood (alternatives_of means)
 lines_good [] means none = subst (λ m. AllGood (alternatives_of m)) (sym none) (tt, tt)

@@ -5,19 +5,21 @@ use Rattle.std.specs.Option.{unwrap_or}
 use Rattle.std.specs.List.{slice_get}
 use Rattle.chess.specs.Positions.{State}
 use Rattle.pgn_game.specs.Replays.{Replay}
-use Rattle.pgn_criteria.specs.Meeting.{Tags, IsSo, Taken, AllHold, SomeHold, Meets, IsFirst}
-use Rattle.pgn_criteria.specs.Stages.{SaysOfGame, AllOfGame, SaysOfTags, AllOfTags, IsFreeOfMoves, AreFreeOfMoves, SaysOfPosition, AllOfPosition, AllOfStage, stage_of, is_on_position, on_positions, FitsAt, IsFirstBefore}
+use Rattle.pgn_criteria.specs.Mirrors.{mirror}
+use Rattle.pgn_criteria.specs.Meeting.{Tags, IsSo, Taken, is_turned, EachHold, AllHold, SomeHold, Meets, IsFirst}
+use Rattle.pgn_criteria.specs.Stages.{SaysOfGame, AllOfGame, SaysOfTags, AllOfTags, IsFreeOfMoves, AreFreeOfMoves, SaysOfPosition, AllSaid, EachOfPosition, AllOfPosition, AllOfStage, stage_of, is_on_position, on_positions, FitsAt, IsFirstBefore}
 use Rattle.pgn_criteria.specs.declared.meets.Stage.{Stage}
 use Rattle.pgn_criteria.specs.declared.meets.Stage.TheVariants.{Men, Attacks, Replies}
 use Rattle.pgn_criteria.specs.declared.condition.Condition.{Condition}
 use Rattle.pgn_criteria.specs.declared.condition.Claim.{Claim}
-use Rattle.pgn_criteria.specs.declared.condition.Claim.TheVariants.{Tag, Fen, Material, Moves, Turn, Check, Mate, Stalemate}
+use Rattle.pgn_criteria.specs.declared.condition.Claim.TheVariants.{Tag, Fen, Flip, Material, Moves, Turn, Check, Mate, Stalemate}
 
 -- each condition on the position is tried at some stage
 one_stage : (P : State) (denied : Bool) (claim : Claim (List ℕ)) → (stage_of claim ≡ Men → SaysOfPosition P denied claim) → (stage_of claim ≡ Attacks → SaysOfPosition P denied claim)
     → (stage_of claim ≡ Replies → SaysOfPosition P denied claim) → SaysOfPosition P denied claim
 one_stage P denied (Tag name relation contents) men attacks replies = tt
 one_stage P denied (Fen pattern) men attacks replies = men refl
+one_stage P denied (Flip pattern) men attacks replies = men refl
 one_stage P denied (Material white black) men attacks replies = men refl
 one_stage P denied (Moves words) men attacks replies = tt
 one_stage P denied (Turn side) men attacks replies = men refl
@@ -25,23 +27,23 @@ one_stage P denied Check men attacks replies = attacks refl
 one_stage P denied Mate men attacks replies = replies refl
 one_stage P denied Stalemate men attacks replies = replies refl
 
-all_stages : (P : State) (conditions : List (Condition (List ℕ))) → AllOfStage Men P conditions → AllOfStage Attacks P conditions → AllOfStage Replies P conditions → AllOfPosition P conditions
+all_stages : (P : State) (conditions : List (Condition (List ℕ))) → AllOfStage Men P conditions → AllOfStage Attacks P conditions → AllOfStage Replies P conditions → AllSaid P conditions
 all_stages P [] men attacks replies = tt
 all_stages P (condition ∷ more) men attacks replies = (one_stage P condition.is_denied condition.claim men.0 attacks.0 replies.0, all_stages P more men.1 attacks.1 replies.1)
 
-each_stage : (stage : Stage) (P : State) (conditions : List (Condition (List ℕ))) → AllOfPosition P conditions → AllOfStage stage P conditions
+each_stage : (stage : Stage) (P : State) (conditions : List (Condition (List ℕ))) → AllSaid P conditions → AllOfStage stage P conditions
 each_stage stage P [] all = tt
 each_stage stage P (condition ∷ more) all = ((λ here. all.0), each_stage stage P more all.1)
 
 pub last_stage : (P : State) (conditions : List (Condition (List ℕ))) (men attacks r : Bool) → IsTrue men → IsTrue attacks → (IsTrue men ↔ AllOfStage Men P conditions)
-    → (IsTrue attacks ↔ AllOfStage Attacks P conditions) → (IsTrue r ↔ AllOfStage Replies P conditions) → IsTrue r ↔ AllOfPosition P conditions
+    → (IsTrue attacks ↔ AllOfStage Attacks P conditions) → (IsTrue r ↔ AllOfStage Replies P conditions) → IsTrue r ↔ AllSaid P conditions
 last_stage P conditions men attacks r by_men by_attacks told_men told_attacks told = (
   λ t. all_stages P conditions (told_men.0 by_men) (told_attacks.0 by_attacks) (told.0 t),
   λ all. told.1 (each_stage Replies P conditions all),
 )
 
 pub stage_fails : (stage : Stage) (P : State) (conditions : List (Condition (List ℕ))) (r : Bool) → r ≡ false → (IsTrue r ↔ AllOfStage stage P conditions)
-    → IsTrue false ↔ AllOfPosition P conditions
+    → IsTrue false ↔ AllSaid P conditions
 stage_fails stage P conditions r fails told = (
   λ t. absurd (cc),
   λ all. let t : IsTrue r = told.1 (each_stage stage P conditions all) in absurd (cc),
@@ -51,6 +53,7 @@ stage_fails stage P conditions r fails told = (
 one_of_tags : (tags : Tags) (replay : Replay) (denied : Bool) (claim : Claim (List ℕ)) → IsFreeOfMoves claim → SaysOfTags tags denied claim → SaysOfGame tags replay denied claim
 one_of_tags tags replay denied (Tag name relation contents) free told = told
 one_of_tags tags replay denied (Fen pattern) free told = tt
+one_of_tags tags replay denied (Flip pattern) free told = tt
 one_of_tags tags replay denied (Material white black) free told = tt
 one_of_tags tags replay denied (Moves words) free told = absurd free
 one_of_tags tags replay denied (Turn side) free told = tt
@@ -67,6 +70,7 @@ all_of_tags tags replay (condition ∷ more) free told =
 tags_of_one : (tags : Tags) (replay : Replay) (denied : Bool) (claim : Claim (List ℕ)) → SaysOfGame tags replay denied claim → SaysOfTags tags denied claim
 tags_of_one tags replay denied (Tag name relation contents) told = told
 tags_of_one tags replay denied (Fen pattern) told = tt
+tags_of_one tags replay denied (Flip pattern) told = tt
 tags_of_one tags replay denied (Material white black) told = tt
 tags_of_one tags replay denied (Moves words) told = tt
 tags_of_one tags replay denied (Turn side) told = tt
@@ -88,6 +92,7 @@ one_parted : (tags : Tags) (replay : Replay) (P : State) (denied : Bool) (claim 
     → Taken denied (IsSo tags replay P claim) ↔ (SaysOfGame tags replay denied claim × SaysOfPosition P denied claim)
 one_parted tags replay P denied (Tag name relation contents) = (λ holds. (holds, tt), λ both. both.0)
 one_parted tags replay P denied (Fen pattern) = (λ holds. (tt, holds), λ both. both.1)
+one_parted tags replay P denied (Flip pattern) = (λ holds. (tt, holds), λ both. both.1)
 one_parted tags replay P denied (Material white black) = (λ holds. (tt, holds), λ both. both.1)
 one_parted tags replay P denied (Moves words) = (λ holds. (holds, tt), λ both. both.0)
 one_parted tags replay P denied (Turn side) = (λ holds. (tt, holds), λ both. both.1)
@@ -95,14 +100,26 @@ one_parted tags replay P denied Check = (λ holds. (tt, holds), λ both. both.1)
 one_parted tags replay P denied Mate = (λ holds. (tt, holds), λ both. both.1)
 one_parted tags replay P denied Stalemate = (λ holds. (tt, holds), λ both. both.1)
 
-all_parted : (tags : Tags) (replay : Replay) (P : State) (conditions : List (Condition (List ℕ)))
-    → AllHold tags replay P conditions ↔ (AllOfGame tags replay conditions × AllOfPosition P conditions)
-all_parted tags replay P [] = (λ hold. (tt, tt), λ both. tt)
-all_parted tags replay P (condition ∷ more) =
-    let here = one_parted tags replay P condition.is_denied condition.claim in
-    let there = all_parted tags replay P more in (
+each_parted : (tags : Tags) (replay : Replay) (P other : State) (conditions : List (Condition (List ℕ)))
+    → EachHold tags replay P other conditions ↔ (AllOfGame tags replay conditions × EachOfPosition P other conditions)
+each_parted tags replay P other [] = (λ hold. (tt, tt), λ both. tt)
+each_parted tags replay P other (condition ∷ more) =
+    let here = one_parted tags replay (if is_turned condition then other else P) condition.is_denied condition.claim in
+    let there = each_parted tags replay P other more in (
       (λ hold. (((here.0 hold.0).0, (there.0 hold.1).0), ((here.0 hold.0).1, (there.0 hold.1).1))),
       (λ both. (here.1 (both.0.0, both.1.0), there.1 (both.0.1, both.1.1))),
+    )
+
+all_parted : (tags : Tags) (replay : Replay) (P : State) (conditions : List (Condition (List ℕ)))
+    → AllHold tags replay P conditions ↔ (AllOfGame tags replay conditions × AllOfPosition P conditions)
+all_parted tags replay P conditions =
+    let plain = each_parted tags replay P P conditions in
+    let turned = each_parted tags replay P (mirror P) conditions in (
+      λ hold. elim hold [
+        | inl as_it_stands ↦ let both = plain.0 as_it_stands in (both.0, inl both.1)
+        | inr in_mirror ↦ let both = turned.0 in_mirror in (both.0, inr both.1)
+      ],
+      λ both. elim both.1 [ inl as_it_stands ↦ inl (plain.1 (both.0, as_it_stands)) | inr in_mirror ↦ inr (turned.1 (both.0, in_mirror)) ],
     )
 
 pub both_parts : (tags : Tags) (replay : Replay) (P : State) (conditions : List (Condition (List ℕ))) (first r : Bool) → IsTrue first → (IsTrue first ↔ AllOfGame tags replay conditions)
@@ -160,6 +177,7 @@ on_position : (tags : Tags) (replay : Replay) (P : State) (denied : Bool) (claim
     → Taken denied (IsSo tags replay P claim) ↔ SaysOfPosition P denied claim
 on_position tags replay P denied (Tag name relation contents) on = absurd (cc)
 on_position tags replay P denied (Fen pattern) on = (λ holds. holds, λ says. says)
+on_position tags replay P denied (Flip pattern) on = (λ holds. holds, λ says. says)
 on_position tags replay P denied (Material white black) on = (λ holds. holds, λ says. says)
 on_position tags replay P denied (Moves words) on = absurd (cc)
 on_position tags replay P denied (Turn side) on = (λ holds. holds, λ says. says)
@@ -170,6 +188,7 @@ on_position tags replay P denied Stalemate on = (λ holds. holds, λ says. says)
 off_position : (P : State) (denied : Bool) (claim : Claim (List ℕ)) → is_on_position claim ≡ false → SaysOfPosition P denied claim
 off_position P denied (Tag name relation contents) off = tt
 off_position P denied (Fen pattern) off = absurd (cc)
+off_position P denied (Flip pattern) off = absurd (cc)
 off_position P denied (Material white black) off = absurd (cc)
 off_position P denied (Moves words) off = tt
 off_position P denied (Turn side) off = absurd (cc)
@@ -177,16 +196,27 @@ off_position P denied Check off = absurd (cc)
 off_position P denied Mate off = absurd (cc)
 off_position P denied Stalemate off = absurd (cc)
 
+each_position_holds : (tags : Tags) (replay : Replay) (P other : State) (conditions : List (Condition (List ℕ)))
+    → EachHold tags replay P other (on_positions conditions) ↔ EachOfPosition P other conditions
+each_position_holds tags replay P other [] = (λ hold. tt, λ all. tt)
+each_position_holds tags replay P other (condition ∷ more) =
+    let there = each_position_holds tags replay P other more in
+    let tried = if is_turned condition then other else P in
+    elim (is_on_position condition.claim) as (λ t. is_on_position condition.claim ≡ t
+    → EachHold tags replay P other (if t then condition ∷ on_positions more else on_positions more) ↔ EachOfPosition P other (condition ∷ more)) [
+      | true ↦ λ on.
+          let here = on_position tags replay tried condition.is_denied condition.claim on in (λ hold. (here.0 hold.0, there.0 hold.1), λ all. (here.1 all.0, there.1 all.1))
+      | false ↦ λ off. (λ hold. (off_position tried condition.is_denied condition.claim off, there.0 hold), λ all. there.1 all.1)
+    ] refl
+
 pub positions_hold : (tags : Tags) (replay : Replay) (P : State) (conditions : List (Condition (List ℕ)))
     → AllHold tags replay P (on_positions conditions) ↔ AllOfPosition P conditions
-positions_hold tags replay P [] = (λ hold. tt, λ all. tt)
-positions_hold tags replay P (condition ∷ more) =
-    let there = positions_hold tags replay P more in
-    elim (is_on_position condition.claim) as (λ t. is_on_position condition.claim ≡ t
-    → AllHold tags replay P (if t then condition ∷ on_positions more else on_positions more) ↔ AllOfPosition P (condition ∷ more)) [
-      | true ↦ λ on. let here = on_position tags replay P condition.is_denied condition.claim on in (λ hold. (here.0 hold.0, there.0 hold.1), λ all. (here.1 all.0, there.1 all.1))
-      | false ↦ λ off. (λ hold. (off_position P condition.is_denied condition.claim off, there.0 hold), λ all. there.1 all.1)
-    ] refl
+positions_hold tags replay P conditions =
+    let plain = each_position_holds tags replay P P conditions in
+    let turned = each_position_holds tags replay P (mirror P) conditions in (
+      λ hold. elim hold [ inl h ↦ inl (plain.0 h) | inr h ↦ inr (turned.0 h) ],
+      λ all. elim all [ inl h ↦ inl (plain.1 h) | inr h ↦ inr (turned.1 h) ],
+    )
 
 pub told_positions : (tags : Tags) (replay : Replay) (P : State) (conditions : List (Condition (List ℕ))) (r : Bool) → (IsTrue r ↔ AllOfPosition P conditions)
     → IsTrue r ↔ AllHold tags replay P (on_positions conditions)

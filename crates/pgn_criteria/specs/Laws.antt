@@ -1,10 +1,14 @@
 -- What holds of every text, whatever reads it.
-use Rattle.std.specs.Prelude.{◌≡◌, ◌⊎◌, ℕ, List, Option}
+use Rattle.std.specs.Prelude.{◌≡◌, ◌↔◌, ◌⊎◌, ℕ, List, [], ◌∷◌, Option, Some, IsTrue}
+use Rattle.chess.specs.Squares.{Place, IsOnBoard}
+use Rattle.chess.specs.Placements.{Placement, AreOnBoard}
+use Rattle.chess.specs.Positions.{State}
 use Rattle.pgn_text.specs.Games.{Item}
 use Rattle.pgn_game.specs.Replays.{Replay, IsReplay}
 use Rattle.pgn_game.specs.declared.replayer.Lines.{Lines}
 use Rattle.pgn_criteria.specs.Lines.{Accepts, IsRefused}
-use Rattle.pgn_criteria.specs.Meeting.{Tags, Meets}
+use Rattle.pgn_criteria.specs.Meeting.{Tags, AllHold, Meets, is_turned}
+use Rattle.pgn_criteria.specs.Mirrors.{flipped_men, mirror}
 use Rattle.pgn_criteria.specs.declared.condition.Condition.{Condition}
 use Rattle.pgn_criteria.specs.declared.parse.CriteriaError.TheVariants.{TooLong, Line, OutOfMemory}
 
@@ -32,3 +36,25 @@ EachPositionMeetsOrDoesNot =
     (lines : Lines) (fen : Option (List ℕ)) (items : List Item) (replay : Replay) → IsReplay lines fen items replay
     → (tags : Tags) (alternatives : List (List (Condition (List ℕ)))) (plies : ℕ)
     → Meets tags replay plies alternatives ⊎ (Meets tags replay plies alternatives → ⊥)
+
+-- men and the en passant square stand on the board
+abbrev pub StandsOnBoard : State → Type 0
+StandsOnBoard P = AreOnBoard P.men × ((s : Place) → P.en_passant ≡ Some s → IsOnBoard s)
+
+-- the mirror of the mirror is the position itself, and so with the files turned twice
+abbrev pub MirrorIsUndone : Type 0
+MirrorIsUndone = (P : State) → StandsOnBoard P → mirror (mirror P) ≡ P
+
+abbrev pub FlipIsUndone : Type 0
+FlipIsUndone = (men : Placement) → AreOnBoard men → flipped_men (flipped_men men) ≡ men
+
+-- all conditions have `either`
+abbrev pub AreTurned : List (Condition (List ℕ)) → Type 0
+AreTurned [] = Unit {0}
+AreTurned (condition ∷ more) = IsTrue (is_turned condition) × AreTurned more
+
+-- of one tags and moves, a position meets an alternative of such conditions exactly where its mirror does
+abbrev pub SidesAreAlike : Type 0
+SidesAreAlike =
+    (tags : Tags) (replay : Replay) (P : State) (conditions : List (Condition (List ℕ))) → StandsOnBoard P → AreTurned conditions
+    → AllHold tags replay P conditions ↔ AllHold tags replay (mirror P) conditions

@@ -8,7 +8,7 @@ use Rattle.chess.specs.declared.board.man.Side.{Side}
 use Rattle.chess.specs.declared.board.man.Kind.{Kind}
 use Rattle.chess.specs.declared.board.man.Man.{Man}
 use Rattle.pgn_criteria.specs.Items.{IsOf, has_kind}
-use Rattle.pgn_criteria.specs.Stages.{AllOfPosition}
+use Rattle.pgn_criteria.specs.Stages.{AllSaid}
 use Rattle.pgn_criteria.specs.declared.condition.Condition.{Condition}
 use Rattle.pgn_criteria.specs.declared.rank.Class.{Class}
 use Rattle.pgn_criteria.specs.declared.rank.Kinds.{Kinds}
@@ -53,4 +53,4 @@ KindWithin men free side kind = (s : Place) → man_at men s ≡ Some (record { 
 -- what is laid out of conditions follows from them. Where it is all, it gives what they say of positions
 abbrev pub IsLaidOut : List (Condition (List ℕ)) → Layout → Bool → Type 0
 IsLaidOut conditions layout all =
-    ((P : State) → AllOfPosition P conditions → Laid P.men layout) × (IsTrue all → (P : State) → Laid P.men layout → AllOfPosition P conditions)
+    ((P : State) → AllSaid P conditions → Laid P.men layout) × (IsTrue all → (P : State) → Laid P.men layout → AllSaid P conditions)

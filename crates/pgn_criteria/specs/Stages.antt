@@ -1,5 +1,5 @@
 -- Conditions by what they are tried on: the game alone, or a position.
-use Rattle.std.specs.Prelude.{◌≡◌, ◌↔◌, ◌≤◌, ◌<◌, if◌then◌else◌, ℕ, Bool, true, false, List, [], ◌∷◌, length, Option, Some, None}
+use Rattle.std.specs.Prelude.{◌≡◌, ◌↔◌, ◌≤◌, ◌<◌, if◌then◌else◌, ℕ, Bool, true, false, List, [], ◌∷◌, length, Option, Some, None, ◌⊎◌}
 use Rattle.chess.specs.Fen.{parted_at}
 use Rattle.chess.specs.Positions.{State, IsCheck}
 use Rattle.std.specs.List.{slice_get}
@@ -9,19 +9,22 @@ use Rattle.pgn_text.specs.Strings.{IsContents}
 use Rattle.pgn_game.specs.Replays.{Replay}
 use Rattle.pgn_criteria.specs.Patterns.{FitsPattern}
 use Rattle.pgn_criteria.specs.Materials.{FitsMaterial}
+use Rattle.pgn_criteria.specs.Mirrors.{mirror, FitsEitherWay}
 use Rattle.pgn_criteria.specs.MoveTexts.{FitMoves}
 use Rattle.pgn_criteria.specs.Words.{words_of}
-use Rattle.pgn_criteria.specs.Meeting.{Tags, HasOneOf, Taken}
+use Rattle.pgn_criteria.specs.Meeting.{Tags, HasOneOf, Taken, is_turned}
+use Rattle.pgn_criteria.specs.Comparing.{Stands}
 use Rattle.pgn_criteria.specs.declared.meets.Stage.{Stage}
 use Rattle.pgn_criteria.specs.declared.meets.Stage.TheVariants.{Game, Men, Attacks, Replies}
 use Rattle.pgn_criteria.specs.declared.condition.Condition.{Condition}
 use Rattle.pgn_criteria.specs.declared.condition.Claim.{Claim}
-use Rattle.pgn_criteria.specs.declared.condition.Claim.TheVariants.{Tag, Fen, Material, Moves, Turn, Check, Mate, Stalemate}
+use Rattle.pgn_criteria.specs.declared.condition.Claim.TheVariants.{Tag, Fen, Flip, Material, Moves, Turn, Check, Mate, Stalemate}
 
 -- a claim, and a condition, by the bytes of their texts
 abbrev pub claim_seen : {T : Type 0} → (T → List ℕ) → Claim T → Claim (List ℕ)
 claim_seen bytes (Tag name relation contents) = Tag (bytes name) relation (bytes contents)
 claim_seen bytes (Fen pattern) = Fen (bytes pattern)
+claim_seen bytes (Flip pattern) = Flip (bytes pattern)
 claim_seen bytes (Material white black) = Material white black
 claim_seen bytes (Moves words) = Moves (bytes words)
 claim_seen bytes (Turn side) = Turn side
@@ -30,12 +33,13 @@ claim_seen bytes Mate = Mate
 claim_seen bytes Stalemate = Stalemate
 
 abbrev pub seen : {T : Type 0} → (T → List ℕ) → Condition T → Condition (List ℕ)
-seen bytes condition = record { is_denied = condition.is_denied; claim = claim_seen bytes condition.claim }
+seen bytes condition = record { is_either = condition.is_either; is_denied = condition.is_denied; claim = claim_seen bytes condition.claim }
 
 -- the contents of a claim on a tag are those of a string
 abbrev pub IsGood : Claim (List ℕ) → Type 0
 IsGood (Tag name relation contents) = IsContents contents
 IsGood (Fen pattern) = Unit {0}
+IsGood (Flip pattern) = Unit {0}
 IsGood (Material white black) = Unit {0}
 IsGood (Moves words) = Unit {0}
 IsGood (Turn side) = Unit {0}
@@ -59,6 +63,7 @@ AreLegal replay = (i : ℕ) (P : State) (m : Move) → slice_get replay.position
 abbrev pub SaysOfGame : Tags → Replay → Bool → Claim (List ℕ) → Type 0
 SaysOfGame tags replay denied (Tag names relation contents) = Taken denied (HasOneOf tags relation contents (parted_at 124 names))
 SaysOfGame tags replay denied (Fen pattern) = Unit {0}
+SaysOfGame tags replay denied (Flip pattern) = Unit {0}
 SaysOfGame tags replay denied (Material white black) = Unit {0}
 SaysOfGame tags replay denied (Moves words) = Taken denied (FitMoves replay 0 (words_of words))
 SaysOfGame tags replay denied (Turn side) = Unit {0}
@@ -77,6 +82,7 @@ AllOfGame tags replay (condition ∷ more) = OfGame tags replay condition × All
 abbrev pub SaysOfTags : Tags → Bool → Claim (List ℕ) → Type 0
 SaysOfTags tags denied (Tag names relation contents) = Taken denied (HasOneOf tags relation contents (parted_at 124 names))
 SaysOfTags tags denied (Fen pattern) = Unit {0}
+SaysOfTags tags denied (Flip pattern) = Unit {0}
 SaysOfTags tags denied (Material white black) = Unit {0}
 SaysOfTags tags denied (Moves words) = Unit {0}
 SaysOfTags tags denied (Turn side) = Unit {0}
@@ -95,6 +101,7 @@ AllOfTags tags (condition ∷ more) = OfTags tags condition × AllOfTags tags mo
 abbrev pub IsFreeOfMoves : Claim (List ℕ) → Type 0
 IsFreeOfMoves (Tag name relation contents) = Unit {0}
 IsFreeOfMoves (Fen pattern) = Unit {0}
+IsFreeOfMoves (Flip pattern) = Unit {0}
 IsFreeOfMoves (Material white black) = Unit {0}
 IsFreeOfMoves (Moves words) = ⊥
 IsFreeOfMoves (Turn side) = Unit {0}
@@ -110,6 +117,7 @@ AreFreeOfMoves (condition ∷ more) = IsFreeOfMoves condition.claim × AreFreeOf
 abbrev pub AsksWithin : ℕ → Claim (List ℕ) → Type 0
 AsksWithin most (Tag name relation contents) = Unit {0}
 AsksWithin most (Fen pattern) = Unit {0}
+AsksWithin most (Flip pattern) = Unit {0}
 AsksWithin most (Material white black) = Unit {0}
 AsksWithin most (Moves words) = length (words_of words) ≤ most
 AsksWithin most (Turn side) = Unit {0}
@@ -133,6 +141,7 @@ FitTheSame most replay other = (words : List (List ℕ)) → length words ≤ mo
 abbrev pub SaysOfPosition : State → Bool → Claim (List ℕ) → Type 0
 SaysOfPosition P denied (Tag name relation contents) = Unit {0}
 SaysOfPosition P denied (Fen pattern) = Taken denied (FitsPattern P.men pattern)
+SaysOfPosition P denied (Flip pattern) = Taken denied (FitsEitherWay P.men pattern)
 SaysOfPosition P denied (Material white black) = Taken denied (FitsMaterial P.men white black)
 SaysOfPosition P denied (Moves words) = Unit {0}
 SaysOfPosition P denied (Turn side) = Taken denied (P.turn ≡ side)
@@ -143,14 +152,34 @@ SaysOfPosition P denied Stalemate = Taken denied (IsStalemate P)
 abbrev pub OfPosition : State → Condition (List ℕ) → Type 0
 OfPosition P condition = SaysOfPosition P condition.is_denied condition.claim
 
+-- what all conditions say is so of the position, whether they have `either` or not
+abbrev pub AllSaid : State → List (Condition (List ℕ)) → Type 0
+AllSaid P [] = Unit {0}
+AllSaid P (condition ∷ more) = OfPosition P condition × AllSaid P more
+
+-- what each condition says is so of the position, or where it has `either`, of the other one
+abbrev pub EachOfPosition : State → State → List (Condition (List ℕ)) → Type 0
+EachOfPosition P other [] = Unit {0}
+EachOfPosition P other (condition ∷ more) = OfPosition (if is_turned condition then other else P) condition × EachOfPosition P other more
+
+-- what the conditions of an alternative say of the position is so
 abbrev pub AllOfPosition : State → List (Condition (List ℕ)) → Type 0
-AllOfPosition P [] = Unit {0}
-AllOfPosition P (condition ∷ more) = OfPosition P condition × AllOfPosition P more
+AllOfPosition P conditions = EachOfPosition P P conditions ⊎ EachOfPosition P (mirror P) conditions
+
+-- the claim is so of a position where the other one is so of its mirror
+abbrev pub IsMirrorOf : Claim (List ℕ) → Claim (List ℕ) → Type 0
+IsMirrorOf own claim = (P : State) (denied : Bool) → SaysOfPosition P denied own ↔ SaysOfPosition (mirror P) denied claim
+
+-- none of the conditions has `either`
+abbrev pub AreFixed : List (Condition (List ℕ)) → Type 0
+AreFixed [] = Unit {0}
+AreFixed (condition ∷ more) = (condition.is_either ≡ false) × AreFixed more
 
 -- the conditions that speak of positions
 abbrev pub is_on_position : Claim (List ℕ) → Bool
 is_on_position (Tag name relation contents) = false
 is_on_position (Fen pattern) = true
+is_on_position (Flip pattern) = true
 is_on_position (Material white black) = true
 is_on_position (Moves words) = false
 is_on_position (Turn side) = true
@@ -170,6 +199,7 @@ FitsAt replay conditions plies = (P : State) × (slice_get replay.positions plie
 abbrev pub stage_of : Claim (List ℕ) → Stage
 stage_of (Tag name relation contents) = Game
 stage_of (Fen pattern) = Men
+stage_of (Flip pattern) = Men
 stage_of (Material white black) = Men
 stage_of (Moves words) = Game
 stage_of (Turn side) = Men

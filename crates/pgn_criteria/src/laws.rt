@@ -1,6 +1,6 @@
 //! What holds of every text, whatever reads it. Each law is the contract of a function that does nothing.
 
-ghost use Rattle.pgn_criteria.specs.Laws.{TextHasOneMeaning, TextHasOneAnswer, MemoryIsTheOnlyFault, EachPositionMeetsOrDoesNot};
+ghost use Rattle.pgn_criteria.specs.Laws.{TextHasOneMeaning, TextHasOneAnswer, MemoryIsTheOnlyFault, EachPositionMeetsOrDoesNot, MirrorIsUndone, FlipIsUndone, SidesAreAlike};
 
 /// A text spells at most one list of alternatives, and is either accepted, or too long, or refused for one of its lines. Memory runs out
 /// only where the text is neither too long nor bad.
@@ -13,4 +13,12 @@ pub fn one_meaning()
 /// Each position of a sound game meets criteria or does not.
 pub fn met_or_not()
     ensures { EachPositionMeetsOrDoesNot }
+{}
+
+/// The mirror of a mirror is the position itself, and files that are turned twice stand as before. Conditions that all have `either` hold
+/// of a position exactly where they hold of its mirror.
+pub fn mirrors()
+    ensures mirror { MirrorIsUndone }
+    ensures flip { FlipIsUndone }
+    ensures alike { SidesAreAlike }
 {}

@@ -38,7 +38,12 @@ fn replayed(alloc: Global, game: &RawGame) -> Result<Replayed, Fail>
 
 /// Whether these plies of the game, and no others, meet the criteria. Each is asked alone, by the criteria and by what they ask of the
 /// positions of this game. Then they are looked for one after the other.
-fn are_met(alloc: Global, criteria: &[u8], block: &[u8], plies: &[usize]) -> Result<bool, Fail> {
+pub(crate) fn are_met(
+    alloc: Global,
+    criteria: &[u8],
+    block: &[u8],
+    plies: &[usize],
+) -> Result<bool, Fail> {
     let criteria = read(alloc, criteria)?;
     let game = first_game(alloc, block)?;
     let replayed = replayed(alloc, &game)?;

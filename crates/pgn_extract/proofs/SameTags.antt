@@ -3,11 +3,13 @@ use Rattle.std.proofs.Common.{◌≡◌, ℕ, Bool, true, false, List, [], ◌�
 use Rattle.chess.specs.Fen.{parted_at}
 use Rattle.chess.specs.Positions.{State}
 use Rattle.pgn_game.specs.Replays.{Replay}
-use Rattle.pgn_criteria.specs.Meeting.{Tags, HasOneOf, IsSo, Taken, Holds, AllHold, SomeHold}
+use Rattle.pgn_criteria.specs.Meeting.{Tags, HasOneOf, IsSo, Taken, Holds, AllHold, SomeHold, is_turned, EachHold}
 use Rattle.pgn_criteria.specs.declared.compare.Relation.{Relation}
+use Rattle.std.specs.Prelude.{if◌then◌else◌}
+use Rattle.pgn_criteria.specs.Mirrors.{mirror}
 use Rattle.pgn_criteria.specs.declared.condition.Condition.{Condition}
 use Rattle.pgn_criteria.specs.declared.condition.Claim.{Claim}
-use Rattle.pgn_criteria.specs.declared.condition.Claim.TheVariants.{Tag, Fen, Material, Moves, Turn, Check, Mate, Stalemate}
+use Rattle.pgn_criteria.specs.declared.condition.Claim.TheVariants.{Tag, Fen, Flip, Material, Moves, Turn, Check, Mate, Stalemate}
 use Rattle.pgn_extract.specs.Aims.{Aim, IsMet, IsWanted, IsEntry}
 
 taken_same : {A B : Type 0} (denied : Bool) → (A → B) → (B → A) → Taken denied A → Taken denied B
@@ -23,6 +25,7 @@ one_of_same f g same relation contents (name ∷ more) (inr h) = inr (one_of_sam
 is_so_same : (f g : Tags) → ((name : List ℕ) → f name ≡ g name) → (replay : Replay) (P : State) (claim : Claim (List ℕ)) → IsSo f replay P claim → IsSo g replay P claim
 is_so_same f g same replay P (Tag names relation contents) h = one_of_same f g same relation contents (parted_at 124 names) h
 is_so_same f g same replay P (Fen pattern) h = h
+is_so_same f g same replay P (Flip pattern) h = h
 is_so_same f g same replay P (Material white black) h = h
 is_so_same f g same replay P (Moves words) h = h
 is_so_same f g same replay P (Turn side) h = h
@@ -35,9 +38,13 @@ module _ (f g : Tags) (same : (name : List ℕ) → f name ≡ g name) (replay :
   holds_same P condition =
       taken_same condition.is_denied (is_so_same f g same replay P condition.claim) (is_so_same g f (λ name. sym (same name)) replay P condition.claim)
 
+  each_same : (P other : State) (conditions : List (Condition (List ℕ))) → EachHold f replay P other conditions → EachHold g replay P other conditions
+  each_same P other [] h = h
+  each_same P other (condition ∷ more) (h, hs) = (holds_same (if is_turned condition then other else P) condition h, each_same P other more hs)
+
   all_same : (P : State) (conditions : List (Condition (List ℕ))) → AllHold f replay P conditions → AllHold g replay P conditions
-  all_same P [] h = h
-  all_same P (condition ∷ more) (h, hs) = (holds_same P condition h, all_same P more hs)
+  all_same P conditions (inl h) = inl (each_same P P conditions h)
+  all_same P conditions (inr h) = inr (each_same P (mirror P) conditions h)
 
   some_same : (P : State) (alternatives : List (List (Condition (List ℕ)))) → SomeHold f replay P alternatives → SomeHold g replay P alternatives
   some_same P [] h = h

@@ -257,10 +257,12 @@ const NAME: &str = "tag: a name of letters, digits and _, or several with | betw
 
 const OPERATOR: &str = "tag: an operator, one of = <> < <= > >= has begins";
 
+const MIRRORED: &str = "either: fen, flip fen, material or turn, with or without not before it";
+
 const DENIED_ALONE: &str = "a condition after not, and no second not";
 
 /// Where lines stop being of the language, and what is expected there.
-const EXPLAINED: [Complaint; 28] = [
+const EXPLAINED: [Complaint; 36] = [
     ("chek", 0, "did you mean check?"),
     ("  stlaemate", 2, "did you mean stalemate?"),
     ("Turn white", 0, "did you mean turn?"),
@@ -301,6 +303,22 @@ const EXPLAINED: [Complaint; 28] = [
     ("not  turn", 9, "turn: white or black"),
     ("not chek", 4, "did you mean check?"),
     ("nto check", 0, "did you mean not?"),
+    ("either", 6, MIRRORED),
+    ("either check", 7, MIRRORED),
+    ("either not mate", 11, MIRRORED),
+    (
+        "either flip fen 8/8",
+        19,
+        "fen: eight ranks, with / between them",
+    ),
+    ("eithr turn white", 0, "did you mean either?"),
+    (
+        "not either turn white",
+        4,
+        "not: a condition; either stands in front of not",
+    ),
+    ("flip turn white", 5, "flip: fen and a pattern"),
+    ("filp fen */*", 0, "did you mean flip?"),
 ];
 
 /// What denied lines find.

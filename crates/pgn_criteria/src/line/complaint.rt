@@ -58,12 +58,18 @@ const SIDE: &str = "turn: white or black";
 const NOTHING: &str = "nothing after this word";
 
 const CONDITION: &str =
-    "a condition, which begins with fen, material, moves, tag, turn, check, mate or stalemate, or the words not and or";
+    "a condition, which begins with fen, flip, material, moves, tag, turn, check, mate or stalemate, or the words not, either and or";
 
 const DENIED: &str = "a condition after not, and no second not";
 
+const FLIPPED: &str = "flip: fen and a pattern";
+
+const TURNED: &str = "either: fen, flip fen, material or turn, with or without not before it";
+
+const OTHER_WAY: &str = "not: a condition; either stands in front of not";
+
 /// The key words, each with the question whether it was meant.
-const QUESTIONS: [(&[u8], &str); 10] = [
+const QUESTIONS: [(&[u8], &str); 12] = [
     (b"fen", "did you mean fen?"),
     (b"tag", "did you mean tag?"),
     (b"turn", "did you mean turn?"),
@@ -74,6 +80,8 @@ const QUESTIONS: [(&[u8], &str); 10] = [
     (b"stalemate", "did you mean stalemate?"),
     (b"or", "did you mean or?"),
     (b"not", "did you mean not?"),
+    (b"flip", "did you mean flip?"),
+    (b"either", "did you mean either?"),
 ];
 
 /// Two words without the bytes that both begin with.
@@ -209,8 +217,39 @@ fn condition_stop(text: &[u8]) -> Stop {
     let (key, rest) = split_first(text);
     match key {
         b"not" => denied_stop(rest),
+        b"either" => either_stop(rest),
         b"or" => Stop::before(rest, NOTHING),
         _ => claim_stop(text),
+    }
+}
+
+/// Where a text that is no condition to be tried at the mirror stops being one.
+fn either_stop(text: &[u8]) -> Stop {
+    let (key, rest) = split_first(text);
+    match key {
+        b"not" => mirrored_stop(rest),
+        _ => mirrored_stop(text),
+    }
+}
+
+/// Where a text that is no claim to be made of the mirror stops being one.
+fn mirrored_stop(text: &[u8]) -> Stop {
+    let (key, _) = split_first(text);
+    match key {
+        b"fen" => claim_stop(text),
+        b"flip" => claim_stop(text),
+        b"material" => claim_stop(text),
+        b"turn" => claim_stop(text),
+        _ => Stop::before(text, TURNED),
+    }
+}
+
+/// Where a text that is no flipped pattern stops being one.
+fn flip_stop(text: &[u8]) -> Stop {
+    let (key, pattern) = split_first(text);
+    match key {
+        b"fen" => pattern_stop(pattern),
+        _ => Stop::before(text, FLIPPED),
     }
 }
 
@@ -221,6 +260,7 @@ fn denied_stop(text: &[u8]) -> Stop {
         b"" => Stop::before(text, DENIED),
         b"or" => Stop::before(text, DENIED),
         b"not" => Stop::before(text, DENIED),
+        b"either" => Stop::before(text, OTHER_WAY),
         _ => claim_stop(text),
     }
 }
@@ -230,6 +270,7 @@ fn claim_stop(text: &[u8]) -> Stop {
     let (key, rest) = split_first(text);
     match key {
         b"fen" => pattern_stop(rest),
+        b"flip" => flip_stop(rest),
         b"moves" => moves_stop(rest),
         b"material" => material_stop(rest),
         b"tag" => tag_stop(rest),

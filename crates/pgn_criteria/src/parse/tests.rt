@@ -26,7 +26,7 @@ fn spells(alloc: Global, text: &[u8], alternatives: usize, conditions: usize) ->
     match Criteria::parse(alloc, text) {
         Ok(criteria) => match criteria.alternatives.last() {
             Some(last) => criteria.alternatives.len() == alternatives
-                && last.conditions.len() == conditions,
+                && last.plain.conditions.len() == conditions,
             None => false,
         },
         Err(_) => false,
@@ -244,6 +244,69 @@ fn denied_conditions_are_accepted(rt: HostRuntime) -> Result<(), Fail> {
     let alloc = rt.alloc();
     for &(text, alternatives, conditions) in &DENIED {
         assert!(rt; spells(alloc, text, alternatives, conditions), "{text:?}");
+    }
+    Ok(())
+}
+
+/// Conditions with `either` and `flip`, in the same form.
+const TURNED: [(&[u8], usize, usize); 11] = [
+    (b"either turn white", 1, 1),
+    (b" \teither \tnot\tturn  black \r", 1, 1),
+    (b"either fen */*/*/*/*/*/*/*", 1, 1),
+    (b"either not fen */*/*/*/*/*/*/*", 1, 1),
+    (b"flip fen */*/*/*/*/*/*/*", 1, 1),
+    (b"flip \t fen\t [KQp]*/*/*/*/*/*/*/*", 1, 1),
+    (b"not  flip fen */*/*/*/*/*/*/*", 1, 1),
+    (b"either flip fen */*/*/*/*/*/*/*", 1, 1),
+    (b"either not flip fen */*/*/*/*/*/*/*", 1, 1),
+    (b"either material K v K\neither not material KQ v K", 1, 2),
+    (b"tag either = \"flip\"\nor\neither turn black", 2, 1),
+];
+
+#[test]
+fn turned_conditions_are_accepted(rt: HostRuntime) -> Result<(), Fail> {
+    let alloc = rt.alloc();
+    for &(text, alternatives, conditions) in &TURNED {
+        assert!(rt; spells(alloc, text, alternatives, conditions), "{text:?}");
+    }
+    Ok(())
+}
+
+/// A line that is none of the language, though it has `either` or `flip`.
+const BAD_TURNS: [&[u8]; 24] = [
+    b"either",
+    b"either ",
+    b"either # yes",
+    b"either or",
+    b"either not",
+    b"either check",
+    b"either not check",
+    b"either mate",
+    b"either stalemate",
+    b"either moves e4",
+    b"either tag A = \"x\"",
+    b"either either turn white",
+    b"either not not turn white",
+    b"not either turn white",
+    b"eitherturn white",
+    b"Either turn white",
+    b"either turn green",
+    b"flip",
+    b"flip */*/*/*/*/*/*/*",
+    b"flip turn white",
+    b"flip not fen */*/*/*/*/*/*/*",
+    b"flip flip fen */*/*/*/*/*/*/*",
+    b"flip either fen */*/*/*/*/*/*/*",
+    b"flip fen */*/*/*/*/*/*",
+];
+
+#[test]
+fn what_is_not_turned_is_refused(rt: HostRuntime) -> Result<(), Fail> {
+    let alloc = rt.alloc();
+    for line in &BAD_TURNS {
+        let mut text = b"either turn white\n".to_vec(alloc)?;
+        text.extend_from_slice(line)?;
+        assert!(rt; is_refused(alloc, &text, 2), "{line:?}");
     }
     Ok(())
 }

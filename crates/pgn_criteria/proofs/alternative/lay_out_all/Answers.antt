@@ -1,6 +1,6 @@
 use Rattle.std.proofs.Common.{◌≡◌, ◌+◌, ◌∷◌, [], ℕ, List, Vec, Global, true, length, map, drop, subst, sym, ap, ◌∙◌, arith}
 use Rattle.std.proofs.Math.Seq.{drop-length}
-use Rattle.pgn_criteria.specs.Stages.{OfPosition, AllOfPosition, seen}
+use Rattle.pgn_criteria.specs.Stages.{OfPosition, AllSaid, seen}
 use Rattle.pgn_criteria.specs.declared.condition.Condition.{Condition}
 use Rattle.pgn_criteria.proofs.MeetFacts.{alternatives_from}
 use Rattle.pgn_criteria.proofs.LayoutFacts.{lays_step, lays_end}
@@ -16,10 +16,10 @@ loop-condition-preserved c =
     let i = c.loop-condition.condition-index in
     let own = c.condition-item.result in
     let front : view (drop i all) ≡ seen (λ text. text.items) own ∷ view (drop (i + 1) all) = ap view (alternatives_from all i own c.loop-condition-test.true c.condition-item.is) in
-    lays_step (λ P. AllOfPosition P (view all)) (λ P. AllOfPosition P (view (drop i all))) (λ P. OfPosition P (seen (λ text. text.items) own))
-    (λ P. AllOfPosition P (view (drop (i + 1) all))) c.args.layout.now c.loop-condition.layout c.lay_out.new.layout c.loop-condition.is_all c.in_ok-is_all.is_all c.if-branch.is_all
+    lays_step (λ P. AllSaid P (view all)) (λ P. AllSaid P (view (drop i all))) (λ P. OfPosition P (seen (λ text. text.items) own))
+    (λ P. AllSaid P (view (drop (i + 1) all))) c.args.layout.now c.loop-condition.layout c.lay_out.new.layout c.loop-condition.is_all c.in_ok-is_all.is_all c.if-branch.is_all
     c.loop-condition.invariant c.in_ok-is_all.ensures
-    (λ P. (λ holds. subst (AllOfPosition P) front holds, λ both. subst (AllOfPosition P) (sym front) both))
+    (λ P. (λ holds. subst (AllSaid P) front holds, λ both. subst (AllSaid P) (sym front) both))
     (λ t. elim c.if-branch.branch [
       | then-branch w ↦ let both : c.loop-condition.is_all ≡ true = cc (w.is_all-is, t) in (both, w.if-branch.true)
       | else-branch w ↦ absurd (cc (w.is_all-is, t))
@@ -31,5 +31,5 @@ returns c =
     let i = c.loop-condition.condition-index in
     let end : i ≡ length all = omega arith in
     let none : view (drop i all) ≡ [] = ap view (ap (λ n. drop n all) end ∙ drop-length all) in
-    lays_end (λ P. AllOfPosition P (view all)) (λ P. AllOfPosition P (view (drop i all))) c.args.layout.now c.loop-condition.layout c.loop-condition.is_all c.loop-condition.is_all
-    c.loop-condition.invariant (λ t. (t, λ P. subst (AllOfPosition P) (sym none) tt))
+    lays_end (λ P. AllSaid P (view all)) (λ P. AllSaid P (view (drop i all))) c.args.layout.now c.loop-condition.layout c.loop-condition.is_all c.loop-condition.is_all
+    c.loop-condition.invariant (λ t. (t, λ P. subst (AllSaid P) (sym none) tt))

@@ -1,40 +1,42 @@
-use Rattle.std.proofs.Common.{◌≡◌, ◌≢◌, ℕ, Bool, true, false, List, sym, subst}
-use Rattle.std.specs.Prelude.{codes}
-use Rattle.pgn_criteria.specs.Lines.{SpellsClaim, SpellsTaken, SpellsCondition}
+use Rattle.std.proofs.Common.{◌≡◌, ◌≢◌, ℕ, Bool, true, false, List, IsTrue, sym, subst}
+use Rattle.std.specs.Prelude.{codes, Option, Some, None, MatchOption}
+use Rattle.pgn_criteria.specs.Lines.{SpellsTaken, SpellsTurned, SpellsCondition}
+use Rattle.pgn_criteria.specs.Mirrors.{can_be_mirrored}
 use Rattle.pgn_criteria.specs.Reading.{run_of, behind_word}
-use Rattle.pgn_criteria.specs.Stages.{claim_seen}
-use Rattle.pgn_criteria.specs.declared.condition.Claim.{Claim}
+use Rattle.pgn_criteria.specs.Stages.{seen, claim_seen}
 use Rattle.pgn_criteria.specs.declared.condition.Condition.{Condition}
-use Rattle.pgn_criteria.proofs.ClaimFacts.{claim_not, not_read, not_spelled}
+use Rattle.pgn_criteria.specs.declared.condition.Claim.{Claim}
+use Rattle.pgn_criteria.proofs.ConditionFacts.{either_read, either_spelled, taken_either}
 use Rattle.pgn_criteria.proofs.line.condition_of.Goals as goal
 
--- what follows `not` is no claim, or the text does not begin with it and is no claim
-none_denied : (text own : List ℕ) → run_of text ≡ codes "not" → own ≡ behind_word text → ((claim : Claim (List ℕ)) → SpellsClaim own claim → ⊥)
-    → (condition : Condition (List ℕ)) → SpellsCondition text condition → ⊥
-none_denied text own run is none condition = by condition.is_denied condition.claim
+-- what follows `either` is the condition, or there is none
+turned : {T : Type 0} (bytes : T → List ℕ) (text own : List ℕ) (found : Option (Condition T)) → run_of text ≡ codes "either" → own ≡ behind_word text
+    → MatchOption found ((denied : Bool) (claim : Claim (List ℕ)) → IsTrue (can_be_mirrored claim) → SpellsTaken own denied claim → ⊥)
+    (λ f. (f.is_either ≡ true) × IsTrue (can_be_mirrored (claim_seen bytes f.claim)) × SpellsTaken own f.is_denied (claim_seen bytes f.claim))
+    → MatchOption found ((condition : Condition (List ℕ)) → SpellsCondition text condition → ⊥) (λ f. SpellsCondition text (seen bytes f))
+turned bytes text own (Some f) run is told =
+    let claim = claim_seen bytes f.claim in
+    subst (λ e. SpellsTurned text e f.is_denied claim) (sym told.0) (either_spelled text own f.is_denied claim run is told.1 told.2)
+turned bytes text own None run is none = λ condition. by condition.is_either condition.is_denied condition.claim
   where
-    by : (denied : Bool) (claim : Claim (List ℕ)) → SpellsTaken text denied claim → ⊥
-    by false claim spells = claim_not text claim run spells
-    by true claim spells = none claim (subst (λ x. SpellsClaim x claim) (sym is) (not_read text claim spells).1)
+    by : (either denied : Bool) (claim : Claim (List ℕ)) → SpellsTurned text either denied claim → ⊥
+    by false denied claim spells = taken_either text denied claim run spells
+    by true denied claim spells = let read = either_read text denied claim spells in none denied claim read.1 (subst (λ x. SpellsTaken x denied claim) (sym is) read.2)
 
-none_claimed : (text : List ℕ) → run_of text ≢ codes "not" → ((claim : Claim (List ℕ)) → SpellsClaim text claim → ⊥)
-    → (condition : Condition (List ℕ)) → SpellsCondition text condition → ⊥
-none_claimed text other none condition = by condition.is_denied condition.claim
+-- a text that does not begin with it is one without it
+plain : {T : Type 0} (bytes : T → List ℕ) (text : List ℕ) (found : Option (Condition T)) → run_of text ≢ codes "either"
+    → MatchOption found ((denied : Bool) (claim : Claim (List ℕ)) → SpellsTaken text denied claim → ⊥)
+    (λ f. (f.is_either ≡ false) × SpellsTaken text f.is_denied (claim_seen bytes f.claim))
+    → MatchOption found ((condition : Condition (List ℕ)) → SpellsCondition text condition → ⊥) (λ f. SpellsCondition text (seen bytes f))
+plain bytes text (Some f) other told = subst (λ e. SpellsTurned text e f.is_denied (claim_seen bytes f.claim)) (sym told.0) told.1
+plain bytes text None other none = λ condition. by condition.is_either condition.is_denied condition.claim
   where
-    by : (denied : Bool) (claim : Claim (List ℕ)) → SpellsTaken text denied claim → ⊥
-    by false claim spells = none claim spells
-    by true claim spells = other (not_read text claim spells).0
+    by : (either denied : Bool) (claim : Claim (List ℕ)) → SpellsTurned text either denied claim → ⊥
+    by false denied claim spells = none denied claim spells
+    by true denied claim spells = other (either_read text denied claim spells).0
 
-pub returns-in_err-claim_of-in-Some : goal.returns-in_err-claim_of-in-Some
-returns-in_err-claim_of-in-Some c =
-    rw c.from_residual.ensures
-    (none_denied c.args.text.now c.in-Some.own.now c.in-Some.ensures.0 c.in-Some.ensures.1 c.in_err-claim_of-in-Some.ensures)
+pub returns-in-Some : goal.returns-in-Some
+returns-in-Some c = turned (λ bytes. bytes.now) c.args.text.now c.in-Some.own.now c.either_of.result c.in-Some.ensures.0 c.in-Some.ensures.1 c.either_of.ensures
 
-pub returns-in_err-claim_of-in-None : goal.returns-in_err-claim_of-in-None
-returns-in_err-claim_of-in-None c =
-    rw c.from_residual-in_err-claim_of-in-None.ensures (none_claimed c.args.text.now c.in-None.ensures c.in_err-claim_of-in-None.ensures)
-
-pub returns-in_ok-claim_of-in-Some : goal.returns-in_ok-claim_of-in-Some
-returns-in_ok-claim_of-in-Some c =
-    let claim = claim_seen (λ bytes. bytes.now) c.in_ok-claim_of-in-Some.field-0 in
-    not_spelled c.args.text.now claim c.in-Some.ensures.0 (subst (λ x. SpellsClaim x claim) c.in-Some.ensures.1 c.in_ok-claim_of-in-Some.ensures)
+pub returns-in-None : goal.returns-in-None
+returns-in-None c = plain (λ bytes. bytes.now) c.args.text.now c.taken_of.result c.in-None.ensures c.taken_of.ensures

@@ -1,15 +1,24 @@
-use Rattle.std.proofs.Common.{subst, sym}
-use Rattle.pgn_criteria.specs.Stages.{AllOfPosition}
+use Rattle.std.proofs.Common.{◌↔◌, ℕ, List, IsTrue, MatchOption, subst}
+use Rattle.pgn_criteria.specs.Stages.{AllSaid, AreFixed}
+use Rattle.pgn_criteria.proofs.EitherFacts.{AreMirrors, met_plain, met_fixed, met_mirror}
 use Rattle.pgn_criteria.proofs.alternative.Alternative.is_met.Goals as goal
 
-pub returns-then-self : goal.returns-then-self
-returns-then-self c = (
-  λ t. subst (AllOfPosition c.args.position.now) c.self.view_is (c.self.invariant.laid.1 t c.args.position.now (c.is_met.ensures.0 c.if-is_met.true)),
-  λ all. c.if-self.true,
-)
+pub returns-then-is_met : goal.returns-then-is_met
+returns-then-is_met c =
+    met_plain c.args.position.now c.args.self.now c.is_met.result
+    (subst (λ x. IsTrue c.is_met.result ↔ AllSaid c.args.position.now x) c.self.view_is c.is_met.ensures) c.if-is_met.true
 
-pub returns-else-is_met : goal.returns-else-is_met
-returns-else-is_met c = (
-  λ t. let so = c.if-is_met.false in absurd (cc (t, so)),
-  λ all. c.is_met.ensures.1 (c.self.invariant.laid.0 c.args.position.now (subst (AllOfPosition c.args.position.now) (sym c.self.view_is) all)),
-)
+pub returns-in-Some : goal.returns-in-Some
+returns-in-Some c =
+    met_mirror c.args.position.now c.args.self.now c.in-Some.form c.is_met.result c.is_met-in-Some.result
+    (subst (λ x. IsTrue c.is_met.result ↔ AllSaid c.args.position.now x) c.self.view_is c.is_met.ensures) c.if-is_met.false
+    (subst (AreMirrors c.in-Some.form) c.self.view_is
+    (subst (λ o. MatchOption o (AreFixed c.self.inside.plain) (λ form. AreMirrors form c.self.inside.plain)) c.in-Some.is c.self.invariant))
+    c.is_met-in-Some.ensures
+
+pub returns-in-None : goal.returns-in-None
+returns-in-None c =
+    met_fixed c.args.position.now c.args.self.now c.is_met.result
+    (subst (λ x. IsTrue c.is_met.result ↔ AllSaid c.args.position.now x) c.self.view_is c.is_met.ensures) c.if-is_met.false
+    (subst AreFixed c.self.view_is
+    (subst (λ o. MatchOption o (AreFixed c.self.inside.plain) (λ form. AreMirrors form c.self.inside.plain)) c.in-None.is c.self.invariant))

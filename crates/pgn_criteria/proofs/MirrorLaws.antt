@@ -1,0 +1,58 @@
+-- The mirror of the mirror is the position itself, and alternatives of conditions with `either` hold of both.
+use Rattle.std.proofs.Common.{◌≡◌, ◌↔◌, ◌-◌, ℕ, Bool, true, false, List, [], ◌∷◌, Option, Some, None, IsTrue, refl, sym, ap, ◌∙◌, subst, inl, inr, arith}
+use Rattle.std.specs.Prelude.{if◌then◌else◌, option_map}
+use Rattle.chess.specs.Squares.{Place, IsOnBoard}
+use Rattle.chess.specs.Placements.{AreOnBoard}
+use Rattle.chess.specs.Positions.{State}
+use Rattle.pgn_game.specs.Replays.{Replay}
+use Rattle.pgn_criteria.specs.Laws.{StandsOnBoard, MirrorIsUndone, AreTurned, SidesAreAlike}
+use Rattle.pgn_criteria.specs.Meeting.{Tags, Holds, EachHold, AllHold, is_turned}
+use Rattle.pgn_criteria.specs.Mirrors.{across, mirror}
+use Rattle.pgn_criteria.specs.declared.condition.Condition.{Condition}
+use Rattle.pgn_criteria.proofs.MirrorFacts.{mirrored_twice, other_twice, across_twice}
+
+passed_twice : (square : Option Place) → ((s : Place) → square ≡ Some s → IsOnBoard s) → option_map across (option_map across square) ≡ square
+passed_twice None on = refl
+passed_twice (Some s) on = ap Some (across_twice s (on s refl))
+
+pub mirror_undone : MirrorIsUndone
+mirror_undone P on =
+    let men = mirrored_twice P.men on.0 in
+    let turn = other_twice P.turn in
+    let en_passant = passed_twice P.en_passant on.1 in
+    λ i. record {
+      men = men i;
+      turn = turn i;
+      rights = P.rights;
+      en_passant = en_passant i;
+      halfmove_clock = P.halfmove_clock;
+      fullmove_number = P.fullmove_number;
+    }
+
+-- all are tried at the other position
+tried_there : (P Q : State) (turned : Bool) → turned ≡ true → (if turned then Q else P) ≡ Q
+tried_there P Q true e = refl
+tried_there P Q false e = absurd (cc)
+
+each_there : (tags : Tags) (replay : Replay) (P R Q : State) (conditions : List (Condition (List ℕ))) → AreTurned conditions
+    → EachHold tags replay P Q conditions → EachHold tags replay R Q conditions
+each_there tags replay P R Q [] turned each = tt
+each_there tags replay P R Q (condition ∷ more) turned each =
+    let here = tried_there P Q (is_turned condition) turned.0 in
+    let there = tried_there R Q (is_turned condition) turned.0 in (
+      subst (λ p. Holds tags replay p condition) (here ∙ sym there) each.0,
+      each_there tags replay P R Q more turned.1 each.1,
+    )
+
+pub sides_alike : SidesAreAlike
+sides_alike tags replay P conditions on turned =
+    let back : mirror (mirror P) ≡ P = mirror_undone P on in (
+      λ hold. elim hold [
+        | inl plain ↦ inr (subst (λ Q. EachHold tags replay (mirror P) Q conditions) (sym back) (each_there tags replay P (mirror P) P conditions turned plain))
+        | inr turns ↦ inl (each_there tags replay P (mirror P) (mirror P) conditions turned turns)
+      ],
+      λ hold. elim hold [
+        | inl plain ↦ inr (each_there tags replay (mirror P) P (mirror P) conditions turned plain)
+        | inr turns ↦ inl (each_there tags replay (mirror P) P P conditions turned (subst (λ Q. EachHold tags replay (mirror P) Q conditions) back turns))
+      ],
+    )
