@@ -19,7 +19,7 @@ use Rattle.pgn_criteria.specs.declared.condition.Claim.TheVariants.{Tag, Moves, 
 use Rattle.pgn_criteria.specs.declared.line.Meaning.{Meaning}
 use Rattle.pgn_criteria.specs.declared.line.Meaning.TheVariants.{Nothing, Or, Asks}
 use Rattle.pgn_criteria.proofs.ClaimFacts.{claim_not, not_read}
-use Rattle.pgn_criteria.proofs.ConditionFacts.{line_read, either_read, taken_either}
+use Rattle.pgn_criteria.proofs.ConditionFacts.{line_read, either_read}
 
 -- more blanks may stand where one stands
 turn : SpellsClaim (codes "turn  white") (Turn White)

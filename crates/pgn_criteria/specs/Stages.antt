@@ -13,7 +13,6 @@ use Rattle.pgn_criteria.specs.Mirrors.{mirror, FitsEitherWay}
 use Rattle.pgn_criteria.specs.MoveTexts.{FitMoves}
 use Rattle.pgn_criteria.specs.Words.{words_of}
 use Rattle.pgn_criteria.specs.Meeting.{Tags, HasOneOf, Taken, is_turned}
-use Rattle.pgn_criteria.specs.Comparing.{Stands}
 use Rattle.pgn_criteria.specs.declared.meets.Stage.{Stage}
 use Rattle.pgn_criteria.specs.declared.meets.Stage.TheVariants.{Game, Men, Attacks, Replies}
 use Rattle.pgn_criteria.specs.declared.condition.Condition.{Condition}

@@ -1,4 +1,4 @@
-use Rattle.std.proofs.Common.{◌≡◌, ℕ, Bool, true, false, List, sym, ap, ◌∙◌}
+use Rattle.std.proofs.Common.{◌≡◌, ℕ, true, false, List, sym, ap, ◌∙◌}
 use Rattle.pgn_criteria.specs.Mirrors.{can_be_mirrored}
 use Rattle.pgn_criteria.specs.Stages.{claim_seen}
 use Rattle.pgn_criteria.specs.declared.condition.Claim.{Claim}

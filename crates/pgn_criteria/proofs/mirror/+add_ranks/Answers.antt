@@ -1,6 +1,5 @@
-use Rattle.std.proofs.Common.{rules, ◌≡◌, ◌<◌, ◌++◌, ◌∷◌, [], OnOk, MatchOption, length, map, subst}
+use Rattle.std.proofs.Common.{rules, ◌≡◌, ◌<◌, ◌∷◌, [], OnOk, MatchOption, length, subst}
 use Rattle.chess.specs.Fen.{parted_at}
-use Rattle.pgn_criteria.specs.Turning.{other_letter}
 use Rattle.pgn_criteria.proofs.MirrorTextFacts.{ranks_added}
 use Rattle.pgn_criteria.proofs.ParseFacts.{part_shorter}
 use Rattle.pgn_criteria.proofs.mirror.+add_ranks.Goals as goal

@@ -4,7 +4,6 @@ use Rattle.pgn_criteria.specs.Meeting.{is_turned}
 use Rattle.pgn_criteria.specs.Mirrors.{can_be_mirrored}
 use Rattle.pgn_criteria.specs.Stages.{IsMirrorOf, seen, claim_seen}
 use Rattle.pgn_criteria.specs.declared.condition.Condition.{Condition}
-use Rattle.pgn_criteria.specs.declared.condition.Claim.{Claim}
 use Rattle.pgn_criteria.proofs.EitherFacts.{can_be_seen, turned_said, fixed_said}
 use Rattle.pgn_criteria.proofs.mirror.mirrored.Goals as goal
 use Rattle.pgn_criteria.proofs.mirror.mirrored.Goals.{then-condition+then-can_be_mirrored+in_ok-claim, else-condition+in_ok-claim-2, else-condition-via-then-condition+else-can_be_mirrored, else-condition-via-else-condition}

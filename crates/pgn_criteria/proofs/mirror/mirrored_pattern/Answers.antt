@@ -1,4 +1,4 @@
-use Rattle.std.proofs.Common.{◌≡◌, ◌++◌, ap, ◌∙◌}
+use Rattle.std.proofs.Common.{◌++◌, ap, ◌∙◌}
 use Rattle.chess.specs.Fen.{parted_at}
 use Rattle.pgn_criteria.specs.Turning.{turned}
 use Rattle.pgn_criteria.proofs.MirrorTextFacts.{pattern_mirrored, pattern_again}

@@ -1,4 +1,4 @@
-use Rattle.std.proofs.Common.{◌↔◌, ℕ, List, IsTrue, MatchOption, subst}
+use Rattle.std.proofs.Common.{◌↔◌, IsTrue, MatchOption, subst}
 use Rattle.pgn_criteria.specs.Stages.{AllSaid, AreFixed}
 use Rattle.pgn_criteria.proofs.EitherFacts.{AreMirrors, met_plain, met_fixed, met_mirror}
 use Rattle.pgn_criteria.proofs.alternative.Alternative.is_met.Goals as goal
