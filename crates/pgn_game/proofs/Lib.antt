@@ -31,3 +31,6 @@ pub mod StepFacts
 pub mod PlainTokens
 pub mod PlainLines
 pub mod PlainExport
+pub mod StartTexts
+pub mod MoveTexts
+pub mod GameLineFacts

@@ -126,7 +126,7 @@ glyph_may number = plain_may (36 ∷ decimal number) ((ink 36 (omega arith), (di
 
 -- ---- texts of moves
 
-kind_high : (kind : Kind) → (64 < kind_letter kind) × (kind_letter kind < 91)
+pub kind_high : (kind : Kind) → (64 < kind_letter kind) × (kind_letter kind < 91)
 kind_high King = (omega arith, omega arith)
 kind_high Queen = (omega arith, omega arith)
 kind_high Rook = (omega arith, omega arith)
@@ -196,7 +196,7 @@ mark_plain now mark (mate mated) = ((ink 35 (omega arith), record {}), (omega ar
 mark_plain now mark (check checked other) = ((ink 43 (omega arith), record {}), (omega arith, omega arith))
 mark_plain now mark (quiet calm) = empty_plain
 
-turn_may : (now : State) (turn : Turn) (text : List ℕ) → IsTurnText now turn text → MayBegin text
+pub turn_may : (now : State) (turn : Turn) (text : List ℕ) → IsTurnText now turn text → MayBegin text
 turn_may now (Played m) text is =
     plain_may text (subst IsPlain (sym is.text)
     (plain_append is.body is.mark (body_plain now m m.castle is.man.kind is.body is.body_is) (mark_plain (after now m) is.mark is.mark_is)))

@@ -11,10 +11,12 @@ pub mod TagLines
 pub mod TextLines
 pub mod Comments
 pub mod Exports
+pub mod GameLines
 pub mod Laws
 -- Private words: how a replay is stored, and what its walks and its pen keep. No public contract cites them.
 pub mod Codes
 pub mod Walks
+pub mod LineTexts
 pub mod LineWalks
 pub mod Steps
 pub mod RefusalWalks

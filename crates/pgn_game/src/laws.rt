@@ -3,6 +3,7 @@
 ghost use Rattle.pgn_game.specs.Exports.{MovetextHasOneList};
 ghost use Rattle.pgn_game.specs.Refusals.{OneLineIsReached, RefusedWordIsTheFault};
 ghost use Rattle.pgn_game.specs.TextLines.{TokensHaveAText, TokensHaveOneText};
+ghost use Rattle.pgn_game.specs.GameLines.{SoundGameHasALine, GameHasOneLine, LineIsTheGame};
 ghost use Rattle.pgn_game.specs.Laws.{EachMoveIsNamed, MainLineIsTheLine, EachMoveHasATurn, GameHasOneReplay, GameHasOneOpening, GameHasOneFault, SoundGameHasNoFault, GameHasAnAnswer, MovetextHasTokens, GameHasAnExport, GameHasOneExport, NoLineIsMisread, ExportIsReadAsOne};
 
 /// Whichever lines are replayed, each move of the main line is the only legal move that its word names in the position before it.
@@ -65,6 +66,14 @@ pub fn a_movetext()
 pub fn one_export()
     ensures some { GameHasAnExport }
     ensures one { GameHasOneExport }
+{}
+
+/// In each notation a game whose main line is sound has a line, and only one; and two games have the same line exactly where they start in
+/// the same position and have the same moves.
+pub fn one_game_line()
+    ensures some { SoundGameHasALine }
+    ensures one { GameHasOneLine }
+    ensures same { LineIsTheGame }
 {}
 
 /// No line of a movetext is read as an escape or as an event line, whatever its comments say; and the export of a game begins with an event

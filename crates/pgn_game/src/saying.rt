@@ -18,7 +18,11 @@ pub(crate) fn passes(inside: bool, word: &[u8]) -> bool
 }
 
 /// The only legal move that the word names, or the fault of this ply.
-fn named<'a>(position: &GamePosition, word: &'a [u8], ply: usize) -> Result<Move, GameFault<'a>>
+pub(crate) fn named<'a>(
+    position: &GamePosition,
+    word: &'a [u8],
+    ply: usize,
+) -> Result<Move, GameFault<'a>>
     ensures { MatchResult result
         (IsOnlyNamed position.now word.now)
         (λ fault. (plies : ℕ) → ply ≡ plies + 1 → IfSome (fault_of fault) (IsRefusedWord position.now plies word.now)) }

@@ -1,0 +1,343 @@
+-- The text of the position from which a game starts: there is one, it holds no space, and no other position has it.
+use Rattle.std.proofs.Common.{◌≡◌, ◌≢◌, ℕ, suc, ◌+◌, ◌-◌, ◌*◌, ◌≤◌, Bool, true, false, List, [], ◌∷◌, ◌++◌, length, map, refl, sym, ap, ◌∙◌, subst, arith, length-append}
+use Rattle.std.proofs.lemmas.Bool.Decides.{nat_tests}
+use Rattle.std.proofs.lemmas.Fmt.{decimal_digit}
+use Rattle.std.proofs.lemmas.Slice.Eq.{bytes_eq-Decides}
+use Rattle.std.specs.Prelude.{◌==◌, ◌&&◌, if◌then◌else◌, bytes_eq, codes, decimal, Option, Some, None, Result, Ok, Err, OnOk, is_ok}
+use Rattle.std.specs.List.{list_all}
+use Rattle.chess.specs.Squares.{Place}
+use Rattle.chess.specs.Placements.{Placement, man_at}
+use Rattle.chess.specs.Positions.{State, IsSound, FitsEnPassant}
+use Rattle.chess.specs.Start.{usual, usual_man, usual_men}
+use Rattle.chess.specs.Letters.{man_letter}
+use Rattle.chess.specs.Fen.{IsSquares, SpellsRank, SpellRanks, row, side_text, is_digit, number_from, IsCount, GiveCounts, joined, or_dash, rights_letters, en_passant_text, IsFen}
+use Rattle.chess.specs.Fen.IsSquares.{letter, step}
+use Rattle.chess.specs.FenTextWords.{spelled_from, rank_texts}
+use Rattle.chess.specs.declared.board.man.Man.{Man}
+use Rattle.chess.specs.declared.board.man.Kind.{Kind}
+use Rattle.chess.specs.declared.board.man.Kind.TheVariants.{King, Queen, Rook, Bishop, Knight, Pawn}
+use Rattle.chess.specs.declared.board.man.Side.{Side}
+use Rattle.chess.specs.declared.board.man.Side.TheVariants.{White, Black}
+use Rattle.chess.specs.declared.board.man.CastlingRights.{CastlingRights}
+use Rattle.chess.proofs.FenOnce.{one_spelling}
+use Rattle.chess.proofs.FenOneText.{one_fen}
+use Rattle.chess.proofs.FenReadBack.{fen_spells}
+use Rattle.chess.proofs.FenTextFacts.{spell_ranks, shortest_ranks}
+use Rattle.chess.proofs.SoundRead.{read_sound}
+use Rattle.chess.proofs.StartFacts.{usual_at, usual_kept}
+use Rattle.pgn_game.specs.Starts.{IsStart}
+use Rattle.pgn_game.specs.GameLines.{unspaced, IsStartText, as_usual, as_fen}
+use Rattle.pgn_game.proofs.PlainTokens.{AllOf, all_append, AreDigits, decimal_digits}
+
+-- ---- each position has a text
+
+abbrev fen_of : State → List (List ℕ) → List ℕ
+fen_of P ranks =
+    joined 32 (joined 47 ranks ∷ side_text P.turn ∷ or_dash (rights_letters P.rights) ∷ en_passant_text P.en_passant
+    ∷ decimal P.halfmove_clock ∷ decimal P.fullmove_number ∷ [])
+
+pub some_fen : (P : State) → (x : List ℕ) × IsFen P x
+some_fen P = (
+  fen_of P (rank_texts P.men 8),
+  record { ranks = rank_texts P.men 8; spelled = spell_ranks P.men 8; shortest = shortest_ranks P.men 8; text = refl },
+)
+
+-- ---- that of the usual position
+
+abbrev pub usual_fen : List ℕ
+usual_fen = codes "rnbqkbnr/pppppppp/8/8/8/8/PPPPPPPP/RNBQKBNR w KQkq - 0 1"
+
+-- the men of a rank, square by square
+abbrev usual_row : ℕ → List (Option Man)
+usual_row r =
+    usual_man (record { file = 1; rank = r }) ∷ usual_man (record { file = 2; rank = r }) ∷ usual_man (record { file = 3; rank = r })
+    ∷ usual_man (record { file = 4; rank = r }) ∷ usual_man (record { file = 5; rank = r }) ∷ usual_man (record { file = 6; rank = r })
+    ∷ usual_man (record { file = 7; rank = r }) ∷ usual_man (record { file = 8; rank = r }) ∷ []
+
+here : (file r : ℕ) → 1 ≤ file → file ≤ 8 → 1 ≤ r → r ≤ 8 → man_at usual_men (record { file = file; rank = r }) ≡ usual_man (record { file = file; rank = r })
+here file r a b c d = usual_at (record { file = file; rank = r }) (record { file_low = a; file_high = b; rank_low = c; rank_high = d })
+
+same_row : (r : ℕ) → 1 ≤ r → r ≤ 8 → row usual_men r ≡ usual_row r
+same_row r low high =
+    λ i. here 1 r (omega arith) (omega arith) low high i ∷ here 2 r (omega arith) (omega arith) low high i
+    ∷ here 3 r (omega arith) (omega arith) low high i ∷ here 4 r (omega arith) (omega arith) low high i
+    ∷ here 5 r (omega arith) (omega arith) low high i ∷ here 6 r (omega arith) (omega arith) low high i
+    ∷ here 7 r (omega arith) (omega arith) low high i ∷ here 8 r (omega arith) (omega arith) low high i ∷ []
+
+abbrev usual_rank : ℕ → List ℕ
+usual_rank r = spelled_from 0 (usual_row r)
+
+same_rank : (r : ℕ) → 1 ≤ r → r ≤ 8 → spelled_from 0 (row usual_men r) ≡ usual_rank r
+same_rank r low high = ap (spelled_from 0) (same_row r low high)
+
+same_ranks : rank_texts usual_men 8
+    ≡ usual_rank 8 ∷ usual_rank 7 ∷ usual_rank 6 ∷ usual_rank 5 ∷ usual_rank 4 ∷ usual_rank 3 ∷ usual_rank 2 ∷ usual_rank 1 ∷ []
+same_ranks =
+    λ i. same_rank 8 (omega arith) (omega arith) i ∷ same_rank 7 (omega arith) (omega arith) i ∷ same_rank 6 (omega arith) (omega arith) i
+    ∷ same_rank 5 (omega arith) (omega arith) i ∷ same_rank 4 (omega arith) (omega arith) i ∷ same_rank 3 (omega arith) (omega arith) i
+    ∷ same_rank 2 (omega arith) (omega arith) i ∷ same_rank 1 (omega arith) (omega arith) i ∷ []
+
+abbrev with_counts : List (List ℕ) → List ℕ → List ℕ → List ℕ
+with_counts ranks clock number =
+    joined 32 (joined 47 ranks ∷ side_text usual.turn ∷ or_dash (rights_letters usual.rights) ∷ en_passant_text usual.en_passant ∷ clock ∷ number ∷ [])
+
+pub usual_has_fen : IsFen usual usual_fen
+usual_has_fen = record {
+  ranks = rank_texts usual_men 8;
+  spelled = spell_ranks usual_men 8;
+  shortest = shortest_ranks usual_men 8;
+  text = sym (ap (λ ranks. with_counts ranks (decimal 0) (decimal 1)) same_ranks
+      ∙ ap (λ clock. with_counts (usual_rank 8 ∷ usual_rank 7 ∷ usual_rank 6 ∷ usual_rank 5 ∷ usual_rank 4 ∷ usual_rank 3 ∷ usual_rank 2 ∷ usual_rank 1 ∷ []) clock (decimal 1)) (decimal_digit 0 (omega arith))
+      ∙ ap (λ number. with_counts (usual_rank 8 ∷ usual_rank 7 ∷ usual_rank 6 ∷ usual_rank 5 ∷ usual_rank 4 ∷ usual_rank 3 ∷ usual_rank 2 ∷ usual_rank 1 ∷ []) (48 ∷ []) number) (decimal_digit 1 (omega arith)));
+}
+
+-- ---- a position that FEN may give: its text is read back
+
+pub record IsReadBack (P : State) : Type 0 where
+  pub sound : IsSound P
+  pub clock : P.halfmove_clock ≤ 9999999
+  pub number : P.fullmove_number ≤ 9999999
+
+-- the largest number that so many digits make behind one that is no larger than this
+abbrev largest : ℕ → List ℕ → ℕ
+largest bound [] = bound
+largest bound (d ∷ x) = largest (10 * bound + 9) x
+
+digit_small : (b : ℕ) → is_digit b ≡ true → b ≤ 57
+digit_small b is = grind (arith, nat_tests)
+
+all_left : (a b : Bool) → (a && b) ≡ true → a ≡ true
+all_left true b is = refl
+all_left false b is = is
+
+all_right : (a b : Bool) → (a && b) ≡ true → b ≡ true
+all_right true b is = is
+all_right false b is = let never : false ≡ true = is in absurd (cc)
+
+at_most : (x : List ℕ) (n bound : ℕ) → list_all is_digit x ≡ true → n ≤ bound → number_from n x ≤ largest bound x
+at_most [] n bound digits low = low
+at_most (d ∷ x) n bound digits low =
+    let small = digit_small d (all_left (is_digit d) (list_all is_digit x) digits) in
+    at_most x (10 * n + (d - 48)) (10 * bound + 9) (all_right (is_digit d) (list_all is_digit x) digits) (omega arith)
+
+seven : (x : List ℕ) → length x ≤ 7 → largest 0 x ≤ 9999999
+seven [] short = omega arith
+seven (a ∷ []) short = omega arith
+seven (a ∷ b ∷ []) short = omega arith
+seven (a ∷ b ∷ c ∷ []) short = omega arith
+seven (a ∷ b ∷ c ∷ d ∷ []) short = omega arith
+seven (a ∷ b ∷ c ∷ d ∷ e ∷ []) short = omega arith
+seven (a ∷ b ∷ c ∷ d ∷ e ∷ f ∷ []) short = omega arith
+seven (a ∷ b ∷ c ∷ d ∷ e ∷ f ∷ g ∷ []) short = omega arith
+seven (a ∷ b ∷ c ∷ d ∷ e ∷ f ∷ g ∷ h ∷ x) short = absurd (omega arith)
+
+few : (x : List ℕ) (n : ℕ) → IsCount x n → n ≤ 9999999
+few x n is =
+    let bound = at_most x 0 0 is.digits (omega arith) in
+    let small = seven x is.short.1 in
+    let value = is.value in
+    omega arith
+
+few_both : (fields : List (List ℕ)) (clock number : ℕ) → GiveCounts fields clock number → (clock ≤ 9999999) × (number ≤ 9999999)
+few_both [] clock number given = (let a = given.0 in omega arith, let b = given.1 in omega arith)
+few_both (x ∷ []) clock number given = (few x clock given.0, (let b = given.1 in omega arith))
+few_both (x ∷ y ∷ []) clock number given = (few x clock given.0, few y number given.1)
+few_both (x ∷ y ∷ z ∷ more) clock number given = absurd given
+
+pub start_read_back : (fen : Option (List ℕ)) (P : State) → IsStart fen P → IsReadBack P
+start_read_back None P is = subst IsReadBack (sym is) record { sound = usual_kept.sound; clock = omega arith; number = omega arith }
+start_read_back (Some contents) P (value, given, reads) =
+    let counts = few_both reads.spells.count_fields P.halfmove_clock P.fullmove_number reads.spells.counts in
+    record { sound = read_sound value P reads; clock = counts.0; number = counts.1 }
+
+-- such a position is the only one with its text
+pub same_fen : (P Q : State) (x : List ℕ) → IsReadBack P → IsReadBack Q → IsFen P x → IsFen Q x → P ≡ Q
+same_fen P Q x p q is also = one_spelling x P Q (fen_spells P x p.sound p.clock p.number is) (fen_spells Q x q.sound q.clock q.number also)
+
+usual_read_back : IsReadBack usual
+usual_read_back = start_read_back None usual refl
+
+pub usual_by_fen : (P : State) (x : List ℕ) → IsReadBack P → IsFen P x → x ≡ usual_fen → P ≡ usual
+usual_by_fen P x p is same = same_fen P usual usual_fen p usual_read_back (subst (IsFen P) same is) usual_has_fen
+
+pub unusual_by_fen : (P : State) (x : List ℕ) → IsFen P x → x ≢ usual_fen → P ≢ usual
+unusual_by_fen P x is other same = other (one_fen usual x usual_fen (subst (λ s. IsFen s x) same is) usual_has_fen)
+
+-- ---- so a start has one text
+
+pub some_start_text : (P : State) → IsReadBack P → (text : List ℕ) × IsStartText P text
+some_start_text P p =
+    let fen = some_fen P in
+    by fen.0 fen.1 (bytes_eq fen.0 usual_fen) refl
+  where
+    by : (x : List ℕ) → IsFen P x → (same : Bool) → bytes_eq x usual_fen ≡ same → (text : List ℕ) × IsStartText P text
+    by x is true same = (codes "-", as_usual (usual_by_fen P x p is ((bytes_eq-Decides x usual_fen).0 same)) refl)
+    by x is false other =
+        (map unspaced x, as_fen (unusual_by_fen P x is (λ same. let no : bytes_eq x usual_fen ≡ true = (bytes_eq-Decides x usual_fen).1 same in absurd (cc))) x is refl)
+
+pub one_start_text : (P : State) (x y : List ℕ) → IsStartText P x → IsStartText P y → x ≡ y
+one_start_text P x y (as_usual is a) (as_usual also b) = a ∙ sym b
+one_start_text P x y (as_usual is a) (as_fen other fen spells b) = absurd (other is)
+one_start_text P x y (as_fen other fen spells a) (as_usual is b) = absurd (other is)
+one_start_text P x y (as_fen other fen spells a) (as_fen others more also b) = a ∙ ap (map unspaced) (one_fen P fen more spells also) ∙ sym b
+
+-- ---- no `_` stands in the text of a position
+
+abbrev IsLined : ℕ → Type 0
+IsLined b = b ≢ 95
+
+abbrev AreLined : List ℕ → Type 0
+AreLined x = AllOf IsLined x
+
+lined_joined : (separator : ℕ) → IsLined separator → (xs : List (List ℕ)) → AllOf AreLined xs → AreLined (joined separator xs)
+lined_joined separator free [] all = record {}
+lined_joined separator free (x ∷ []) all = all.0
+lined_joined separator free (x ∷ y ∷ more) all = all_append IsLined x (separator ∷ joined separator (y ∷ more)) all.0 (free, lined_joined separator free (y ∷ more) all.1)
+
+lined_man : (side : Side) (kind : Kind) → IsLined (man_letter (record { side = side; kind = kind }))
+lined_man White King = omega arith
+lined_man White Queen = omega arith
+lined_man White Rook = omega arith
+lined_man White Bishop = omega arith
+lined_man White Knight = omega arith
+lined_man White Pawn = omega arith
+lined_man Black King = omega arith
+lined_man Black Queen = omega arith
+lined_man Black Rook = omega arith
+lined_man Black Bishop = omega arith
+lined_man Black Knight = omega arith
+lined_man Black Pawn = omega arith
+
+lined_byte : (b : ℕ) (squares : List (Option Man)) → IsSquares b squares → IsLined b
+lined_byte b squares (letter man) = lined_man man.side man.kind
+lined_byte b squares (step n low high) = omega arith
+
+lined_rank : (x : List ℕ) (squares : List (Option Man)) → SpellsRank x squares → AreLined x
+lined_rank [] squares spells = record {}
+lined_rank (b ∷ x) squares (own, more, parted, is, rest) = (lined_byte b own is, lined_rank x more rest)
+
+lined_ranks : (p : Placement) (n : ℕ) (xs : List (List ℕ)) → SpellRanks p n xs → AllOf AreLined xs
+lined_ranks p n [] spells = record {}
+lined_ranks p n (x ∷ more) spells = (lined_rank x (row p n) spells.1, lined_ranks p (n - 1) more spells.2)
+
+lined_side : (side : Side) → AreLined (side_text side)
+lined_side White = (omega arith, record {})
+lined_side Black = (omega arith, record {})
+
+lined_if : (held : Bool) (b : ℕ) → IsLined b → AreLined (if held then b ∷ [] else [])
+lined_if true b free = (free, record {})
+lined_if false b free = record {}
+
+lined_or_dash : (x : List ℕ) → AreLined x → AreLined (or_dash x)
+lined_or_dash [] all = (omega arith, record {})
+lined_or_dash (b ∷ x) all = all
+
+lined_rights : (r : CastlingRights) → AreLined (or_dash (rights_letters r))
+lined_rights r =
+    lined_or_dash (rights_letters r)
+    (all_append IsLined (if r.white_king_side then 75 ∷ [] else []) _ (lined_if r.white_king_side 75 (omega arith))
+    (all_append IsLined (if r.white_queen_side then 81 ∷ [] else []) _ (lined_if r.white_queen_side 81 (omega arith))
+    (all_append IsLined (if r.black_king_side then 107 ∷ [] else []) _ (lined_if r.black_king_side 107 (omega arith))
+    (lined_if r.black_queen_side 113 (omega arith)))))
+
+lined_passed : (P : State) (passed : Option Place) → (P.en_passant ≡ passed) → IsSound P → AreLined (en_passant_text passed)
+lined_passed P None is sound = (omega arith, record {})
+lined_passed P (Some s) is sound =
+    let fits : FitsEnPassant P.men P.turn s = rw is at sound.en_passant in
+    let high = fits.on_board.rank_high in
+    (omega arith, (omega arith, record {}))
+
+lined_digits : (x : List ℕ) → AreDigits x → AreLined x
+lined_digits [] all = record {}
+lined_digits (b ∷ x) all = let high = all.0.1 in (omega arith, lined_digits x all.1)
+
+pub lined_fen : (P : State) (x : List ℕ) → IsSound P → IsFen P x → AreLined x
+lined_fen P x sound is =
+    let fields : List (List ℕ) =
+    joined 47 is.ranks ∷ side_text P.turn ∷ or_dash (rights_letters P.rights) ∷ en_passant_text P.en_passant ∷ decimal P.halfmove_clock ∷ decimal P.fullmove_number ∷ [] in
+    let all : AllOf AreLined fields = (
+      lined_joined 47 (omega arith) is.ranks (lined_ranks P.men 8 is.ranks is.spelled),
+      (
+        lined_side P.turn,
+        (
+          lined_rights P.rights,
+          (
+            lined_passed P P.en_passant refl sound,
+            (lined_digits (decimal P.halfmove_clock) (decimal_digits P.halfmove_clock), (lined_digits (decimal P.fullmove_number) (decimal_digits P.fullmove_number), record {})),
+          ),
+        ),
+      ),
+    ) in
+    subst AreLined (sym is.text) (lined_joined 32 (omega arith) fields all)
+
+-- so it is found again when its spaces are
+unspaced_once : (a b : ℕ) → IsLined a → IsLined b → unspaced a ≡ unspaced b → a ≡ b
+unspaced_once a b free also same = by (a == 32) (b == 32) refl refl same
+  where
+    by : (c d : Bool) → (a == 32) ≡ c → (b == 32) ≡ d → (if c then 95 else a) ≡ (if d then 95 else b) → a ≡ b
+    by true true x y same = grind (arith, nat_tests)
+    by true false x y same = absurd (also (sym same))
+    by false true x y same = absurd (free same)
+    by false false x y same = same
+
+texts_once : (x y : List ℕ) → AreLined x → AreLined y → map unspaced x ≡ map unspaced y → x ≡ y
+texts_once [] [] free also same = refl
+texts_once [] (b ∷ y) free also same = absurd (cc)
+texts_once (a ∷ x) [] free also same = absurd (cc)
+texts_once (a ∷ x) (b ∷ y) free also same =
+    let first : unspaced a ≡ unspaced b = cc in
+    let rest : map unspaced x ≡ map unspaced y = cc in
+    let heads : a ≡ b = unspaced_once a b free.0 also.0 first in
+    let tails : x ≡ y = texts_once x y free.1 also.1 rest in
+    cc
+
+-- a text in FEN is no dash
+length_map : (x : List ℕ) → length (map unspaced x) ≡ length x
+length_map [] = refl
+length_map (b ∷ x) = ap suc (length_map x)
+
+fen_is_long : (P : State) (x : List ℕ) → IsFen P x → 2 ≤ length x
+fen_is_long P x is =
+    let men = joined 47 is.ranks in
+    let later = joined 32 (or_dash (rights_letters P.rights) ∷ en_passant_text P.en_passant ∷ decimal P.halfmove_clock ∷ decimal P.fullmove_number ∷ []) in
+    let size = ap length is.text in
+    let a = length-append men (32 ∷ (side_text P.turn ++ 32 ∷ later)) in
+    let b = length-append (side_text P.turn) (32 ∷ later) in
+    omega arith
+
+no_dash : (P : State) (x : List ℕ) → IsFen P x → codes "-" ≡ map unspaced x → ⊥
+no_dash P x is same = let a = ap length same in let b = length_map x in let c = fen_is_long P x is in omega arith
+
+pub same_start : (P Q : State) (x : List ℕ) → IsReadBack P → IsReadBack Q → IsStartText P x → IsStartText Q x → P ≡ Q
+same_start P Q x p q (as_usual is a) (as_usual also b) = is ∙ sym also
+same_start P Q x p q (as_usual is a) (as_fen other fen spells b) = absurd (no_dash Q fen spells (sym a ∙ b))
+same_start P Q x p q (as_fen other fen spells a) (as_usual is b) = absurd (no_dash P fen spells (sym b ∙ a))
+same_start P Q x p q (as_fen other fen spells a) (as_fen others more also b) =
+    let same : fen ≡ more = texts_once fen more (lined_fen P fen p.sound spells) (lined_fen Q more q.sound also) (sym a ∙ b) in
+    same_fen P Q more p q (subst (IsFen P) same spells) also
+
+-- ---- and no space stands in the text of a start
+
+abbrev pub IsUnspaced : List ℕ → Type 0
+IsUnspaced x = AllOf (λ b. b ≢ 32) x
+
+unspaced_byte : (b : ℕ) → unspaced b ≢ 32
+unspaced_byte b same = by (b == 32) refl same
+  where
+    by : (c : Bool) → (b == 32) ≡ c → (if c then 95 else b) ≡ 32 → ⊥
+    by true x same = omega arith
+    by false x same = let is : (b == 32) ≡ true = ap (λ n. n == 32) same in absurd (cc)
+
+unspaced_all : (x : List ℕ) → IsUnspaced (map unspaced x)
+unspaced_all [] = record {}
+unspaced_all (b ∷ x) = (unspaced_byte b, unspaced_all x)
+
+pub start_unspaced : (P : State) (x : List ℕ) → IsStartText P x → IsUnspaced x
+start_unspaced P x (as_usual is a) = subst IsUnspaced (sym a) (omega arith, record {})
+start_unspaced P x (as_fen other fen spells a) = subst IsUnspaced (sym a) (unspaced_all fen)
+
+-- ---- bytes that are appended where memory is not refused
+
+pub on_ok_if : {T E : Type 0} (result : Result T E) (x y z : List ℕ) → x ≡ (if is_ok result then y else z) → OnOk result (x ≡ y)
+on_ok_if (Ok value) x y z is = is
+on_ok_if (Err error) x y z is = record {}
