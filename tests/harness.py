@@ -283,10 +283,17 @@ class Sound:
         roster = b'[Event "%s"]\n[Site "?"]\n[Date "????.??.??"]\n[Round "?"]\n[White "?"]\n[Black "?"]\n[Result "*"]\n' % self.event
         return roster + b"".join(self.tags) + b"\n" + filled(self.tokens) + b"\n"
 
+    def moves(self, number, offset):
+        """What `--moves` prints of a game that has neither variations nor comments and starts as usual."""
+        moves = [it for it in self.tokens if not it.endswith(b".") and it != b"*"]
+        return b" ".join([b"%d@%d -" % (number, offset), *moves]) + b"\n"
+
     def answer(self, arguments, number, offset):
-        """What the output has of the game: with `--index`, with `--list`, or of an export."""
+        """What the output has of the game: with `--index`, `--list` or `--moves`, or of an export."""
         if "--index" in arguments:
             return b"%d@%d\n" % (number, offset)
+        if "--moves" in arguments:
+            return self.moves(number, offset)
         return self.listing(number, offset) if "--list" in arguments else self.export()
 
 

@@ -1,8 +1,7 @@
 -- Where each sound game is written, its first position is an entry of it.
 use Rattle.std.specs.Prelude.{Result, Ok, Err, OnOk, OnErr, IfErr, MatchResult}
-use Rattle.std.proofs.Common.{◌≡◌, ℕ, ◌+◌, ◌<◌, Bool, List, length, Option, sym, subst, inl, arith}
+use Rattle.std.proofs.Common.{◌≡◌, ℕ, ◌+◌, ◌<◌, List, length, Option, sym, subst, inl, arith}
 use Rattle.pgn_text.specs.GameTexts.{GameText, tag_in}
-use Rattle.pgn_game.specs.Exports.{IsExport}
 use Rattle.pgn_game.specs.MainLines.{main_words}
 use Rattle.pgn_game.specs.Replays.{Replay, IsReplay}
 use Rattle.pgn_game.specs.Starts.{fen_tag}
@@ -22,16 +21,14 @@ first_is_entry aim tags replay all some =
       ((omega (arith, all.from_start), omega arith, met), (λ only before less. absurd (omega (arith, less)))),
     )
 
-pub all_written : (aim : Aim) (game : GameText) (replay : Replay) (text : List ℕ) → TakesAll aim
-    → IsReplay (written_lines aim) (tag_in fen_tag game.tags) game.elements replay → IsExport aim.style game text → IsGameWritten aim game replay text
-all_written aim game replay text all is export =
+pub all_written : (aim : Aim) (number offset : ℕ) (game : GameText) (replay : Replay) (text : List ℕ) → TakesAll aim
+    → IsReplay (written_lines aim) (tag_in fen_tag game.tags) game.elements replay → IsGivenText aim.form aim number offset game text
+    → IsGameWritten aim number offset game replay text
+all_written aim number offset game replay text all is given =
     let tags = λ (name : List ℕ). tag_in name game.tags in
     let count : length replay.positions ≡ length replay.played + 1 = line_length is.start (main_words game.elements 0) replay.positions replay.played is.line in
     let some : 0 < length replay.positions = omega (arith, count) in
-    inl (
-      subst (λ select. IsSelected select (HasEntry aim tags replay)) (sym all.select) (first_is_entry aim tags replay all some),
-      subst (λ (as_is : Bool). IsGivenText as_is aim.style game text) (sym all.exported) export,
-    )
+    inl (subst (λ select. IsSelected select (HasEntry aim tags replay)) (sym all.select) (first_is_entry aim tags replay all some), given)
 
 -- what an export that is played promises, in one
 pub put_or_left : {T E : Type 0} {Sound Text Left Done : Type 0} {Fails : E → Type 0} {Stops : E → Type 0} (result : Result T E) → OnOk result Text → OnOk result Sound

@@ -23,6 +23,9 @@ use Rattle.pgn_extract.specs.Blockwise.{AddsVerdict, AddsListed, AddsExported, A
 use Rattle.pgn_extract.specs.Index.{fault_text, mark_line}
 use Rattle.pgn_extract.specs.Listing.{Entry, listing, tags_in}
 use Rattle.pgn_extract.specs.GameReports.{entries_from, AreListed, cause_text, IsReplayOf, IsFaultOf}
+use Rattle.pgn_game.specs.GameLines.{IsGameLine}
+use Rattle.pgn_extract.specs.declared.settings.Form.{Form}
+use Rattle.pgn_extract.specs.declared.settings.Form.TheVariants.{Standard, AsItStands, Line}
 use Rattle.pgn_extract.specs.Exports.{written_lines, HasEntry, IsTextOf, IsWritten, selected, unselected, as_it_stands, faulty_text}
 use Rattle.pgn_extract.specs.Notes.{IsNote, NamesByte, NamesStop}
 use Rattle.pgn_extract.specs.Verdicts.{Verdict, SoundGame, FaultyGame, output_of, fault_line_of, is_faulty, IsVerdictIn, IsGameVerdict, IsUnreadableVerdict}
@@ -85,7 +88,7 @@ listed_fault aim {old} {new} {number} {offset} {game} fault note is noted adds a
 
 -- by the export, what is written of it
 pub exported_replay : (aim : Aim) {old new : Report} {number offset : ℕ} {game : GameText} → IsGameText game → (replay : Replay) (text : List ℕ)
-    → IsReplay (written_lines aim) (tag_in fen_tag game.tags) game.elements replay → IsGameWritten aim game replay text
+    → IsReplay (written_lines aim) (tag_in fen_tag game.tags) game.elements replay → IsGameWritten aim number offset game replay text
     → AddsOutput old new text → AddsExported aim old new number offset game
 exported_replay aim {old} {new} {number} {offset} {game} is_game replay text is written adds at parts shows =
     (SoundGame text, (replay, shown_replay (written_lines aim) shows replay is, of_parts written), verdict_sound old new text adds)
@@ -99,13 +102,19 @@ exported_replay aim {old} {new} {number} {offset} {game} is_game replay text is 
     had : HasEntry aim (tags_in parts) replay → HasEntry aim own replay
     had (ply, within, entry) = (ply, within, entry_same (tags_in parts) own (λ name. sym (shows.tags name)) replay aim ply entry)
 
-    text_of : (as_is : Bool) → IsGivenText as_is aim.style game text → IsTextOf as_is aim.style parts text
-    text_of false export =
+    text_of : (form : Form) → IsGivenText form aim number offset game text → IsTextOf form aim number offset parts text
+    text_of Standard export =
         (game, is_game, record { place = refl; text = shows.text; tags = shows.tags; elements = shows.elements; result = shows.result }, export)
-    text_of true is = is ∙ ap as_it_stands shows.text
+    text_of AsItStands is = is ∙ ap as_it_stands shows.text
+    text_of (Line notation) (line, is, spells) = (
+      line,
+      subst (λ (items : List Item). IsGameLine notation (first_tag fen_tag parts) items line) shows.elements
+          (subst (λ (tag : Option (List ℕ)). IsGameLine notation tag game.elements line) (shows.tags fen_tag) is),
+      spells,
+    )
 
-    of_parts : IsGameWritten aim game replay text → IsWritten aim parts replay text
-    of_parts (inl (is, given)) = selected (selected_by aim.select (HasEntry aim own replay) (HasEntry aim (tags_in parts) replay) has had is) (text_of aim.as_is given)
+    of_parts : IsGameWritten aim number offset game replay text → IsWritten aim number offset parts replay text
+    of_parts (inl (is, given)) = selected (selected_by aim.select (HasEntry aim own replay) (HasEntry aim (tags_in parts) replay) has had is) (text_of aim.form given)
     of_parts (inr (none, empty)) =
         unselected (λ is. none (selected_by aim.select (HasEntry aim (tags_in parts) replay) (HasEntry aim own replay) had has is)) empty
 

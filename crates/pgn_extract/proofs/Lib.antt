@@ -1,4 +1,5 @@
 pub mod AllTaken
+pub mod TextPut
 pub mod Beginnings
 pub mod BegunAll
 pub mod BlockWritten

@@ -45,13 +45,14 @@ of_pieces aim lists number (piece ∷ more) verdicts (verdict, rest, parted, is,
     )
 
 -- a game's export
-export_of_game : (aim : Aim) (verdict : Verdict) (number offset : ℕ) (parts : List Part) → IsExported aim verdict number offset parts → IsGameExport aim parts (output_of verdict)
+export_of_game : (aim : Aim) (verdict : Verdict) (number offset : ℕ) (parts : List Part) → IsExported aim verdict number offset parts
+    → IsGameExport aim number offset parts (output_of verdict)
 export_of_game aim (SoundGame text) number offset parts (replay, is, written) = exported replay is written
 export_of_game aim (FaultyGame text line note) number offset parts (fault, is, here, noted, written) = unexported fault is written
 
 -- a piece's export
 export_of_piece : (kind : PieceKind) (aim : Aim) → aim.mode ≡ modes.Export → (number offset : ℕ) (verdict : Verdict) → IsPieceVerdict kind aim number offset verdict
-    → IsPieceExport aim kind (output_of verdict)
+    → IsPieceExport aim number offset kind (output_of verdict)
 export_of_piece (ReadableGame parts) aim exports number offset verdict is =
     export_of_game aim verdict number offset parts (subst (λ m. IsVerdictIn m aim number offset parts verdict) exports is)
 export_of_piece (UnreadableRest bytes) aim exports number offset verdict (note, noted, names, is) =
@@ -60,7 +61,7 @@ export_of_piece TooLongBlock aim exports number offset verdict (note, noted, is)
 
 -- the exports of pieces in a row
 pub exports_of_pieces : (aim : Aim) → aim.mode ≡ modes.Export → (number : ℕ) (pieces : List MarkedPiece) (verdicts : List Verdict) → AreVerdicts aim number pieces verdicts
-    → AreExports aim pieces (output_text verdicts)
+    → AreExports aim number pieces (output_text verdicts)
 exports_of_pieces aim exports number [] verdicts none = ap output_text none
 exports_of_pieces aim exports number (piece ∷ more) verdicts (verdict, rest, parted, is, others) = (
   output_of verdict,

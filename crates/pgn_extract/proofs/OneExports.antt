@@ -1,5 +1,5 @@
 -- The exports of pieces are one text.
-use Rattle.std.proofs.Common.{◌≡◌, ℕ, List, [], ◌∷◌, ◌++◌, sym, ap, ◌∙◌, subst}
+use Rattle.std.proofs.Common.{◌≡◌, ℕ, ◌+◌, List, [], ◌∷◌, ◌++◌, sym, ap, ◌∙◌, subst}
 use Rattle.pgn_text.specs.Games.{items_of, first_tag}
 use Rattle.pgn_text.specs.Marks.{PieceKind, ReadableGame, UnreadableRest, TooLongBlock}
 use Rattle.pgn_text.specs.Parts.{Part}
@@ -12,22 +12,23 @@ use Rattle.pgn_extract.specs.Laws.{TextHasOneExport}
 use Rattle.pgn_extract.proofs.GameExport.{one_export_of_parts}
 use Rattle.pgn_extract.proofs.OneVerdict.{one_written}
 
-of_game : (aim : Aim) (parts : List Part) (x y : List ℕ) → IsGameExport aim parts x → IsGameExport aim parts y → x ≡ y
-of_game aim parts x y (sound first is this) (sound second also that) =
+of_game : (aim : Aim) (number offset : ℕ) (parts : List Part) (x y : List ℕ) → IsGameExport aim number offset parts x → IsGameExport aim number offset parts y → x ≡ y
+of_game aim number offset parts x y (sound first is this) (sound second also that) =
     let same : second ≡ first = one_replay (written_lines aim) (first_tag fen_tag parts) (items_of parts) second first also is in
-    one_written one_export_of_parts aim parts first x y this (subst (λ (r : Replay). IsWritten aim parts r y) same that)
-of_game aim parts x y (sound first is this) (faulty fault also none) =
+    one_written one_export_of_parts aim number offset parts first x y this (subst (λ (r : Replay). IsWritten aim number offset parts r y) same that)
+of_game aim number offset parts x y (sound first is this) (faulty fault also none) =
     absurd (no_fault (written_lines aim) (first_tag fen_tag parts) (items_of parts) fault (first, is) also)
-of_game aim parts x y (faulty fault is none) (sound second also that) =
+of_game aim number offset parts x y (faulty fault is none) (sound second also that) =
     absurd (no_fault (written_lines aim) (first_tag fen_tag parts) (items_of parts) fault (second, also) is)
-of_game aim parts x y (faulty fault is none) (faulty other also empty) = none ∙ sym empty
+of_game aim number offset parts x y (faulty fault is none) (faulty other also empty) = none ∙ sym empty
 
-of_piece : (kind : PieceKind) (aim : Aim) (x y : List ℕ) → IsPieceExport aim kind x → IsPieceExport aim kind y → x ≡ y
-of_piece (ReadableGame parts) aim x y a b = of_game aim parts x y a b
-of_piece (UnreadableRest bytes) aim x y a b = a ∙ sym b
-of_piece TooLongBlock aim x y a b = a ∙ sym b
+of_piece : (kind : PieceKind) (aim : Aim) (number offset : ℕ) (x y : List ℕ) → IsPieceExport aim number offset kind x → IsPieceExport aim number offset kind y → x ≡ y
+of_piece (ReadableGame parts) aim number offset x y a b = of_game aim number offset parts x y a b
+of_piece (UnreadableRest bytes) aim number offset x y a b = a ∙ sym b
+of_piece TooLongBlock aim number offset x y a b = a ∙ sym b
 
 pub one_exports : TextHasOneExport
-one_exports aim [] text other a b = a ∙ sym b
-one_exports aim (piece ∷ more) text other (own, rest, parted, is, others) (also, later, split, that, those) =
-    parted ∙ ap (λ t. t ++ rest) (of_piece piece.kind aim own also is that) ∙ ap (λ t. also ++ t) (one_exports aim more rest later others those) ∙ sym split
+one_exports aim number [] text other a b = a ∙ sym b
+one_exports aim number (piece ∷ more) text other (own, rest, parted, is, others) (also, later, split, that, those) =
+    parted ∙ ap (λ t. t ++ rest) (of_piece piece.kind aim number piece.offset own also is that)
+    ∙ ap (λ t. also ++ t) (one_exports aim (number + 1) more rest later others those) ∙ sym split

@@ -174,7 +174,7 @@ listing_aim aim = record {
   max_ply = aim.max_ply;
   first = aim.first;
   select = aim.select;
-  as_is = aim.as_is;
+  form = aim.form;
   style = aim.style;
   explain = aim.explain;
 }

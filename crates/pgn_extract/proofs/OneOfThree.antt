@@ -3,18 +3,19 @@ use Rattle.std.proofs.Common.{◌≡◌, ℕ, List, subst}
 use Rattle.pgn_text.specs.Games.{items_of, first_tag}
 use Rattle.pgn_text.specs.Marks.{ReadableGame, UnreadableRest, TooLongBlock}
 use Rattle.pgn_text.specs.Parts.{Part, spelled}
+use Rattle.pgn_game.specs.Exports.{lines_with}
 use Rattle.pgn_game.specs.Replays.{Replay}
 use Rattle.pgn_game.specs.Starts.{fen_tag}
 use Rattle.pgn_game.proofs.OneReplay.{one_replay, no_fault}
 use Rattle.pgn_extract.specs.Aims.{Aim}
-use Rattle.pgn_extract.specs.Exports.{as_it_stands, written_lines, IsWritten, selected, unselected, IsGameExport, sound, faulty}
+use Rattle.pgn_extract.specs.Exports.{as_it_stands, IsWritten, selected, unselected, IsGameExport, sound, faulty}
 use Rattle.pgn_extract.specs.Laws.{as_they_stand, IsInOneOf, in_first, in_second, in_third, PieceIsInOneExport}
 use Rattle.pgn_extract.specs.declared.settings.Select.TheVariants.{Matching, Others, Faulty}
 
-module _ (aim : Aim) (parts : List Part) where
+module _ (aim : Aim) (number offset : ℕ) (parts : List Part) where
   -- a sound game has an entry or none, and is not faulty
-  sound_in_one : (replay : Replay) (x y z : List ℕ) → IsWritten (as_they_stand Matching aim) parts replay x
-      → IsWritten (as_they_stand Others aim) parts replay y → IsWritten (as_they_stand Faulty aim) parts replay z
+  sound_in_one : (replay : Replay) (x y z : List ℕ) → IsWritten (as_they_stand Matching aim) number offset parts replay x
+      → IsWritten (as_they_stand Others aim) number offset parts replay y → IsWritten (as_they_stand Faulty aim) number offset parts replay z
       → IsInOneOf (as_it_stands (spelled parts)) x y z
   sound_in_one replay x y z a b (selected never text) = absurd never
   sound_in_one replay x y z (selected has text) (selected none also) (unselected never empty) = absurd (none has)
@@ -22,25 +23,25 @@ module _ (aim : Aim) (parts : List Part) where
   sound_in_one replay x y z (unselected none nothing) (selected also text) (unselected unmet empty) = in_second nothing text empty
   sound_in_one replay x y z (unselected none nothing) (unselected never also) (unselected unmet empty) = absurd (never none)
 
-  game_in_one : (x y z : List ℕ) → IsGameExport (as_they_stand Matching aim) parts x → IsGameExport (as_they_stand Others aim) parts y
-      → IsGameExport (as_they_stand Faulty aim) parts z → IsInOneOf (as_it_stands (spelled parts)) x y z
+  game_in_one : (x y z : List ℕ) → IsGameExport (as_they_stand Matching aim) number offset parts x → IsGameExport (as_they_stand Others aim) number offset parts y
+      → IsGameExport (as_they_stand Faulty aim) number offset parts z → IsInOneOf (as_it_stands (spelled parts)) x y z
   game_in_one x y z (sound replay is a) (sound other also b) (sound third same c) =
-      let lines = written_lines aim in
+      let lines = lines_with aim.style.variations in
       let second : other ≡ replay = one_replay lines (first_tag fen_tag parts) (items_of parts) other replay also is in
       let last : third ≡ replay = one_replay lines (first_tag fen_tag parts) (items_of parts) third replay same is in
-      sound_in_one replay x y z a (subst (λ (r : Replay). IsWritten (as_they_stand Others aim) parts r y) second b)
-      (subst (λ (r : Replay). IsWritten (as_they_stand Faulty aim) parts r z) last c)
+      sound_in_one replay x y z a (subst (λ (r : Replay). IsWritten (as_they_stand Others aim) number offset parts r y) second b)
+      (subst (λ (r : Replay). IsWritten (as_they_stand Faulty aim) number offset parts r z) last c)
   game_in_one x y z (faulty fault is a) (faulty other also b) (faulty third same c) = in_third a b c
   game_in_one x y z (sound replay is a) (faulty other also b) c =
-      absurd (no_fault (written_lines aim) (first_tag fen_tag parts) (items_of parts) other (replay, is) also)
+      absurd (no_fault (lines_with aim.style.variations) (first_tag fen_tag parts) (items_of parts) other (replay, is) also)
   game_in_one x y z (sound replay is a) (sound other also b) (faulty third same c) =
-      absurd (no_fault (written_lines aim) (first_tag fen_tag parts) (items_of parts) third (replay, is) same)
+      absurd (no_fault (lines_with aim.style.variations) (first_tag fen_tag parts) (items_of parts) third (replay, is) same)
   game_in_one x y z (faulty fault is a) (sound replay also b) c =
-      absurd (no_fault (written_lines aim) (first_tag fen_tag parts) (items_of parts) fault (replay, also) is)
+      absurd (no_fault (lines_with aim.style.variations) (first_tag fen_tag parts) (items_of parts) fault (replay, also) is)
   game_in_one x y z (faulty fault is a) (faulty other also b) (sound replay same c) =
-      absurd (no_fault (written_lines aim) (first_tag fen_tag parts) (items_of parts) fault (replay, same) is)
+      absurd (no_fault (lines_with aim.style.variations) (first_tag fen_tag parts) (items_of parts) fault (replay, same) is)
 
 pub piece_in_one : PieceIsInOneExport
-piece_in_one aim (ReadableGame parts) x y z a b c = game_in_one aim parts x y z a b c
-piece_in_one aim (UnreadableRest bytes) x y z a b c = in_third a b c
-piece_in_one aim TooLongBlock x y z a b c = in_first a b c
+piece_in_one aim number offset (ReadableGame parts) x y z a b c = game_in_one aim number offset parts x y z a b c
+piece_in_one aim number offset (UnreadableRest bytes) x y z a b c = in_third a b c
+piece_in_one aim number offset TooLongBlock x y z a b c = in_first a b c

@@ -1,5 +1,5 @@
 -- A piece is reported in one way in a mode, but for its note: its game has one replay or one fault, and one export.
-use Rattle.std.proofs.Common.{◌≡◌, ℕ, ◌+◌, Bool, true, false, List, [], ◌∷◌, map, sym, ap, ◌∙◌, subst, refl, codes}
+use Rattle.std.proofs.Common.{◌≡◌, ℕ, ◌+◌, false, List, [], ◌∷◌, map, sym, ap, ◌∙◌, subst, refl, codes}
 use Rattle.pgn_text.specs.Games.{items_of, first_tag}
 use Rattle.pgn_text.specs.Marks.{PieceKind, ReadableGame, UnreadableRest, TooLongBlock, MarkedPiece}
 use Rattle.pgn_text.specs.Parts.{Part}
@@ -7,9 +7,11 @@ use Rattle.pgn_game.specs.Faults.{Fault}
 use Rattle.pgn_game.specs.Laws.{GameHasOneReplay, GameHasOneFault, SoundGameHasNoFault}
 use Rattle.pgn_game.specs.Replays.{Replay}
 use Rattle.pgn_game.specs.declared.replayer.Lines.TheVariants.{Main}
-use Rattle.pgn_game.specs.declared.style.Style.{Style}
 use Rattle.pgn_game.specs.Starts.{fen_tag}
-use Rattle.pgn_extract.specs.Exports.{written_lines, IsTextOf, IsWritten, selected, unselected, faulty_text}
+use Rattle.pgn_game.proofs.GameLineFacts.{one_game_line}
+use Rattle.pgn_extract.specs.declared.settings.Form.{Form}
+use Rattle.pgn_extract.specs.declared.settings.Form.TheVariants.{Standard, AsItStands, Line}
+use Rattle.pgn_extract.specs.Exports.{line_with, written_lines, IsTextOf, IsWritten, selected, unselected, faulty_text}
 use Rattle.pgn_extract.specs.Index.{fault_text}
 use Rattle.pgn_extract.specs.Listing.{listing, tags_in}
 use Rattle.pgn_extract.specs.GameReports.{entries_from, AreListed, cause_text}
@@ -22,18 +24,21 @@ use Rattle.pgn_extract.specs.declared.settings.Mode.{Mode}
 use Rattle.pgn_extract.specs.declared.settings.Mode.TheVariants as modes
 
 -- the text of a game, where its parts have one export
-one_text : PartsHaveOneExport → (as_is : Bool) (style : Style) (parts : List Part) (x y : List ℕ)
-    → IsTextOf as_is style parts x → IsTextOf as_is style parts y → x ≡ y
-one_text one_export false style parts x y first second = one_export style parts x y first second
-one_text one_export true style parts x y first second = first ∙ sym second
+one_text : PartsHaveOneExport → (form : Form) (aim : Aim) (number offset : ℕ) (parts : List Part) (x y : List ℕ)
+    → IsTextOf form aim number offset parts x → IsTextOf form aim number offset parts y → x ≡ y
+one_text one_export Standard aim number offset parts x y first second = one_export aim.style parts x y first second
+one_text one_export AsItStands aim number offset parts x y first second = first ∙ sym second
+one_text one_export (Line notation) aim number offset parts x y (own, is, first) (other, also, second) =
+    first ∙ ap (line_with aim.name number offset) (one_game_line notation (first_tag fen_tag parts) (items_of parts) own other is also) ∙ sym second
 
 -- what is written of a game, where its parts have one export
-pub one_written : PartsHaveOneExport → (aim : Aim) (parts : List Part) (replay : Replay) (x y : List ℕ)
-    → IsWritten aim parts replay x → IsWritten aim parts replay y → x ≡ y
-one_written one_export aim parts replay x y (selected is first) (selected also second) = one_text one_export aim.as_is aim.style parts x y first second
-one_written one_export aim parts replay x y (selected is first) (unselected none second) = absurd (none is)
-one_written one_export aim parts replay x y (unselected none first) (selected is second) = absurd (none is)
-one_written one_export aim parts replay x y (unselected none first) (unselected also second) = first ∙ sym second
+pub one_written : PartsHaveOneExport → (aim : Aim) (number offset : ℕ) (parts : List Part) (replay : Replay) (x y : List ℕ)
+    → IsWritten aim number offset parts replay x → IsWritten aim number offset parts replay y → x ≡ y
+one_written one_export aim number offset parts replay x y (selected is first) (selected also second) =
+    one_text one_export aim.form aim number offset parts x y first second
+one_written one_export aim number offset parts replay x y (selected is first) (unselected none second) = absurd (none is)
+one_written one_export aim number offset parts replay x y (unselected none first) (selected is second) = absurd (none is)
+one_written one_export aim number offset parts replay x y (unselected none first) (unselected also second) = first ∙ sym second
 
 -- a piece that one line reports
 one_line : (aim : Aim) (text line : List ℕ) (a b : Verdict) → IsReportedBy aim text line a → IsReportedBy aim text line b → without_note a ≡ without_note b
@@ -62,7 +67,7 @@ module _ (one_replay : GameHasOneReplay) (one_fault : GameHasOneFault) (no_fault
   one_exported : (aim : Aim) (a b : Verdict) (number offset : ℕ) (parts : List Part) → IsExported aim a number offset parts → IsExported aim b number offset parts → without_note a ≡ without_note b
   one_exported aim (SoundGame x) (SoundGame y) number offset parts (first, is, text) (second, also, other) =
       let of : second ≡ first = one_replay (written_lines aim) (first_tag fen_tag parts) (items_of parts) second first also is in
-      ap SoundGame (one_written one_export aim parts first x y text (subst (λ (r : Replay). IsWritten aim parts r y) of other))
+      ap SoundGame (one_written one_export aim number offset parts first x y text (subst (λ (r : Replay). IsWritten aim number offset parts r y) of other))
   one_exported aim (SoundGame x) (FaultyGame z y v) number offset parts (first, is, text) (second, also, other, note, out) =
       absurd (no_fault (written_lines aim) (first_tag fen_tag parts) (items_of parts) second (first, is) also)
   one_exported aim (FaultyGame w x u) (SoundGame y) number offset parts (first, is, text, note, out) (second, also, other) =

@@ -1,6 +1,6 @@
 -- The pieces of a text are reported in some way: each of its games has a replay or a fault, since its FEN tag has the contents of a string,
 -- and each sound one has an export.
-use Rattle.std.proofs.Common.{◌≡◌, ◌⊎◌, ℕ, zero, suc, arith, ◌+◌, ◌<◌, ◌≤◌, ◌==◌, Bool, true, false, List, [], ◌∷◌, ◌++◌, map, length, Option, Some, None, IfSome, refl, sym, ◌∙◌, subst, inl, inr, codes}
+use Rattle.std.proofs.Common.{◌≡◌, ◌⊎◌, ℕ, zero, suc, arith, ◌+◌, ◌<◌, ◌≤◌, ◌==◌, Bool, List, [], ◌∷◌, ◌++◌, map, length, Option, Some, None, IfSome, refl, sym, ◌∙◌, subst, inl, inr, codes}
 use Rattle.std.proofs.lemmas.Bool.{cases_lt, cases_Bool, both_ways}
 use Rattle.pgn_text.specs.Games.{items_of, first_tag}
 use Rattle.pgn_text.specs.Marks.{PieceKind, ReadableGame, UnreadableRest, TooLongBlock, MarkedPiece, marked, AreOfBlock, over, within, AreOfBlocks, AreMarkedPieces}
@@ -17,7 +17,10 @@ use Rattle.pgn_game.specs.Starts.{fen_tag}
 use Rattle.pgn_extract.specs.Index.{fault_text, mark_line}
 use Rattle.pgn_extract.specs.Listing.{listing, tags_in}
 use Rattle.pgn_extract.specs.GameReports.{entries_from, cause_text, IsReplayOf, IsFaultOf}
-use Rattle.pgn_extract.specs.Exports.{written_lines, HasEntry, IsTextOf, IsWritten, selected, unselected, as_it_stands, faulty_text}
+use Rattle.pgn_game.proofs.GameLineFacts.{some_line}
+use Rattle.pgn_extract.specs.declared.settings.Form.{Form}
+use Rattle.pgn_extract.specs.declared.settings.Form.TheVariants.{Standard, AsItStands, Line}
+use Rattle.pgn_extract.specs.Exports.{line_with, lines_in, written_lines, HasEntry, IsTextOf, IsWritten, selected, unselected, as_it_stands, faulty_text}
 use Rattle.pgn_extract.specs.Verdicts.{Verdict, SoundGame, FaultyGame, IsVerdictIn, IsReportedBy, IsPieceVerdict, AreVerdicts, IsUnreadableVerdict}
 use Rattle.pgn_game.specs.Replays.{Replay}
 use Rattle.pgn_criteria.specs.Meeting.{Tags}
@@ -161,13 +164,16 @@ module _ (aim : Aim) (decided : IsDecided aim) (number offset : ℕ) (parts : Li
         | inr none ↦ inr (λ has. none has.0 has.1 has.2)
       ]
 
-  some_text : (as_is : Bool) (replay : Replay) → IsReplayOf (written_lines aim) parts replay → (text : List ℕ) × IsTextOf as_is aim.style parts text
-  some_text false replay is = some_export_of_parts aim.style parts made.0 made.1 made.2 replay is
-  some_text true replay is = (as_it_stands (spelled parts), refl)
+  some_text : (form : Form) (replay : Replay) → IsReplayOf (lines_in form aim.style) parts replay → (text : List ℕ) × IsTextOf form aim number offset parts text
+  some_text Standard replay is = some_export_of_parts aim.style parts made.0 made.1 made.2 replay is
+  some_text AsItStands replay is = (as_it_stands (spelled parts), refl)
+  some_text (Line notation) replay is =
+      let own = some_line notation (first_tag fen_tag parts) (items_of parts) (replay, is) in
+      (line_with aim.name number offset own.0, (own.0, own.1, refl))
 
-  written : (replay : Replay) → IsReplayOf (written_lines aim) parts replay → (text : List ℕ) × IsWritten aim parts replay text
+  written : (replay : Replay) → IsReplayOf (written_lines aim) parts replay → (text : List ℕ) × IsWritten aim number offset parts replay text
   written replay is = elim (selected_or_not aim.select (HasEntry aim (tags_in parts) replay) (has_or_not replay is)) [
-    | inl has ↦ let own = some_text aim.as_is replay is in (own.0, selected has own.1)
+    | inl has ↦ let own = some_text aim.form replay is in (own.0, selected has own.1)
     | inr none ↦ ([], unselected none refl)
   ]
 

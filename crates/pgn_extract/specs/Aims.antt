@@ -4,6 +4,7 @@ use Rattle.pgn_game.specs.Replays.{Replay}
 use Rattle.pgn_game.specs.declared.style.Style.{Style}
 use Rattle.pgn_criteria.specs.Meeting.{Tags, Meets}
 use Rattle.pgn_criteria.specs.declared.condition.Condition.{Condition}
+use Rattle.pgn_extract.specs.declared.settings.Form.{Form}
 use Rattle.pgn_extract.specs.declared.settings.Mode.{Mode}
 use Rattle.pgn_extract.specs.declared.settings.Select.{Select}
 use Rattle.pgn_extract.specs.declared.settings.Settings.{Settings}
@@ -17,7 +18,7 @@ pub record Aim : Type 0 where
   pub max_ply : ℕ
   pub first : Bool
   pub select : Select
-  pub as_is : Bool
+  pub form : Form
   pub style : Style
   pub explain : Bool
 
@@ -31,7 +32,7 @@ aim_of settings = record {
   max_ply = settings.max_ply;
   first = settings.first;
   select = settings.select;
-  as_is = settings.as_is;
+  form = settings.form;
   style = settings.style;
   explain = settings.explain;
 }

@@ -5,10 +5,10 @@ use Rattle.std.specs.Io.KnownBytes.{Appends}
 use Rattle.pgn_text.specs.GameTexts.{GameText, ShowsGame, tag_in}
 use Rattle.pgn_game.specs.Exports.{IsExport}
 use Rattle.pgn_game.specs.Faults.{Fault, IsFault}
+use Rattle.pgn_game.specs.GameLines.{IsGameLine}
 use Rattle.pgn_game.specs.Replays.{Replay, IsReplay}
 use Rattle.pgn_game.specs.Starts.{fen_tag}
-use Rattle.pgn_game.specs.declared.style.Style.{Style}
-use Rattle.pgn_extract.specs.Exports.{HasEntry, IsSelected, as_it_stands, faulty_text, written_lines}
+use Rattle.pgn_extract.specs.Exports.{HasEntry, IsSelected, as_it_stands, faulty_text, line_with, written_lines}
 use Rattle.pgn_text.specs.Left.{IsPiece}
 use Rattle.pgn_text.specs.Limits.{depth_limit, largest_offset}
 use Rattle.pgn_text.specs.Marks.{TooLongBlock, MarkedPiece, marked, AreOfBlock, AreMarkedPieces}
@@ -34,6 +34,8 @@ use Rattle.pgn_extract.specs.declared.outcome.Summary.{Summary}
 use Rattle.pgn_criteria.specs.Meeting.{Tags}
 use Rattle.pgn_extract.specs.Aims.{Aim}
 use Rattle.pgn_extract.specs.Listing.{Entry, listing}
+use Rattle.pgn_extract.specs.declared.settings.Form.{Form}
+use Rattle.pgn_extract.specs.declared.settings.Form.TheVariants.{Standard, AsItStands, Line}
 use Rattle.pgn_extract.specs.declared.settings.Select.TheVariants.{Matching}
 use Rattle.pgn_extract.specs.GameReports.{AreListed}
 
@@ -74,36 +76,43 @@ AddsPlies aim number offset plies old new =
     (tags : Tags) (replay : Replay) → length replay.positions ≡ plies + 1
     → (entries : List Entry) × AreListed aim number offset tags replay entries × (new ≡ old ++ listing aim.name entries)
 
--- the text of the game that is given: its export, or the game as it stands
-abbrev pub IsGivenText : Bool → Style → GameText → List ℕ → Type 0
-IsGivenText false style game text = IsExport style game text
-IsGivenText true style game text = text ≡ as_it_stands game.text
+-- the text of the game that is given: its export, or the game as it stands, or its line
+abbrev pub IsGivenText : Form → Aim → ℕ → ℕ → GameText → List ℕ → Type 0
+IsGivenText Standard aim number offset game text = IsExport aim.style game text
+IsGivenText AsItStands aim number offset game text = text ≡ as_it_stands game.text
+IsGivenText (Line notation) aim number offset game text =
+    (own : List ℕ) × IsGameLine notation (tag_in fen_tag game.tags) game.elements own × (text ≡ line_with aim.name number offset own)
 
 -- the sound game that is given is selected
 abbrev pub IsGameSelected : Aim → GameText → Replay → Type 0
 IsGameSelected aim game replay = IsSelected aim.select (HasEntry aim (λ name. tag_in name game.tags) replay)
 
 -- what is written of the game that is given: its text where it is selected, and else nothing
-abbrev pub IsGameWritten : Aim → GameText → Replay → List ℕ → Type 0
-IsGameWritten aim game replay text =
-    (IsGameSelected aim game replay × IsGivenText aim.as_is aim.style game text) ⊎ ((IsGameSelected aim game replay → ⊥) × (text ≡ []))
+abbrev pub IsGameWritten : Aim → ℕ → ℕ → GameText → Replay → List ℕ → Type 0
+IsGameWritten aim number offset game replay text =
+    (IsGameSelected aim game replay × IsGivenText aim.form aim number offset game text) ⊎ ((IsGameSelected aim game replay → ⊥) × (text ≡ []))
 
 -- the lines of the game that are written are sound, and what is written of it is added
-abbrev pub AddsText : Aim → GameText → List ℕ → List ℕ → Type 0
-AddsText aim game old new =
+abbrev pub AddsText : Aim → ℕ → ℕ → GameText → List ℕ → List ℕ → Type 0
+AddsText aim number offset game old new =
     (replay : Replay) × IsReplay (written_lines aim) (tag_in fen_tag game.tags) game.elements replay
-    × (text : List ℕ) × IsGameWritten aim game replay text × (new ≡ old ++ text)
+    × (text : List ℕ) × IsGameWritten aim number offset game replay text × (new ≡ old ++ text)
 
 -- the lines of the game that are written have the fault, and nothing is added
 abbrev pub LeavesText : Aim → GameText → List ℕ → List ℕ → Fault → Type 0
 LeavesText aim game old new fault = IsFault (written_lines aim) (tag_in fen_tag game.tags) game.elements fault × (new ≡ old)
 
--- each sound game is written in the export format, whatever its moves
+-- they are sound, and the text of the game, selected or not, is added
+abbrev pub PutsText : Aim → ℕ → ℕ → GameText → List ℕ → List ℕ → Type 0
+PutsText aim number offset game old new =
+    (replay : Replay) × IsReplay (written_lines aim) (tag_in fen_tag game.tags) game.elements replay
+    × (text : List ℕ) × IsGivenText aim.form aim number offset game text × (new ≡ old ++ text)
+
+-- each sound game is written, whatever its moves
 pub record TakesAll (aim : Aim) : Type 0 where
   pub criteria : aim.criteria ≡ None
   pub from_start : aim.min_ply ≡ 0
   pub select : aim.select ≡ Matching
-  pub exported : aim.as_is ≡ false
 
 -- the same of what the export reports
 abbrev pub AddsExported : Aim → Report → Report → ℕ → ℕ → GameText → Type 0

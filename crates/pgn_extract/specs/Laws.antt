@@ -10,6 +10,7 @@ use Rattle.pgn_extract.specs.Notes.{IsLinePlace, IsNote, NamesByte, NamesStop}
 use Rattle.pgn_extract.specs.Resuming.{IsMarkAmong}
 use Rattle.pgn_extract.specs.Verdicts.{Verdict, AreVerdicts, IsSameReport, output_text, fault_lines, is_faulty}
 use Rattle.pgn_extract.specs.Aims.{Aim}
+use Rattle.pgn_extract.specs.declared.settings.Form.TheVariants.{AsItStands}
 use Rattle.pgn_extract.specs.declared.settings.Mode.TheVariants as modes
 use Rattle.pgn_extract.specs.declared.settings.Select.{Select}
 use Rattle.pgn_extract.specs.declared.settings.Select.TheVariants.{Matching, Others, Faulty}
@@ -57,12 +58,13 @@ pub record IsTextReported (aim : Aim) (limit max_depth number offset : ℕ) (tex
 abbrev pub ExportsAreWritten : Type 0
 ExportsAreWritten =
     (aim : Aim) (number : ℕ) (pieces : List MarkedPiece) (verdicts : List Verdict)
-    → aim.mode ≡ modes.Export → AreVerdicts aim number pieces verdicts → AreExports aim pieces (output_text verdicts)
+    → aim.mode ≡ modes.Export → AreVerdicts aim number pieces verdicts → AreExports aim number pieces (output_text verdicts)
 
 -- which are one text
 abbrev pub TextHasOneExport : Type 0
 TextHasOneExport =
-    (aim : Aim) (pieces : List MarkedPiece) (text other : List ℕ) → AreExports aim pieces text → AreExports aim pieces other → text ≡ other
+    (aim : Aim) (number : ℕ) (pieces : List MarkedPiece) (text other : List ℕ)
+    → AreExports aim number pieces text → AreExports aim number pieces other → text ≡ other
 
 -- the aim that asks for all entries of each game, or for the first alone
 abbrev pub with_first : Bool → Aim → Aim
@@ -74,7 +76,7 @@ with_first first aim = record {
   max_ply = aim.max_ply;
   first = first;
   select = aim.select;
-  as_is = aim.as_is;
+  form = aim.form;
   style = aim.style;
   explain = aim.explain;
 }
@@ -82,7 +84,8 @@ with_first first aim = record {
 -- the exports are the same whether the first entry of each game is asked for or all
 abbrev pub FirstChangesNoExport : Type 0
 FirstChangesNoExport =
-    (aim : Aim) (pieces : List MarkedPiece) (text : List ℕ) → (AreExports (with_first true aim) pieces text ↔ AreExports (with_first false aim) pieces text)
+    (aim : Aim) (number : ℕ) (pieces : List MarkedPiece) (text : List ℕ)
+    → (AreExports (with_first true aim) number pieces text ↔ AreExports (with_first false aim) number pieces text)
 
 -- the aim that selects these games, each to be written as it stands
 abbrev pub as_they_stand : Select → Aim → Aim
@@ -94,7 +97,7 @@ as_they_stand select aim = record {
   max_ply = aim.max_ply;
   first = aim.first;
   select = select;
-  as_is = true;
+  form = AsItStands;
   style = aim.style;
   explain = aim.explain;
 }
@@ -114,8 +117,9 @@ pub data IsInOneOf (text first second third : List ℕ) : Type 0 where
 -- of the games with an entry, those without one and the faulty ones, each written as it stands, just one export has a piece, and all of it
 abbrev pub PieceIsInOneExport : Type 0
 PieceIsInOneExport =
-    (aim : Aim) (kind : PieceKind) (matching others faulty : List ℕ) → IsPieceExport (as_they_stand Matching aim) kind matching
-    → IsPieceExport (as_they_stand Others aim) kind others → IsPieceExport (as_they_stand Faulty aim) kind faulty
+    (aim : Aim) (number offset : ℕ) (kind : PieceKind) (matching others faulty : List ℕ)
+    → IsPieceExport (as_they_stand Matching aim) number offset kind matching → IsPieceExport (as_they_stand Others aim) number offset kind others
+    → IsPieceExport (as_they_stand Faulty aim) number offset kind faulty
     → IsInOneOf (piece_as_it_stands kind) matching others faulty
 
 -- a note names one byte at most, and so the note on bytes that are no game names that at which they stop agreeing with games

@@ -132,7 +132,7 @@ pub record Exports (job : Job) (io : Io) (whole : List ℕ) : Type 0 where
   pub pieces : List MarkedPiece
   pub each : ArePieces job whole pieces
   pub text : List ℕ
-  pub are : AreExports job.aim pieces text
+  pub are : AreExports job.aim job.number pieces text
   pub exported : Adds io.out text
 
 abbrev pub Exported : Job → Io → Type 0

@@ -62,7 +62,7 @@ IsListed aim (FaultyGame text line note) number offset parts =
 -- and by its bytes where the faulty ones are selected
 abbrev pub IsExported : Aim → Verdict → ℕ → ℕ → List Part → Type 0
 IsExported aim (SoundGame text) number offset parts =
-    (replay : Replay) × IsReplayOf (written_lines aim) parts replay × IsWritten aim parts replay text
+    (replay : Replay) × IsReplayOf (written_lines aim) parts replay × IsWritten aim number offset parts replay text
 IsExported aim (FaultyGame text line note) number offset parts =
     (fault : Fault) × IsFaultOf (written_lines aim) parts fault × (line ≡ fault_text aim.name number offset (cause_text fault)) × IsNote aim.explain note
     × (text ≡ faulty_text modes.Export aim.select (spelled parts))

@@ -9,6 +9,10 @@ pub struct Request<'a> {
     pub index: bool,
     /// `--list` was given.
     pub list: bool,
+    /// `--moves` was given.
+    pub moves: bool,
+    /// `--uci` was given.
+    pub uci: bool,
     /// `-C` was given.
     pub no_comments: bool,
     /// `-N` was given.
@@ -126,7 +130,14 @@ fn mode_options<'a>(alloc: Global, command: Command<'a>) -> Result<Command<'a>, 
             alloc,
             "index",
             "N@O for each readable game; no move is played",
-        ))
+        ))?
+        .arg(flag(
+            alloc,
+            "moves",
+            "N@O, FEN with _ for blanks (- is the usual start)\n\
+             and the moves of each game, on one line",
+        ))?
+        .arg(flag(alloc, "uci", "The same with moves as e2e4, e7e8q, e1g1"))
 }
 
 /// The options for what is looked for.
@@ -299,6 +310,8 @@ pub fn read_arguments<'a>(alloc: Global, arguments: &'a [String]) -> Result<Requ
     Ok(Request {
         index: matches.get_flag("index"),
         list: matches.get_flag("list"),
+        moves: matches.get_flag("moves"),
+        uci: matches.get_flag("uci"),
         no_comments: matches.get_flag("no-comments"),
         no_glyphs: matches.get_flag("no-glyphs"),
         no_variations: matches.get_flag("no-variations"),

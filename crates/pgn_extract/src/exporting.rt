@@ -1,30 +1,46 @@
 //! Which games are exported, and how.
-ghost use Rattle.std.specs.Prelude.{◌≡◌, ◌↔◌, ◌++◌, MatchResult, IfSome, OnOk, IsTrue};
+ghost use Rattle.std.specs.Prelude.{◌≡◌, ◌↔◌, ◌++◌, ℕ, List, MatchResult, IfErr, IfSome, OnOk, IsTrue};
 ghost use Rattle.pgn_text.specs.GameTexts.{GameText, tag_in};
 ghost use Rattle.pgn_game.specs.Exports.{lines_with};
 ghost use Rattle.pgn_game.specs.Faults.{IsFault};
+ghost use Rattle.pgn_game.specs.GameLines.{IsGameLine};
 ghost use Rattle.pgn_game.specs.Replays.{IsSoundGame, Replay, fault_of};
 ghost use Rattle.pgn_game.specs.Starts.{fen_tag};
 ghost use Rattle.pgn_game.specs.declared.replayer.Lines.TheVariants.{Main};
 ghost use Rattle.pgn_extract.specs.Aims.{aim_of};
-ghost use Rattle.pgn_extract.specs.Blockwise.{AddsText, IsGameSelected, LeavesText, TakesAll};
-ghost use Rattle.pgn_extract.specs.Exports.{HasEntry, as_it_stands, faulty_text};
-ghost use Rattle.pgn_extract.specs.Finding.{IsChosen, tags_of};
+ghost use Rattle.pgn_extract.specs.Blockwise.{AddsText, IsGameSelected, LeavesText, PutsText, TakesAll};
+ghost use Rattle.pgn_extract.specs.Exports.{HasEntry, as_it_stands, faulty_text, line_with, written_lines};
+ghost use Rattle.pgn_extract.specs.Finding.{IsChosen, StopsAtFault, tags_of};
+ghost use Rattle.pgn_extract.specs.declared.settings.Form.TheVariants.{AsItStands, Line};
 
 use crate::choosing::has_entry;
-use crate::settings::{Mode, Select, Settings};
-use pgn_game::{GameFault, Lines, Style, check_lines, check_variations, export_played};
+use crate::entries::GameMark;
+use crate::settings::{Form, Mode, Select, Settings};
+use crate::texts::push_named_mark;
+use pgn_game::{
+    GameFault, Lines, Notation, Style, check_lines, check_variations, export_played, push_line,
+};
 use pgn_text::RawGame;
 use std::alloc::{AllocError, Global};
 
-/// Which lines of a game must be sound: all that are written.
-pub fn written_lines(style: &Style) -> Lines
+/// The lines of a game that are written in the style.
+fn lines_with(style: &Style) -> Lines
     ensures { result ≡ lines_with style.now.variations }
 {
     if style.variations {
         Lines::All
     } else {
         Lines::Main
+    }
+}
+
+/// Which lines of a game must be sound: all that are written.
+pub fn written_lines(settings: &Settings) -> Lines
+    ensures { result ≡ written_lines (aim_of settings.now) }
+{
+    match settings.form {
+        Form::Standard | Form::AsItStands => lines_with(&settings.style),
+        Form::Line(_) => Lines::Main,
     }
 }
 
@@ -66,46 +82,142 @@ fn is_selected(settings: &Settings, has: bool) -> bool
     }
 }
 
-/// Whether each sound game is written in the export format, whatever its moves: ply 0 is looked for, and nothing else is asked.
+/// Whether each sound game is written, whatever its moves: ply 0 is looked for, and nothing else is asked.
 pub fn takes_all(settings: &Settings) -> bool
     ensures { IsTrue result → TakesAll (aim_of settings.now) }
 {
-    settings.criteria.is_none()
-        && settings.min_ply == 0
-        && settings.select == Select::Matching
-        && !settings.as_is
+    settings.criteria.is_none() && settings.min_ply == 0 && settings.select == Select::Matching
 }
 
 /// The first fault of the lines that are written of a game whose main line has this fault.
 fn first_fault<'a>(
     alloc: Global,
-    style: &Style,
+    settings: &Settings,
     game: &RawGame<'a>,
     fault: GameFault<'a>,
 ) -> GameFault<'a>
     requires { IfSome (fault_of fault) (IsFault Main (tag_in fen_tag game.now.tags) game.now.elements) }
-    ensures { IfSome (fault_of result) (IsFault (lines_with style.now.variations) (tag_in fen_tag game.now.tags) game.now.elements) }
+    ensures { IfSome (fault_of result) (IsFault (written_lines (aim_of settings.now)) (tag_in fen_tag game.now.tags) game.now.elements) }
 {
-    if !style.variations {
-        return fault;
-    }
-    match check_lines(alloc, game, Lines::All) {
-        Ok(()) => fault,
-        Err(first) => first,
+    match written_lines(settings) {
+        Lines::Main => fault,
+        Lines::All => match check_lines(alloc, game, Lines::All) {
+            Ok(()) => fault,
+            Err(first) => first,
+        },
     }
 }
 
 /// Whether the lines that are written are sound, of a game whose main line is; or their first fault.
-fn check_written<'a>(alloc: Global, style: &Style, game: &RawGame<'a>) -> Result<(), GameFault<'a>>
+fn check_written<'a>(
+    alloc: Global,
+    settings: &Settings,
+    game: &RawGame<'a>,
+) -> Result<(), GameFault<'a>>
     requires { IsSoundGame Main (tag_in fen_tag game.now.tags) game.now.elements }
     ensures { MatchResult result
-        (λ _. IsSoundGame (lines_with style.now.variations) (tag_in fen_tag game.now.tags) game.now.elements)
-        (λ fault. IfSome (fault_of fault) (IsFault (lines_with style.now.variations) (tag_in fen_tag game.now.tags) game.now.elements)) }
+        (λ _. IsSoundGame (written_lines (aim_of settings.now)) (tag_in fen_tag game.now.tags) game.now.elements)
+        (λ fault. IfSome (fault_of fault) (IsFault (written_lines (aim_of settings.now)) (tag_in fen_tag game.now.tags) game.now.elements)) }
 {
-    if !style.variations {
-        return Ok(());
+    match written_lines(settings) {
+        Lines::Main => Ok(()),
+        Lines::All => check_variations(alloc, game),
     }
-    check_variations(alloc, game)
+}
+
+/// Appends the line of a game, with its moves in this notation; where its main line is faulty or memory is refused, some bytes of it.
+fn push_game_line<'a>(
+    alloc: Global,
+    text: &mut Vec<u8>,
+    settings: &Settings,
+    own: GameMark,
+    notation: Notation,
+    game: &RawGame<'a>,
+) -> Result<(), GameFault<'a>>
+    ensures text { OnOk result ((line : List ℕ) × IsGameLine notation (tag_in fen_tag game.now.tags) game.now.elements line
+        × (text.new.items ≡ text.old.items ++ line_with settings.now.name own.number own.offset line)) }
+    ensures fault { IfErr result (λ fault. IfSome (fault_of fault) (StopsAtFault game.now text.old.items text.new.items)) }
+{
+    push_named_mark(text, &settings.name, own.number, own.offset)?;
+    text.extend_from_slice(b" ")?;
+    push_line(alloc, game, notation, text)?;
+    text.extend_from_slice(b"\n")?;
+    Ok(())
+}
+
+/// Appends the line of a game, with its moves in this notation; or answers the fault of its main line, and nothing is appended.
+fn put_game_line<'a>(
+    alloc: Global,
+    text: &mut Vec<u8>,
+    settings: &Settings,
+    own: GameMark,
+    notation: Notation,
+    game: &RawGame<'a>,
+) -> Result<(), GameFault<'a>>
+    requires { settings.now.form ≡ Line notation }
+    ensures { MatchResult result
+        (λ _. PutsText (aim_of settings.now) own.number own.offset game.now text.old.items text.new.items)
+        (λ fault. IfSome (fault_of fault) (LeavesText (aim_of settings.now) game.now text.old.items text.new.items)) }
+{
+    let length = text.len();
+    match push_game_line(alloc, text, settings, own, notation, game) {
+        Ok(()) => Ok(()),
+        Err(fault) => {
+            text.truncate(length);
+            Err(fault)
+        }
+    }
+}
+
+/// Appends a game as it stands, if the lines that are written are sound; or answers their first fault.
+fn put_as_is<'a>(
+    alloc: Global,
+    text: &mut Vec<u8>,
+    settings: &Settings,
+    game: &RawGame<'a>,
+) -> Result<(), GameFault<'a>>
+    ensures { MatchResult result
+        (λ _. IsSoundGame (written_lines (aim_of settings.now)) (tag_in fen_tag game.now.tags) game.now.elements
+        × (text.new.items ≡ text.old.items ++ as_it_stands game.now.text))
+        (λ fault. IfSome (fault_of fault) (LeavesText (aim_of settings.now) game.now text.old.items text.new.items)) }
+{
+    match check_lines(alloc, game, written_lines(settings)) {
+        Ok(()) => {
+            push_as_is(text, game.text())?;
+            Ok(())
+        }
+        Err(fault) => Err(fault),
+    }
+}
+
+/// Appends the text of a game, played while it is written: its export, its line, or the game as it stands. Where one of the lines that are
+/// written is faulty, the first fault is answered, and nothing is appended.
+fn put_text<'a>(
+    alloc: Global,
+    text: &mut Vec<u8>,
+    settings: &Settings,
+    own: GameMark,
+    game: &RawGame<'a>,
+) -> Result<(), GameFault<'a>>
+    ensures { MatchResult result
+        (λ _. PutsText (aim_of settings.now) own.number own.offset game.now text.old.items text.new.items)
+        (λ fault. IfSome (fault_of fault) (LeavesText (aim_of settings.now) game.now text.old.items text.new.items)) }
+{
+    match settings.form {
+        Form::Standard => export_played(alloc, game, &settings.style, text),
+        Form::AsItStands => put_as_is(alloc, text, settings, game),
+        Form::Line(notation) => put_game_line(alloc, text, settings, own, notation, game),
+    }
+}
+
+/// Whether games are written as they stand.
+fn is_as_it_stands(settings: &Settings) -> bool
+    ensures { IsTrue result ↔ settings.now.form ≡ AsItStands }
+{
+    match settings.form {
+        Form::AsItStands => true,
+        Form::Standard | Form::Line(_) => false,
+    }
 }
 
 /// Appends the text of a game whose main line is sound and has an entry or none, if it is selected; or answers the first fault of the
@@ -114,23 +226,24 @@ fn put_chosen<'a>(
     alloc: Global,
     text: &mut Vec<u8>,
     settings: &Settings,
+    own: GameMark,
     game: &RawGame<'a>,
     has: bool,
 ) -> Result<(), GameFault<'a>>
     requires { IsChosen (aim_of settings.now) game.now has }
     ensures { MatchResult result
-        (λ _. AddsText (aim_of settings.now) game.now text.old.items text.new.items)
+        (λ _. AddsText (aim_of settings.now) own.number own.offset game.now text.old.items text.new.items)
         (λ fault. IfSome (fault_of fault) (LeavesText (aim_of settings.now) game.now text.old.items text.new.items)) }
 {
     if !is_selected(settings, has) {
-        return check_written(alloc, &settings.style, game);
+        return check_written(alloc, settings, game);
     }
-    if settings.as_is {
-        check_written(alloc, &settings.style, game)?;
+    if is_as_it_stands(settings) {
+        check_written(alloc, settings, game)?;
         push_as_is(text, game.text())?;
         return Ok(());
     }
-    export_played(alloc, game, &settings.style, text)
+    put_text(alloc, text, settings, own, game)
 }
 
 /// Appends the text of a game, if the lines that are written are sound and it is selected by its entries; or answers their first fault.
@@ -138,35 +251,37 @@ fn put_by_entry<'a>(
     alloc: Global,
     text: &mut Vec<u8>,
     settings: &'a Settings,
+    own: GameMark,
     game: &RawGame<'a>,
 ) -> Result<(), GameFault<'a>>
     ensures { MatchResult result
-        (λ _. AddsText (aim_of settings.now) game.now text.old.items text.new.items)
+        (λ _. AddsText (aim_of settings.now) own.number own.offset game.now text.old.items text.new.items)
         (λ fault. IfSome (fault_of fault) (LeavesText (aim_of settings.now) game.now text.old.items text.new.items)) }
 {
     match has_entry(alloc, settings, game) {
-        Ok(has) => put_chosen(alloc, text, settings, game, has),
-        Err(fault) => Err(first_fault(alloc, &settings.style, game, fault)),
+        Ok(has) => put_chosen(alloc, text, settings, own, game, has),
+        Err(fault) => Err(first_fault(alloc, settings, game, fault)),
     }
 }
 
-/// Appends the text of a game, if the lines that are written are sound and it is selected: its export, or the game as it stands. Where one
-/// of these lines is faulty, the first fault is answered, and nothing is appended.
+/// Appends the text of a game, if the lines that are written are sound and it is selected: its export, its line, or the game as it stands.
+/// Where one of these lines is faulty, the first fault is answered, and nothing is appended.
 pub fn put_selected<'a>(
     alloc: Global,
     text: &mut Vec<u8>,
     settings: &'a Settings,
+    own: GameMark,
     game: &RawGame<'a>,
 ) -> Result<(), GameFault<'a>>
     ensures { MatchResult result
-        (λ _. AddsText (aim_of settings.now) game.now text.old.items text.new.items)
+        (λ _. AddsText (aim_of settings.now) own.number own.offset game.now text.old.items text.new.items)
         (λ fault. IfSome (fault_of fault) (LeavesText (aim_of settings.now) game.now text.old.items text.new.items)) }
 {
     if takes_all(settings) {
-        return export_played(alloc, game, &settings.style, text);
+        return put_text(alloc, text, settings, own, game);
     }
     match settings.select {
-        Select::Faulty => check_lines(alloc, game, written_lines(&settings.style)),
-        Select::Matching | Select::Others => put_by_entry(alloc, text, settings, game),
+        Select::Faulty => check_lines(alloc, game, written_lines(settings)),
+        Select::Matching | Select::Others => put_by_entry(alloc, text, settings, own, game),
     }
 }

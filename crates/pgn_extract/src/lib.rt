@@ -45,5 +45,5 @@ pub use extract::{run, run_skipping};
 pub use file_name::FileName;
 pub use files::Files;
 pub use outcome::{RunError, Summary};
-pub use settings::{Mode, Select, Settings};
+pub use settings::{Form, Mode, Select, Settings};
 pub use tool::program;

@@ -51,7 +51,7 @@ pub fn export_text(alloc: Global, text: &[u8], settings: &Settings) -> Result<Wr
     requires offset { settings.now.offset ≤ largest_offset }
     requires mode { settings.now.mode ≡ Mode.Export }
     ensures { IfOk result (λ written. (pieces : List MarkedPiece) × AreMarkedPieces block_limit depth_limit settings.now.offset (drop settings.now.offset text.now) pieces
-        × AreExports (aim_of settings.now) pieces written.out.items) }
+        × AreExports (aim_of settings.now) settings.now.number pieces written.out.items) }
 {
     run_over(alloc, text, settings)
 }
@@ -65,7 +65,7 @@ fn run_over(alloc: Global, text: &[u8], settings: &Settings) -> Result<Written, 
     ensures lists { IfOk result (λ written. settings.now.mode ≡ Mode.List → (pieces : List MarkedPiece) × (entries : List Entry)
         × AreMarkedPieces block_limit depth_limit settings.now.offset (drop settings.now.offset text.now) pieces × AreEntries (aim_of settings.now) settings.now.number pieces entries × (written.out.items ≡ listing settings.now.name entries)) }
     ensures exports { IfOk result (λ written. settings.now.mode ≡ Mode.Export → (pieces : List MarkedPiece) × AreMarkedPieces block_limit depth_limit settings.now.offset (drop settings.now.offset text.now) pieces
-        × AreExports (aim_of settings.now) pieces written.out.items) }
+        × AreExports (aim_of settings.now) settings.now.number pieces written.out.items) }
 {
     let mut input = Tally::new(text);
     let mut out = Tally::new(Vec::new(alloc));

@@ -13,6 +13,13 @@ pub const BOTH_CHOICES: &str = "pgn-extract: --others and --faulty exclude each 
 pub const NO_GAMES_WRITTEN: &str =
     "pgn-extract: --others, --faulty and --as-is go with neither --list nor --index\n";
 
+/// Moves have one notation.
+pub const BOTH_NOTATIONS: &str = "pgn-extract: --moves and --uci exclude each other\n";
+
+/// Lines of moves are of games that are selected, and nothing else is written.
+pub const NO_LINES_OF_MOVES: &str =
+    "pgn-extract: --moves and --uci go with none of --list, --index, --faulty and --as-is\n";
+
 /// Names are asked for, and refused.
 pub const BOTH_NAMINGS: &str = "pgn-extract: --with-names and --no-names exclude each other\n";
 

@@ -93,7 +93,7 @@ impl Report {
 fn replayed_lines(settings: &Settings) -> Lines {
     match settings.mode {
         Mode::Index | Mode::List => Lines::Main,
-        Mode::Export => written_lines(&settings.style),
+        Mode::Export => written_lines(settings),
     }
 }
 
@@ -214,7 +214,8 @@ fn add_exported<'a>(
     ensures { OnOk result (AddsExported (aim_of settings.now) report.old report.new number offset game.now) }
 {
     game.known();
-    match put_selected(alloc, &mut report.output, settings, game) {
+    let own = GameMark { number, offset };
+    match put_selected(alloc, &mut report.output, settings, own, game) {
         Ok(()) => Ok(()),
         Err(fault) => {
             let text = game.text();

@@ -1,7 +1,7 @@
 //! What a run is to do.
 use crate::file_name::FileName;
 use pgn_criteria::Criteria;
-use pgn_game::Style;
+use pgn_game::{Notation, Style};
 
 /// What a run writes.
 #[derive(Clone, Copy, Debug, PartialEq, Eq)]
@@ -25,6 +25,17 @@ pub enum Select {
     Faulty,
 }
 
+/// How a game that the export selects is written.
+#[derive(Clone, Copy, Debug, PartialEq, Eq)]
+pub enum Form {
+    /// In the standard's format for export.
+    Standard,
+    /// As it stands, followed by two line feeds.
+    AsItStands,
+    /// On a line of its own: its mark, the position that it starts from, and the moves of its main line in this notation.
+    Line(Notation),
+}
+
 /// What a run writes, and where in the file it begins. With [`Mode::Index`] only `name`, `explain`, `number` and `offset` have an effect.
 #[derive(Drop)]
 pub struct Settings {
@@ -42,9 +53,10 @@ pub struct Settings {
     pub first: bool,
     /// Which games the export writes.
     pub select: Select,
-    /// Whether each game that the export writes is written as it stands, followed by two line feeds.
-    pub as_is: bool,
-    /// How games are written. Where variations are, each line of a game must be sound, else its main line alone.
+    /// How each game that the export selects is written.
+    pub form: Form,
+    /// What is kept of a game in the standard's format. Where variations are, each line of a game must be sound, also of one that is written
+    /// as it stands; else its main line alone, as where it is written on a line.
     pub style: Style,
     /// Whether notes stand behind the lines of faulty games: where a game is faulty, and why.
     pub explain: bool,

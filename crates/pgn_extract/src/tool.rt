@@ -10,12 +10,12 @@ use crate::mark::{Mark, read_mark};
 use crate::messages;
 use crate::put::put;
 use crate::refusal_notes::{file_note, line_note};
-use crate::settings::{Mode, Select, Settings};
+use crate::settings::{Form, Mode, Select, Settings};
 use crate::status::{FAILED, FAULTY, REFUSED, SOUND};
 use clap::Error;
 use clap::error::ErrorKind;
 use pgn_criteria::{Criteria, CriteriaError};
-use pgn_game::Style;
+use pgn_game::{Notation, Style};
 use pgn_text::Tally;
 use std::alloc::{AllocError, Global};
 use std::io;
@@ -63,11 +63,12 @@ struct Order<'a> {
     request: Request<'a>,
     mode: Mode,
     select: Select,
+    form: Form,
     mark: Mark,
     end: u64,
 }
 
-/// Reads the arguments and tests them in the order of the refusals: the arguments, the mode, the choice of games, the names and the
+/// Reads the arguments and tests them in the order of the refusals: the arguments, the mode, the choice of games, their form, the names and the
 /// number of files, the marks, the lines of criteria.
 fn read_order<'a>(alloc: Global, arguments: &'a [String]) -> Result<Order<'a>, Refusal> {
     let request = match read_arguments(alloc, arguments) {
@@ -80,6 +81,10 @@ fn read_order<'a>(alloc: Global, arguments: &'a [String]) -> Result<Order<'a>, R
     };
     let select = match select_of(&request, mode) {
         Ok(select) => select,
+        Err(line) => return Err(Refusal::Line(line)),
+    };
+    let form = match form_of(&request, mode) {
+        Ok(form) => form,
         Err(line) => return Err(Refusal::Line(line)),
     };
     if let Some(line) = refused_files(&request) {
@@ -99,6 +104,7 @@ fn read_order<'a>(alloc: Global, arguments: &'a [String]) -> Result<Order<'a>, R
         request,
         mode,
         select,
+        form,
         mark,
         end,
     })
@@ -145,6 +151,21 @@ fn select_of(request: &Request<'_>, mode: Mode) -> Result<Select, &'static str> 
     }
 }
 
+/// How a game that is selected is written, or the line that refuses it.
+fn form_of(request: &Request<'_>, mode: Mode) -> Result<Form, &'static str> {
+    let notation = match (request.moves, request.uci) {
+        (true, true) => return Err(messages::BOTH_NOTATIONS),
+        (true, false) => Notation::San,
+        (false, true) => Notation::Uci,
+        (false, false) if request.as_is => return Ok(Form::AsItStands),
+        (false, false) => return Ok(Form::Standard),
+    };
+    if mode != Mode::Export || request.faulty || request.as_is {
+        return Err(messages::NO_LINES_OF_MOVES);
+    }
+    Ok(Form::Line(notation))
+}
+
 /// How games are written.
 fn style_of(request: &Request<'_>) -> Style {
     Style {
@@ -170,7 +191,7 @@ fn settings_of(order: &Order<'_>, criteria: Option<Criteria>) -> Settings
         max_ply: request.max_ply,
         first: request.first,
         select: order.select,
-        as_is: request.as_is,
+        form: order.form,
         style: style_of(request),
         explain: request.explain,
         number: order.mark.number,

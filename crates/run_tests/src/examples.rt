@@ -4,7 +4,7 @@ ghost use Rattle.std.specs.Prelude.{◌≡◌, ◌≤◌, ◌^◌};
 use chess::{Bits, Position, resolve};
 use pgn_criteria::Criteria;
 use pgn_extract::memory::{Written, list_text};
-use pgn_extract::{Mode, RunError, Select, Settings};
+use pgn_extract::{Form, Mode, RunError, Select, Settings};
 use pgn_game::{GameFault, Lines, Style, export, replay};
 use pgn_text::{Piece, RawGame, games};
 use std::alloc::{AllocError, Global};
@@ -82,7 +82,7 @@ fn is_listed(alloc: Global, text: &[u8], first: bool, wanted: &[u8]) -> bool {
         max_ply: u32::MAX,
         first,
         select: Select::Matching,
-        as_is: false,
+        form: Form::Standard,
         style: WHOLE,
         explain: false,
         number: 1,

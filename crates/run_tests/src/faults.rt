@@ -4,7 +4,7 @@ ghost use Rattle.std.specs.Prelude.{◌≤◌, ◌^◌, IfOk};
 use crate::runs::{FAULT_BETWEEN, LOST_BRACE, Shelf, run_words};
 use crate::trials::Trial;
 use pgn_criteria::Criteria;
-use pgn_extract::{Mode, Select, Settings};
+use pgn_extract::{Form, Mode, Select, Settings};
 use pgn_game::Style;
 use std::alloc::{AllocError, Global};
 use std::test::Fail;
@@ -32,7 +32,7 @@ fn all(mode: Mode) -> Settings
         max_ply: u32::MAX,
         first: false,
         select: Select::Matching,
-        as_is: false,
+        form: Form::Standard,
         style: PLAIN,
         explain: false,
         number: 1,
@@ -53,7 +53,7 @@ fn rest(mode: Mode) -> Settings
         max_ply: u32::MAX,
         first: false,
         select: Select::Matching,
-        as_is: false,
+        form: Form::Standard,
         style: PLAIN,
         explain: false,
         number: 2,

@@ -22,6 +22,8 @@ mod index;
 #[cfg(test)]
 mod listing;
 #[cfg(test)]
+mod moves;
+#[cfg(test)]
 mod runs;
 #[cfg(test)]
 mod trials;

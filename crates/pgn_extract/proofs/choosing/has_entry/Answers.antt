@@ -1,5 +1,3 @@
-use Rattle.std.proofs.lemmas.Option.{IfSome_then}
-use Rattle.std.proofs.lemmas.Result.{err_from_is_err_and}
 use Rattle.pgn_extract.specs.Aims.{aim_of}
 use Rattle.pgn_extract.specs.Finding.{tags_of}
 use Rattle.pgn_extract.proofs.Picks.{same_met}

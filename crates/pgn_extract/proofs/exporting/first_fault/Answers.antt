@@ -1,9 +1,7 @@
-use Rattle.std.proofs.Common.{subst, sym}
 use Rattle.std.proofs.lemmas.Option.{IfSome_then}
-use Rattle.pgn_extract.proofs.Sought.{main_fault}
-use Rattle.pgn_game.specs.Faults.{IsFault}
-use Rattle.pgn_game.specs.declared.replayer.Lines.TheVariants.{All}
 use Rattle.pgn_game.specs.Replays.{fault_of}
+use Rattle.pgn_game.specs.declared.replayer.Lines.TheVariants.{All}
+use Rattle.pgn_extract.proofs.Sought.{main_fault}
 use Rattle.pgn_extract.proofs.exporting.first_fault.Goals as goal
 
 pub returns-in-Ok : goal.returns-in-Ok

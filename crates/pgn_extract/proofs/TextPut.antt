@@ -1,0 +1,55 @@
+-- The text of a game in its form is put, or nothing is, and the first fault of the lines that are written is answered.
+use Rattle.std.proofs.Common.{◌≡◌, ℕ, List, [], ◌++◌, refl, sym, subst}
+use Rattle.pgn_text.specs.GameTexts.{GameText, tag_in}
+use Rattle.pgn_game.specs.Exports.{IsExport, lines_with}
+use Rattle.pgn_game.specs.Faults.{Fault, IsFault}
+use Rattle.pgn_game.specs.GameLines.{IsGameLine}
+use Rattle.pgn_game.specs.Replays.{Replay, IsReplay, IsSoundGame}
+use Rattle.pgn_game.specs.Starts.{fen_tag}
+use Rattle.pgn_game.specs.declared.notation.Notation.{Notation}
+use Rattle.pgn_game.specs.declared.replayer.Lines.TheVariants.{Main}
+use Rattle.pgn_extract.specs.Aims.{Aim}
+use Rattle.pgn_extract.specs.Blockwise.{IsGivenText, PutsText}
+use Rattle.pgn_extract.specs.Exports.{as_it_stands, line_with, lines_in, written_lines}
+use Rattle.pgn_extract.specs.declared.settings.Form.{Form}
+use Rattle.pgn_extract.specs.declared.settings.Form.TheVariants.{Standard, AsItStands, Line}
+
+module _ (aim : Aim) (number offset : ℕ) (game : GameText) (old new : List ℕ) where
+  -- its line
+  pub line_put : (notation : Notation) → aim.form ≡ Line notation → (own : List ℕ) → IsGameLine notation (tag_in fen_tag game.tags) game.elements own
+      → new ≡ old ++ line_with aim.name number offset own → PutsText aim number offset game old new
+  line_put notation form own line put =
+      let replay : Replay = record { positions = line.positions; played = line.played; turns = [] } in
+      let is : IsReplay Main (tag_in fen_tag game.tags) game.elements replay = record { start = line.start; is_start = line.is_start; line = line.line; turns = refl } in (
+        replay,
+        subst (λ (f : Form). IsReplay (lines_in f aim.style) (tag_in fen_tag game.tags) game.elements replay) (sym form) is,
+        line_with aim.name number offset own,
+        subst (λ (f : Form). IsGivenText f aim number offset game (line_with aim.name number offset own)) (sym form) (own, line, refl),
+        put,
+      )
+
+  -- its export
+  pub export_put : aim.form ≡ Standard → (text : List ℕ) → IsExport aim.style game text
+      → IsSoundGame (lines_with aim.style.variations) (tag_in fen_tag game.tags) game.elements → new ≡ old ++ text → PutsText aim number offset game old new
+  export_put form text export sound put = (
+    sound.0,
+    subst (λ (f : Form). IsReplay (lines_in f aim.style) (tag_in fen_tag game.tags) game.elements sound.0) (sym form) sound.1,
+    text,
+    subst (λ (f : Form). IsGivenText f aim number offset game text) (sym form) export,
+    put,
+  )
+
+  -- the game as it stands
+  pub game_put : aim.form ≡ AsItStands → IsSoundGame (written_lines aim) (tag_in fen_tag game.tags) game.elements
+      → new ≡ old ++ as_it_stands game.text → PutsText aim number offset game old new
+  game_put form sound put =
+      (sound.0, sound.1, as_it_stands game.text, subst (λ (f : Form). IsGivenText f aim number offset game (as_it_stands game.text)) (sym form) refl, put)
+
+  -- in the standard's form and as they stand the lines that are kept are written
+  pub style_lines : aim.form ≡ Standard → (fault : Fault) → IsFault (lines_with aim.style.variations) (tag_in fen_tag game.tags) game.elements fault
+      → IsFault (written_lines aim) (tag_in fen_tag game.tags) game.elements fault
+  style_lines form fault met = subst (λ (f : Form). IsFault (lines_in f aim.style) (tag_in fen_tag game.tags) game.elements fault) (sym form) met
+
+  pub line_lines : (notation : Notation) → aim.form ≡ Line notation → (fault : Fault) → IsFault Main (tag_in fen_tag game.tags) game.elements fault
+      → IsFault (written_lines aim) (tag_in fen_tag game.tags) game.elements fault
+  line_lines notation form fault met = subst (λ (f : Form). IsFault (lines_in f aim.style) (tag_in fen_tag game.tags) game.elements fault) (sym form) met
