@@ -291,6 +291,10 @@ pub named_said : (P : State) (x : List ℕ) (read : Option Wing) (said : Option 
 named_said P x read said own result texts is spelled found answer =
     let same = said_named P x read said own texts is spelled found in same_answer (IsMoveSaid P own) (IsNamed P x) result same.0 same.1 answer
 
+pub said_answer : (P : State) (x : List ℕ) (r : SaidMove) (result : Result Move SanError) → IsReadSaid x (Some r)
+    → IsAnswer (IsMoveSaid P (said_by r)) result → IsAnswer (IsNamed P x) result
+said_answer P x r result read answer = named_said P x None (Some (said_by r)) (said_by r) result (read_no_castling x r read) refl read refl answer
+
 -- what an answer gives where it is asked whether there is one
 pub none_given : {A : Type 0} (none : Type 0) (some : A → Type 0) (o : Option A) (b : Bool) → MatchOption o none some → b ≡ is_some o → b ≡ false → none
 none_given none some None b m e f = m

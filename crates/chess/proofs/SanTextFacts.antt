@@ -1,11 +1,11 @@
 -- Facts about the text that is written for a move.
-use Rattle.std.proofs.Common.{◌≡◌, ◌↔◌, ◌++◌, ◌∷◌, [], ℕ, List, true, Bool, Some, ap, refl, sym, subst, ◌∙◌, IsTrue, ◌&&◌, ◌||◌}
+use Rattle.std.proofs.Common.{◌≡◌, ◌≢◌, ◌↔◌, ◌++◌, ◌∷◌, [], ℕ, List, true, Bool, not, Some, ap, refl, sym, subst, ◌∙◌, IsTrue, ◌&&◌, ◌||◌}
 use Rattle.std.proofs.lemmas.List.{append-nil}
 use Rattle.chess.specs.Squares.{Place, IsOnBoard, same_square}
 use Rattle.chess.specs.Placements.{man_at}
 use Rattle.chess.specs.Attacks.{Reaches}
 use Rattle.chess.specs.Positions.{State, IsSound, king_of}
-use Rattle.chess.specs.Moves.{Goes}
+use Rattle.chess.specs.Moves.{Goes, IsPseudoLegal}
 use Rattle.chess.specs.Letters.{file_letter, rank_digit, square_text}
 use Rattle.chess.specs.San.{IsRival, HasRival, IsDisambiguation}
 use Rattle.chess.specs.San.IsDisambiguation.{alone, by_file, by_rank, by_both}
@@ -18,7 +18,8 @@ use Rattle.chess.specs.declared.board.man.Side.{Side}
 use Rattle.chess.specs.declared.board.man.Kind.{Kind}
 use Rattle.chess.specs.declared.board.man.Kind.TheVariants.{King, Queen, Rook, Bishop, Knight, Pawn}
 use Rattle.chess.specs.declared.moves.Move.{Move}
-use Rattle.chess.proofs.PlaceFacts.{man_of}
+use Rattle.chess.specs.SetFacts.{false_of}
+use Rattle.chess.proofs.PlaceFacts.{man_of, same_square-then}
 use Rattle.chess.proofs.LoopFacts.{sifted_start, sifted_more, left_start, left_more}
 
 -- a rival stands on the board
@@ -60,10 +61,33 @@ rival_reaches P m man s sound here no_pawn rival =
     (λ king. no_king_rival P m man s sound here (sym (ap (λ (a : Man). a.kind) same) ∙ king) rival) rules.goes in
     subst (λ (a : Man). Reaches P.men a.side a.kind s m.to) same (subst (λ (side : Side). Reaches P.men side rules.man.kind s m.to) (sym rules.own) goes)
 
-pub pieces_alike : (P : State) (m : Move) (man : Man) (all set : Places) → IsSound P → man_at P.men m.from ≡ Some man → (man.kind ≡ Pawn → ⊥)
-    → HoldsExactly (λ s. IsOnBoard s) all → HoldsExactly (IsHitter P.men man m.to all) set → HasEach (IsRival P m) set
-pieces_alike P m man all set sound here no_pawn each hitters s on rival =
-    (hitters s).1 (on, ((each s).1 (on, on), rival.alike ∙ here, rival_reaches P m man s sound here no_pawn rival))
+pub pieces_alike : (P : State) (m : Move) (man : Man) (others set : Places) → IsSound P → man_at P.men m.from ≡ Some man → (man.kind ≡ Pawn → ⊥)
+    → ((s : Place) → IsOnBoard s → s ≢ m.from → is_in others s ≡ true) → HoldsExactly (IsHitter P.men man m.to others) set → HasEach (IsRival P m) set
+pieces_alike P m man others set sound here no_pawn each hitters s on rival =
+    (hitters s).1 (on, (each s on rival.other, rival.alike ∙ here, rival_reaches P m man s sound here no_pawn rival))
+
+-- a man who moves and is none of these is the king
+pub mover_is_king : (P : State) (m : Move) → IsPseudoLegal P m → (man_at P.men m.from ≡ Some (record { side = P.turn; kind = Pawn }) → ⊥)
+    → (man_at P.men m.from ≡ Some (record { side = P.turn; kind = Knight }) → ⊥) → (man_at P.men m.from ≡ Some (record { side = P.turn; kind = Bishop }) → ⊥)
+    → (man_at P.men m.from ≡ Some (record { side = P.turn; kind = Rook }) → ⊥) → (man_at P.men m.from ≡ Some (record { side = P.turn; kind = Queen }) → ⊥)
+    → man_at P.men m.from ≡ Some (record { side = P.turn; kind = King })
+mover_is_king P m rules pawn knight bishop rook queen =
+    let there : (k : Kind) → rules.man.kind ≡ k → man_at P.men m.from ≡ Some (record { side = P.turn; kind = k }) = λ k is.
+    rules.here ∙ ap (λ (man : Man). Some man) (λ i. record { side = rules.own i; kind = is i }) in
+    elim rules.man.kind as (λ k. rules.man.kind ≡ k → man_at P.men m.from ≡ Some (record { side = P.turn; kind = King })) [
+      | King ↦ λ is. there King is
+      | Queen ↦ λ is. absurd (queen (there Queen is))
+      | Rook ↦ λ is. absurd (rook (there Rook is))
+      | Bishop ↦ λ is. absurd (bishop (there Bishop is))
+      | Knight ↦ λ is. absurd (knight (there Knight is))
+      | Pawn ↦ λ is. absurd (pawn (there Pawn is))
+    ] refl
+
+-- a square is left in a set out of which another was taken
+pub left_in : (old new : Places) (s t : Place) → (is_in old s ≡ true) ↔ (IsOnBoard s × IsOnBoard s) → IsOnBoard s
+    → is_in new s ≡ (is_in old s && not (same_square s t)) → s ≢ t → is_in new s ≡ true
+left_in old new s t all on rest other =
+    rest ∙ ap (λ b. b && not (same_square s t)) (all.1 (on, on)) ∙ ap not (false_of _ (λ same. other (same_square-then s t same)))
 
 -- ---- the loop over the men that are alike
 

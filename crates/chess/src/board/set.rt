@@ -1,5 +1,5 @@
 //! Sets of squares.
-ghost use Rattle.std.specs.Prelude.{◌≡◌, ◌&&◌, ◌||◌, ◌↔◌, ◌<◌, ◌≤◌, IsTrue, IsSome, Some, None, true};
+ghost use Rattle.std.specs.Prelude.{◌≡◌, ◌&&◌, ◌||◌, ◌↔◌, ◌<◌, ◌≤◌, IsTrue, IsSome, Some, None, true, not};
 ghost use Rattle.chess.specs.Squares.{Place, IsOnBoard, same_square, index_of};
 ghost use Rattle.chess.specs.Sets.{is_in, no_places, size_of, HoldsExactly};
 ghost use Rattle.chess.specs.SetWords.{has_bit, IsTakenFirst};
@@ -112,6 +112,14 @@ impl SquareSet {
         if is_so {
             self.insert(square);
         }
+    }
+
+    /// Takes a square out of the set.
+    #[inline(always)]
+    pub(crate) fn remove(&mut self, square: Square)
+        ensures { (s : Place) → is_in self.new s ≡ (is_in self.old s && not (same_square s square)) }
+    {
+        self.word &= !(1u64 << square.index());
     }
 
     /// Whether the square is in the set.

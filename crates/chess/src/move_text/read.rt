@@ -1,7 +1,8 @@
 //! Moves named by their texts (PGN 8.2.3).
 ghost use Rattle.std.specs.Prelude.{◌≡◌, ◌≢◌, ◌↔◌, IfOk, IsErrOf, MatchOption};
 ghost use Rattle.chess.specs.San.{IsNamed, IsOnlyNamed, kind_said};
-ghost use Rattle.chess.specs.SanWords.{castling_on, said_by, move_from, CanGoSaid, IsNext, HasNone, IsCastlingOn, IsMoveSaid};
+ghost use Rattle.chess.specs.SanWords.{castling_on, said_by, move_from, CanGoSaid, IsNext, HasNone, IsCastlingOn, IsMoveSaid, IsAble};
+ghost use Rattle.chess.specs.Sets.{HoldsExactly};
 ghost use Rattle.chess.specs.SanAnswers.{IsAnswer};
 ghost use Rattle.chess.specs.declared.moves.Move.{Move};
 ghost use Rattle.chess.specs.declared.move_text.SanError.{SanError};
@@ -15,8 +16,8 @@ use crate::position::Position;
 pub(crate) mod able;
 pub(crate) mod said;
 
-use able::able_men;
-use said::{SaidMove, castling, read_said};
+use able::{able_men, able_pawns, able_pieces};
+use said::{SaidMove, before_mark, castling, pawn_takes, plainly_said, read_said};
 
 /// The only legal move that the text names. No memory is needed.
 pub fn resolve<B: Board>(position: &Position<B>, text: &[u8]) -> Result<Move, SanError>
@@ -27,8 +28,38 @@ pub fn resolve<B: Board>(position: &Position<B>, text: &[u8]) -> Result<Move, Sa
     only_named(position, text)
 }
 
-/// The only legal move that the text names: what `resolve` answers, as one fact of the answer.
+/// The only legal move that the text names: what `resolve` answers, as one fact of the answer. The most frequent forms are told by their
+/// length.
 pub(crate) fn only_named<B: Board>(position: &Position<B>, text: &[u8]) -> Result<Move, SanError>
+    ensures { IsAnswer (IsNamed position.now text.now) result }
+{
+    match before_mark(text) {
+        [file, rank] => {
+            if let Some(said) = plainly_said(None, *file, *rank) {
+                return moved(position, &said);
+            }
+        }
+        [letter, file, rank] => {
+            if let Some(said) = plainly_said(Some(*letter), *file, *rank) {
+                return moved(position, &said);
+            }
+        }
+        [from, sign, file, rank] if *sign == b'x' => {
+            if let Some(said) = pawn_takes(*from, *file, *rank) {
+                return moved(position, &said);
+            }
+            if let Some(said) = plainly_said(Some(*from), *file, *rank) {
+                return moved(position, &said);
+            }
+        }
+        _ => {}
+    }
+    named_read(position, text)
+}
+
+/// The only legal move that the text names, of whatever form it is.
+#[inline(never)]
+fn named_read<B: Board>(position: &Position<B>, text: &[u8]) -> Result<Move, SanError>
     ensures { IsAnswer (IsNamed position.now text.now) result }
 {
     if let Some(wing) = castling(text) {
@@ -63,11 +94,30 @@ pub(crate) fn castling_move(side: Side, wing: Wing) -> Move
     }
 }
 
-/// The only legal move that agrees with what is said: one man alone who may make it is only asked whether his king is then attacked.
+/// The only legal move that agrees with what is said: pawns and pieces apart, so that each has code of its own.
+#[inline(always)]
 fn moved<B: Board>(position: &Position<B>, said: &SaidMove) -> Result<Move, SanError>
     ensures { IsAnswer (IsMoveSaid position.now (said_by said.now)) result }
 {
-    let mut able = able_men(position, said);
+    if said.kind() == Kind::Pawn {
+        let able = able_pawns(position, said);
+        return moved_by(position, said, able);
+    }
+    let able = able_pieces(position, said);
+    moved_by(position, said, able)
+}
+
+/// The only legal move that agrees with what is said, where the men are known that may make it: one alone is only asked whether his king
+/// is then attacked.
+#[inline(always)]
+fn moved_by<B: Board>(
+    position: &Position<B>,
+    said: &SaidMove,
+    mut able: SquareSet,
+) -> Result<Move, SanError>
+    requires { HoldsExactly (IsAble position.now (said_by said.now)) able }
+    ensures { IsAnswer (IsMoveSaid position.now (said_by said.now)) result }
+{
     let Some(from) = able.take_first() else {
         return Err(SanError::None);
     };

@@ -2,6 +2,8 @@
 ghost use Rattle.std.specs.Prelude.{◌≡◌, ◌↔◌, ◌+◌, ◌≤◌, ◌<◌, ◌++◌, Some, IsTrue, true};
 ghost use Rattle.arrayvec.specs.ArrayString.{array_string_len};
 ghost use Rattle.chess.specs.Placements.{man_at};
+ghost use Rattle.chess.specs.Positions.{State};
+ghost use Rattle.chess.specs.declared.moves.Move.{Move};
 ghost use Rattle.chess.specs.Moves.{IsLegal, after};
 ghost use Rattle.chess.specs.San.{IsSan, IsOnlyNamed, IsRival, IsDisambiguation, IsPieceText, IsBody, IsCheckMark, castling_text, is_capture, capture_text, pawn_text, promotion_text};
 ghost use Rattle.chess.specs.Sets.{HoldsExactly};
@@ -43,18 +45,61 @@ fn play_written<B: Board>(position: &mut Position<B>, m: Move) -> ArrayString<8>
     ensures played { position.new ≡ after position.old m }
 {
     let mut out = ArrayString::new();
-    push_body(&mut out, position, &m, mover(position, &m));
-    position.make(&m);
+    let man = mover(position, &m);
+    let takes = position.takes(man, &m);
+    push_body(&mut out, position, &m, man, takes);
+    position.make_with(man, &m, takes);
     push_check_mark(&mut out, position);
     out
 }
 
+/// Whether the man that moves is of that kind.
+#[inline(always)]
+fn is_mover<B: Board>(position: &Position<B>, m: &Move, kind: Kind) -> bool
+    ensures { IsTrue result ↔ (man_at position.now.men m.now.from ≡ Some (record { side = position.now.turn; kind = kind })) }
+{
+    let man = Man {
+        side: position.side(),
+        kind,
+    };
+    m.from.known();
+    position.squares_of(man).has(m.from)
+}
+
+/// The kind of the man that moves: those that move most are asked first.
+#[inline(always)]
+fn kind_of_mover<B: Board>(position: &Position<B>, m: &Move) -> Kind
+    requires { IsLegal position.now m.now }
+    ensures { man_at position.now.men m.now.from ≡ Some (record { side = position.now.turn; kind = result }) }
+{
+    if is_mover(position, m, Kind::Pawn) {
+        return Kind::Pawn;
+    }
+    if is_mover(position, m, Kind::Knight) {
+        return Kind::Knight;
+    }
+    if is_mover(position, m, Kind::Bishop) {
+        return Kind::Bishop;
+    }
+    if is_mover(position, m, Kind::Rook) {
+        return Kind::Rook;
+    }
+    if is_mover(position, m, Kind::Queen) {
+        return Kind::Queen;
+    }
+    Kind::King
+}
+
 /// The man that moves.
+#[inline(always)]
 fn mover<B: Board>(position: &Position<B>, m: &Move) -> Man
     requires { IsLegal position.now m.now }
     ensures { man_at position.now.men m.now.from ≡ Some result }
 {
-    position.at(m.from).unwrap()
+    Man {
+        side: position.side(),
+        kind: kind_of_mover(position, m),
+    }
 }
 
 /// Appends the mark of the position after a move: `+` for check, `#` for mate.
@@ -73,8 +118,15 @@ fn push_check_mark<B: Board>(out: &mut ArrayString<8>, after: &Position<B>)
 }
 
 /// Appends the text of a move without its mark.
-fn push_body<B: Board>(out: &mut ArrayString<8>, position: &Position<B>, m: &Move, man: Man)
+fn push_body<B: Board>(
+    out: &mut ArrayString<8>,
+    position: &Position<B>,
+    m: &Move,
+    man: Man,
+    takes: bool,
+)
     requires mover { man_at position.now.men m.now.from ≡ Some man }
+    requires takes { takes ≡ is_capture position.now m.now }
     requires room { array_string_len out.old ≤ 1 }
     ensures text { Appends (IsBody position.now m.now m.now.castle man.kind) out.old.bytes out.new.bytes }
     ensures short { array_string_len out.new ≤ array_string_len out.old + 7 }
@@ -84,10 +136,10 @@ fn push_body<B: Board>(out: &mut ArrayString<8>, position: &Position<B>, m: &Mov
         return;
     }
     if man.kind == Kind::Pawn {
-        push_pawn_move(out, position, m);
+        push_pawn_move(out, m, takes);
         return;
     }
-    push_piece_move(out, position, m, man);
+    push_piece_move(out, position, m, man, takes);
 }
 
 /// Appends the text of castling.
@@ -102,21 +154,13 @@ fn push_castling(out: &mut ArrayString<8>, wing: Wing)
     }
 }
 
-/// Whether the move takes a man, also en passant.
-#[inline(always)]
-fn is_capture<B: Board>(position: &Position<B>, m: &Move) -> bool
-    ensures { result ≡ is_capture position.now m.now }
-{
-    position.at(position.taken(m)).is_some()
-}
-
 /// Appends a pawn's move.
-fn push_pawn_move<B: Board>(out: &mut ArrayString<8>, position: &Position<B>, m: &Move)
+fn push_pawn_move(out: &mut ArrayString<8>, m: &Move, takes: bool)
     requires { array_string_len out.old ≤ 2 }
-    ensures text { out.new.bytes ≡ out.old.bytes ++ pawn_text position.now m.now }
+    ensures text { (P : State) → takes ≡ is_capture P m.now → out.new.bytes ≡ out.old.bytes ++ pawn_text P m.now }
     ensures short { array_string_len out.new ≤ array_string_len out.old + 6 }
 {
-    if is_capture(position, m) {
+    if takes {
         push_byte(out, b'a' - 1 + m.from.file());
         push_byte(out, b'x');
     }
@@ -137,25 +181,32 @@ fn push_promotion(out: &mut ArrayString<8>, promote: Option<Kind>)
 }
 
 /// Appends the move of a piece.
-fn push_piece_move<B: Board>(out: &mut ArrayString<8>, position: &Position<B>, m: &Move, man: Man)
+fn push_piece_move<B: Board>(
+    out: &mut ArrayString<8>,
+    position: &Position<B>,
+    m: &Move,
+    man: Man,
+    takes: bool,
+)
     requires mover { man_at position.now.men m.now.from ≡ Some man }
+    requires takes { takes ≡ is_capture position.now m.now }
     requires room { array_string_len out.old ≤ 2 }
     ensures text { Appends (IsPieceText position.now m.now man.kind) out.old.bytes out.new.bytes }
     ensures short { array_string_len out.new ≤ array_string_len out.old + 6 }
 {
     push_byte(out, kind_letter(man.kind));
     push_origin(out, position, m, man);
-    push_cross(out, position, m);
+    push_cross(out, takes);
     push_square(out, m.to);
 }
 
 /// Appends `x` for a capture.
-fn push_cross<B: Board>(out: &mut ArrayString<8>, position: &Position<B>, m: &Move)
+fn push_cross(out: &mut ArrayString<8>, takes: bool)
     requires { array_string_len out.old < 8 }
-    ensures text { out.new.bytes ≡ out.old.bytes ++ capture_text position.now m.now }
+    ensures text { (P : State) (m : Move) → takes ≡ is_capture P m → out.new.bytes ≡ out.old.bytes ++ capture_text P m }
     ensures short { array_string_len out.new ≤ array_string_len out.old + 1 }
 {
-    if is_capture(position, m) {
+    if takes {
         push_byte(out, b'x');
     }
 }
@@ -203,9 +254,11 @@ fn men_alike<B: Board>(position: &Position<B>, m: &Move, man: Man) -> SquareSet
     ensures alike { AreOf position.now.men man result }
 {
     position.known();
+    let mut among = SquareSet::all();
+    among.remove(m.from);
     match man.kind {
         Kind::Pawn => position.squares_of(man),
-        _ => position.hitters(man, m.to, SquareSet::all()),
+        _ => position.hitters(man, m.to, among),
     }
 }
 

@@ -4,6 +4,7 @@ ghost use Rattle.chess.specs.Squares.{same_square};
 ghost use Rattle.chess.specs.Positions.{IsSound, IsOnlyKing, IsCheck, king_from, rook_from};
 ghost use Rattle.chess.specs.Moves.{is_pawn, is_en_passant, taken, arriving, men_after, keeps_right, rights_after, en_passant_after, one_more, halfmove_clock_after, fullmove_number_after, after, IsPseudoLegal, IsLegal};
 ghost use Rattle.chess.specs.Placements.{man_at, opposite};
+ghost use Rattle.chess.specs.San.{is_capture};
 
 use crate::board::{Board, CastlingRights, Kind, Man, Side, Square, Wing};
 use crate::moves::Move;
@@ -65,6 +66,15 @@ impl<B: Board> Position<B> {
             return Square::at(m.to.file(), m.from.rank());
         }
         m.to
+    }
+
+    /// Whether the move of that man takes a man, also en passant.
+    #[inline(always)]
+    pub(crate) fn takes(&self, man: Man, m: &Move) -> bool
+        requires { man_at self.now.men m.now.from ≡ Some man }
+        ensures { result ≡ is_capture self.now m.now }
+    {
+        !self.is_empty(self.taken_by(Some(man), m))
     }
 
     /// The square of the man that the move takes, if it takes one.
@@ -177,6 +187,19 @@ impl<B: Board> Position<B> {
         one_more(self.clock())
     }
 
+    /// The halfmove clock after the move of that man, which takes a man or not.
+    #[inline(always)]
+    fn clock_after(&self, man: Man, m: &Move, takes: bool) -> u32
+        requires man { man_at self.now.men m.now.from ≡ Some man }
+        requires takes { takes ≡ is_capture self.now m.now }
+        ensures { result ≡ halfmove_clock_after self.now m.now }
+    {
+        if man.kind == Kind::Pawn || takes {
+            return 0;
+        }
+        one_more(self.clock())
+    }
+
     /// The fullmove number after a move.
     pub(crate) fn fullmove_number_after(&self) -> u32
         ensures { result ≡ fullmove_number_after self.now.turn self.now.fullmove_number }
@@ -209,12 +232,23 @@ impl<B: Board> Position<B> {
         requires { IsLegal self.old m.now }
         ensures { self.new ≡ after self.old m.now }
     {
+        let man = self.at(m.from).unwrap();
+        self.make_with(man, m, self.takes(man, m));
+    }
+
+    /// Makes a legal move of that man in place, which takes a man or not.
+    #[inline(always)]
+    pub(crate) fn make_with(&mut self, man: Man, m: &Move, takes: bool)
+        requires man { man_at self.old.men m.now.from ≡ Some man }
+        requires takes { takes ≡ is_capture self.old m.now }
+        requires legal { IsLegal self.old m.now }
+        ensures { self.new ≡ after self.old m.now }
+    {
         if m.castle.is_some() {
             self.make_castling(m);
             return;
         }
-        let man = self.at(m.from).unwrap();
-        self.advance(man, m);
+        self.advance(man, m, takes);
     }
 
     /// Makes a legal move in place, also one that moves two men.
@@ -297,14 +331,15 @@ impl<B: Board> Position<B> {
         if self.exposes_king(man, m) {
             return false;
         }
-        self.advance(man, m);
+        self.advance(man, m, self.takes(man, m));
         true
     }
 
     /// Makes a legal move of that man, which is no castling, in place.
     #[inline(always)]
-    fn advance(&mut self, man: Man, m: &Move)
+    fn advance(&mut self, man: Man, m: &Move, takes: bool)
         requires man { man_at self.old.men m.now.from ≡ Some man }
+        requires takes { takes ≡ is_capture self.old m.now }
         requires legal { IsLegal self.old m.now }
         requires plain { m.now.castle ≡ None }
         ensures { self.new ≡ after self.old m.now }
@@ -313,7 +348,7 @@ impl<B: Board> Position<B> {
         let turn = self.turn_after();
         let rights = self.rights_after(m);
         let en_passant = self.en_passant_after(Some(man), m);
-        let halfmove_clock = self.halfmove_clock_after(Some(man), m);
+        let halfmove_clock = self.clock_after(man, m, takes);
         let fullmove_number = self.fullmove_number_after();
         let white_king = self.king_after(m, Side::White);
         let black_king = self.king_after(m, Side::Black);

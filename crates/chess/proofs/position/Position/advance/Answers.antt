@@ -18,7 +18,7 @@ invariant_of-self g c =
       turn = c.turn_after-turn.result;
       rights = c.rights_after-rights.result;
       en_passant = c.en_passant_after-en_passant.result;
-      halfmove_clock = c.halfmove_clock_after-halfmove_clock.result;
+      halfmove_clock = c.clock_after-halfmove_clock.result;
       fullmove_number = c.fullmove_number_after-fullmove_number.result;
     }
     ≡ after P m =
@@ -27,7 +27,7 @@ invariant_of-self g c =
       turn = c.turn_after-turn.ensures i;
       rights = c.rights_after-rights.ensures i;
       en_passant = c.en_passant_after-en_passant.ensures i;
-      halfmove_clock = c.halfmove_clock_after-halfmove_clock.ensures i;
+      halfmove_clock = c.clock_after-halfmove_clock.ensures i;
       fullmove_number = c.fullmove_number_after-fullmove_number.ensures i;
     } in
     subst (λ (Q : State). IsKept Q c.king_after-white_king.result c.king_after-black_king.result) (sym shown)

@@ -1,0 +1,13 @@
+use Rattle.std.proofs.Common.{arith, ap, not, ◌∙◌, ◌&&◌}
+use Rattle.chess.specs.Squares.{Place, same_square, square_at}
+use Rattle.chess.specs.Sets.{is_in}
+use Rattle.chess.specs.SetFacts.{square_at-index_of}
+use Rattle.chess.proofs.SetBits.{clear_bit}
+use Rattle.chess.proofs.board.set.SquareSet.remove.Goals as goal
+
+pub returns : goal.returns
+returns c s =
+    clear_bit c.self.inside.word c.index.result s (omega (arith, c.index.ensures.below))
+    ∙ ap (λ set. is_in set s && not (same_square s (square_at c.index.result))) c.self.view_is
+    ∙ ap (λ n. is_in c.args.self.now s && not (same_square s (square_at n))) c.index.ensures.place
+    ∙ ap (λ (t : Place). is_in c.args.self.now s && not (same_square s t)) (square_at-index_of c.args.square c.index.ensures.on_board)
