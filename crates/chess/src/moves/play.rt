@@ -77,13 +77,6 @@ impl<B: Board> Position<B> {
         !self.is_empty(self.taken_by(Some(man), m))
     }
 
-    /// The square of the man that the move takes, if it takes one.
-    pub(crate) fn taken(&self, m: &Move) -> Square
-        ensures { result ≡ taken self.now m.now }
-    {
-        self.taken_by(self.at(m.from), m)
-    }
-
     /// The man that arrives: the one that moves, or what the pawn becomes.
     #[inline(always)]
     fn arriving(&self, man: Option<Man>, m: &Move) -> Option<Man>
