@@ -68,13 +68,13 @@ pub(crate) fn man_letter(man: Man) -> u8
     }
 }
 
-/// Appends an ASCII byte.
+/// Appends an ASCII byte. The remainder is the byte, and lets the compiler see that it takes one byte of text.
 pub(crate) fn push_byte<const CAP: usize>(out: &mut ArrayString<CAP>, byte: u8)
     requires ascii { byte < 128 }
     requires room { array_string_len out.old < CAP }
     ensures { out.new.bytes ≡ out.old.bytes ++ byte ∷ [] }
 {
-    out.push(byte as char);
+    out.push((byte % 128) as char);
 }
 
 /// Appends a square.
