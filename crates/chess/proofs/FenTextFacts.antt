@@ -1,14 +1,17 @@
 -- Facts about the text of a position: what is written spells the ranks, and is as short as can be.
-use Rattle.std.proofs.Common.{◌≡◌, ◌<◌, ◌≤◌, ◌+◌, ◌-◌, ℕ, zero, suc, Bool, true, false, not, ap, refl, sym, subst, ◌∙◌, arith, Option, Some, None, IsTrue, List, [], ◌∷◌, ◌++◌, length, append_assoc, length-append}
+use Rattle.std.proofs.Common.{◌≡◌, ◌<◌, ◌≤◌, ◌+◌, ◌-◌, ◌/◌, ◌%◌, decimal, ℕ, zero, suc, Bool, true, false, not, ap, refl, sym, subst, ◌∙◌, arith, Option, Some, None, IsTrue, List, [], ◌∷◌, ◌++◌, length, append_assoc, length-append}
 use Rattle.std.specs.Prelude.{replicate, ◌&&◌}
 use Rattle.std.specs.List.{list_all}
 use Rattle.std.proofs.lemmas.List.{replicate_more, append-nil}
+use Rattle.std.proofs.lemmas.Fmt.{decimal_digit}
+use Rattle.itoa.proofs.Decimal.{decimal_two}
 use Rattle.chess.specs.Squares.{Place}
 use Rattle.chess.specs.Placements.{Placement, man_at}
 use Rattle.chess.specs.Letters.{man_letter}
 use Rattle.chess.specs.Fen.{SpellsRank, SpellRanks, is_shortest, is_step, joined, row}
 use Rattle.chess.specs.Fen.IsSquares.{letter, step}
-use Rattle.chess.specs.FenTextWords.{digit_of, spelled_from, squares_from, rank_text, rank_texts, each_after}
+use Rattle.chess.specs.FenTextWords.{digit_of, spelled_from, squares_from, rank_text, rank_texts, each_after, letter_on}
+use Rattle.chess.proofs.MarkFacts.{no_man_there}
 use Rattle.chess.specs.declared.board.man.Man.{Man}
 use Rattle.chess.specs.declared.board.man.Side.{Side}
 use Rattle.chess.specs.declared.board.man.Side.TheVariants.{White, Black}
@@ -92,6 +95,22 @@ shortest [] n = subst (λ x. is_shortest x ≡ true) (append-nil (digit_of n)) (
 shortest (None ∷ squares) n = shortest squares (n + 1)
 shortest (Some man ∷ squares) n =
     shortest_run n (man_letter man ∷ spelled_from 0 squares) (no_step man) (shortest_letter (man_letter man) _ (no_step man) (shortest squares 0))
+
+-- ---- a square by its letter
+
+pub none_is_next : (before : List ℕ) (n : ℕ) (next : Option Man) (squares : List (Option Man)) → letter_on next ≡ 0
+    → before ++ spelled_from (n + 1) squares ≡ before ++ spelled_from n (next ∷ squares)
+none_is_next before n next squares none =
+    ap (λ (o : Option Man). before ++ spelled_from n (o ∷ squares)) (sym (no_man_there next none))
+
+pub man_is_next : (before middle after : List ℕ) (n own : ℕ) (next : Option Man) (squares : List (Option Man)) → own ≡ letter_on next
+    → (own ≡ 0 → ⊥) → middle ≡ before ++ digit_of n → after ≡ middle ++ own ∷ []
+    → after ++ spelled_from 0 squares ≡ before ++ spelled_from n (next ∷ squares)
+man_is_next before middle after n own None squares here some run put = absurd (some here)
+man_is_next before middle after n own (Some man) squares here some run put =
+    ap (λ x. x ++ spelled_from 0 squares) (put ∙ ap (λ x. x ++ own ∷ []) run ∙ ap (λ b. (before ++ digit_of n) ++ b ∷ []) here)
+    ∙ append_assoc (before ++ digit_of n) (man_letter man ∷ []) (spelled_from 0 squares)
+    ∙ append_assoc before (digit_of n) (man_letter man ∷ spelled_from 0 squares)
 
 -- ---- the ranks
 
@@ -199,3 +218,14 @@ pub six_fields : (men side rights en_passant clock number x0 x1 x2 x3 x4 x5 x6 x
     → x11 ≡ joined 32 (men ∷ side ∷ rights ∷ en_passant ∷ clock ∷ number ∷ [])
 six_fields men side rights en_passant clock number x0 x1 x2 x3 x4 x5 x6 x7 x8 x9 x10 x11 e0 e1 e2 e3 e4 e5 e6 e7 e8 e9 e10 e11 =
     rw (e11, e10, e9, e8, e7, e6, e5, e4, e3, e2, e1, e0) (simp append_assoc)
+
+-- ---- a number of one digit, and of two
+
+pub one_digit : (before after : List ℕ) (n : ℕ) → n < 10 → after ≡ before ++ (48 + n) ∷ [] → after ≡ before ++ decimal n
+one_digit before after n small written = written ∙ ap (λ x. before ++ x) (sym (decimal_digit n small))
+
+pub two_digits : (before middle after : List ℕ) (n : ℕ) → 10 ≤ n → n < 100 → middle ≡ before ++ (48 + n / 10) ∷ []
+    → after ≡ middle ++ (48 + n % 10) ∷ [] → after ≡ before ++ decimal n
+two_digits before middle after n low high first second =
+    second ∙ ap (λ x. x ++ (48 + n % 10) ∷ []) first ∙ append_assoc before ((48 + n / 10) ∷ []) ((48 + n % 10) ∷ [])
+    ∙ ap (λ x. before ++ x) (sym (decimal_two n low high))

@@ -33,6 +33,7 @@ pub mod UsualFacts
 pub mod FieldFacts
 pub mod RestFacts
 pub mod LetterFacts
+pub mod MarkFacts
 pub mod RankFacts
 pub mod CountFacts
 pub mod FenFacts

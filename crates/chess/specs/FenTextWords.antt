@@ -1,8 +1,10 @@
 -- The text of a rank as the program writes it, square by square.
-use Rattle.std.specs.Prelude.{ℕ, zero, suc, ◌+◌, Bool, List, [], ◌∷◌, ◌++◌, Option, Some, None, if◌then◌else◌}
+use Rattle.std.specs.Prelude.{◌≡◌, ℕ, zero, suc, ◌+◌, ltb, Bool, List, [], ◌∷◌, ◌++◌, get_or, Option, Some, None, if◌then◌else◌}
+use Rattle.chess.specs.Squares.{Place, IsOnBoard, index_of}
 use Rattle.chess.specs.Placements.{Placement, man_at}
 use Rattle.chess.specs.Letters.{man_letter}
 use Rattle.chess.specs.Fen.{row}
+use Rattle.chess.specs.BitWords.{row_of}
 use Rattle.chess.specs.declared.board.man.Man.{Man}
 
 -- the digit of a run of empty squares, or nothing
@@ -28,6 +30,26 @@ rank_text p rank = spelled_from 0 (row p rank)
 abbrev pub rank_texts : Placement → ℕ → List (List ℕ)
 rank_texts p zero = []
 rank_texts p (suc n) = rank_text p (suc n) ∷ rank_texts p n
+
+-- the letter of the man on a square, or 0; and the letter for the square in a table in the order a1, b1 to h1, a2 and so on
+abbrev pub letter_on : Option Man → ℕ
+letter_on None = 0
+letter_on (Some man) = man_letter man
+
+abbrev pub letter_at : List ℕ → Place → ℕ
+letter_at letters s = get_or letters (index_of s) 0
+
+-- the table has the letter of the man on each square
+abbrev pub AreLetters : Placement → List ℕ → Type 0
+AreLetters p letters = (s : Place) → IsOnBoard s → letter_at letters s ≡ letter_on (man_at p s)
+
+-- the table has those of the men of the first n words, and 0 on all other squares
+abbrev pub letter_below : ℕ → Option Man → ℕ
+letter_below n None = 0
+letter_below n (Some man) = if ltb (row_of man) n then man_letter man else 0
+
+abbrev pub AreLettersBelow : Placement → List ℕ → ℕ → Type 0
+AreLettersBelow p letters n = (s : Place) → IsOnBoard s → letter_at letters s ≡ letter_below n (man_at p s)
 
 -- texts with a separator before each
 abbrev pub each_after : ℕ → List (List ℕ) → List ℕ

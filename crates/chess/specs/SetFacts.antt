@@ -30,11 +30,11 @@ pub on_board-square_at : (n : ℕ) → n < 64 → IsOnBoard (square_at n)
 on_board-square_at n h = record { file_low = omega arith; file_high = omega arith; rank_low = omega arith; rank_high = omega arith }
 
 -- the test of squares by their numbers
-and_false : (b : Bool) → (b && false) ≡ false
+pub and_false : (b : Bool) → (b && false) ≡ false
 and_false true = refl
 and_false false = refl
 
-and_true : (b : Bool) → (b && true) ≡ b
+pub and_true : (b : Bool) → (b && true) ≡ b
 and_true true = refl
 and_true false = refl
 
