@@ -170,7 +170,8 @@ impl SquareSet {
             return None;
         }
         let place = word.trailing_zeros() as u8;
-        self.word &= !(1u64 << place);
+        // One less than the word differs from it in its lowest bit and those below.
+        self.word = word & (word - 1);
         Some(Square::of_index(place))
     }
 }

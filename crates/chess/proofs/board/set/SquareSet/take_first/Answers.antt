@@ -5,7 +5,7 @@ use Rattle.chess.specs.Squares.{Place, IsOnBoard, same_square, index_of, square_
 use Rattle.chess.specs.Sets.{is_in}
 use Rattle.chess.specs.SetWords.{places_of, has_bit}
 use Rattle.chess.specs.SetFacts.{is_in-places_of, on_board-places_of, empty_word}
-use Rattle.chess.proofs.SetBits.{clear_bit}
+use Rattle.chess.proofs.SetBits.{clear_bit, without_lowest}
 use Rattle.chess.proofs.board.set.SquareSet.take_first.Goals as goal
 use Rattle.std.proofs.lemmas.Nat.Bits.{bit_at-trailing_zeros}
 use Rattle.std.specs.Int.{trailing_zeros}
@@ -35,7 +35,8 @@ returns c =
         | inr more ↦ omega arith
       ]),
       (λ s.
-          clear_bit word at s found.0
+          ap (λ n. is_in (places_of (has_bit n)) s) (without_lowest word at found.0 c.self.invariant found.1 found.2)
+          ∙ clear_bit word at s found.0
           ∙ ap (λ set. is_in set s && not (same_square s (square_at at))) c.self.view_is
           ∙ ap (λ (t : Place). is_in c.args.self.now s && not (same_square s t)) (sym square)),
     )
