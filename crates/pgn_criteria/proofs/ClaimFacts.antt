@@ -29,7 +29,7 @@ pub ends_as : (text whole : List ℕ) → text ≡ whole → EndsSolid whole →
 ends_as text whole is (front, b, ends, solid) = (front, b, is ∙ ends, solid)
 
 pub claim_ends : (text : List ℕ) (claim : Claim (List ℕ)) → SpellsClaim text claim → EndsSolid text
-claim_ends text (Tag name relation contents) (first, second, third, is, g, h, k, are, good) =
+claim_ends text (Tag name relation contents) (first, second, third, is, g, h, k, are, good, fits) =
     let string = 34 ∷ (contents ++ 34 ∷ []) in
     ends_as text _ is (ends_behind (codes "tag") (first ++ (name ++ (second ++ (relation_text relation ++ (third ++ string)))))
     (ends_behind first (name ++ (second ++ (relation_text relation ++ (third ++ string))))

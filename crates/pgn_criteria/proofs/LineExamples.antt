@@ -37,6 +37,7 @@ tag = (
   ((λ none. cc), refl),
   (((λ none. cc), refl), tt),
   (Single 49 ∷ Single 48 ∷ [], refl, refl),
+  (λ is. cc),
 )
 
 -- tag A begins "C"
@@ -51,6 +52,7 @@ tag_begins = (
   ((λ none. cc), refl),
   (((λ none. cc), refl), tt),
   (Single 67 ∷ [], refl, refl),
+  (λ is. cc),
 )
 
 -- tag A|B begins "C" names two tags
@@ -65,6 +67,7 @@ two_tags = (
   ((λ none. cc), refl),
   (((λ none. cc), refl), (((λ none. cc), refl), tt)),
   (Single 67 ∷ [], refl, refl),
+  (λ is. cc),
 )
 
 -- each name has a byte

@@ -1,13 +1,14 @@
 -- Conditions on a tag: what spells one is read as it, and the other way round.
-use Rattle.std.proofs.Common.{◌≡◌, ◌≢◌, ℕ, true, List, [], ◌∷◌, ◌++◌, refl, IsTrue, arith}
+use Rattle.std.proofs.Common.{◌≡◌, ◌≢◌, ℕ, true, List, [], ◌∷◌, ◌++◌, refl, IsTrue, ap, ◌∙◌, length, drop, arith}
 use Rattle.std.specs.Prelude.{codes}
 use Rattle.std.specs.List.{list_all}
 use Rattle.std.proofs.lemmas.Bool.Decides.{nat_tests}
+use Rattle.std.proofs.lemmas.List.{length-append}
 use Rattle.chess.specs.Fen.{parted_at}
 use Rattle.pgn_text.specs.Bytes.{is_name_byte}
 use Rattle.pgn_text.specs.Strings.{IsContents}
 use Rattle.pgn_criteria.specs.Reading.{run_of, behind_word}
-use Rattle.pgn_criteria.specs.Lines.{SpellsClaim, AreNames, relation_text}
+use Rattle.pgn_criteria.specs.Lines.{SpellsClaim, AreNames, CanBeCompared, relation_text}
 use Rattle.pgn_criteria.specs.declared.compare.Relation.{Relation}
 use Rattle.pgn_criteria.specs.declared.compare.Relation.TheVariants.{Equal, Unequal, Less, LessOrEqual, Greater, GreaterOrEqual, Has, Begins}
 use Rattle.pgn_criteria.specs.declared.condition.Claim.TheVariants.{Tag}
@@ -63,7 +64,7 @@ pub record IsTagRead (text names : List ℕ) (relation : Relation) (contents : L
   pub string_is : behind_word (behind_word (behind_word text)) ≡ quoted contents
 
 pub tag_read : (text name : List ℕ) (relation : Relation) (contents : List ℕ) → SpellsClaim text (Tag name relation contents) → IsTagRead text name relation contents
-tag_read text name relation contents (first, second, third, is, g, h, k, are, good) =
+tag_read text name relation contents (first, second, third, is, g, h, k, are, good, fits) =
     let begins = solid_begins name (names_some name are) (names_solid name are) in
     let string = quoted contents in
     let operator = relation_text relation ++ (third ++ string) in
@@ -76,11 +77,29 @@ tag_read text name relation contents (first, second, third, is, g, h, k, are, go
 
 -- and a text of such words spells it
 pub tag_spelled : (text name : List ℕ) (relation : Relation) (contents : List ℕ) → IsTagRead text name relation contents → AreNames (parted_at 124 name)
-    → IsContents contents → SpellsClaim text (Tag name relation contents)
-tag_spelled text name relation contents read are good =
+    → IsContents contents → CanBeCompared relation contents → SpellsClaim text (Tag name relation contents)
+tag_spelled text name relation contents read are good fits =
     let three = word_spelled (behind_word (behind_word text)) (relation_text relation) (quoted contents) read.operator_is read.string_is (λ none. cc) in
     let two = word_spelled (behind_word text) name (relation_text relation ++ (three.0 ++ quoted contents)) read.name_is three.1
     (front_some (relation_text relation) (three.0 ++ quoted contents) (solid_begins (relation_text relation) (relation_some relation) (relation_solid relation))) in
     let one = word_spelled text (codes "tag") (name ++ (two.0 ++ (relation_text relation ++ (three.0 ++ quoted contents)))) read.key_is two.1
     (front_some name (two.0 ++ (relation_text relation ++ (three.0 ++ quoted contents))) (solid_begins name (names_some name are) (names_solid name are))) in
-    (one.0, two.0, three.0, one.1, one.2, two.2, three.2, are, good)
+    (one.0, two.0, three.0, one.1, one.2, two.2, three.2, are, good, fits)
+
+has_read : (relation : Relation) → relation_text relation ≡ codes "has" → relation ≡ Has
+has_read Equal is = cc
+has_read Unequal is = cc
+has_read Less is = cc
+has_read LessOrEqual is = cc
+has_read Greater is = cc
+has_read GreaterOrEqual is = cc
+has_read Has is = refl
+has_read Begins is = cc
+
+-- what is read can be compared where what is spelled can
+pub read_fits : (relation other : Relation) (contents found : List ℕ) → relation_text relation ≡ relation_text other → quoted contents ≡ quoted found
+    → CanBeCompared relation contents → CanBeCompared other found
+read_fits relation other contents found operator string fits is_has =
+    let short = fits (has_read relation (operator ∙ ap relation_text is_has)) in
+    let long : length (contents ++ 34 ∷ []) ≡ length (found ++ 34 ∷ []) = ap (λ x. length (drop 1 x)) string in
+    omega (arith, short, long, length-append contents (34 ∷ []), length-append found (34 ∷ []))

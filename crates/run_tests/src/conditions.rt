@@ -262,7 +262,7 @@ const MIRRORED: &str = "either: fen, flip fen, material or turn, with or without
 const DENIED_ALONE: &str = "a condition after not, and no second not";
 
 /// Where lines stop being of the language, and what is expected there.
-const EXPLAINED: [Complaint; 36] = [
+const EXPLAINED: [Complaint; 38] = [
     ("chek", 0, "did you mean check?"),
     ("  stlaemate", 2, "did you mean stalemate?"),
     ("Turn white", 0, "did you mean turn?"),
@@ -296,6 +296,15 @@ const EXPLAINED: [Complaint; 36] = [
     ("not tag White |Black = \"x\"", 14, OPERATOR),
     ("tag White ~ \"x\"", 10, OPERATOR),
     ("tag White = x", 12, "tag: a text between double quotes"),
+    ("tag White has x", 14, "tag: a text between double quotes"),
+    (
+        "tag White has \"xxxxxxxxxxxxxxxxxxxxxxxxxxxxxxxxxxxxxxxxxxxxxxxxxxxxxxxxxxxxxxxx\
+        xxxxxxxxxxxxxxxxxxxxxxxxxxxxxxxxxxxxxxxxxxxxxxxxxxxxxxxxxxxxxxxx\
+        xxxxxxxxxxxxxxxxxxxxxxxxxxxxxxxxxxxxxxxxxxxxxxxxxxxxxxxxxxxxxxxx\
+        xxxxxxxxxxxxxxxxxxxxxxxxxxxxxxxxxxxxxxxxxxxxxxxxxxxxxxxxxxxxxxxx\"",
+        14,
+        "tag: a text of at most 255 bytes after has",
+    ),
     ("\tturn gray  ", 6, "turn: white or black"),
     ("not", 3, DENIED_ALONE),
     ("not or", 4, DENIED_ALONE),

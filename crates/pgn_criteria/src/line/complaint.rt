@@ -2,7 +2,7 @@
 use super::core_of;
 use super::limits::limits_of;
 use super::move_words::is_move_word;
-use super::tag::{are_names, relation_of};
+use super::tag::{are_names, contents_of, relation_of};
 use crate::cut::next_part;
 use crate::rank::next_item;
 use crate::words::{behind_blanks, split_first, split_word};
@@ -52,6 +52,8 @@ const NAME: &str = "tag: a name of letters, digits and _, or several with | betw
 const OPERATOR: &str = "tag: an operator, one of = <> < <= > >= has begins";
 
 const CONTENTS: &str = "tag: a text between double quotes";
+
+const CONTAINED: &str = "tag: a text of at most 255 bytes after has";
 
 const SIDE: &str = "turn: white or black";
 
@@ -208,6 +210,9 @@ fn tag_stop(text: &[u8]) -> Stop {
     let (operator, string) = split_first(rest);
     if relation_of(operator).is_none() {
         return Stop::before(rest, OPERATOR);
+    }
+    if contents_of(string).is_some() {
+        return Stop::before(string, CONTAINED);
     }
     Stop::before(string, CONTENTS)
 }

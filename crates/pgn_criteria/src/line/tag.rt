@@ -4,7 +4,7 @@ ghost use Rattle.std.specs.List.{list_all};
 ghost use Rattle.chess.specs.Fen.{parted_at};
 ghost use Rattle.pgn_text.specs.Bytes.{is_name_byte};
 ghost use Rattle.pgn_text.specs.Strings.{IsContents};
-ghost use Rattle.pgn_criteria.specs.Lines.{SpellsClaim, IsName, AreNames, relation_text};
+ghost use Rattle.pgn_criteria.specs.Lines.{SpellsClaim, IsName, AreNames, CanBeCompared, relation_text};
 ghost use Rattle.pgn_criteria.specs.Stages.{claim_seen};
 ghost use Rattle.pgn_criteria.specs.declared.compare.Relation.{Relation};
 ghost use Rattle.pgn_criteria.specs.declared.condition.Claim.TheVariants.{Tag};
@@ -71,13 +71,23 @@ pub(super) fn are_names(text: &[u8]) -> bool
 }
 
 /// What stands between the quotes of a string, if the text is one.
-fn contents_of(text: &[u8]) -> Option<&[u8]>
+pub(super) fn contents_of(text: &[u8]) -> Option<&[u8]>
     ensures { MatchOption result ((contents : List ℕ) → text.now ≡ 34 ∷ (contents ++ 34 ∷ []) → IsContents contents → ⊥) (λ contents. (text.now ≡ 34 ∷ (contents.now ++ 34 ∷ [])) × IsContents contents.now) }
 {
     match text {
         [b'"', contents @ .., b'"'] if is_contents(contents) => Some(contents),
         _ => None,
     }
+}
+
+/// The most bytes of a text that values are to contain: as many as a string of a game has (PGN 7). Looking for it stays linear in the value.
+const MOST_CONTAINED: usize = 255;
+
+/// Whether values can be compared with these contents by the relation.
+pub(super) fn can_be_compared(relation: Relation, contents: &[u8]) -> bool
+    ensures { IsTrue result ↔ CanBeCompared relation contents.now }
+{
+    relation != Relation::Has || contents.len() <= MOST_CONTAINED
 }
 
 /// The claim on a tag that the text spells, if it is one.
@@ -92,6 +102,9 @@ pub(super) fn tag_of(text: &[u8]) -> Option<Claim<&[u8]>>
     let (operator, string) = split_first(rest);
     let relation = relation_of(operator)?;
     let contents = contents_of(string)?;
+    if !can_be_compared(relation, contents) {
+        return None;
+    }
     Some(Claim::Tag {
         names,
         relation,

@@ -2,7 +2,7 @@
 
 use crate::meets::Criteria;
 use crate::parse::CriteriaError;
-use std::alloc::Global;
+use std::alloc::{AllocError, Global};
 use std::test::Fail;
 
 /// Whether the text is refused for the line of that number.
@@ -320,5 +320,31 @@ fn texts_have_a_limit(rt: HostRuntime) -> Result<(), Fail> {
     assert!(rt; is_too_long(alloc, &word));
     assert!(rt; spells(alloc, &comment[1..], 1, 0));
     assert!(rt; is_refused(alloc, &word[1..], 1));
+    Ok(())
+}
+
+/// Whether a condition whose text has so many bytes is accepted after that relation, where it is so, and refused where it is not.
+fn takes(alloc: Global, relation: &[u8], bytes: usize, is_so: bool) -> Result<bool, AllocError> {
+    let mut line = b"tag A ".to_vec(alloc)?;
+    line.extend_from_slice(relation)?;
+    line.extend_from_slice(b" \"")?;
+    for _ in 0..bytes {
+        line.push(b'x')?;
+    }
+    line.push(b'"')?;
+    Ok(if is_so {
+        spells(alloc, &line, 1, 1)
+    } else {
+        is_refused(alloc, &line, 1)
+    })
+}
+
+#[test]
+fn contained_texts_have_at_most_255_bytes(rt: HostRuntime) -> Result<(), Fail> {
+    let alloc = rt.alloc();
+    assert!(rt; takes(alloc, b"has", 255, true)?);
+    assert!(rt; takes(alloc, b"has", 256, false)?);
+    assert!(rt; takes(alloc, b"begins", 256, true)?);
+    assert!(rt; takes(alloc, b"=", 256, true)?);
     Ok(())
 }
