@@ -262,7 +262,7 @@ const MIRRORED: &str = "either: fen, flip fen, material or turn, with or without
 const DENIED_ALONE: &str = "a condition after not, and no second not";
 
 /// Where lines stop being of the language, and what is expected there.
-const EXPLAINED: [Complaint; 38] = [
+const EXPLAINED: [Complaint; 37] = [
     ("chek", 0, "did you mean check?"),
     ("  stlaemate", 2, "did you mean stalemate?"),
     ("Turn white", 0, "did you mean turn?"),
@@ -297,14 +297,6 @@ const EXPLAINED: [Complaint; 38] = [
     ("tag White ~ \"x\"", 10, OPERATOR),
     ("tag White = x", 12, "tag: a text between double quotes"),
     ("tag White has x", 14, "tag: a text between double quotes"),
-    (
-        "tag White has \"xxxxxxxxxxxxxxxxxxxxxxxxxxxxxxxxxxxxxxxxxxxxxxxxxxxxxxxxxxxxxxxx\
-        xxxxxxxxxxxxxxxxxxxxxxxxxxxxxxxxxxxxxxxxxxxxxxxxxxxxxxxxxxxxxxxx\
-        xxxxxxxxxxxxxxxxxxxxxxxxxxxxxxxxxxxxxxxxxxxxxxxxxxxxxxxxxxxxxxxx\
-        xxxxxxxxxxxxxxxxxxxxxxxxxxxxxxxxxxxxxxxxxxxxxxxxxxxxxxxxxxxxxxxx\"",
-        14,
-        "tag: a text of at most 255 bytes after has",
-    ),
     ("\tturn gray  ", 6, "turn: white or black"),
     ("not", 3, DENIED_ALONE),
     ("not or", 4, DENIED_ALONE),
@@ -506,5 +498,21 @@ fn refused_lines_are_explained(rt: HostRuntime) -> Result<(), Fail> {
         let text = explained(rt.alloc(), row)?;
         assert!(rt; end.is(b"", &text, 2) && opened == 0, "{:?}", row.0);
     }
+    Ok(())
+}
+
+/// A text of 256 bytes that a value is to contain.
+const CONTAINED: &str = "tag White has \"xxxxxxxxxxxxxxxxxxxxxxxxxxxxxxxxxxxxxxxxxxxxxxxxxxxxxxxxxxxxxxxx\
+    xxxxxxxxxxxxxxxxxxxxxxxxxxxxxxxxxxxxxxxxxxxxxxxxxxxxxxxxxxxxxxxx\
+    xxxxxxxxxxxxxxxxxxxxxxxxxxxxxxxxxxxxxxxxxxxxxxxxxxxxxxxxxxxxxxxx\
+    xxxxxxxxxxxxxxxxxxxxxxxxxxxxxxxxxxxxxxxxxxxxxxxxxxxxxxxxxxxxxxxx\"";
+
+#[test]
+fn a_text_to_be_contained_has_at_most_255_bytes(rt: HostRuntime) -> Result<(), Fail> {
+    let text = b"pgn-extract: criteria line 1\n  tag White has \"xxxxxxxxxxxxxxxxxx\n                \
+        ^ tag: a text of at most 255 bytes after has\n";
+    let words = ["--explain", "--list", "--where", CONTAINED];
+    let (end, opened) = run_with(rt.alloc(), &words, b"", E4_E5)?;
+    assert!(rt; end.is(b"", text, 2) && opened == 0);
     Ok(())
 }
