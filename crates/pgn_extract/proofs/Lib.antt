@@ -26,6 +26,7 @@ pub mod RestOfBlock
 pub mod Resumed
 pub mod RunProgress
 pub mod SameTags
+pub mod SeveralFacts
 pub mod Decided
 pub mod SomeReport
 pub mod StopNotes
@@ -40,3 +41,4 @@ pub mod NoteOnce
 pub mod FirstExports
 pub mod PartsReported
 pub mod Sought
+pub mod TwoFiles

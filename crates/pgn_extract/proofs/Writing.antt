@@ -18,6 +18,11 @@ appends_join (Some xs) None new front back a b = absurd a
 appends_join (Some xs) (Some ys) None front back a b = absurd b
 appends_join (Some xs) (Some ys) (Some zs) front back a b = b ∙ ap (λ t. t ++ back) a ∙ append_assoc xs front back
 
+-- four pieces
+pub appends_four : (a b c d e : Option (List ℕ)) (w x y z : List ℕ) → Appends a b w → Appends b c x → Appends c d y → Appends d e z → (all : List ℕ) × Appends a e all
+appends_four a b c d e w x y z first second third last =
+    (((w ++ x) ++ y) ++ z, appends_join a d e ((w ++ x) ++ y) z (appends_join a c d (w ++ x) y (appends_join a b c w x first second) third) last)
+
 -- what stays adds nothing
 pub appends_kept : (old mid new : Option (List ℕ)) (front : List ℕ) → Appends old mid front → Keeps mid new → Appends old new front
 appends_kept None mid new front a k = tt

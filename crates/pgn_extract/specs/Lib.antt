@@ -9,6 +9,7 @@ pub mod Verdicts
 pub mod Outcomes
 pub mod Resuming
 pub mod Runs
+pub mod Several
 pub mod Laws
 -- Private words: what the parts of a run do. No public contract cites them.
 pub mod EntryRows
@@ -17,3 +18,4 @@ pub mod Finding
 pub mod RunParts
 pub mod NoteTexts
 pub mod MoveNotes
+pub mod TwoFiles

@@ -6,7 +6,8 @@ use Rattle.pgn_extract.specs.declared.outcome.RunError.TheVariants.{Write}
 use Rattle.pgn_extract.specs.declared.outcome.Summary.{Summary}
 use Rattle.pgn_extract.specs.declared.report.Report.{Report}
 use Rattle.pgn_extract.specs.Outcomes.{AppendsFront}
-use Rattle.pgn_extract.specs.Runs.{Job, Io, Passage}
+use Rattle.pgn_extract.specs.Runs.{Adds, Job, Io, Passage}
+use Rattle.pgn_extract.specs.Several.{AtPath, IsOfPath, Order}
 
 -- the stream grew by a beginning of these bytes
 abbrev pub AddsFront : Passage → List ℕ → Type 0
@@ -48,3 +49,7 @@ Broken job io error =
 pub record WriteFaultsAre {A : Type 0} (result : Result A RunError) (out err : Passage) : Type 0 where
   pub write : IsErrOf result Write ↔ ((out.new.faulted ≡ true) ⊎ (err.new.faulted ≡ true))
   pub alone : (out.new.faulted ≡ true) × (err.new.faulted ≡ true) → ⊥
+
+-- the output and standard error grew by what is written of a path
+abbrev pub WritesPath : Order → List ℕ → AtPath → Passage → Passage → Type 0
+WritesPath order path at out err = (output : List ℕ) × (report : List ℕ) × IsOfPath order path at output report × Adds out output × Adds err report

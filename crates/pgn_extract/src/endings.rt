@@ -1,5 +1,6 @@
 //! What stands on standard error of a whole run: its summary, or why it failed.
-ghost use Rattle.std.specs.Prelude.{◌≡◌, ◌↔◌, false, true, IsErrOf, OnOk, OnErr};
+ghost use Rattle.std.specs.Prelude.{◌≡◌, ◌↔◌, ℕ, List, false, true, IsErrOf, OnOk, OnErr};
+ghost use Rattle.std.specs.Io.KnownBytes.{Appends};
 
 use crate::file_name::FileName;
 use crate::messages;
@@ -40,6 +41,7 @@ pub fn put_line<E: Write>(
     line: &str,
 ) -> Result<(), RunError>
     requires { err.old.faulted ≡ false }
+    ensures line { OnOk result ((written : List ℕ) × Appends (E.contents err.old.inner) (E.contents err.new.inner) written) }
     ensures fault { IsErrOf result RunError.Write ↔ (err.new.faulted ≡ true) }
 {
     let Some(name) = name else {
@@ -71,6 +73,7 @@ pub fn put_summary<E: Write>(
     summary: &Summary,
 ) -> Result<(), RunError>
     requires { err.old.faulted ≡ false }
+    ensures line { OnOk result ((written : List ℕ) × Appends (E.contents err.old.inner) (E.contents err.new.inner) written) }
     ensures fault { IsErrOf result RunError.Write ↔ (err.new.faulted ≡ true) }
 {
     let Summary { games, faulty } = *summary;

@@ -1,6 +1,11 @@
 //! The files of the command line, each of which is read as if it were the only one.
-ghost use Rattle.std.specs.Prelude.{◌≡◌, ◌↔◌, ◌⊎◌, ◌≤◌, ◌^◌, false, true, IsErrOf};
+ghost use Rattle.std.specs.Prelude.{◌≡◌, ◌≢◌, ◌↔◌, ◌⊎◌, ◌≤◌, ◌^◌, ◌||◌, ℕ, List, [], false, true, is_none, IfErr, IfOk, IfSome, OnOk, IsErrOf};
+ghost use Rattle.std.specs.List.{list_any};
+ghost use Rattle.std.specs.IoError.{error_kind};
 ghost use Rattle.pgn_text.specs.Limits.{largest_offset};
+ghost use Rattle.pgn_extract.specs.RunParts.{WritesPath};
+ghost use Rattle.pgn_extract.specs.Runs.{Adds, passage};
+ghost use Rattle.pgn_extract.specs.Several.{AtPath, Unknown, AreKnown, IsOpened, IsRefused, NamesUnopened, WritesPaths, WritesRead, is_no_file, order_at, order_of, paths_of};
 
 use crate::endings::put_summary;
 use crate::extract::run_skipping;
@@ -18,8 +23,14 @@ use std::io::{ErrorKind, Read, Write};
 pub trait Files {
     type Input: Skip;
 
+    // What is known of a path.
+    ghost known: { Self → List ℕ → AtPath } = { λ _ _. Unknown };
+
     /// Opens the file at `path`. An error of the kind `OutOfMemory` means that memory ran out.
-    fn open(&mut self, path: &str) -> io::Result<Self::Input>;
+    fn open(&mut self, path: &str) -> io::Result<Self::Input>
+        ensures opened { IfOk result (λ input. IsOpened (known self.old path.now) (Self.Input.remaining input)) }
+        ensures refused { IfErr result (λ error. IsRefused (known self.old path.now) (error_kind error)) }
+        ensures kept { (own : List ℕ) → known self.new own ≡ known self.old own };
 
     /// Standard input.
     fn standard(&mut self) -> Self::Input;
@@ -70,8 +81,14 @@ impl Total {
         }
     }
 
-    /// Adds what a run met.
-    fn add(&mut self, own: &Summary) {
+    /// Adds what a run met, or that a file could not be opened.
+    fn add(&mut self, ran: Option<Summary>)
+        ensures { self.new.unopened ≡ (self.old.unopened || is_none ran) }
+    {
+        let Some(own) = ran else {
+            self.unopened = true;
+            return;
+        };
         self.summary.games = self.summary.games.saturating_add(own.games);
         self.summary.faulty = self.summary.faulty.saturating_add(own.faulty);
     }
@@ -81,9 +98,28 @@ impl Total {
 pub fn name_file(alloc: Global, task: &mut Task<'_>, name: &str) -> Result<(), AllocError>
     ensures number { task.new.settings.number ≡ task.old.settings.number }
     ensures offset { task.new.settings.offset ≡ task.old.settings.offset }
+    ensures named { OnOk result (order_of task.new ≡ order_at task.old name.now) }
+    ensures kept { (path : List ℕ) → order_at task.new path ≡ order_at task.old path }
 {
     if task.with_names {
         task.settings.name = Some(FileName::of_path(alloc, name)?);
+    }
+    Ok(())
+}
+
+/// Ends the lines of a run with its summary, where that is asked for and lines have names.
+fn put_own_summary<E: Write>(
+    alloc: Global,
+    err: &mut Tally<E>,
+    task: &Task<'_>,
+    own: &Summary,
+) -> Result<(), RunError>
+    requires { err.old.faulted ≡ false }
+    ensures line { OnOk result ((line : List ℕ) × (task.now.summary ≡ false → line ≡ []) × Adds (passage E.contents err.old err.new) line) }
+    ensures fault { IsErrOf result RunError.Write ↔ (err.new.faulted ≡ true) }
+{
+    if task.summary && task.settings.name.is_some() {
+        return put_summary(alloc, err, &task.settings.name, own);
     }
     Ok(())
 }
@@ -101,13 +137,13 @@ where
     requires sound { (out.old.faulted ≡ false) × (err.old.faulted ≡ false) }
     requires number { (1 ≤ task.now.settings.number) × (task.now.settings.number ≤ 2 ^ 62) }
     requires offset { task.now.settings.offset ≤ largest_offset }
+    ensures read { OnOk result (IfSome (I.remaining input)
+        (λ text. WritesRead (order_of task.now) text (passage O.contents out.old out.new) (passage E.contents err.old err.new))) }
     ensures faults { IsErrOf result RunError.Write ↔ ((out.new.faulted ≡ true) ⊎ (err.new.faulted ≡ true)) }
 {
     let mut input = Tally::new(input.take(task.end));
     let own = run_skipping(alloc, &mut input, out, err, &task.settings)?;
-    if task.summary && task.settings.name.is_some() {
-        put_summary(alloc, err, &task.settings.name, &own)?;
-    }
+    put_own_summary(alloc, err, task, &own)?;
     Ok(own)
 }
 
@@ -119,6 +155,8 @@ fn put_unopened<E: Write>(
     error: &io::Error,
 ) -> Result<(), RunError>
     requires { err.old.faulted ≡ false }
+    ensures memory { OnOk result (error_kind error.now ≢ ErrorKind.OutOfMemory) }
+    ensures line { OnOk result ((line : List ℕ) × NamesUnopened path.now line × Adds (passage E.contents err.old err.new) line) }
     ensures fault { IsErrOf result RunError.Write ↔ (err.new.faulted ≡ true) }
 {
     if error.kind() == ErrorKind::OutOfMemory {
@@ -130,7 +168,9 @@ fn put_unopened<E: Write>(
 }
 
 /// The line of a file that could not be opened.
-fn unopened_line(alloc: Global, path: &str, error: &io::Error) -> Result<Vec<u8>, AllocError> {
+fn unopened_line(alloc: Global, path: &str, error: &io::Error) -> Result<Vec<u8>, AllocError>
+    ensures { IfOk result (λ line. NamesUnopened path.now line.items) }
+{
     let name = FileName::of_path(alloc, path)?;
     let mut line = Vec::from_slice(alloc, b"pgn-extract: cannot open input: ")?;
     line.extend_from_slice(name.bytes())?;
@@ -138,6 +178,42 @@ fn unopened_line(alloc: Global, path: &str, error: &io::Error) -> Result<Vec<u8>
     push_reason(alloc, &mut line, error)?;
     line.push(b'\n')?;
     Ok(line)
+}
+
+/// Runs over the file at the path. One that cannot be opened is named: it has no summary.
+fn run_path<F: Files, O: Write, E: Write>(
+    alloc: Global,
+    task: &mut Task<'_>,
+    files: &mut F,
+    path: &str,
+    out: &mut Tally<O>,
+    err: &mut Tally<E>,
+) -> Result<Option<Summary>, RunError>
+where
+    F::Input: Drop,
+    requires sound { (out.old.faulted ≡ false) × (err.old.faulted ≡ false) }
+    requires number { (1 ≤ task.old.settings.number) × (task.old.settings.number ≤ 2 ^ 62) }
+    requires offset { task.old.settings.offset ≤ largest_offset }
+    ensures written { OnOk result (F.known files.old path.now ≢ Unknown → WritesPath (order_at task.old path.now) path.now (F.known files.old path.now)
+        (passage O.contents out.old out.new) (passage E.contents err.old err.new)) }
+    ensures unopened { IfOk result (λ ran. F.known files.old path.now ≢ Unknown → is_none ran ≡ is_no_file (F.known files.old path.now)) }
+    ensures known { (own : List ℕ) → F.known files.new own ≡ F.known files.old own }
+    ensures orders { (own : List ℕ) → order_at task.new own ≡ order_at task.old own }
+    ensures number { task.new.settings.number ≡ task.old.settings.number }
+    ensures offset { task.new.settings.offset ≡ task.old.settings.offset }
+    ensures faults { IsErrOf result RunError.Write ↔ ((out.new.faulted ≡ true) ⊎ (err.new.faulted ≡ true)) }
+{
+    name_file(alloc, task, path)?;
+    match files.open(path) {
+        Ok(input) => match run_input(alloc, task, input, out, err) {
+            Ok(own) => Ok(Some(own)),
+            Err(error) => Err(error),
+        },
+        Err(error) => match put_unopened(alloc, err, path, &error) {
+            Ok(()) => Ok(None),
+            Err(error) => Err(error),
+        },
+    }
 }
 
 /// Runs over the files in their order, each by itself. One that cannot be opened is named, and the others are read.
@@ -153,19 +229,16 @@ where
     requires sound { (out.old.faulted ≡ false) × (err.old.faulted ≡ false) }
     requires number { (1 ≤ task.old.settings.number) × (task.old.settings.number ≤ 2 ^ 62) }
     requires offset { task.old.settings.offset ≤ largest_offset }
+    ensures written { OnOk result (AreKnown (F.known files.old) (paths_of task.old)
+        → WritesPaths (order_at task.old) (F.known files.old) (paths_of task.old) (passage O.contents out.old out.new) (passage E.contents err.old err.new)) }
+    ensures unopened { IfOk result (λ total. AreKnown (F.known files.old) (paths_of task.old)
+        → total.unopened ≡ list_any (λ path. is_no_file (F.known files.old path)) (paths_of task.old)) }
     ensures faults { IsErrOf result RunError.Write ↔ ((out.new.faulted ≡ true) ⊎ (err.new.faulted ≡ true)) }
 {
     let mut total = Total::NONE;
     let paths = task.paths;
     for path in paths {
-        name_file(alloc, task, path)?;
-        match files.open(path) {
-            Ok(input) => total.add(&run_input(alloc, task, input, out, err)?),
-            Err(error) => {
-                put_unopened(alloc, err, path, &error)?;
-                total.unopened = true;
-            }
-        }
+        total.add(run_path(alloc, task, files, path, out, err)?);
     }
     Ok(total)
 }

@@ -43,7 +43,7 @@ mod tool;
 
 pub use extract::{run, run_skipping};
 pub use file_name::FileName;
-pub use files::Files;
+pub use files::{Files, Task, Total, run_files, run_input};
 pub use outcome::{RunError, Summary};
 pub use settings::{Form, Mode, Select, Settings};
 pub use tool::program;

@@ -1,5 +1,5 @@
 //! Runs over memory: what each clause of `run` says where all bytes are known.
-ghost use Rattle.std.specs.Prelude.{◌≡◌, ◌↔◌, ◌⊎◌, ◌≤◌, ◌<◌, ◌^◌, ◌++◌, ℕ, true, false, List, drop, length, take, count_by, IfErr, IfOk, OnOk, IsErrOf};
+ghost use Rattle.std.specs.Prelude.{◌≡◌, ◌↔◌, ◌⊎◌, ◌≤◌, ◌<◌, ◌^◌, ◌++◌, ℕ, true, false, List, codes, drop, length, take, count_by, IfErr, IfOk, OnOk, IsErrOf};
 ghost use Rattle.pgn_text.specs.Complete.{AreCompletePieces};
 ghost use Rattle.pgn_text.specs.Limits.{block_limit, depth_limit, largest_offset};
 ghost use Rattle.pgn_text.specs.Marks.{MarkedPiece, AreMarkedPieces};
@@ -8,19 +8,53 @@ ghost use Rattle.pgn_extract.specs.Exports.{AreExports};
 ghost use Rattle.pgn_extract.specs.Index.{index};
 ghost use Rattle.pgn_extract.specs.Listing.{Entry, AreEntries, entries_at_least, listing};
 ghost use Rattle.pgn_extract.specs.Resuming.{IsMarkAmong, verdicts_at_least};
+ghost use Rattle.pgn_extract.specs.Runs.{ArePieces, job_of};
+ghost use Rattle.pgn_extract.specs.Several.{IsReport, NamesUnopened};
 ghost use Rattle.pgn_extract.specs.Verdicts.{Verdict, AreVerdicts, IsSameReport, fault_lines, is_faulty, output_text};
 
 use crate::extract::run;
+use crate::files::{Files, Task, run_files};
 use crate::outcome::{RunError, Summary};
 use crate::settings::{Mode, Settings};
 use pgn_text::Tally;
 use std::alloc::Global;
+use std::io;
+use std::io::ErrorKind;
 
 /// What a run over a text wrote to the output and to standard error.
 #[derive(Drop)]
 pub struct Written {
     pub out: Vec<u8>,
     pub err: Vec<u8>,
+}
+
+/// Two texts as the files `first.pgn` and `second.pgn`. At every other path there is no file.
+#[derive(Drop)]
+pub struct TwoFiles<'a> {
+    pub first: &'a [u8],
+    pub second: &'a [u8],
+}
+
+impl<'a> Files for TwoFiles<'a> {
+    ghost use Rattle.pgn_extract.specs.TwoFiles.{known_of_two};
+
+    type Input = &'a [u8];
+
+    ghost known = { λ files path. known_of_two files.first.now files.second.now path };
+
+    fn open(&mut self, path: &str) -> io::Result<&'a [u8]> {
+        match path {
+            "first.pgn" => Ok(self.first),
+            "second.pgn" => Ok(self.second),
+            _ => Err(io::Error::from(ErrorKind::NotFound)),
+        }
+    }
+
+    fn standard(&mut self) -> &'a [u8] {
+        b""
+    }
+
+    fn show_progress(&mut self) {}
 }
 
 /// The index of a text.
@@ -162,4 +196,55 @@ pub fn report_some<'a>(
     ensures alone { (out.new.faulted ≡ true) × (err.new.faulted ≡ true) → ⊥ }
 {
     run(alloc, input, out, err, settings)
+}
+
+/// Runs over two files in memory, up to an offset in each, with a path between them at which there is none.
+/// Written is what each file alone gives, and the line that names the path.
+pub fn report_files(
+    alloc: Global,
+    files: &mut TwoFiles<'_>,
+    settings: Settings,
+    end: u64,
+) -> Result<Written, RunError>
+    requires number { (1 ≤ settings.number) × (settings.number ≤ 2 ^ 62) }
+    requires offset { settings.offset ≤ largest_offset }
+    ensures { IfOk result (λ written. (one : List ℕ) × (faults : List ℕ) × (line : List ℕ) × (two : List ℕ) × (others : List ℕ)
+        × IsReport (job_of settings) (take end files.old.first.now) one faults × NamesUnopened (codes "none.pgn") line
+        × IsReport (job_of settings) (take end files.old.second.now) two others
+        × (written.out.items ≡ one ++ two) × (written.err.items ≡ faults ++ line ++ others)) }
+{
+    let mut out = Tally::new(Vec::new(alloc));
+    let mut err = Tally::new(Vec::new(alloc));
+    let mut task = Task {
+        settings,
+        paths: &["first.pgn", "none.pgn", "second.pgn"],
+        with_names: false,
+        summary: false,
+        end,
+    };
+    match run_files(alloc, &mut task, files, &mut out, &mut err) {
+        Ok(_) => Ok(Written {
+            out: out.into_inner(),
+            err: err.into_inner(),
+        }),
+        Err(error) => Err(error),
+    }
+}
+
+/// Lists the same two files: the listing of the first, and then that of the second.
+pub fn list_files(
+    alloc: Global,
+    files: &mut TwoFiles<'_>,
+    settings: Settings,
+    end: u64,
+) -> Result<Written, RunError>
+    requires number { (1 ≤ settings.number) × (settings.number ≤ 2 ^ 62) }
+    requires offset { settings.offset ≤ largest_offset }
+    requires mode { settings.mode ≡ Mode.List }
+    ensures { IfOk result (λ written. (pieces : List MarkedPiece) × (entries : List Entry) × (others : List MarkedPiece) × (more : List Entry)
+        × ArePieces (job_of settings) (take end files.old.first.now) pieces × AreEntries (aim_of settings) settings.number pieces entries
+        × ArePieces (job_of settings) (take end files.old.second.now) others × AreEntries (aim_of settings) settings.number others more
+        × (written.out.items ≡ listing settings.name entries ++ listing settings.name more)) }
+{
+    report_files(alloc, files, settings, end)
 }

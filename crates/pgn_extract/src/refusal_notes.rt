@@ -1,4 +1,6 @@
 //! What `--explain` adds to a refusal before the run: the line of criteria and its place, or the name of a file and the system's reason.
+ghost use Rattle.std.specs.Prelude.{◌≡◌, ◌++◌, ℕ, List, OnOk};
+
 use crate::file_name::{FileName, shown_byte_of};
 use crate::texts::push_number;
 use memchr::memchr;
@@ -12,7 +14,9 @@ const BEFORE: usize = 60;
 const FROM: usize = 19;
 
 /// Appends the system's reason for an error.
-pub fn push_reason(alloc: Global, text: &mut Vec<u8>, error: &io::Error) -> Result<(), AllocError> {
+pub fn push_reason(alloc: Global, text: &mut Vec<u8>, error: &io::Error) -> Result<(), AllocError>
+    ensures { OnOk result ((reason : List ℕ) × (text.new.items ≡ text.old.items ++ reason)) }
+{
     let reason = match format!(in alloc; "{error}") {
         Ok(reason) => reason,
         Err(_) => return Err(AllocError),

@@ -3,7 +3,7 @@ ghost use Rattle.std.specs.Prelude.{◌≡◌, ◌≤◌, ◌^◌};
 
 use chess::{Bits, Position, resolve};
 use pgn_criteria::Criteria;
-use pgn_extract::memory::{Written, list_text};
+use pgn_extract::memory::{TwoFiles, Written, list_files, list_text};
 use pgn_extract::{Form, Mode, RunError, Select, Settings};
 use pgn_game::{GameFault, Lines, Style, export, replay};
 use pgn_text::{Piece, RawGame, games};
@@ -72,9 +72,13 @@ fn listed(alloc: Global, text: &[u8], settings: &Settings) -> Result<Vec<u8>, Ru
     Ok(out)
 }
 
-/// Whether that example lists these lines.
-fn is_listed(alloc: Global, text: &[u8], first: bool, wanted: &[u8]) -> bool {
-    let settings = Settings {
+/// What asks for each ply of games but the start, or for the first of each game.
+fn plies(first: bool) -> Settings
+    ensures number { result.number ≡ 1 }
+    ensures offset { result.offset ≡ 0 }
+    ensures mode { result.mode ≡ Mode.List }
+{
+    Settings {
         name: None,
         mode: Mode::List,
         criteria: None,
@@ -87,8 +91,12 @@ fn is_listed(alloc: Global, text: &[u8], first: bool, wanted: &[u8]) -> bool {
         explain: false,
         number: 1,
         offset: 0,
-    };
-    match listed(alloc, text, &settings) {
+    }
+}
+
+/// Whether that example lists these lines.
+fn is_listed(alloc: Global, text: &[u8], first: bool, wanted: &[u8]) -> bool {
+    match listed(alloc, text, &plies(first)) {
         Ok(out) => out.as_slice() == wanted,
         Err(_) => false,
     }
@@ -144,5 +152,21 @@ fn a_text_in_memory_is_listed(rt: HostRuntime) -> Result<(), Fail> {
     let text = b"1. e4 e5 *\n1. e5 *\n1. d4 *\n";
     assert!(rt; is_listed(rt.alloc(), text, false, b"1@0 1\n1@0 2\n3@19 1\n"));
     assert!(rt; is_listed(rt.alloc(), text, true, b"1@0 1\n3@19 1\n"));
+    Ok(())
+}
+
+#[test]
+fn two_files_in_memory_are_listed(rt: HostRuntime) -> Result<(), Fail> {
+    let mut files = TwoFiles {
+        first: b"1. e4 *\n",
+        second: b"1. d4 d5 *\n1. e5 *\n",
+    };
+    let Ok(written) = list_files(rt.alloc(), &mut files, plies(false), u64::MAX) else {
+        return Err("the run failed")?;
+    };
+    assert!(rt; written.out.as_slice() == b"1@0 1\n1@0 1\n1@0 2\n".as_slice());
+    let lines =
+        b"pgn-extract: cannot open input: none.pgn: entity not found\npgn-extract: game 2@11: illegal move e5 at ply 1\n".as_slice();
+    assert!(rt; written.err.as_slice() == lines);
     Ok(())
 }

@@ -1,0 +1,118 @@
+-- Runs over files, one after the other.
+use Rattle.std.proofs.Common.{◌≡◌, ◌≢◌, ◌++◌, ◌||◌, ◌+◌, ◌<◌, ℕ, Bool, true, false, List, [], ◌∷◌, Option, Some, None, IfSome, length, take, map, get_or, refl, sym, ap, subst, ◌∙◌}
+use Rattle.std.proofs.lemmas.List.{append_assoc, append-nil, get_or-map, length-map, take_more}
+use Rattle.std.proofs.lemmas.List.Folds.{list_any-append}
+use Rattle.std.specs.Io.KnownBytes.{Appends}
+use Rattle.std.specs.List.{list_any}
+use Rattle.std.specs.Option.{option_map}
+use Rattle.std.specs.declared.io.ErrorKind.{ErrorKind}
+use Rattle.std.specs.declared.io.ErrorKind.TheVariants.{OutOfMemory}
+use Rattle.pgn_extract.proofs.Writing.{appends_join}
+use Rattle.pgn_extract.specs.Runs.{Completes, Io}
+use Rattle.pgn_extract.specs.Several.{AreKnown, AreOfPaths, AtPath, FileOf, IsOfPath, IsRead, IsRefused, NamesUnopened, NoFile, Order, Unknown, is_no_file}
+use Rattle.pgn_extract.specs.Verdicts.{fault_lines, output_text}
+use Rattle.pgn_extract.specs.declared.outcome.Summary.{Summary}
+
+-- what is written of one path more
+pub paths_more : (order : List ℕ → Order) (known : List ℕ → AtPath) (before : List (List ℕ)) (path output report own own_report : List ℕ)
+    → AreOfPaths order known before output report → IsOfPath (order path) path (known path) own own_report
+    → AreOfPaths order known (before ++ path ∷ []) (output ++ own) (report ++ own_report)
+paths_more order known [] path output report own own_report are is =
+    (own, own_report, [], [], is, (refl, refl), ap (λ o. o ++ own) are.0 ∙ sym (append-nil own), ap (λ r. r ++ own_report) are.1 ∙ sym (append-nil own_report))
+paths_more order known (first ∷ more) path output report own own_report are is = (
+  are.0,
+  are.1,
+  are.2 ++ own,
+  are.3 ++ own_report,
+  are.4,
+  paths_more order known more path are.2 are.3 own own_report are.5 is,
+  ap (λ o. o ++ own) are.6 ∙ append_assoc are.0 are.2 own,
+  ap (λ r. r ++ own_report) are.7 ∙ append_assoc are.1 are.3 own_report,
+)
+
+-- the paths up to a place and the one that stands there
+path_there : {P : Type 0} (view : P → List ℕ) (all : List P) (i : ℕ) (d : P) → i < length all
+    → take (i + 1) (map view all) ≡ take i (map view all) ++ view (get_or all i d) ∷ []
+path_there view all i d within =
+    let e : i < length (map view all) = subst (λ n. i < n) (sym (length-map all view)) within in
+    take_more (map view all) i [] e ∙ ap (λ path. take i (map view all) ++ path ∷ []) (get_or-map view all i d [] within)
+
+-- something is known of it
+pub known_there : {P : Type 0} (view : P → List ℕ) (all : List P) (i : ℕ) (d : P) (known now : List ℕ → AtPath) → ((path : List ℕ) → now path ≡ known path)
+    → i < length all → AreKnown known (map view all) → now (view (get_or all i d)) ≢ Unknown
+known_there view all i d known now same within are = λ unknown.
+    let e : i < length (map view all) = subst (λ n. i < n) (sym (length-map all view)) within in
+    are i [] e (ap known (get_or-map view all i d [] within) ∙ sym (same (view (get_or all i d))) ∙ unknown)
+
+-- what is written of it, after what is written of those before it
+pub written_there : {P : Type 0} (view : P → List ℕ) (all : List P) (i : ℕ) (d : P) (order order' : List ℕ → Order) (known known' : List ℕ → AtPath)
+    → ((path : List ℕ) → order' path ≡ order path) → ((path : List ℕ) → known' path ≡ known path) → i < length all
+    → (output report own own_report : List ℕ) → AreOfPaths order known (take i (map view all)) output report
+    → IsOfPath (order' (view (get_or all i d))) (view (get_or all i d)) (known' (view (get_or all i d))) own own_report
+    → AreOfPaths order known (take (i + 1) (map view all)) (output ++ own) (report ++ own_report)
+written_there view all i d order order' known known' orders same within output report own own_report are is =
+    let path = view (get_or all i d) in
+    subst (λ paths. AreOfPaths order known paths (output ++ own) (report ++ own_report)) (sym (path_there view all i d within))
+    (paths_more order known (take i (map view all)) path output report own own_report are
+    (subst (λ (o : Order). IsOfPath o path (known path) own own_report) (orders path)
+    (subst (λ (at : AtPath). IsOfPath (order' path) path at own own_report) (same path) is)))
+
+or_false : (was : Bool) → was || false ≡ was
+or_false true = refl
+or_false false = refl
+
+-- whether no file can be opened at one of the paths up to it
+pub unopened_there : {P : Type 0} (view : P → List ℕ) (all : List P) (i : ℕ) (d : P) (known known' : List ℕ → AtPath) → ((path : List ℕ) → known' path ≡ known path)
+    → i < length all → (was own now : Bool) → now ≡ was || own → was ≡ list_any (λ path. is_no_file (known path)) (take i (map view all))
+    → own ≡ is_no_file (known' (view (get_or all i d)))
+    → now ≡ list_any (λ path. is_no_file (known path)) (take (i + 1) (map view all))
+unopened_there view all i d known known' same within was own now is before here =
+    let path = view (get_or all i d) in
+    let test : List ℕ → Bool = λ path. is_no_file (known path) in
+    is ∙ ap (λ b. b || own) before ∙ ap (λ b. list_any test (take i (map view all)) || b) (here ∙ ap is_no_file (same path) ∙ sym (or_false (test path)))
+    ∙ sym (list_any-append test (take i (map view all)) (path ∷ [])) ∙ ap (list_any test) (sym (path_there view all i d within))
+
+-- at a path where a file could not be opened, and memory did not run out, there is none
+pub unopened_path : (order : Order) (path : List ℕ) (at : AtPath) (kind : ErrorKind) (line : List ℕ) → at ≢ Unknown → IsRefused at kind → kind ≢ OutOfMemory
+    → NamesUnopened path line → IsOfPath order path at [] line
+unopened_path order path Unknown kind line known refused other names = absurd (known refl)
+unopened_path order path NoFile kind line known refused other names = (refl, names)
+unopened_path order path (FileOf text) kind line known refused other names = absurd (other refused)
+
+read_out : (order : Order) (left : Option (List ℕ)) (io : Io) (summary : Summary) (err : Option (List ℕ)) (line : List ℕ)
+    → IfSome (option_map (take order.end) left) (λ whole. Completes order.job io whole summary)
+    → (order.summary ≡ false → line ≡ []) → Appends io.err.new.bytes err line
+    → IfSome left (λ text. (output : List ℕ) × (report : List ℕ) × IsRead order text output report
+    × Appends io.out.old.bytes io.out.new.bytes output × Appends io.err.old.bytes err report)
+read_out order None io summary err line done unasked after = tt
+read_out order (Some text) io summary err line done unasked after = (
+  output_text done.verdicts,
+  fault_lines done.verdicts ++ line,
+  record {
+    faults = fault_lines done.verdicts;
+    line = line;
+    reported = record {
+      pieces = done.pieces;
+      each = done.each;
+      verdicts = done.verdicts;
+      reported = done.written.each;
+      outputs = refl;
+      lines = refl;
+    };
+    unasked = unasked;
+    is = refl;
+  },
+  done.written.output,
+  appends_join io.err.old.bytes io.err.new.bytes err (fault_lines done.verdicts) line done.written.faults after,
+)
+
+-- a run that came to the end of what an input gives before an end, and then a line
+pub read_to_end : (order : Order) (left taken : Option (List ℕ)) (limit : ℕ) (io : Io) (summary : Summary) (err : Option (List ℕ)) (line : List ℕ)
+    → limit ≡ order.end → taken ≡ left → IfSome (option_map (take limit) taken) (λ whole. Completes order.job io whole summary)
+    → (order.summary ≡ false → line ≡ []) → Appends io.err.new.bytes err line
+    → IfSome left (λ text. (output : List ℕ) × (report : List ℕ) × IsRead order text output report
+    × Appends io.out.old.bytes io.out.new.bytes output × Appends io.err.old.bytes err report)
+read_to_end order left taken limit io summary err line at same done unasked after =
+    read_out order left io summary err line
+    (subst (λ n. IfSome (option_map (take n) left) (λ whole. Completes order.job io whole summary)) at
+    (subst (λ (bytes : Option (List ℕ)). IfSome (option_map (take limit) bytes) (λ whole. Completes order.job io whole summary)) same done)) unasked after

@@ -1,0 +1,18 @@
+use Rattle.std.proofs.Common.{◌∙◌, ap, false, refl}
+use Rattle.pgn_extract.proofs.TwoFiles.{all_known, grown, two_written}
+use Rattle.pgn_extract.specs.Runs.{job_of}
+use Rattle.pgn_extract.specs.Several.{Order}
+use Rattle.pgn_extract.proofs.memory.report_files.Goals as goal
+
+pub returns-in-Ok : goal.returns-in-Ok
+returns-in-Ok c =
+    let first = c.args.files.now.first.now in
+    let second = c.args.files.now.second.now in
+    let written = c.in-Ok.ensures.written (all_known first second) in
+    let order : Order = record { job = job_of c.args.settings; end = c.args.end; summary = false } in
+    two_written order first second written.0 written.1 c.into_inner.result.items c.into_inner-in-Ok.result.items refl
+    (grown c.into_inner.result.items c.run_files.new.out.inner.items c.new-out.result.inner.items written.0 (ap (λ out. out.items) c.into_inner.ensures) written.3
+    (ap (λ out. out.inner.items) c.new-out.ensures ∙ c.new.ensures.items))
+    (grown c.into_inner-in-Ok.result.items c.run_files.new.err.inner.items c.new-err.result.inner.items written.1 (ap (λ err. err.items) c.into_inner-in-Ok.ensures) written.4
+    (ap (λ err. err.inner.items) c.new-err.ensures ∙ c.new-2.ensures.items))
+    written.2
