@@ -1,7 +1,7 @@
 //! Legal moves (Laws 3.9.2, 3.8.2.2), the squares that they reach, and whether there is one.
 ghost use Rattle.std.specs.Prelude.{◌↔◌, IsTrue, Some, None};
 ghost use Rattle.chess.specs.Attacks.{IsInReach};
-ghost use Rattle.chess.specs.Positions.{IsCheck};
+ghost use Rattle.chess.specs.Positions.{IsCheck, IsOnlyKing};
 ghost use Rattle.chess.specs.Moves.{IsBarred, IsUnbarred, men_after, IsPseudoLegal, IsLegal, CanGo, HasMove};
 ghost use Rattle.chess.specs.MoveWords.{CanGoPlainly, CanPromote, CanCastle, CanLeave, CanMove, HasEach, IsPawnGoal, IsCastlingGoal};
 ghost use Rattle.chess.specs.Sets.{HoldsExactly};
@@ -39,7 +39,7 @@ impl<B: Board> Position<B> {
     pub fn has_move(&self) -> bool
         ensures { IsTrue result ↔ HasMove self.now }
     {
-        if self.in_check() && self.can_move(Kind::King) {
+        if self.in_check() && self.king_escapes() {
             return true;
         }
         if self.can_move(Kind::Pawn) {
@@ -59,6 +59,46 @@ impl<B: Board> Position<B> {
         }
         if self.can_move(Kind::King) {
             return true;
+        }
+        false
+    }
+
+    /// Whether the king of the side to move steps legally to the square, which it attacks.
+    #[inline(always)]
+    fn king_steps(&self, king: Square, to: Square) -> bool
+        requires king { IsOnlyKing self.now.men self.now.turn king }
+        requires near { IsInReach self.now.men king to }
+        ensures { IsTrue result → IsLegal self.now (record { from = king; to = to; promote = None; castle = None }) }
+    {
+        king.known();
+        to.known();
+        let side = self.side();
+        if self.is_held(side, to) {
+            return false;
+        }
+        let man = Man {
+            side,
+            kind: Kind::King,
+        };
+        let m = Move {
+            from: king,
+            to,
+            promote: None,
+            castle: None,
+        };
+        !self.exposes_king(man, &m)
+    }
+
+    /// Whether the king of the side to move steps legally to some square.
+    fn king_escapes(&self) -> bool
+        ensures { IsTrue result → HasMove self.now }
+    {
+        let king = self.king(self.side());
+        let mut left = self.reach(king);
+        while let Some(to) = left.take_first() {
+            if self.king_steps(king, to) {
+                return true;
+            }
         }
         false
     }
