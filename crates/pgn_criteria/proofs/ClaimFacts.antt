@@ -2,12 +2,13 @@
 use Rattle.std.proofs.Common.{◌≡◌, ℕ, List, [], ◌∷◌, ◌++◌, refl, sym, ap, ◌∙◌, subst, arith}
 use Rattle.std.specs.Prelude.{codes, true, ◌+◌}
 use Rattle.pgn_criteria.specs.Reading.{run_of, behind_word}
-use Rattle.pgn_criteria.specs.Lines.{SpellsClaim, SpellsTaken, side_text, relation_text}
+use Rattle.pgn_criteria.specs.Lines.{SpellsClaim, SpellsTaken, side_text, relation_text, comparison_text}
 use Rattle.pgn_criteria.specs.declared.condition.Claim.{Claim}
-use Rattle.pgn_criteria.specs.declared.condition.Claim.TheVariants.{Tag, Fen, Flip, Material, Moves, Turn, Check, Mate, Stalemate}
+use Rattle.pgn_criteria.specs.declared.condition.Claim.TheVariants.{Tag, Fen, Flip, Material, Moves, Plies, Turn, Check, Mate, Stalemate}
 use Rattle.pgn_criteria.proofs.SolidFacts.{BeginsSolid, EndsSolid, solid_ends, ends_behind, begins_some, word_read, word_spelled}
 use Rattle.pgn_criteria.proofs.TurnFacts.{side_ends, turn_read}
 use Rattle.pgn_criteria.proofs.FenFacts.{pattern_some, pattern_solid, fen_read, flip_read}
+use Rattle.pgn_criteria.proofs.PliesFacts.{count_ends, plies_read}
 use Rattle.pgn_criteria.proofs.TagFacts.{tag_read}
 use Rattle.pgn_criteria.proofs.MaterialFacts.{material_read}
 use Rattle.pgn_criteria.proofs.LimitFacts.{limits_some, limits_solid}
@@ -20,6 +21,7 @@ claim_begins text (Fen pattern) s = (102, _, s.1, refl)
 claim_begins text (Flip pattern) s = (102, _, s.2, refl)
 claim_begins text (Material white black) s = (109, _, s.5, refl)
 claim_begins text (Moves words) s = (109, _, s.1, refl)
+claim_begins text (Plies comparison count) s = (112, _, s.3, refl)
 claim_begins text (Turn side) s = (116, _, s.1, refl)
 claim_begins text Check s = (99, _, s, refl)
 claim_begins text Mate s = (109, _, s, refl)
@@ -49,6 +51,10 @@ claim_ends text (Material white black) (first, second, third, of_white, of_black
     (ends_behind second (codes "v" ++ (third ++ of_black)) (ends_behind (codes "v") (third ++ of_black) last)))))
 claim_ends text (Moves words) (gap, is, g, are) =
     ends_as text _ is (ends_behind (codes "moves") (gap ++ words) (ends_behind gap words (words_end words are)))
+claim_ends text (Plies comparison count) (first, second, digits, is, g, h, counted) =
+    ends_as text _ is (ends_behind (codes "plies") (first ++ (comparison_text comparison ++ (second ++ digits)))
+    (ends_behind first (comparison_text comparison ++ (second ++ digits))
+    (ends_behind (comparison_text comparison) (second ++ digits) (ends_behind second digits (count_ends digits count counted)))))
 claim_ends text (Turn side) (gap, is, g) =
     ends_as text _ is (ends_behind (codes "turn") (gap ++ side_text side) (ends_behind gap (side_text side) (side_ends side)))
 claim_ends text Check is = ends_as text _ is (codes "chec", 107, refl, refl)
@@ -62,6 +68,7 @@ key (Fen pattern) = codes "fen"
 key (Flip pattern) = codes "flip"
 key (Material white black) = codes "material"
 key (Moves words) = codes "moves"
+key (Plies comparison count) = codes "plies"
 key (Turn side) = codes "turn"
 key Check = codes "check"
 key Mate = codes "mate"
@@ -73,6 +80,7 @@ key_read text (Fen pattern) spells = (fen_read text pattern spells).0
 key_read text (Flip pattern) spells = (flip_read text pattern spells).0
 key_read text (Material white black) spells = (material_read text white black spells).key_is
 key_read text (Moves words) spells = (moves_read text words spells).0
+key_read text (Plies comparison count) spells = (plies_read text comparison count spells).key_is
 key_read text (Turn side) spells = (turn_read text side spells).0
 key_read text Check spells = ap run_of spells
 key_read text Mate spells = ap run_of spells
@@ -89,6 +97,7 @@ not_apart (Fen pattern) same = omega arith
 not_apart (Flip pattern) same = omega arith
 not_apart (Material white black) same = omega arith
 not_apart (Moves words) same = omega arith
+not_apart (Plies comparison count) same = omega arith
 not_apart (Turn side) same = omega arith
 not_apart Check same = omega arith
 not_apart Mate same = omega arith
@@ -100,6 +109,7 @@ either_apart (Fen pattern) same = omega arith
 either_apart (Flip pattern) same = omega arith
 either_apart (Material white black) same = omega arith
 either_apart (Moves words) same = omega arith
+either_apart (Plies comparison count) same = omega arith
 either_apart (Turn side) same = omega arith
 either_apart Check same = omega arith
 either_apart Mate same = omega arith

@@ -5,17 +5,18 @@ use Rattle.chess.specs.declared.board.man.Kind.{Kind}
 use Rattle.chess.specs.declared.board.man.Kind.TheVariants.{King, Queen, Rook, Bishop, Knight, Pawn}
 use Rattle.chess.specs.declared.board.man.Side.TheVariants.{White}
 use Rattle.pgn_text.specs.Strings.{Single}
-use Rattle.pgn_criteria.specs.Lines.{SpellsClaim, AreNames, SpellsTaken, Spells, SpellsLimits, IsLimitIn, IsMoveWord, a_word, and_words, IsLine, Accepts, alternatives_of, SpellsTurned}
+use Rattle.pgn_criteria.specs.Lines.{SpellsClaim, AreNames, SpellsCount, SpellsTaken, Spells, SpellsLimits, IsLimitIn, IsMoveWord, a_word, and_words, IsLine, Accepts, alternatives_of, SpellsTurned}
 use Rattle.pgn_criteria.specs.Lines.SpellsLimit.{one, exactly, at_least, at_most, any}
 use Rattle.pgn_criteria.specs.Materials.{limit_of}
 use Rattle.pgn_criteria.specs.Mirrors.{can_be_mirrored}
+use Rattle.pgn_criteria.specs.declared.compare.Comparison.TheVariants.{LessOrEqual}
 use Rattle.pgn_criteria.specs.declared.compare.Relation.TheVariants.{GreaterOrEqual, Begins}
 use Rattle.pgn_criteria.specs.declared.material.Limit.{Limit}
 use Rattle.pgn_criteria.specs.declared.material.Limit.TheVariants.{Exactly, AtLeast, AtMost, AnyNumber}
 use Rattle.pgn_criteria.specs.declared.material.Limits.{Limits}
 use Rattle.pgn_criteria.specs.declared.condition.Condition.{Condition}
 use Rattle.pgn_criteria.specs.declared.condition.Claim.{Claim}
-use Rattle.pgn_criteria.specs.declared.condition.Claim.TheVariants.{Tag, Moves, Turn, Check, Mate, Stalemate}
+use Rattle.pgn_criteria.specs.declared.condition.Claim.TheVariants.{Tag, Moves, Plies, Turn, Check, Mate, Stalemate}
 use Rattle.pgn_criteria.specs.declared.line.Meaning.{Meaning}
 use Rattle.pgn_criteria.specs.declared.line.Meaning.TheVariants.{Nothing, Or, Asks}
 use Rattle.pgn_criteria.proofs.ClaimFacts.{claim_not, not_read}
@@ -69,6 +70,14 @@ two_tags = (
   (Single 67 ∷ [], refl, refl),
   (λ is. cc),
 )
+
+-- plies <= 50
+fifty_plies : SpellsClaim (codes "plies <= 50") (Plies LessOrEqual 50)
+fifty_plies = (codes " ", codes " ", codes "50", refl, ((λ none. cc), refl), ((λ none. cc), refl), record { digits = refl; short = (omega arith, omega arith); value = refl })
+
+-- five digits are no number of plies
+not_five_digits : (count : ℕ) → SpellsCount (codes "10000") count → ⊥
+not_five_digits count spells = let few : 5 ≤ 4 = spells.short.1 in absurd (omega arith)
 
 -- each name has a byte
 no_last_name : AreNames (parted_at 124 (codes "A|")) → ⊥

@@ -1,5 +1,5 @@
 -- Whether a position of a sound game meets criteria is settled.
-use Rattle.std.proofs.Common.{◌≡◌, ℕ, ◌+◌, Bool, true, false, List, [], ◌∷◌, Option, Some, None, refl, ap, ◌∙◌, inl, inr}
+use Rattle.std.proofs.Common.{◌≡◌, ℕ, ◌+◌, Bool, true, false, List, [], ◌∷◌, length, Option, Some, None, refl, ap, ◌∙◌, inl, inr}
 use Rattle.std.specs.Prelude.{codes, if◌then◌else◌}
 use Rattle.std.specs.List.{slice_get}
 use Rattle.chess.specs.Fen.{parted_at}
@@ -26,14 +26,14 @@ use Rattle.pgn_criteria.specs.Comparing.{Stands}
 use Rattle.pgn_criteria.specs.Laws.{EachPositionMeetsOrDoesNot}
 use Rattle.pgn_criteria.specs.declared.condition.Condition.{Condition}
 use Rattle.pgn_criteria.specs.declared.condition.Claim.{Claim}
-use Rattle.pgn_criteria.specs.declared.condition.Claim.TheVariants.{Tag, Fen, Flip, Material, Moves, Turn, Check, Mate, Stalemate}
+use Rattle.pgn_criteria.specs.declared.condition.Claim.TheVariants.{Tag, Fen, Flip, Material, Moves, Plies, Turn, Check, Mate, Stalemate}
 use Rattle.pgn_criteria.specs.declared.compare.Relation.{Relation}
 use Rattle.pgn_criteria.proofs.MeetFacts.{meets_at}
 use Rattle.pgn_criteria.proofs.MoveFacts.{by_move}
 use Rattle.pgn_criteria.proofs.MirrorFacts.{mirrored_on}
 use Rattle.pgn_criteria.proofs.MenSettled.{settled_material}
 use Rattle.pgn_criteria.proofs.SplitSettled.{settled_pattern}
-use Rattle.pgn_criteria.proofs.StandsSettled.{settled_by, settled_stands}
+use Rattle.pgn_criteria.proofs.StandsSettled.{settled_by, settled_compared, settled_stands}
 
 -- ---- tags
 
@@ -93,6 +93,7 @@ settled_claim tags replay P (Fen pattern) all legal on_board = settled_pattern P
 settled_claim tags replay P (Flip pattern) all legal on_board = settled_either (settled_pattern P.men pattern) (settled_pattern (flipped_men P.men) pattern)
 settled_claim tags replay P (Material white black) all legal on_board = settled_material P.men white black
 settled_claim tags replay P (Moves words) all legal on_board = settled_moves replay 0 (words_of words) all legal
+settled_claim tags replay P (Plies comparison count) all legal on_board = settled_compared comparison (length replay.played) count
 settled_claim tags replay P (Turn side) all legal on_board = cases_side P.turn side
 settled_claim tags replay P Check all legal on_board = settled_check P.men P.turn on_board
 settled_claim tags replay P Mate all legal on_board = settled_mate P on_board

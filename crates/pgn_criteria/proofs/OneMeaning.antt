@@ -9,18 +9,21 @@ use Rattle.chess.specs.declared.board.man.Kind.{Kind}
 use Rattle.chess.specs.declared.board.man.Kind.TheVariants.{King, Queen, Rook, Bishop, Knight, Pawn}
 use Rattle.pgn_criteria.specs.Reading.{run_of, behind_word, core_of}
 use Rattle.pgn_criteria.specs.Materials.{limit_of}
-use Rattle.pgn_criteria.specs.Lines.{SpellsFen, SpellsClaim, SpellsTaken, SpellsTurned, SpellsCondition, SpellsLimits, Spells, IsLine, AreLines, side_text, relation_text, alternatives_of, IsFirstBad}
+use Rattle.pgn_criteria.specs.Lines.{SpellsFen, SpellsClaim, SpellsTaken, SpellsTurned, SpellsCondition, SpellsLimits, Spells, IsLine, AreLines, side_text, relation_text, comparison_text, alternatives_of, IsFirstBad}
 use Rattle.pgn_criteria.specs.Laws.{TextHasOneMeaning, TextHasOneAnswer, MemoryIsTheOnlyFault}
+use Rattle.pgn_criteria.specs.declared.compare.Comparison.{Comparison}
+use Rattle.pgn_criteria.specs.declared.compare.Comparison.TheVariants as compared
 use Rattle.pgn_criteria.specs.declared.compare.Relation.{Relation}
 use Rattle.pgn_criteria.specs.declared.compare.Relation.TheVariants.{Equal, Unequal, Less, LessOrEqual, Greater, GreaterOrEqual, Has, Begins}
 use Rattle.pgn_criteria.specs.declared.material.Limits.{Limits}
 use Rattle.pgn_criteria.specs.declared.condition.Condition.{Condition}
 use Rattle.pgn_criteria.specs.declared.condition.Claim.{Claim}
-use Rattle.pgn_criteria.specs.declared.condition.Claim.TheVariants.{Tag, Fen, Flip, Material, Moves, Turn, Check, Mate, Stalemate}
+use Rattle.pgn_criteria.specs.declared.condition.Claim.TheVariants.{Tag, Fen, Flip, Material, Moves, Plies, Turn, Check, Mate, Stalemate}
 use Rattle.pgn_criteria.specs.declared.line.Meaning.{Meaning}
 use Rattle.pgn_criteria.specs.declared.line.Meaning.TheVariants.{Nothing, Or, Asks}
 use Rattle.pgn_criteria.proofs.TurnFacts.{turn_read}
 use Rattle.pgn_criteria.proofs.FenFacts.{fen_read, flip_read}
+use Rattle.pgn_criteria.proofs.PliesFacts.{IsPliesRead, plies_read}
 use Rattle.pgn_criteria.proofs.TagFacts.{IsTagRead, tag_read}
 use Rattle.pgn_criteria.proofs.MoveWordFacts.{moves_read}
 use Rattle.pgn_criteria.proofs.MaterialFacts.{IsMaterialRead, material_read}
@@ -87,6 +90,27 @@ one_material text white black first second is has =
     let blacks : black ≡ second = one_limits (behind_word (behind_word (behind_word text))) black second is.black_is has.black_is in
     ap (λ x. Material x black) whites ∙ ap (λ x. Material first x) blacks
 
+abbrev pub comparison_at : ℕ → Comparison
+comparison_at n = if n == 61 then compared.Equal else if n == 122 then compared.Unequal else if n == 60 then compared.Less else if n == 121 then compared.LessOrEqual else if n == 62 then compared.Greater else compared.GreaterOrEqual
+
+comparison_back : (comparison : Comparison) → comparison_at (total (comparison_text comparison)) ≡ comparison
+comparison_back compared.Equal = refl
+comparison_back compared.Unequal = refl
+comparison_back compared.Less = refl
+comparison_back compared.LessOrEqual = refl
+comparison_back compared.Greater = refl
+comparison_back compared.GreaterOrEqual = refl
+
+one_comparison : (a b : Comparison) → comparison_text a ≡ comparison_text b → a ≡ b
+one_comparison a b e = sym (comparison_back a) ∙ ap (λ x. comparison_at (total x)) e ∙ comparison_back b
+
+one_plies : (text : List ℕ) (comparison other : Comparison) (count number : ℕ) → IsPliesRead text comparison count → IsPliesRead text other number
+    → ◌≡◌ {A = Claim (List ℕ)} (Plies comparison count) (Plies other number)
+one_plies text comparison other count number is has =
+    let comparisons : comparison ≡ other = one_comparison comparison other (sym is.sign_is ∙ has.sign_is) in
+    let counts : count ≡ number = is.count_is.value ∙ sym has.count_is.value in
+    ap (λ x. Plies x count) comparisons ∙ ap (λ x. Plies other x) counts
+
 apart : (text : List ℕ) (c d : Claim (List ℕ)) → SpellsClaim text c → SpellsClaim text d → total (key c) ≡ total (key d)
 apart text c d spells has = ap total (sym (key_read text c spells) ∙ key_read text d has)
 
@@ -102,6 +126,8 @@ one_claim text (Flip pattern) (Flip other) spells has =
 one_claim text (Material white black) (Material first second) spells has =
     one_material text white black first second (material_read text white black spells) (material_read text first second has)
 one_claim text (Moves words) (Moves other) spells has = ap Moves (sym (moves_read text words spells).1 ∙ (moves_read text other has).1)
+one_claim text (Plies comparison count) (Plies other number) spells has =
+    one_plies text comparison other count number (plies_read text comparison count spells) (plies_read text other number has)
 one_claim text (Turn side) (Turn other) spells has = ap Turn (one_side side other (sym (turn_read text side spells).1 ∙ (turn_read text other has).1))
 one_claim text Check Check spells has = refl
 one_claim text Mate Mate spells has = refl
@@ -146,6 +172,7 @@ key_high (Fen pattern) = omega arith
 key_high (Flip pattern) = omega arith
 key_high (Material white black) = omega arith
 key_high (Moves words) = omega arith
+key_high (Plies comparison count) = omega arith
 key_high (Turn side) = omega arith
 key_high Check = omega arith
 key_high Mate = omega arith
@@ -166,6 +193,7 @@ key_first (Fen pattern) = omega arith
 key_first (Flip pattern) = omega arith
 key_first (Material white black) = omega arith
 key_first (Moves words) = omega arith
+key_first (Plies comparison count) = omega arith
 key_first (Turn side) = omega arith
 key_first Check = omega arith
 key_first Mate = omega arith

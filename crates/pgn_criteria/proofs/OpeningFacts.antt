@@ -1,5 +1,6 @@
 -- Conditions on the first moves of a game, decided by its opening.
-use Rattle.std.proofs.Common.{◌↔◌, ◌+◌, ◌<◌, ◌≤◌, ◌≡◌, if◌then◌else◌, ℕ, Bool, true, false, List, [], ◌∷◌, length, map, Option, inl, inr, refl, sym, ◌∙◌, arith}
+use Rattle.std.proofs.Common.{◌↔◌, ◌⊎◌, ◌+◌, ◌<◌, ◌≤◌, ◌≡◌, if◌then◌else◌, ℕ, zero, suc, Bool, true, false, List, [], ◌∷◌, length, map, Option, inl, inr, refl, sym, ap, subst, ◌∙◌, arith}
+use Rattle.std.specs.List.{slice_get}
 use Rattle.chess.specs.Positions.{State}
 use Rattle.pgn_text.specs.Games.{Item}
 use Rattle.pgn_game.specs.Openings.{IsOpening}
@@ -9,10 +10,13 @@ use Rattle.pgn_criteria.specs.Meeting.{Tags, IsSo, Taken, is_turned, Holds, Each
 use Rattle.pgn_criteria.specs.Mirrors.{mirror}
 use Rattle.pgn_criteria.specs.MoveTexts.{FitMoves}
 use Rattle.pgn_criteria.specs.Words.{words_of}
+use Rattle.pgn_criteria.specs.Comparing.{Compares}
+use Rattle.pgn_criteria.specs.declared.compare.Comparison.{Comparison}
+use Rattle.pgn_criteria.specs.declared.compare.Comparison.TheVariants as compared
 use Rattle.pgn_criteria.specs.Stages.{AsksWithin, AllAskWithin, EachAsksWithin, FitTheSame, is_on_position, on_positions}
 use Rattle.pgn_criteria.specs.declared.condition.Condition.{Condition}
 use Rattle.pgn_criteria.specs.declared.condition.Claim.{Claim}
-use Rattle.pgn_criteria.specs.declared.condition.Claim.TheVariants.{Tag, Fen, Flip, Material, Moves, Turn, Check, Mate, Stalemate}
+use Rattle.pgn_criteria.specs.declared.condition.Claim.TheVariants.{Tag, Fen, Flip, Material, Moves, Plies, Turn, Check, Mate, Stalemate}
 
 -- where two replays agree before so many plies, the same words fit
 fit_on : (most plies : ℕ) (replay other : Replay) → ((i : ℕ) → i < most → AgreeAt replay.positions replay.played other.positions other.played i)
@@ -30,14 +34,40 @@ fit_on most plies replay other agree (word ∷ more) within fit =
       fit_on most (plies + 1) replay other agree more (omega (arith, within)) fit.1,
     )
 
+-- lists that agree up to a place are of one length, or reach beyond it
+counted_alike : {A : Type 0} (a b : List A) (n : ℕ) → ((i : ℕ) → i ≤ n → slice_get a i ≡ slice_get b i) → (length a ≡ length b) ⊎ ((n < length a) × (n < length b))
+counted_alike [] [] n same = inl refl
+counted_alike [] (y ∷ b) n same = let none = same 0 (omega arith) in absurd (cc)
+counted_alike (x ∷ a) [] n same = let none = same 0 (omega arith) in absurd (cc)
+counted_alike (x ∷ a) (y ∷ b) zero same = inr (omega arith, omega arith)
+counted_alike (x ∷ a) (y ∷ b) (suc n) same = elim (counted_alike a b n (λ i up. same (suc i) (omega (arith, up)))) [
+  | inl alike ↦ inl (ap suc alike)
+  | inr beyond ↦ inr (omega (arith, beyond.0), omega (arith, beyond.1))
+]
+
+-- such lengths are compared alike with the place
+compared_alike : (comparison : Comparison) (a b n : ℕ) → (a ≡ b) ⊎ ((n < a) × (n < b)) → Compares comparison a n ↔ Compares comparison b n
+compared_alike comparison a b n (inl same) = (λ holds. subst (λ m. Compares comparison m n) same holds, λ holds. subst (λ m. Compares comparison m n) (sym same) holds)
+compared_alike compared.Equal a b n (inr beyond) = (λ e. absurd (omega (arith, e, beyond.0)), λ e. absurd (omega (arith, e, beyond.1)))
+compared_alike compared.Unequal a b n (inr beyond) = (λ h e. omega (arith, e, beyond.1), λ h e. omega (arith, e, beyond.0))
+compared_alike compared.Less a b n (inr beyond) = (λ h. absurd (omega (arith, h, beyond.0)), λ h. absurd (omega (arith, h, beyond.1)))
+compared_alike compared.LessOrEqual a b n (inr beyond) = (λ h. absurd (omega (arith, h, beyond.0)), λ h. absurd (omega (arith, h, beyond.1)))
+compared_alike compared.Greater a b n (inr beyond) = (λ h. beyond.1, λ h. beyond.0)
+compared_alike compared.GreaterOrEqual a b n (inr beyond) = (λ h. omega (arith, beyond.1), λ h. omega (arith, beyond.0))
+
 -- what an opening fits each replay of the game fits
 pub opening_fits : (fen : Option (List ℕ)) (items : List Item) (most : ℕ) (opening replay : Replay) → IsOpening fen items most opening → IsSomeReplay fen items replay
     → FitTheSame most opening replay
-opening_fits fen items most opening replay is whole words within =
-    let agree = opening_agrees fen items most opening replay is whole in (
-      fit_on most 0 opening replay agree words (omega (arith, within)),
-      fit_on most 0 replay opening (λ i less. (sym (agree i less).0, sym (agree i less).1)) words (omega (arith, within)),
-    )
+opening_fits fen items most opening replay is whole =
+    let agree = opening_agrees fen items most opening replay is whole in record {
+      words = λ words within. (
+        fit_on most 0 opening replay agree words (omega (arith, within)),
+        fit_on most 0 replay opening (λ i less. (sym (agree i less).0, sym (agree i less).1)) words (omega (arith, within)),
+      );
+      counts = λ comparison count within.
+          compared_alike comparison (length opening.played) (length replay.played) count
+          (counted_alike opening.played replay.played count (λ i up. (agree i (omega (arith, up, within))).1));
+    }
 
 -- what is taken of facts that are the same is the same
 pub same_taken : {A B : Type 0} (denied : Bool) → A ↔ B → Taken denied A ↔ Taken denied B
@@ -51,7 +81,8 @@ module _ (tags : Tags) (most : ℕ) (replay other : Replay) (same : FitTheSame m
   one_so_there P (Fen pattern) within = (λ holds. holds, λ holds. holds)
   one_so_there P (Flip pattern) within = (λ holds. holds, λ holds. holds)
   one_so_there P (Material white black) within = (λ holds. holds, λ holds. holds)
-  one_so_there P (Moves words) within = same (words_of words) within
+  one_so_there P (Moves words) within = same.words (words_of words) within
+  one_so_there P (Plies comparison count) within = same.counts comparison count within
   one_so_there P (Turn side) within = (λ holds. holds, λ holds. holds)
   one_so_there P Check within = (λ holds. holds, λ holds. holds)
   one_so_there P Mate within = (λ holds. holds, λ holds. holds)
@@ -92,6 +123,7 @@ asks_none (Fen pattern) on = tt
 asks_none (Flip pattern) on = tt
 asks_none (Material white black) on = tt
 asks_none (Moves words) on = cc
+asks_none (Plies comparison count) on = cc
 asks_none (Turn side) on = tt
 asks_none Check on = tt
 asks_none Mate on = tt
@@ -116,6 +148,7 @@ asks_more least most up (Fen pattern) within = tt
 asks_more least most up (Flip pattern) within = tt
 asks_more least most up (Material white black) within = tt
 asks_more least most up (Moves words) within = omega (arith, within, up)
+asks_more least most up (Plies comparison count) within = omega (arith, within, up)
 asks_more least most up (Turn side) within = tt
 asks_more least most up Check within = tt
 asks_more least most up Mate within = tt

@@ -7,7 +7,7 @@ use Rattle.pgn_criteria.specs.Reading.{with_open}
 use Rattle.pgn_criteria.specs.Stages.{IsGood, AllGood}
 use Rattle.pgn_criteria.specs.declared.condition.Condition.{Condition}
 use Rattle.pgn_criteria.specs.declared.condition.Claim.{Claim}
-use Rattle.pgn_criteria.specs.declared.condition.Claim.TheVariants.{Tag, Fen, Flip, Material, Moves, Turn, Check, Mate, Stalemate}
+use Rattle.pgn_criteria.specs.declared.condition.Claim.TheVariants.{Tag, Fen, Flip, Material, Moves, Plies, Turn, Check, Mate, Stalemate}
 use Rattle.pgn_criteria.specs.declared.line.Meaning.{Meaning}
 use Rattle.pgn_criteria.specs.declared.line.Meaning.TheVariants.{Nothing, Or, Asks}
 
@@ -183,6 +183,7 @@ claim_good text (Fen pattern) spells = tt
 claim_good text (Flip pattern) spells = tt
 claim_good text (Material white black) spells = tt
 claim_good text (Moves words) spells = tt
+claim_good text (Plies comparison count) spells = tt
 claim_good text (Turn side) spells = tt
 claim_good text Check spells = tt
 claim_good text Mate spells = tt

@@ -12,7 +12,7 @@ use Rattle.pgn_criteria.specs.declared.meets.Stage.{Stage}
 use Rattle.pgn_criteria.specs.declared.meets.Stage.TheVariants.{Men, Attacks, Replies}
 use Rattle.pgn_criteria.specs.declared.condition.Condition.{Condition}
 use Rattle.pgn_criteria.specs.declared.condition.Claim.{Claim}
-use Rattle.pgn_criteria.specs.declared.condition.Claim.TheVariants.{Tag, Fen, Flip, Material, Moves, Turn, Check, Mate, Stalemate}
+use Rattle.pgn_criteria.specs.declared.condition.Claim.TheVariants.{Tag, Fen, Flip, Material, Moves, Plies, Turn, Check, Mate, Stalemate}
 
 -- each condition on the position is tried at some stage
 one_stage : (P : State) (denied : Bool) (claim : Claim (List ℕ)) → (stage_of claim ≡ Men → SaysOfPosition P denied claim) → (stage_of claim ≡ Attacks → SaysOfPosition P denied claim)
@@ -22,6 +22,7 @@ one_stage P denied (Fen pattern) men attacks replies = men refl
 one_stage P denied (Flip pattern) men attacks replies = men refl
 one_stage P denied (Material white black) men attacks replies = men refl
 one_stage P denied (Moves words) men attacks replies = tt
+one_stage P denied (Plies comparison count) men attacks replies = tt
 one_stage P denied (Turn side) men attacks replies = men refl
 one_stage P denied Check men attacks replies = attacks refl
 one_stage P denied Mate men attacks replies = replies refl
@@ -56,6 +57,7 @@ one_of_tags tags replay denied (Fen pattern) free told = tt
 one_of_tags tags replay denied (Flip pattern) free told = tt
 one_of_tags tags replay denied (Material white black) free told = tt
 one_of_tags tags replay denied (Moves words) free told = absurd free
+one_of_tags tags replay denied (Plies comparison count) free told = absurd free
 one_of_tags tags replay denied (Turn side) free told = tt
 one_of_tags tags replay denied Check free told = tt
 one_of_tags tags replay denied Mate free told = tt
@@ -73,6 +75,7 @@ tags_of_one tags replay denied (Fen pattern) told = tt
 tags_of_one tags replay denied (Flip pattern) told = tt
 tags_of_one tags replay denied (Material white black) told = tt
 tags_of_one tags replay denied (Moves words) told = tt
+tags_of_one tags replay denied (Plies comparison count) told = tt
 tags_of_one tags replay denied (Turn side) told = tt
 tags_of_one tags replay denied Check told = tt
 tags_of_one tags replay denied Mate told = tt
@@ -95,6 +98,7 @@ one_parted tags replay P denied (Fen pattern) = (λ holds. (tt, holds), λ both.
 one_parted tags replay P denied (Flip pattern) = (λ holds. (tt, holds), λ both. both.1)
 one_parted tags replay P denied (Material white black) = (λ holds. (tt, holds), λ both. both.1)
 one_parted tags replay P denied (Moves words) = (λ holds. (holds, tt), λ both. both.0)
+one_parted tags replay P denied (Plies comparison count) = (λ holds. (holds, tt), λ both. both.0)
 one_parted tags replay P denied (Turn side) = (λ holds. (tt, holds), λ both. both.1)
 one_parted tags replay P denied Check = (λ holds. (tt, holds), λ both. both.1)
 one_parted tags replay P denied Mate = (λ holds. (tt, holds), λ both. both.1)
@@ -180,6 +184,7 @@ on_position tags replay P denied (Fen pattern) on = (λ holds. holds, λ says. s
 on_position tags replay P denied (Flip pattern) on = (λ holds. holds, λ says. says)
 on_position tags replay P denied (Material white black) on = (λ holds. holds, λ says. says)
 on_position tags replay P denied (Moves words) on = absurd (cc)
+on_position tags replay P denied (Plies comparison count) on = absurd (cc)
 on_position tags replay P denied (Turn side) on = (λ holds. holds, λ says. says)
 on_position tags replay P denied Check on = (λ holds. holds, λ says. says)
 on_position tags replay P denied Mate on = (λ holds. holds, λ says. says)
@@ -191,6 +196,7 @@ off_position P denied (Fen pattern) off = absurd (cc)
 off_position P denied (Flip pattern) off = absurd (cc)
 off_position P denied (Material white black) off = absurd (cc)
 off_position P denied (Moves words) off = tt
+off_position P denied (Plies comparison count) off = tt
 off_position P denied (Turn side) off = absurd (cc)
 off_position P denied Check off = absurd (cc)
 off_position P denied Mate off = absurd (cc)

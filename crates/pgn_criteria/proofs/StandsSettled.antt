@@ -1,6 +1,6 @@
 -- Whether the value of a tag stands in a relation to a text is settled.
-use Rattle.std.proofs.Common.{◌≡◌, ◌↔◌, ◌==◌, ℕ, length, Some, None, Bool, true, false, List, [], ◌∷◌, IsTrue, refl, sym, ap, inl, inr, arith}
-use Rattle.std.proofs.lemmas.Bool.{eqb-true}
+use Rattle.std.proofs.Common.{◌≡◌, ◌↔◌, ◌==◌, ◌<◌, ◌≤◌, ℕ, length, Some, None, Bool, true, false, List, [], ◌∷◌, IsTrue, refl, sym, ap, inl, inr, arith}
+use Rattle.std.proofs.lemmas.Bool.{eqb-true, cases_lt}
 use Rattle.std.proofs.lemmas.Bool.Decides.{nat_tests}
 use Rattle.std.specs.declared.cmp.Ordering.{Ordering}
 use Rattle.std.specs.declared.cmp.Ordering.TheVariants as order
@@ -8,7 +8,9 @@ use Rattle.chess.proofs.Settled.{Settled, settled_like, settled_not, settled_tru
 use Rattle.pgn_text.specs.Strings.{IsContents}
 use Rattle.pgn_text.specs.Reading.{contents_front, value_of}
 use Rattle.pgn_text.proofs.Values.{is_contents-none, is_contents-some}
-use Rattle.pgn_criteria.specs.Comparing.{order_of, Allows, Stands}
+use Rattle.pgn_criteria.specs.Comparing.{order_of, Allows, Stands, Compares}
+use Rattle.pgn_criteria.specs.declared.compare.Comparison.{Comparison}
+use Rattle.pgn_criteria.specs.declared.compare.Comparison.TheVariants as compared
 use Rattle.pgn_criteria.specs.declared.compare.Relation.{Relation}
 use Rattle.pgn_criteria.specs.declared.compare.Relation.TheVariants.{Equal, Unequal, Less, LessOrEqual, Greater, GreaterOrEqual, Has, Begins}
 use Rattle.pgn_criteria.proofs.CompareFacts.{stands_so}
@@ -23,6 +25,25 @@ settled_by how (inr none) =
 -- and by a test itself
 settled_test : {A : Type 0} (r : Bool) → (IsTrue r ↔ A) → Settled A
 settled_test r told = settled_like told.0 told.1 (settled_true r)
+
+-- ---- numbers
+
+settled_below : (a b : ℕ) → Settled (a < b)
+settled_below a b = elim (cases_lt a b) [ inl less ↦ inl less | inr over ↦ inr (λ less. omega (arith, less, over)) ]
+
+settled_most : (a b : ℕ) → Settled (a ≤ b)
+settled_most a b = elim (cases_lt b a) [ inl less ↦ inr (λ most. omega (arith, less, most)) | inr over ↦ inl over ]
+
+settled_same : (a b : ℕ) → Settled (a ≡ b)
+settled_same a b = settled_like (eqb-true a b) (λ e. grind (arith, nat_tests)) (settled_true (a == b))
+
+pub settled_compared : (comparison : Comparison) (a b : ℕ) → Settled (Compares comparison a b)
+settled_compared compared.Equal a b = settled_same a b
+settled_compared compared.Unequal a b = settled_not (settled_same a b)
+settled_compared compared.Less a b = settled_below a b
+settled_compared compared.LessOrEqual a b = settled_most a b
+settled_compared compared.Greater a b = settled_below b a
+settled_compared compared.GreaterOrEqual a b = settled_most b a
 
 -- ---- the values of tags
 
@@ -40,9 +61,6 @@ settled_greater : (found : Ordering) → Settled (found ≡ order.Greater)
 settled_greater order.Less = inr (λ e. cc)
 settled_greater order.Equal = inr (λ e. cc)
 settled_greater order.Greater = inl refl
-
-settled_same : (a b : ℕ) → Settled (a ≡ b)
-settled_same a b = settled_like (eqb-true a b) (λ e. grind (arith, nat_tests)) (settled_true (a == b))
 
 settled_begins : (a b : List ℕ) → Settled (Allows Begins a b)
 settled_begins a [] = inl (a, refl)

@@ -12,12 +12,14 @@ use Rattle.pgn_criteria.specs.Materials.{FitsMaterial}
 use Rattle.pgn_criteria.specs.Mirrors.{mirror, FitsEitherWay}
 use Rattle.pgn_criteria.specs.MoveTexts.{FitMoves}
 use Rattle.pgn_criteria.specs.Words.{words_of}
+use Rattle.pgn_criteria.specs.Comparing.{Compares}
+use Rattle.pgn_criteria.specs.declared.compare.Comparison.{Comparison}
 use Rattle.pgn_criteria.specs.Meeting.{Tags, HasOneOf, Taken, is_turned}
 use Rattle.pgn_criteria.specs.declared.meets.Stage.{Stage}
 use Rattle.pgn_criteria.specs.declared.meets.Stage.TheVariants.{Game, Men, Attacks, Replies}
 use Rattle.pgn_criteria.specs.declared.condition.Condition.{Condition}
 use Rattle.pgn_criteria.specs.declared.condition.Claim.{Claim}
-use Rattle.pgn_criteria.specs.declared.condition.Claim.TheVariants.{Tag, Fen, Flip, Material, Moves, Turn, Check, Mate, Stalemate}
+use Rattle.pgn_criteria.specs.declared.condition.Claim.TheVariants.{Tag, Fen, Flip, Material, Moves, Plies, Turn, Check, Mate, Stalemate}
 
 -- a claim, and a condition, by the bytes of their texts
 abbrev pub claim_seen : {T : Type 0} → (T → List ℕ) → Claim T → Claim (List ℕ)
@@ -26,6 +28,7 @@ claim_seen bytes (Fen pattern) = Fen (bytes pattern)
 claim_seen bytes (Flip pattern) = Flip (bytes pattern)
 claim_seen bytes (Material white black) = Material white black
 claim_seen bytes (Moves words) = Moves (bytes words)
+claim_seen bytes (Plies comparison count) = Plies comparison count
 claim_seen bytes (Turn side) = Turn side
 claim_seen bytes Check = Check
 claim_seen bytes Mate = Mate
@@ -41,6 +44,7 @@ IsGood (Fen pattern) = Unit {0}
 IsGood (Flip pattern) = Unit {0}
 IsGood (Material white black) = Unit {0}
 IsGood (Moves words) = Unit {0}
+IsGood (Plies comparison count) = Unit {0}
 IsGood (Turn side) = Unit {0}
 IsGood Check = Unit {0}
 IsGood Mate = Unit {0}
@@ -65,6 +69,7 @@ SaysOfGame tags replay denied (Fen pattern) = Unit {0}
 SaysOfGame tags replay denied (Flip pattern) = Unit {0}
 SaysOfGame tags replay denied (Material white black) = Unit {0}
 SaysOfGame tags replay denied (Moves words) = Taken denied (FitMoves replay 0 (words_of words))
+SaysOfGame tags replay denied (Plies comparison count) = Taken denied (Compares comparison (length replay.played) count)
 SaysOfGame tags replay denied (Turn side) = Unit {0}
 SaysOfGame tags replay denied Check = Unit {0}
 SaysOfGame tags replay denied Mate = Unit {0}
@@ -84,6 +89,7 @@ SaysOfTags tags denied (Fen pattern) = Unit {0}
 SaysOfTags tags denied (Flip pattern) = Unit {0}
 SaysOfTags tags denied (Material white black) = Unit {0}
 SaysOfTags tags denied (Moves words) = Unit {0}
+SaysOfTags tags denied (Plies comparison count) = Unit {0}
 SaysOfTags tags denied (Turn side) = Unit {0}
 SaysOfTags tags denied Check = Unit {0}
 SaysOfTags tags denied Mate = Unit {0}
@@ -103,6 +109,7 @@ IsFreeOfMoves (Fen pattern) = Unit {0}
 IsFreeOfMoves (Flip pattern) = Unit {0}
 IsFreeOfMoves (Material white black) = Unit {0}
 IsFreeOfMoves (Moves words) = ⊥
+IsFreeOfMoves (Plies comparison count) = ⊥
 IsFreeOfMoves (Turn side) = Unit {0}
 IsFreeOfMoves Check = Unit {0}
 IsFreeOfMoves Mate = Unit {0}
@@ -119,6 +126,7 @@ AsksWithin most (Fen pattern) = Unit {0}
 AsksWithin most (Flip pattern) = Unit {0}
 AsksWithin most (Material white black) = Unit {0}
 AsksWithin most (Moves words) = length (words_of words) ≤ most
+AsksWithin most (Plies comparison count) = count < most
 AsksWithin most (Turn side) = Unit {0}
 AsksWithin most Check = Unit {0}
 AsksWithin most Mate = Unit {0}
@@ -132,9 +140,11 @@ abbrev pub EachAsksWithin : ℕ → List (List (Condition (List ℕ))) → Type 
 EachAsksWithin most [] = Unit {0}
 EachAsksWithin most (alternative ∷ more) = AllAskWithin most alternative × EachAsksWithin most more
 
--- so many first moves of a game fit the same words of either replay
-abbrev pub FitTheSame : ℕ → Replay → Replay → Type 0
-FitTheSame most replay other = (words : List (List ℕ)) → length words ≤ most → FitMoves replay 0 words ↔ FitMoves other 0 words
+-- so many first moves of a game fit the same words of either replay, and are compared alike with each lesser number
+pub record FitTheSame (most : ℕ) (replay other : Replay) : Type 0 where
+  pub words : (words : List (List ℕ)) → length words ≤ most → FitMoves replay 0 words ↔ FitMoves other 0 words
+  pub counts : (comparison : Comparison) (count : ℕ) → count < most
+      → Compares comparison (length replay.played) count ↔ Compares comparison (length other.played) count
 
 -- what a condition says of the position alone
 abbrev pub SaysOfPosition : State → Bool → Claim (List ℕ) → Type 0
@@ -143,6 +153,7 @@ SaysOfPosition P denied (Fen pattern) = Taken denied (FitsPattern P.men pattern)
 SaysOfPosition P denied (Flip pattern) = Taken denied (FitsEitherWay P.men pattern)
 SaysOfPosition P denied (Material white black) = Taken denied (FitsMaterial P.men white black)
 SaysOfPosition P denied (Moves words) = Unit {0}
+SaysOfPosition P denied (Plies comparison count) = Unit {0}
 SaysOfPosition P denied (Turn side) = Taken denied (P.turn ≡ side)
 SaysOfPosition P denied Check = Taken denied (IsCheck P.men P.turn)
 SaysOfPosition P denied Mate = Taken denied (IsMate P)
@@ -181,6 +192,7 @@ is_on_position (Fen pattern) = true
 is_on_position (Flip pattern) = true
 is_on_position (Material white black) = true
 is_on_position (Moves words) = false
+is_on_position (Plies comparison count) = false
 is_on_position (Turn side) = true
 is_on_position Check = true
 is_on_position Mate = true
@@ -201,6 +213,7 @@ stage_of (Fen pattern) = Men
 stage_of (Flip pattern) = Men
 stage_of (Material white black) = Men
 stage_of (Moves words) = Game
+stage_of (Plies comparison count) = Game
 stage_of (Turn side) = Men
 stage_of Check = Attacks
 stage_of Mate = Replies

@@ -73,6 +73,7 @@ fn lay_out(layout: &mut Layout, condition: &Condition<Vec<u8>>) -> Result<bool, 
     match &condition.claim {
         Claim::Tag { .. } => Ok(true),
         Claim::Moves(_) => Ok(true),
+        Claim::Plies { .. } => Ok(true),
         Claim::Fen(pattern) if !condition.is_denied => layout.add_pattern(pattern),
         _ => Ok(false),
     }

@@ -91,6 +91,10 @@ fn own_claim(alloc: Global, claim: &Claim<Vec<u8>>) -> Result<Claim<Vec<u8>>, Al
             black: *black,
         }),
         Claim::Moves(words) => Ok(Claim::Moves(words.to_vec(alloc)?)),
+        Claim::Plies { comparison, count } => Ok(Claim::Plies {
+            comparison: *comparison,
+            count: *count,
+        }),
         Claim::Turn(side) => Ok(Claim::Turn(*side)),
         Claim::Check => Ok(Claim::Check),
         Claim::Mate => Ok(Claim::Mate),

@@ -354,6 +354,42 @@ fn denied_claims_hold_where_they_are_not_so(rt: HostRuntime) -> Result<(), Fail>
     Ok(())
 }
 
+/// Where conditions on the number of plies hold: the games have two plies, seven and one.
+const PLIES: [(&[u8], &[u8], &[usize]); 20] = [
+    (b"plies = 2", SHORT, &[0, 1, 2]),
+    (b"plies = 1", SHORT, &[]),
+    (b"plies = 3", SHORT, &[]),
+    (b"plies <> 2", SHORT, &[]),
+    (b"plies <> 0", SHORT, &[0, 1, 2]),
+    (b"plies < 2", SHORT, &[]),
+    (b"plies < 3", SHORT, &[0, 1, 2]),
+    (b"plies <= 1", SHORT, &[]),
+    (b"plies <= 2", SHORT, &[0, 1, 2]),
+    (b"plies > 2", SHORT, &[]),
+    (b"plies > 1", SHORT, &[0, 1, 2]),
+    (b"plies >= 3", SHORT, &[]),
+    (b"plies >= 2", SHORT, &[0, 1, 2]),
+    (b"plies >= 0", ENDING, &[0, 1]),
+    (b"plies = 0007\nmate", MATE, &[7]),
+    (b"plies < 9999\nplies > 6\nturn black", MATE, &[1, 3, 5, 7]),
+    (b"not plies > 6\nor\nmate", MATE, &[7]),
+    (b"not plies < 7\nmoves e4 e5\ncheck", MATE, &[7]),
+    (b"plies = 7\nmoves d4\nor\nplies = 8", MATE, &[]),
+    (b"moves e4\nor\nplies = 1", ENDING, &[0, 1]),
+];
+
+#[test]
+fn plies_hold_of_a_whole_game(rt: HostRuntime) -> Result<(), Fail> {
+    let alloc = rt.alloc();
+    for &(criteria, block, plies) in &PLIES {
+        assert!(rt;
+            are_met(alloc, criteria, block, plies)?,
+            "{criteria:?} in {block:?}"
+        );
+    }
+    Ok(())
+}
+
 #[test]
 fn the_first_stands_within_its_bounds(rt: HostRuntime) -> Result<(), Fail> {
     let alloc = rt.alloc();

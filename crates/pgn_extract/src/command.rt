@@ -75,6 +75,7 @@ const AFTER_HELP: &str =
     A a man of White, a one of Black, * any squares\n  \
     material KRP* v KRP*       each side's men: P* any number, R2+ two or more\n  \
     moves e4 c5 * d6           how the main line begins; * is any one move\n  \
+    plies <= 50                how many the main line has; also = <> < > >=\n  \
     turn black, not check      not denies a condition; also mate and stalemate\n  \
     or                         between two alternatives: one is enough\n  \
     # a comment                nothing\n\

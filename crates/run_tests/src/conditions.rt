@@ -262,7 +262,7 @@ const MIRRORED: &str = "either: fen, flip fen, material or turn, with or without
 const DENIED_ALONE: &str = "a condition after not, and no second not";
 
 /// Where lines stop being of the language, and what is expected there.
-const EXPLAINED: [Complaint; 37] = [
+const EXPLAINED: [Complaint; 41] = [
     ("chek", 0, "did you mean check?"),
     ("  stlaemate", 2, "did you mean stalemate?"),
     ("Turn white", 0, "did you mean turn?"),
@@ -320,6 +320,18 @@ const EXPLAINED: [Complaint; 37] = [
     ),
     ("flip turn white", 5, "flip: fen and a pattern"),
     ("filp fen */*", 0, "did you mean flip?"),
+    (
+        "plies 50",
+        6,
+        "plies: a comparison, one of = <> < <= > >=",
+    ),
+    (
+        "not plies <= many",
+        13,
+        "plies: a number of one to four digits",
+    ),
+    ("plys < 50", 0, "did you mean plies?"),
+    ("either plies < 50", 7, MIRRORED),
 ];
 
 /// What denied lines find.

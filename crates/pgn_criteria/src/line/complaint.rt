@@ -2,6 +2,7 @@
 use super::core_of;
 use super::limits::limits_of;
 use super::move_words::is_move_word;
+use super::plies::comparison_of;
 use super::tag::{are_names, contents_of, relation_of};
 use crate::cut::next_part;
 use crate::rank::next_item;
@@ -55,12 +56,16 @@ const CONTENTS: &str = "tag: a text between double quotes";
 
 const CONTAINED: &str = "tag: a text of at most 255 bytes after has";
 
+const COMPARISON: &str = "plies: a comparison, one of = <> < <= > >=";
+
+const COUNT: &str = "plies: a number of one to four digits";
+
 const SIDE: &str = "turn: white or black";
 
 const NOTHING: &str = "nothing after this word";
 
 const CONDITION: &str =
-    "a condition, which begins with fen, flip, material, moves, tag, turn, check, mate or stalemate, or the words not, either and or";
+    "a condition, which begins with fen, flip, material, moves, plies, tag, turn, check, mate or stalemate, or the words not, either and or";
 
 const DENIED: &str = "a condition after not, and no second not";
 
@@ -71,11 +76,12 @@ const TURNED: &str = "either: fen, flip fen, material or turn, with or without n
 const OTHER_WAY: &str = "not: a condition; either stands in front of not";
 
 /// The key words, each with the question whether it was meant.
-const QUESTIONS: [(&[u8], &str); 12] = [
+const QUESTIONS: [(&[u8], &str); 13] = [
     (b"fen", "did you mean fen?"),
     (b"tag", "did you mean tag?"),
     (b"turn", "did you mean turn?"),
     (b"moves", "did you mean moves?"),
+    (b"plies", "did you mean plies?"),
     (b"material", "did you mean material?"),
     (b"check", "did you mean check?"),
     (b"mate", "did you mean mate?"),
@@ -217,6 +223,15 @@ fn tag_stop(text: &[u8]) -> Stop {
     Stop::before(string, CONTENTS)
 }
 
+/// Where a condition on the plies that is refused stops.
+fn plies_stop(text: &[u8]) -> Stop {
+    let (operator, digits) = split_first(text);
+    if comparison_of(operator).is_none() {
+        return Stop::before(text, COMPARISON);
+    }
+    Stop::before(digits, COUNT)
+}
+
 /// Where a text that is no condition stops being one.
 fn condition_stop(text: &[u8]) -> Stop {
     let (key, rest) = split_first(text);
@@ -278,6 +293,7 @@ fn claim_stop(text: &[u8]) -> Stop {
         b"flip" => flip_stop(rest),
         b"moves" => moves_stop(rest),
         b"material" => material_stop(rest),
+        b"plies" => plies_stop(rest),
         b"tag" => tag_stop(rest),
         b"turn" => Stop::before(rest, SIDE),
         b"check" => Stop::before(rest, NOTHING),

@@ -131,6 +131,38 @@ fn names_that_are_none_are_refused(rt: HostRuntime) -> Result<(), Fail> {
     Ok(())
 }
 
+/// A line on plies that is not of the language.
+const BAD_PLIES: [&[u8]; 17] = [
+    b"plies",
+    b"plies 50",
+    b"plies =",
+    b"plies=50",
+    b"plies =50",
+    b"plies= 50",
+    b"plies == 50",
+    b"plies => 50",
+    b"plies has 50",
+    b"plies begins 50",
+    b"plies < 10000",
+    b"plies < -1",
+    b"plies < 5x",
+    b"plies < 5 0",
+    b"plies < \"50\"",
+    b"not plies <",
+    b"either plies < 50",
+];
+
+#[test]
+fn lines_on_plies_need_a_comparison_and_a_number(rt: HostRuntime) -> Result<(), Fail> {
+    let alloc = rt.alloc();
+    for line in &BAD_PLIES {
+        let mut text = b"plies < 50\n".to_vec(alloc)?;
+        text.extend_from_slice(line)?;
+        assert!(rt; is_refused(alloc, &text, 2), "{line:?}");
+    }
+    Ok(())
+}
+
 /// A pattern's first rank with brackets that are no set.
 const BAD_SETS: [&[u8]; 14] = [
     b"[]7", b"[^]7", b"[", b"[P", b"[^P", b"[P]]", b"P]7", b"[[P]]", b"[x]7", b"[^x]7", b"[P^]7",
@@ -181,7 +213,7 @@ fn what_denies_no_claim_is_refused(rt: HostRuntime) -> Result<(), Fail> {
 }
 
 /// A text, how many alternatives it spells, and how many conditions the last of them has.
-const ACCEPTED: [(&[u8], usize, usize); 33] = [
+const ACCEPTED: [(&[u8], usize, usize); 35] = [
     (b"", 1, 0),
     (b"# x", 1, 0),
     (b"  # x", 1, 0),
@@ -204,6 +236,8 @@ const ACCEPTED: [(&[u8], usize, usize); 33] = [
     (b"tag A|B_2|A  has \t\"|\"", 1, 1),
     (b"not tag White|Black < \"x\"", 1, 1),
     (b"turn\tblack", 1, 1),
+    (b"plies = 0\nplies  <>\t007 \nplies < 9999", 1, 3),
+    (b"plies <= 5\nor\nnot plies > 5\nplies >= 5", 2, 2),
     (b"moves 0-0 zz --", 1, 1),
     (b"moves * e8=Q \t Nb1xd2", 1, 1),
     (b"fen 1PPP1*/*/*/*/*/*/*/*", 1, 1),

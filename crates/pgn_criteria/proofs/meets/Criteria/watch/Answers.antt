@@ -32,7 +32,7 @@ returns c replay own ply =
     (λ P.
     let kept = subst (λ x. SomeHold tags opening P search ↔ SomeHold tags opening P x) all (c.in_ok-left_after.ensures.kept P) in
     let there = some_hold_there tags c.self.inside.opening opening replay fits P c.args.self.now within in
-    let here = some_hold_there tags 0 opening replay (λ words few. fits words (omega (arith, few))) P search c.in_ok-left_after.ensures.free in (
+    let here = some_hold_there tags 0 opening replay (record { words = λ words few. fits.words words (omega (arith, few)); counts = λ comparison count none. absurd (omega (arith, none)) }) P search c.in_ok-left_after.ensures.free in (
       λ hold. there.0 (kept.0 (here.1 hold)),
       λ hold. here.0 (kept.1 (there.1 hold)),
     ))

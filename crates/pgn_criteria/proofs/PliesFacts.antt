@@ -1,0 +1,110 @@
+-- Conditions on the number of plies: what spells one is read as it, and the other way round.
+use Rattle.std.proofs.Common.{◌≡◌, ◌≢◌, ◌≤◌, ◌+◌, ◌-◌, ◌*◌, ◌<◌, ℕ, zero, suc, true, List, [], ◌∷◌, ◌++◌, length, refl, sym, ap, ◌∙◌, subst, arith}
+use Rattle.std.specs.Prelude.{codes, ◌&&◌}
+use Rattle.std.specs.List.{list_all}
+use Rattle.std.proofs.lemmas.Bool.Decides.{nat_tests}
+use Rattle.chess.specs.Fen.{is_digit}
+use Rattle.chess.specs.FenWords.{ten_to}
+use Rattle.pgn_criteria.specs.Numbers.{IsCounted}
+use Rattle.pgn_criteria.specs.Reading.{run_of, behind_word}
+use Rattle.pgn_criteria.specs.Lines.{SpellsClaim, SpellsCount, comparison_text}
+use Rattle.pgn_criteria.specs.declared.compare.Comparison.{Comparison}
+use Rattle.pgn_criteria.specs.declared.compare.Comparison.TheVariants.{Equal, Unequal, Less, LessOrEqual, Greater, GreaterOrEqual}
+use Rattle.pgn_criteria.specs.declared.condition.Claim.TheVariants.{Plies}
+use Rattle.pgn_criteria.proofs.SolidFacts.{is_solid, AreSolid, BeginsSolid, EndsSolid, all_solid, solid_begins, solid_ends, begins_front, front_some, word_read, word_spelled}
+
+comparison_solid : (comparison : Comparison) → AreSolid (comparison_text comparison)
+comparison_solid Equal = refl
+comparison_solid Unequal = refl
+comparison_solid Less = refl
+comparison_solid LessOrEqual = refl
+comparison_solid Greater = refl
+comparison_solid GreaterOrEqual = refl
+
+comparison_some : (comparison : Comparison) → comparison_text comparison ≢ []
+comparison_some Equal none = cc
+comparison_some Unequal none = cc
+comparison_some Less none = cc
+comparison_some LessOrEqual none = cc
+comparison_some Greater none = cc
+comparison_some GreaterOrEqual none = cc
+
+comparison_begins : (comparison : Comparison) → BeginsSolid (comparison_text comparison)
+comparison_begins comparison = solid_begins (comparison_text comparison) (comparison_some comparison) (comparison_solid comparison)
+
+digit_solid : (b : ℕ) → is_digit b ≡ true → is_solid b ≡ true
+digit_solid b is = grind (arith, nat_tests)
+
+count_some : (digits : List ℕ) (count : ℕ) → SpellsCount digits count → digits ≢ []
+count_some [] count spells none = let some : 1 ≤ 0 = spells.short.0 in omega arith
+count_some (b ∷ x) count spells none = cc
+
+count_begins : (digits : List ℕ) (count : ℕ) → SpellsCount digits count → BeginsSolid digits
+count_begins digits count spells = solid_begins digits (count_some digits count spells) (all_solid is_digit digit_solid digits spells.digits)
+
+pub count_ends : (digits : List ℕ) (count : ℕ) → SpellsCount digits count → EndsSolid digits
+count_ends digits count spells = solid_ends digits (count_some digits count spells) (all_solid is_digit digit_solid digits spells.digits)
+
+-- the words of the text are those of the condition
+pub record IsPliesRead (text : List ℕ) (comparison : Comparison) (count : ℕ) : Type 0 where
+  pub key_is : run_of text ≡ codes "plies"
+  pub sign_is : run_of (behind_word text) ≡ comparison_text comparison
+  pub count_is : SpellsCount (behind_word (behind_word text)) count
+
+pub plies_read : (text : List ℕ) (comparison : Comparison) (count : ℕ) → SpellsClaim text (Plies comparison count) → IsPliesRead text comparison count
+plies_read text comparison count (first, second, digits, is, g, h, counted) =
+    let sign = comparison_text comparison in
+    let one = word_read text (codes "plies") first (sign ++ (second ++ digits)) is refl g (begins_front sign (second ++ digits) (comparison_begins comparison)) in
+    let two = word_read (behind_word text) sign second digits one.1 (comparison_solid comparison) h (count_begins digits count counted) in
+    record { key_is = one.0; sign_is = two.0; count_is = subst (λ x. SpellsCount x count) (sym two.1) counted }
+
+-- and a text of such words spells it
+pub plies_spelled : (text : List ℕ) (comparison : Comparison) (count : ℕ) → IsPliesRead text comparison count → SpellsClaim text (Plies comparison count)
+plies_spelled text comparison count read =
+    let sign = comparison_text comparison in
+    let digits = behind_word (behind_word text) in
+    let two = word_spelled (behind_word text) sign digits read.sign_is refl (count_some digits count read.count_is) in
+    let one = word_spelled text (codes "plies") (sign ++ (two.0 ++ digits)) read.key_is two.1 (front_some sign (two.0 ++ digits) (comparison_begins comparison)) in
+    (one.0, two.0, digits, one.1, one.2, two.2, read.count_is)
+
+-- how the number is read digit by digit
+ten_positive : (k : ℕ) → 0 < ten_to k
+ten_positive zero = omega arith
+ten_positive (suc k) = let before = ten_positive k in omega arith
+
+pub count_start : (text : List ℕ) → length text ≤ 9 → IsCounted 0 text text
+count_start text short = record { short = short; bound = ten_positive (9 - length text); value = refl; digits = refl }
+
+ten_small : (k : ℕ) → k ≤ 8 → ten_to k ≤ 100000000
+ten_small zero h = omega arith
+ten_small (suc zero) h = omega arith
+ten_small (suc (suc zero)) h = omega arith
+ten_small (suc (suc (suc zero))) h = omega arith
+ten_small (suc (suc (suc (suc zero)))) h = omega arith
+ten_small (suc (suc (suc (suc (suc zero))))) h = omega arith
+ten_small (suc (suc (suc (suc (suc (suc zero)))))) h = omega arith
+ten_small (suc (suc (suc (suc (suc (suc (suc zero))))))) h = omega arith
+ten_small (suc (suc (suc (suc (suc (suc (suc (suc zero)))))))) h = omega arith
+ten_small (suc (suc (suc (suc (suc (suc (suc (suc (suc k))))))))) h = absurd (omega arith)
+
+pub count_small : (n : ℕ) (rest text : List ℕ) → IsCounted n rest text → 1 ≤ length rest → n < 100000000
+count_small n rest text c some =
+    let bound = c.bound in let small = ten_small (9 - length rest) (omega arith) in omega arith
+
+digit_next : (b : ℕ) (behind : List ℕ) → is_digit b ≡ true → list_all is_digit behind ≡ list_all is_digit (b ∷ behind)
+digit_next b behind e = sym (ap (λ t. t && list_all is_digit behind) e)
+
+pub count_more : (n : ℕ) (rest text : List ℕ) (b : ℕ) (behind : List ℕ) → IsCounted n rest text → rest ≡ b ∷ behind → is_digit b ≡ true → b ≤ 57
+    → IsCounted (10 * n + (b - 48)) behind text
+count_more n rest text b behind c e digit high =
+    let before : IsCounted n (b ∷ behind) text = subst (λ x. IsCounted n x text) e c in
+    let short = before.short in
+    let bound = before.bound in
+    let left : 9 - length behind ≡ suc (9 - length (b ∷ behind)) = omega arith in
+    let room : ten_to (9 - length behind) ≡ 10 * ten_to (9 - length (b ∷ behind)) = ap ten_to left in
+    record {
+      short = omega arith;
+      bound = omega arith;
+      value = before.value;
+      digits = digit_next b behind digit ∙ before.digits;
+    }

@@ -1,0 +1,55 @@
+//! Conditions on the number of plies.
+ghost use Rattle.std.specs.Prelude.{◌≡◌, ◌≤◌, ℕ, length, IsTrue, MatchOption};
+ghost use Rattle.std.specs.List.{list_all};
+ghost use Rattle.chess.specs.Fen.{is_digit, number_from};
+ghost use Rattle.pgn_criteria.specs.Lines.{SpellsClaim, SpellsCount, comparison_text};
+ghost use Rattle.pgn_criteria.specs.declared.compare.Comparison.{Comparison};
+ghost use Rattle.pgn_criteria.specs.declared.condition.Claim.TheVariants.{Plies};
+
+use crate::compare::Comparison;
+use crate::words::{behind_key, split_first};
+
+/// The comparison that is written so.
+pub(super) fn comparison_of(text: &[u8]) -> Option<Comparison>
+    ensures { MatchOption result ((comparison : Comparison) → text.now ≡ comparison_text comparison → ⊥) (λ comparison. text.now ≡ comparison_text comparison) }
+{
+    match text {
+        b"=" => Some(Comparison::Equal),
+        b"<>" => Some(Comparison::Unequal),
+        b"<" => Some(Comparison::Less),
+        b"<=" => Some(Comparison::LessOrEqual),
+        b">" => Some(Comparison::Greater),
+        b">=" => Some(Comparison::GreaterOrEqual),
+        _ => None,
+    }
+}
+
+/// The number of plies that the text is, if it is 1 to 4 digits.
+fn count_of(text: &[u8]) -> Option<u32>
+    ensures { MatchOption result ((count : ℕ) → SpellsCount text.now count → ⊥) (λ count. SpellsCount text.now count) }
+{
+    if text.is_empty() || text.len() > 4 {
+        return None;
+    }
+    let mut count = 0u32;
+    let mut rest = text;
+    while let [digit, behind @ ..] = rest {
+        if *digit < b'0' || *digit > b'9' {
+            return None;
+        }
+        count = 10 * count + (*digit - b'0') as u32;
+        rest = behind;
+    }
+    Some(count)
+}
+
+/// The comparison and the number of a claim on the plies, if the text is one.
+pub(super) fn plies_of(text: &[u8]) -> Option<(Comparison, u32)>
+    ensures { MatchOption result ((comparison : Comparison) (count : ℕ) → SpellsClaim text.now (Plies comparison count) → ⊥) (λ found. SpellsClaim text.now (Plies found.0 found.1)) }
+{
+    let rest = behind_key(text, b"plies")?;
+    let (operator, digits) = split_first(rest);
+    let comparison = comparison_of(operator)?;
+    let count = count_of(digits)?;
+    Some((comparison, count))
+}
