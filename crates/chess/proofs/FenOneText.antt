@@ -8,7 +8,8 @@ use Rattle.chess.specs.Positions.{State}
 use Rattle.chess.specs.Letters.{man_letter}
 use Rattle.chess.specs.Fen.{IsSquares, SpellsRank, SpellRanks, IsFen, is_shortest, is_step, joined, row, side_text, or_dash, rights_letters, en_passant_text}
 use Rattle.chess.specs.Fen.IsSquares.{letter, step}
-use Rattle.chess.specs.FenTextWords.{spelled_from}
+use Rattle.chess.specs.FenTextWords.{spelled_from, rank_texts}
+use Rattle.chess.proofs.FenTextFacts.{spell_ranks, shortest_ranks}
 use Rattle.chess.specs.declared.board.man.Man.{Man}
 
 -- a run of empty squares behind others is a longer run
@@ -94,3 +95,7 @@ one_fen P x y s t =
     ∷ decimal P.halfmove_clock ∷ decimal P.fullmove_number ∷ []))
     (same_ranks P.men 8 s.ranks t.ranks s.spelled t.spelled s.shortest t.shortest)
     ∙ sym t.text
+
+-- it has one: the text that is written rank by rank
+pub some_fen : (P : State) → (x : List ℕ) × IsFen P x
+some_fen P = (_, record { ranks = rank_texts P.men 8; spelled = spell_ranks P.men 8; shortest = shortest_ranks P.men 8; text = refl })

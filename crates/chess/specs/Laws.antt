@@ -31,6 +31,10 @@ FenIsReadBack = (P : State) (x : List ℕ) → IsSound P → P.halfmove_clock �
 abbrev pub PositionHasOneText : Type 0
 PositionHasOneText = (P : State) (x y : List ℕ) → IsFen P x → IsFen P y → x ≡ y
 
+-- and it has one
+abbrev pub EachPositionHasAText : Type 0
+EachPositionHasAText = (P : State) → (x : List ℕ) × IsFen P x
+
 -- the position that is made square by square is the usual one, and there is no other
 abbrev pub UsualPositionIsOne : Type 0
 UsualPositionIsOne = IsUsual usual × ((P : State) → IsUsual P → P ≡ usual)

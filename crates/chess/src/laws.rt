@@ -1,6 +1,6 @@
 //! What holds of every text and position, whatever reads it. Each law is the contract of a function that does nothing.
 
-ghost use Rattle.chess.specs.Laws.{TextSpellsOnePosition, TextHasOneAnswer, SoundPositionsAreRead, FenIsReadBack, PositionHasOneText, UsualPositionIsOne, UsualPositionIsSound, MovesKeepPositionsSound, SanNamesItsMove, MoveHasOneText, EachMoveHasAText, EachTextNamesOneNoneOrSeveral, SpelledMenAreOnBoard, MenStayOnBoard, EachTextIsReadOrRefused};
+ghost use Rattle.chess.specs.Laws.{TextSpellsOnePosition, TextHasOneAnswer, SoundPositionsAreRead, FenIsReadBack, PositionHasOneText, EachPositionHasAText, UsualPositionIsOne, UsualPositionIsSound, MovesKeepPositionsSound, SanNamesItsMove, MoveHasOneText, EachMoveHasAText, EachTextNamesOneNoneOrSeveral, SpelledMenAreOnBoard, MenStayOnBoard, EachTextIsReadOrRefused};
 
 /// A text spells at most one position in FEN, and none that is refused.
 pub fn one_position()
@@ -8,10 +8,11 @@ pub fn one_position()
     ensures apart { TextHasOneAnswer }
 {}
 
-/// A position has at most one text in FEN: the one that `fen` writes. Of a sound position it is read back, so that `from_fen` answers
+/// A position has one text in FEN: the one that `fen` writes. Of a sound position it is read back, so that `from_fen` answers
 /// the position that `fen` has written; and a text is read exactly where the position that it spells is sound.
 pub fn fen_is_read_back()
     ensures one { PositionHasOneText }
+    ensures some { EachPositionHasAText }
     ensures back { FenIsReadBack }
     ensures sound { SoundPositionsAreRead }
 {}
