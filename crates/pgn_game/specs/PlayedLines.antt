@@ -1,8 +1,8 @@
 -- A main line that is played ply by ply: where it stands, and what of it is still to come.
-use Rattle.std.specs.Prelude.{◌≡◌, ◌+◌, ℕ, Bool, true, false, List, [], ◌∷◌, Option}
+use Rattle.std.specs.Prelude.{◌≡◌, ◌+◌, ℕ, Bool, true, false, List, [], ◌∷◌, Option, codes}
 use Rattle.chess.specs.Positions.{State}
 use Rattle.chess.specs.Moves.{after}
-use Rattle.chess.specs.San.{IsOnlyNamed}
+use Rattle.chess.specs.San.{IsOnlyNamed, IsSan}
 use Rattle.chess.specs.declared.moves.Move.{Move}
 use Rattle.pgn_text.specs.Games.{Item}
 use Rattle.pgn_game.specs.MainLines.{main_words}
@@ -38,3 +38,8 @@ pub record HasEnded (old new : PlayedLine) : Type 0 where
 abbrev pub HasAdvanced : PlayedLine → PlayedLine → Bool → Type 0
 HasAdvanced old new true = PlaysWord old new
 HasAdvanced old new false = HasEnded old new
+
+-- the text of the next move, where these words are left: the standard text of the one legal move that the first names, and `-` where none is left
+abbrev pub IsNextText : State → List (List ℕ) → List ℕ → Type 0
+IsNextText now [] text = text ≡ codes "-"
+IsNextText now (word ∷ words) text = (m : Move) × IsOnlyNamed now word m × IsSan now m text

@@ -1,5 +1,5 @@
 //! The main line, played element by element.
-ghost use Rattle.std.specs.Prelude.{◌≡◌, ◌+◌, ◌<◌, ◌≤◌, ◌++◌, ℕ, List, [], ◌∷◌, length, map, MatchResult, IfErr, IfOk, IfSome, OnOk};
+ghost use Rattle.std.specs.Prelude.{◌≡◌, ◌+◌, ◌<◌, ◌≤◌, ◌^◌, ◌++◌, ℕ, List, [], ◌∷◌, length, map, MatchOption, MatchResult, IfErr, IfOk, IfSome, OnOk};
 ghost use Rattle.chess.specs.Positions.{State};
 ghost use Rattle.pgn_text.specs.Elements.{item_of};
 ghost use Rattle.pgn_text.specs.Games.{Item};
@@ -57,6 +57,25 @@ impl MainWalk {
         }
         Ok(None)
     }
+}
+
+/// The word of the next move of the main line, where so many variations are open before the elements.
+pub(crate) fn next_word<'a>(elements: &[Element<'a>], outer: usize) -> Option<&'a [u8]>
+    requires { outer + length elements.now < 2 ^ 64 }
+    ensures { MatchOption result
+        (main_words (map item_of elements.now) outer ≡ [])
+        (λ word. (more : List (List ℕ)) × (main_words (map item_of elements.now) outer ≡ word.now ∷ more)) }
+{
+    let mut depth = outer;
+    for element in elements {
+        match *element {
+            Element::Move(word) if depth == 0 => return Some(word),
+            Element::Open => depth += 1,
+            Element::Close => depth = depth.saturating_sub(1),
+            _ => {}
+        }
+    }
+    None
 }
 
 /// The main line as far as it is played, with all its positions and moves.

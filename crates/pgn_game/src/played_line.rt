@@ -1,16 +1,18 @@
 //! The main line of a game, played ply by ply.
-ghost use Rattle.std.specs.Prelude.{◌≡◌, MatchResult, IfSome};
+ghost use Rattle.std.specs.Prelude.{◌≡◌, ◌++◌, ℕ, List, MatchResult, IfErr, IfSome, OnOk};
 ghost use Rattle.pgn_text.specs.GameTexts.{tag_in};
 ghost use Rattle.pgn_game.specs.Starts.{fen_tag};
 ghost use Rattle.pgn_game.specs.Faults.{IsFault, IsMoveFault};
-ghost use Rattle.pgn_game.specs.PlayedLines.{IsBegun, HasAdvanced};
+ghost use Rattle.pgn_game.specs.PlayedLines.{IsBegun, HasAdvanced, IsNextText};
 ghost use Rattle.pgn_game.specs.Replays.{fault_of};
 ghost use Rattle.pgn_game.specs.declared.replayer.Lines.TheVariants.{Main};
 
 use crate::fault::GameFault;
-use crate::main_line::MainWalk;
+use crate::main_line::{MainWalk, next_word};
 use crate::replayed::GamePosition;
+use crate::saying::named;
 use crate::starting::starting_position;
+use chess::san;
 use pgn_text::{Element, RawGame};
 use std::alloc::Global;
 use std::marker::Model;
@@ -90,5 +92,21 @@ impl<'g, 'a> MainLine<'g, 'a> {
             }
         }
         Ok(false)
+    }
+
+    /// Appends the standard text of the next move, or `-` where there is none; the line stays as it is. At a word that can't be played, the
+    /// game has its fault.
+    pub fn push_next(&self, out: &mut Vec<u8>) -> Result<(), GameFault<'a>>
+        ensures text { OnOk result ((text : List ℕ) × IsNextText self.now.position self.now.words text × (out.new.items ≡ out.old.items ++ text)) }
+        ensures fault { IfErr result (λ fault. IfSome (fault_of fault) (IsMoveFault self.now.position self.now.plies self.now.words)) }
+        ensures kept { (some : List ℕ) × (out.new.items ≡ out.old.items ++ some) }
+    {
+        let Some(word) = next_word(self.rest, self.walk.depth) else {
+            out.extend_from_slice(b"-")?;
+            return Ok(());
+        };
+        let m = named(&self.walk.position, word, self.walk.plies + 1)?;
+        out.extend_from_slice(san(&self.walk.position, m).as_bytes())?;
+        Ok(())
     }
 }
