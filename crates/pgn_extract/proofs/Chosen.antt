@@ -1,72 +1,120 @@
--- Entries that are chosen from others.
-use Rattle.std.proofs.Common.{◌≡◌, zero, suc, List, [], ◌∷◌, refl, sym, ap, subst, arith, inl, inr, ◌⊎◌}
+-- Entries that are chosen by their plies.
+use Rattle.std.proofs.Common.{◌≡◌, ◌<◌, ℕ, zero, suc, List, [], ◌∷◌, refl, sym, ap, ◌∙◌, subst, arith, inl, inr, ◌⊎◌}
 use Rattle.std.specs.List.{Contains}
 use Rattle.std.proofs.lemmas.List.Elements.{Contains-append_right}
 use Rattle.pgn_extract.specs.Listing.{Entry, Ascend}
 use Rattle.pgn_extract.specs.GameReports.{AreChosen}
 use Rattle.pgn_extract.specs.GameReports.AreChosen.{none, keep, leave}
 
-none_in : (entry : Entry) → Contains [] entry → ⊥
-none_in entry (k, less, is) = omega arith
+-- the entry of a game at a ply
+abbrev pub entry_at : ℕ → ℕ → ℕ → List ℕ → Entry
+entry_at number offset ply shown = record { number = number; offset = offset; ply = ply; shown = shown }
 
-in_front : (x : Entry) (xs : List Entry) (entry : Entry) → Contains (x ∷ xs) entry → (x ≡ entry) ⊎ Contains xs entry
-in_front x xs entry (zero, less, is) = inl is
-in_front x xs entry (suc k, less, is) = inr (k, omega arith, is)
+-- nothing is among none
+pub none_in : {A : Type 0} (x : A) → Contains [] x → ⊥
+none_in x (k, less, is) = omega arith
 
-module _ (P : Entry → Type 0) where
+-- the first of some, or one of the others
+pub in_front : {A : Type 0} (first : A) (more : List A) (x : A) → Contains (first ∷ more) x → (first ≡ x) ⊎ Contains more x
+in_front first more x (zero, less, is) = inl is
+in_front first more x (suc k, less, is) = inr (k, omega arith, is)
+
+-- each is lower than all after it
+abbrev pub Rise : List ℕ → Type 0
+Rise [] = Unit {0}
+Rise (ply ∷ more) = ((later : ℕ) → Contains more later → ply < later) × Rise more
+
+-- what an entry that is chosen is
+pub record IsPicked (number offset : ℕ) (P : ℕ → Type 0) (S : ℕ → List ℕ → Type 0) (all : List ℕ) (entry : Entry) : Type 0 where
+  pub is : entry ≡ entry_at number offset entry.ply entry.shown
+  pub among : Contains all entry.ply
+  pub fact : P entry.ply
+  pub shows : S entry.ply entry.shown
+
+module _ (number offset : ℕ) (P : ℕ → Type 0) (S : ℕ → List ℕ → Type 0) where
+  -- among others too
+  picked_behind : (first : ℕ) (all : List ℕ) (entry : Entry) → IsPicked number offset P S all entry → IsPicked number offset P S (first ∷ all) entry
+  picked_behind first all entry of = record {
+    is = of.is;
+    among = Contains-append_right (first ∷ []) all entry.ply of.among;
+    fact = of.fact;
+    shows = of.shows;
+  }
+
   -- what is chosen is among all, and has the fact
-  pub chosen_from : (all chosen : List Entry) → AreChosen P all chosen → (entry : Entry) → Contains chosen entry → Contains all entry × P entry
+  pub chosen_from : (all : List ℕ) (chosen : List Entry) → AreChosen number offset P S all chosen → (entry : Entry) → Contains chosen entry
+      → IsPicked number offset P S all entry
   chosen_from _ _ none entry has = absurd (none_in entry has)
-  chosen_from _ _ (keep first all chosen holds more) entry has =
-      elim (in_front first chosen entry has) [
-        | inl is ↦ ((0, omega arith, is), subst P is holds)
-        | inr later ↦ let of = chosen_from all chosen more entry later in (Contains-append_right (first ∷ []) all entry of.0, of.1)
+  chosen_from _ _ (keep first shown all chosen holds shows more) entry has =
+      elim (in_front (entry_at number offset first shown) chosen entry has) [
+        | inl is ↦
+            subst (IsPicked number offset P S (first ∷ all)) is (record { is = refl; among = (0, omega arith, refl); fact = holds; shows = shows })
+        | inr later ↦ picked_behind first all entry (chosen_from all chosen more entry later)
       ]
-  chosen_from _ _ (leave first all chosen fails more) entry has =
-      let of = chosen_from all chosen more entry has in (Contains-append_right (first ∷ []) all entry of.0, of.1)
+  chosen_from _ _ (leave first all chosen fails more) entry has = picked_behind first all entry (chosen_from all chosen more entry has)
 
-  -- and what is among all and has the fact is chosen
-  pub chosen_all : (all chosen : List Entry) → AreChosen P all chosen → (entry : Entry) → Contains all entry → P entry → Contains chosen entry
-  chosen_all _ _ none entry has holds = has
-  chosen_all _ _ (keep first all chosen held more) entry has holds =
-      elim (in_front first all entry has) [
-        | inl is ↦ (0, omega arith, is)
-        | inr later ↦ Contains-append_right (first ∷ []) chosen entry (chosen_all all chosen more entry later holds)
-      ]
-  chosen_all _ _ (leave first all chosen fails more) entry has holds =
-      elim (in_front first all entry has) [
-        | inl is ↦ absurd (fails (subst P (sym is) holds))
-        | inr later ↦ chosen_all all chosen more entry later holds
-      ]
-
-  -- in one way
-  pub one_chosen : (all xs ys : List Entry) → AreChosen P all xs → AreChosen P all ys → xs ≡ ys
-  one_chosen _ _ _ none none = refl
-  one_chosen _ _ _ (keep first all xs held more) (keep _ _ ys also others) = ap (λ (t : List Entry). first ∷ t) (one_chosen all xs ys more others)
-  one_chosen _ _ _ (keep first all xs held more) (leave _ _ ys fails others) = absurd (fails held)
-  one_chosen _ _ _ (leave first all xs fails more) (keep _ _ ys held others) = absurd (fails held)
-  one_chosen _ _ _ (leave first all xs fails more) (leave _ _ ys also others) = one_chosen all xs ys more others
-
-  -- and their order stays
-  pub chosen_ascend : (all chosen : List Entry) → AreChosen P all chosen → Ascend all → Ascend chosen
+  -- their order stays
+  pub chosen_ascend : (all : List ℕ) (chosen : List Entry) → AreChosen number offset P S all chosen → Rise all → Ascend chosen
   chosen_ascend _ _ none up = tt
-  chosen_ascend _ _ (keep first all chosen holds more) up =
-      (λ later has. up.0 later (chosen_from all chosen more later has).0, chosen_ascend all chosen more up.1)
+  chosen_ascend _ _ (keep first shown all chosen holds shows more) up = (
+    λ later has.
+        let of = chosen_from all chosen more later has in
+        inr (sym (ap (λ (e : Entry). e.number) of.is), up.0 later.ply of.among),
+    chosen_ascend all chosen more up.1,
+  )
   chosen_ascend _ _ (leave first all chosen fails more) up = chosen_ascend all chosen more up.1
 
-  -- where each is decided, some are chosen
-  pub some_chosen : (all : List Entry) → ((entry : Entry) → Contains all entry → P entry ⊎ (P entry → ⊥)) → (chosen : List Entry) × AreChosen P all chosen
-  some_chosen [] decides = ([], none)
-  some_chosen (first ∷ all) decides =
-      let later = some_chosen all (λ entry has. decides entry (Contains-append_right (first ∷ []) all entry has)) in
+  -- where each is decided, and something is shown of each, some are chosen
+  pub some_chosen : (all : List ℕ) → ((ply : ℕ) → Contains all ply → P ply ⊎ (P ply → ⊥))
+      → ((ply : ℕ) → Contains all ply → (shown : List ℕ) × S ply shown) → (chosen : List Entry) × AreChosen number offset P S all chosen
+  some_chosen [] decides shows = ([], none)
+  some_chosen (first ∷ all) decides shows =
+      let later = some_chosen all (λ ply has. decides ply (Contains-append_right (first ∷ []) all ply has))
+      (λ ply has. shows ply (Contains-append_right (first ∷ []) all ply has)) in
+      let own = shows first (0, omega arith, refl) in
       elim (decides first (0, omega arith, refl)) [
-        | inl holds ↦ (first ∷ later.0, keep first all later.0 holds later.1)
+        | inl holds ↦ (entry_at number offset first own.0 ∷ later.0, keep first own.0 all later.0 holds own.1 later.1)
         | inr fails ↦ (later.0, leave first all later.0 fails later.1)
       ]
 
+  -- where one text is shown of each ply
+  module _ (one : (ply : ℕ) (x y : List ℕ) → S ply x → S ply y → x ≡ y) where
+    -- the entry of each ply that is among all and has the fact is chosen
+    pub chosen_all : (all : List ℕ) (chosen : List Entry) → AreChosen number offset P S all chosen → (entry : Entry)
+        → IsPicked number offset P S all entry → Contains chosen entry
+    chosen_all _ _ none entry of = absurd (none_in entry.ply of.among)
+    chosen_all _ _ (keep first shown all chosen held shows more) entry of =
+        elim (in_front first all entry.ply of.among) [
+          | inl is ↦
+              let same : shown ≡ entry.shown = one entry.ply shown entry.shown (subst (λ n. S n shown) is shows) of.shows in
+              let whole : entry_at number offset first shown ≡ entry =
+              ap (λ n. entry_at number offset n shown) is ∙ ap (entry_at number offset entry.ply) same ∙ sym of.is in
+              (0, omega arith, whole)
+          | inr later ↦
+              Contains-append_right (entry_at number offset first shown ∷ []) chosen entry
+              (chosen_all all chosen more entry (record { is = of.is; among = later; fact = of.fact; shows = of.shows }))
+        ]
+    chosen_all _ _ (leave first all chosen fails more) entry of =
+        elim (in_front first all entry.ply of.among) [
+          | inl is ↦ absurd (fails (subst P (sym is) of.fact))
+          | inr later ↦ chosen_all all chosen more entry (record { is = of.is; among = later; fact = of.fact; shows = of.shows })
+        ]
+
+    -- in one way
+    pub one_chosen : (all : List ℕ) (xs ys : List Entry) → AreChosen number offset P S all xs → AreChosen number offset P S all ys → xs ≡ ys
+    one_chosen _ _ _ none none = refl
+    one_chosen _ _ _ (keep first shown all xs held shows more) (keep _ other _ ys also showing others) =
+        ap (λ (t : List ℕ). entry_at number offset first t ∷ xs) (one first shown other shows showing)
+        ∙ ap (λ (t : List Entry). entry_at number offset first other ∷ t) (one_chosen all xs ys more others)
+    one_chosen _ _ _ (keep first shown all xs held shows more) (leave _ _ ys fails others) = absurd (fails held)
+    one_chosen _ _ _ (leave first all xs fails more) (keep _ other _ ys held showing others) = absurd (fails held)
+    one_chosen _ _ _ (leave first all xs fails more) (leave _ _ ys also others) = one_chosen all xs ys more others
+
 -- the same are chosen by a fact that says the same
-pub chosen_by : (P Q : Entry → Type 0) → ((entry : Entry) → P entry → Q entry) → ((entry : Entry) → Q entry → P entry)
-    → (all chosen : List Entry) → AreChosen P all chosen → AreChosen Q all chosen
-chosen_by P Q to from _ _ none = none
-chosen_by P Q to from _ _ (keep first all chosen holds more) = keep first all chosen (to first holds) (chosen_by P Q to from all chosen more)
-chosen_by P Q to from _ _ (leave first all chosen fails more) = leave first all chosen (λ holds. fails (from first holds)) (chosen_by P Q to from all chosen more)
+pub chosen_by : (number offset : ℕ) (P Q : ℕ → Type 0) (S : ℕ → List ℕ → Type 0) → ((ply : ℕ) → P ply → Q ply) → ((ply : ℕ) → Q ply → P ply)
+    → (all : List ℕ) (chosen : List Entry) → AreChosen number offset P S all chosen → AreChosen number offset Q S all chosen
+chosen_by number offset P Q S to from _ _ none = none
+chosen_by number offset P Q S to from _ _ (keep first shown all chosen holds shows more) =
+    keep first shown all chosen (to first holds) shows (chosen_by number offset P Q S to from all chosen more)
+chosen_by number offset P Q S to from _ _ (leave first all chosen fails more) =
+    leave first all chosen (λ holds. fails (from first holds)) (chosen_by number offset P Q S to from all chosen more)

@@ -1,5 +1,5 @@
 -- The entries of a game where there are no criteria: plies in a row.
-use Rattle.std.proofs.Common.{◌≡◌, ◌↔◌, ℕ, zero, suc, ◌+◌, ◌-◌, ◌<◌, ◌≤◌, List, [], ◌∷◌, ◌++◌, length, drop, Option, None, sym, ap, ◌∙◌, subst, arith, append_assoc, append-nil, inl, inr}
+use Rattle.std.proofs.Common.{◌≡◌, ◌↔◌, ℕ, zero, suc, ◌+◌, ◌-◌, ◌<◌, ◌≤◌, List, [], ◌∷◌, ◌++◌, length, drop, Option, None, true, sym, ap, ◌∙◌, subst, arith, append_assoc, append-nil, inl, inr}
 use Rattle.std.proofs.lemmas.Bool.{cases_lt}
 use Rattle.chess.specs.Positions.{State}
 use Rattle.pgn_game.specs.Replays.{Replay}
@@ -7,58 +7,58 @@ use Rattle.pgn_criteria.specs.Meeting.{Tags}
 use Rattle.pgn_criteria.specs.declared.condition.Condition.{Condition}
 use Rattle.pgn_extract.specs.Aims.{Aim, IsMet, IsEntry}
 use Rattle.pgn_extract.specs.Blockwise.{IsPlainEntry}
-use Rattle.pgn_extract.specs.Listing.{Entry, entry_line, listing}
-use Rattle.pgn_extract.specs.GameReports.{entries_from, AreListed, AreChosen}
+use Rattle.pgn_extract.specs.Listing.{Entry, AreFields, is_plain, entry_line, listing}
+use Rattle.pgn_extract.specs.GameReports.{plies_of, AreListed, AreChosen}
 use Rattle.pgn_extract.specs.GameReports.AreChosen.{keep}
+use Rattle.pgn_extract.proofs.Chosen.{entry_at}
+use Rattle.pgn_extract.proofs.FieldTexts.{no_fields}
 use Rattle.pgn_extract.proofs.ModeOutputs.{listing-append}
-use Rattle.pgn_extract.proofs.Picks.{entry_at, leaves, leaves_all, dropped}
+use Rattle.pgn_extract.proofs.Picks.{leaves, leaves_all, dropped}
 
 -- the entries of a game at so many plies in a row
 pub plies_from : ℕ → ℕ → ℕ → ℕ → List Entry
 plies_from number offset ply zero = []
-plies_from number offset ply (suc count) = entry_at number offset ply ∷ plies_from number offset (ply + 1) count
+plies_from number offset ply (suc count) = entry_at number offset ply [] ∷ plies_from number offset (ply + 1) count
 
 -- one ply more
-plies_more : (number offset ply count : ℕ) → plies_from number offset ply (suc count) ≡ plies_from number offset ply count ++ entry_at number offset (ply + count) ∷ []
+plies_more : (number offset ply count : ℕ) → plies_from number offset ply (suc count) ≡ plies_from number offset ply count ++ entry_at number offset (ply + count) [] ∷ []
 unfolding plies_from
-plies_more number offset ply zero = ap (λ n. entry_at number offset n ∷ []) (omega arith)
+plies_more number offset ply zero = ap (λ n. entry_at number offset n [] ∷ []) (omega arith)
 plies_more number offset ply (suc count) =
     let next : ply + 1 + count ≡ ply + suc count = omega arith in
-    ap (λ (es : List Entry). entry_at number offset ply ∷ es) (plies_more number offset (ply + 1) count
-    ∙ ap (λ n. plies_from number offset (ply + 1) count ++ entry_at number offset n ∷ []) next)
+    ap (λ (es : List Entry). entry_at number offset ply [] ∷ es) (plies_more number offset (ply + 1) count
+    ∙ ap (λ n. plies_from number offset (ply + 1) count ++ entry_at number offset n [] ∷ []) next)
 
--- of positions in a row the first so many are chosen
-keeps : (P : Entry → Type 0) (number offset ply count : ℕ) (positions : List State) → count ≤ length positions
-    → ((n : ℕ) → ply ≤ n → n < ply + count → P (entry_at number offset n))
-    → ((n : ℕ) → ply + count ≤ n → n < ply + length positions → P (entry_at number offset n) → ⊥)
-    → AreChosen P (entries_from number offset ply positions) (plies_from number offset ply count)
-unfolding plies_from
-keeps P number offset ply zero positions fits holds fails = leaves_all P number offset ply positions (λ n low high. fails n (omega arith) high)
-keeps P number offset ply (suc count) [] fits holds fails = absurd (omega arith)
-keeps P number offset ply (suc count) (position ∷ more) fits holds fails =
-    keep (entry_at number offset ply) (entries_from number offset (ply + 1) more) (plies_from number offset (ply + 1) count) (holds ply (omega arith) (omega arith))
-    (keeps P number offset (ply + 1) count more (omega arith) (λ n low high. holds n (omega arith) (omega arith)) (λ n low high. fails n (omega arith) (omega arith)))
+module _ (number offset : ℕ) (P : ℕ → Type 0) (S : ℕ → List ℕ → Type 0) (bare : (ply : ℕ) → S ply []) where
+  -- of positions in a row the first so many are chosen
+  keeps : (ply count : ℕ) (positions : List State) → count ≤ length positions → ((n : ℕ) → ply ≤ n → n < ply + count → P n)
+      → ((n : ℕ) → ply + count ≤ n → n < ply + length positions → P n → ⊥)
+      → AreChosen number offset P S (plies_of ply positions) (plies_from number offset ply count)
+  unfolding plies_from
+  keeps ply zero positions fits holds fails = leaves_all number offset P S ply positions (λ n low high. fails n (omega arith) high)
+  keeps ply (suc count) [] fits holds fails = absurd (omega arith)
+  keeps ply (suc count) (position ∷ more) fits holds fails =
+      keep ply [] (plies_of (ply + 1) more) (plies_from number offset (ply + 1) count) (holds ply (omega arith) (omega arith)) (bare ply)
+      (keeps (ply + 1) count more (omega arith) (λ n low high. holds n (omega arith) (omega arith)) (λ n low high. fails n (omega arith) (omega arith)))
 
--- the positions from a ply to another are chosen
-between : (P : Entry → Type 0) (number offset from end : ℕ) (positions : List State)
-    → ((n : ℕ) → P (entry_at number offset n) → from ≤ n) → ((n : ℕ) → n < length positions → P (entry_at number offset n) ↔ (from ≤ n) × (n < end))
-    → (from < end → end ≤ length positions)
-    → AreChosen P (entries_from number offset 0 positions) (plies_from number offset from (end - from))
-between P number offset from end positions least exactly fits =
-    let sizes = dropped from positions in
-    let same : from ≡ 0 + from = omega arith in
-    leaves P number offset 0 from positions (plies_from number offset from (end - from))
-    (λ n low high holds. let above = least n holds in omega arith)
-    (subst (λ n. AreChosen P (entries_from number offset n (drop from positions)) (plies_from number offset from (end - from))) same
-    (keeps P number offset from (end - from) (drop from positions) few
-    (λ n low high. let most = fits (omega arith) in (exactly n (omega arith)).1 (omega arith, omega arith))
-    (λ n low high holds. let most = sizes.1 (omega arith) in let bounds = (exactly n (omega arith)).0 holds in omega arith)))
-  where
-    few : end - from ≤ length (drop from positions)
-    few = let size = (dropped from positions).0 in elim (cases_lt from end) [
-      | inl less ↦ let most = fits less in omega arith
-      | inr over ↦ omega arith
-    ]
+  -- the positions from a ply to another are chosen
+  between : (from end : ℕ) (positions : List State) → ((n : ℕ) → P n → from ≤ n) → ((n : ℕ) → n < length positions → P n ↔ (from ≤ n) × (n < end))
+      → (from < end → end ≤ length positions) → AreChosen number offset P S (plies_of 0 positions) (plies_from number offset from (end - from))
+  between from end positions least exactly fits =
+      let sizes = dropped from positions in
+      let same : from ≡ 0 + from = omega arith in
+      leaves number offset P S 0 from positions (plies_from number offset from (end - from))
+      (λ n low high holds. let above = least n holds in omega arith)
+      (subst (λ n. AreChosen number offset P S (plies_of n (drop from positions)) (plies_from number offset from (end - from))) same
+      (keeps from (end - from) (drop from positions) few
+      (λ n low high. let most = fits (omega arith) in (exactly n (omega arith)).1 (omega arith, omega arith))
+      (λ n low high holds. let most = sizes.1 (omega arith) in let bounds = (exactly n (omega arith)).0 holds in omega arith)))
+    where
+      few : end - from ≤ length (drop from positions)
+      few = let size = (dropped from positions).0 in elim (cases_lt from end) [
+        | inl less ↦ let most = fits less in omega arith
+        | inr over ↦ omega arith
+      ]
 
 -- without criteria a ply of the main line is an entry by the bounds alone
 plain_entry : (aim : Aim) → aim.criteria ≡ None → (tags : Tags) (replay : Replay) (plies n : ℕ) → n ≤ plies → IsEntry aim tags replay n ↔ IsPlainEntry aim plies n
@@ -84,11 +84,11 @@ plain_entry aim no_criteria tags replay plies n within = (to, from)
     from (_, low, high, only) = ((low, high, met n), λ first before less wanted. let is = only first in let least = wanted.0 in omega arith)
 
 -- so the entries are the plies from the least one on
-pub listed_plies : (aim : Aim) (number offset plies end : ℕ) → aim.criteria ≡ None
+pub listed_plies : (aim : Aim) (number offset plies end : ℕ) → aim.criteria ≡ None → is_plain aim.fields ≡ true
     → ((ply : ℕ) → IsPlainEntry aim plies ply ↔ (aim.min_ply ≤ ply) × (ply < end)) → (tags : Tags) (replay : Replay) → length replay.positions ≡ plies + 1
     → AreListed aim number offset tags replay (plies_from number offset aim.min_ply (end - aim.min_ply))
-listed_plies aim number offset plies end no_criteria range tags replay size =
-    between (λ entry. IsEntry aim tags replay entry.ply) number offset aim.min_ply end replay.positions
+listed_plies aim number offset plies end no_criteria plain range tags replay size =
+    between number offset (IsEntry aim tags replay) (AreFields aim.fields replay) (no_fields aim.fields plain replay) aim.min_ply end replay.positions
     (λ n entry. entry.0.0)
     (λ n less. let plain = plain_entry aim no_criteria tags replay plies n (omega arith) in
     (λ entry. (range n).0 (plain.0 entry), λ bounds. plain.1 ((range n).1 bounds)))
@@ -96,15 +96,15 @@ listed_plies aim number offset plies end no_criteria range tags replay size =
 
 -- one line more
 pub adds_line : (name : Option (List ℕ)) (number offset from ply : ℕ) (before now next line : List ℕ) → from ≤ ply → now ≡ before ++ listing name (plies_from number offset from (ply - from))
-    → line ≡ entry_line name (entry_at number offset ply) → next ≡ now ++ line → next ≡ before ++ listing name (plies_from number offset from (ply + 1 - from))
+    → line ≡ entry_line name (entry_at number offset ply []) → next ≡ now ++ line → next ≡ before ++ listing name (plies_from number offset from (ply + 1 - from))
 adds_line name number offset from ply before now next line above written is added =
     let count = ply - from in
     let more : ply + 1 - from ≡ suc count = omega arith in
     let here : from + count ≡ ply = omega arith in
     let picked = plies_from number offset from count in
-    let entry = entry_at number offset ply in
+    let entry = entry_at number offset ply [] in
     let all : plies_from number offset from (ply + 1 - from) ≡ picked ++ entry ∷ [] =
-    ap (plies_from number offset from) more ∙ plies_more number offset from count ∙ ap (λ n. picked ++ entry_at number offset n ∷ []) here in
+    ap (plies_from number offset from) more ∙ plies_more number offset from count ∙ ap (λ n. picked ++ entry_at number offset n [] ∷ []) here in
     added ∙ ap (λ t. t ++ line) written ∙ ap (λ t. (before ++ listing name picked) ++ t) is ∙ append_assoc before (listing name picked) (entry_line name entry)
     ∙ ap (λ t. before ++ t) (ap (λ t. listing name picked ++ t) (sym (append-nil (entry_line name entry))) ∙ sym (listing-append name picked (entry ∷ [])) ∙ ap (listing name) (sym all))
 

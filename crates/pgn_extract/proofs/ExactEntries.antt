@@ -1,5 +1,5 @@
 -- The entries of pieces in a row: which they are, and their order.
-use Rattle.std.proofs.Common.{◌≡◌, ℕ, ◌+◌, ◌<◌, ◌≤◌, zero, suc, List, [], ◌∷◌, ◌++◌, length, Option, Some, refl, sym, ap, ◌∙◌, subst, arith, inl, inr, ◌⊎◌}
+use Rattle.std.proofs.Common.{◌≡◌, ℕ, ◌+◌, ◌<◌, ◌≤◌, zero, suc, List, [], ◌∷◌, ◌++◌, length, Option, Some, refl, sym, ap, ◌∙◌, subst, arith, inl, inr}
 use Rattle.std.specs.List.{Contains, slice_get}
 use Rattle.std.proofs.lemmas.Bool.{cases_lt}
 use Rattle.std.proofs.lemmas.List.Elements.{Contains-append_left, Contains-append_right, Contains-append_cases}
@@ -12,10 +12,10 @@ use Rattle.pgn_game.specs.Replays.{Replay, IsReplay, IsMainReplay}
 use Rattle.pgn_game.specs.declared.replayer.Lines.TheVariants.{Main}
 use Rattle.pgn_game.specs.Starts.{fen_tag}
 use Rattle.pgn_extract.specs.Aims.{Aim, IsEntry}
-use Rattle.pgn_extract.proofs.Chosen.{chosen_from, chosen_all, chosen_ascend}
-use Rattle.pgn_extract.proofs.Picks.{entry_at}
-use Rattle.pgn_extract.specs.Listing.{Entry, tags_in, IsPlyOfGame, IsEarlier, Ascend, AreEntries}
-use Rattle.pgn_extract.specs.GameReports.{entries_from, IsReplayOf}
+use Rattle.pgn_extract.proofs.Chosen.{entry_at, none_in, in_front, Rise, IsPicked, chosen_from, chosen_all, chosen_ascend}
+use Rattle.pgn_extract.proofs.FieldTexts.{one_text}
+use Rattle.pgn_extract.specs.Listing.{Entry, AreFields, tags_in, IsPlyOfGame, IsEarlier, Ascend, AreEntries}
+use Rattle.pgn_extract.specs.GameReports.{plies_of, IsReplayOf}
 use Rattle.pgn_extract.specs.EntryRows.{AreGameEntries, sound, faulty, ArePieceEntries, AreEntryRows}
 
 -- a replay of the main line alone is said in two ways
@@ -25,73 +25,63 @@ main_of is = record { start = is.start; is_start = is.is_start; line = is.line; 
 replay_of : {fen : Option (List ℕ)} {items : List Item} {replay : Replay} → IsMainReplay fen items replay → IsReplay Main fen items replay
 replay_of is = record { start = is.start; is_start = is.is_start; line = is.line; turns = is.turns }
 
--- nothing is among none
-pub none_within : (entry : Entry) → Contains [] entry → ⊥
-none_within entry (k, less, is) = omega arith
-
--- the first of some, or one of the others
-pub first_or_other : (x : Entry) (xs : List Entry) (entry : Entry) → Contains (x ∷ xs) entry → (x ≡ entry) ⊎ Contains xs entry
-first_or_other x xs entry (zero, less, is) = inl is
-first_or_other x xs entry (suc k, less, is) = inr (k, omega arith, is)
-
--- what an entry of a game's positions is
-pub record IsOfGame (number offset ply count : ℕ) (entry : Entry) : Type 0 where
-  pub is : entry ≡ entry_at number offset entry.ply
-  pub low : ply ≤ entry.ply
-  pub high : entry.ply < ply + count
-
-pub of_positions : (number offset ply : ℕ) (positions : List State) (entry : Entry) → Contains (entries_from number offset ply positions) entry
-    → IsOfGame number offset ply (length positions) entry
-of_positions number offset ply [] entry has = absurd (none_within entry has)
-of_positions number offset ply (position ∷ more) entry has =
-    elim (first_or_other (entry_at number offset ply) (entries_from number offset (ply + 1) more) entry has) [
-      | inl is ↦
-          let same : ply ≡ entry.ply = ap (λ (e : Entry). e.ply) is in
-          record { is = sym is ∙ ap (entry_at number offset) same; low = omega arith; high = omega arith }
-      | inr other ↦
-          let of = of_positions number offset (ply + 1) more entry other in
-          record { is = of.is; low = (let l = of.low in omega arith); high = (let h = of.high in omega arith) }
+-- the plies of positions in a row are within them
+pub of_plies : (ply : ℕ) (positions : List State) (n : ℕ) → Contains (plies_of ply positions) n → (ply ≤ n) × (n < ply + length positions)
+of_plies ply [] n has = absurd (none_in n has)
+of_plies ply (position ∷ more) n has =
+    elim (in_front ply (plies_of (ply + 1) more) n has) [
+      | inl is ↦ (omega arith, omega arith)
+      | inr other ↦ let of = of_plies (ply + 1) more n other in let low = of.0 in let high = of.1 in (omega arith, omega arith)
     ]
+
+pub within_plies : (positions : List State) (n : ℕ) → Contains (plies_of 0 positions) n → n < length positions
+within_plies positions n has = let high = (of_plies 0 positions n has).1 in omega arith
 
 -- and each of them is there
-has_ply : (number offset ply : ℕ) (positions : List State) (at : ℕ) → ply ≤ at → at < ply + length positions
-    → Contains (entries_from number offset ply positions) (entry_at number offset at)
-has_ply number offset ply [] at low high = absurd (omega arith)
-has_ply number offset ply (position ∷ more) at low high =
+has_ply : (ply : ℕ) (positions : List State) (at : ℕ) → ply ≤ at → at < ply + length positions → Contains (plies_of ply positions) at
+has_ply ply [] at low high = absurd (omega arith)
+has_ply ply (position ∷ more) at low high =
     elim (cases_lt ply at) [
-      | inl above ↦
-          let other = has_ply number offset (ply + 1) more at (omega arith) (omega arith) in
-          Contains-append_right (entry_at number offset ply ∷ []) (entries_from number offset (ply + 1) more) (entry_at number offset at) other
-      | inr below ↦ let same : ply ≡ at = omega arith in (0, omega arith, ap (entry_at number offset) same)
+      | inl above ↦ Contains-append_right (ply ∷ []) (plies_of (ply + 1) more) at (has_ply (ply + 1) more at (omega arith) (omega arith))
+      | inr below ↦ (0, omega arith, omega arith)
     ]
+
+-- what an entry of a game with a replay is
+abbrev pub IsOfGame : Aim → ℕ → ℕ → List Part → Replay → Entry → Type 0
+IsOfGame aim number offset parts replay entry =
+    IsPicked number offset (IsEntry aim (tags_in parts) replay) (AreFields aim.fields replay) (plies_of 0 replay.positions) entry
 
 -- the entries of a piece are those of one game
 own_ply : (aim : Aim) (kind : PieceKind) (number offset : ℕ) (own : List Entry) → ArePieceEntries aim kind number offset own → (entry : Entry) → Contains own entry
-    → (parts : List Part) × (replay : Replay) × (kind ≡ ReadableGame parts) × IsReplayOf Main parts replay × IsOfGame number offset 0 (length replay.positions) entry
-    × IsEntry aim (tags_in parts) replay entry.ply
+    → (parts : List Part) × (replay : Replay) × (kind ≡ ReadableGame parts) × IsReplayOf Main parts replay × IsOfGame aim number offset parts replay entry
 own_ply aim (ReadableGame parts) number offset own (sound replay is these) entry has =
-    let of = chosen_from (λ e. IsEntry aim (tags_in parts) replay e.ply) (entries_from number offset 0 replay.positions) own these entry has in
-    (parts, replay, refl, is, of_positions number offset 0 replay.positions entry of.0, of.1)
-own_ply aim (ReadableGame parts) number offset own (faulty fault is none) entry has = absurd (none_within entry (subst (λ e. Contains e entry) none has))
-own_ply aim (UnreadableRest bytes) number offset own none entry has = absurd (none_within entry (subst (λ e. Contains e entry) none has))
-own_ply aim TooLongBlock number offset own none entry has = absurd (none_within entry (subst (λ e. Contains e entry) none has))
+    let of = chosen_from number offset (IsEntry aim (tags_in parts) replay) (AreFields aim.fields replay) (plies_of 0 replay.positions) own these entry has in
+    (parts, replay, refl, is, of)
+own_ply aim (ReadableGame parts) number offset own (faulty fault is none) entry has = absurd (none_in entry (subst (λ e. Contains e entry) none has))
+own_ply aim (UnreadableRest bytes) number offset own none entry has = absurd (none_in entry (subst (λ e. Contains e entry) none has))
+own_ply aim TooLongBlock number offset own none entry has = absurd (none_in entry (subst (λ e. Contains e entry) none has))
 
 -- and all of them, where it is sound
 own_has : (aim : Aim) (number offset : ℕ) (parts : List Part) (own : List Entry) → AreGameEntries aim number offset parts own
-    → (replay : Replay) → IsReplayOf Main parts replay → (ply : ℕ) → ply < length replay.positions → IsEntry aim (tags_in parts) replay ply → Contains own (entry_at number offset ply)
-own_has aim number offset parts own (sound first is these) replay also ply less listed =
-    let same : first ≡ replay = one_replay Main (first_tag fen_tag parts) (items_of parts) first replay is also in
-    let here : ply < length first.positions = subst (λ (r : Replay). ply < length r.positions) (sym same) less in
-    let also_listed : IsEntry aim (tags_in parts) first ply = subst (λ (r : Replay). IsEntry aim (tags_in parts) r ply) (sym same) listed in
-    chosen_all (λ e. IsEntry aim (tags_in parts) first e.ply) (entries_from number offset 0 first.positions) own these (entry_at number offset ply)
-    (has_ply number offset 0 first.positions ply (omega arith) (omega arith)) also_listed
-own_has aim number offset parts own (faulty fault is none) replay also ply less listed =
+    → (replay : Replay) → IsReplayOf Main parts replay → (entry : Entry) → entry ≡ entry_at number offset entry.ply entry.shown
+    → entry.ply < length replay.positions → IsEntry aim (tags_in parts) replay entry.ply → AreFields aim.fields replay entry.ply entry.shown → Contains own entry
+own_has aim number offset parts own (sound first is these) replay also entry marked less listed shows =
+    let same : replay ≡ first = sym (one_replay Main (first_tag fen_tag parts) (items_of parts) first replay is also) in
+    let here : entry.ply < length first.positions = subst (λ (r : Replay). entry.ply < length r.positions) same less in
+    chosen_all number offset (IsEntry aim (tags_in parts) first) (AreFields aim.fields first) (one_text aim.fields first) (plies_of 0 first.positions) own these entry
+    (record {
+      is = marked;
+      among = has_ply 0 first.positions entry.ply (omega arith) (omega arith);
+      fact = subst (λ (r : Replay). IsEntry aim (tags_in parts) r entry.ply) same listed;
+      shows = subst (λ (r : Replay). AreFields aim.fields r entry.ply entry.shown) same shows;
+    })
+own_has aim number offset parts own (faulty fault is none) replay also entry marked less listed shows =
     absurd (no_fault Main (first_tag fen_tag parts) (items_of parts) fault (replay, also) is)
 
 -- each entry is a ply of a sound game
 pub to_ply : (aim : Aim) (number : ℕ) (pieces : List MarkedPiece) (entries : List Entry) → AreEntryRows aim number pieces entries → (entry : Entry) → Contains entries entry
     → IsPlyOfGame aim number pieces entry
-to_ply aim number [] entries none entry has = absurd (none_within entry (subst (λ e. Contains e entry) none has))
+to_ply aim number [] entries none entry has = absurd (none_in entry (subst (λ e. Contains e entry) none has))
 to_ply aim number (piece ∷ more) entries (own, rest, parted, here, others) entry has =
     elim (Contains-append_cases own rest entry (subst (λ e. Contains e entry) parted has)) [
       | inl first ↦
@@ -105,8 +95,9 @@ to_ply aim number (piece ∷ more) entries (own, rest, parted, here, others) ent
             game = ap (λ (p : MarkedPiece). Some p) (ap (λ k. record { offset = piece.offset; kind = k }) of.2 ∙ ap (λ n. record { offset = n; kind = ReadableGame of.0 }) (sym offset));
             numbered = ap (λ (e : Entry). e.number) place.is ∙ omega arith;
             is_replay = main_of of.3;
-            within = (let h = place.high in omega arith);
-            listed = of.5;
+            within = within_plies of.1.positions entry.ply place.among;
+            listed = place.fact;
+            shows = place.shows;
           }
       | inr later ↦
           let of = to_ply aim (number + 1) more rest others entry later in
@@ -119,6 +110,7 @@ to_ply aim number (piece ∷ more) entries (own, rest, parted, here, others) ent
             is_replay = of.is_replay;
             within = of.within;
             listed = of.listed;
+            shows = of.shows;
           }
     ]
 
@@ -132,23 +124,20 @@ from_ply aim number pieces entries are entry of = by_place number pieces entries
     by_place number [] entries are place none numbered = absurd (cc)
     by_place number (piece ∷ more) entries (own, rest, parted, here, others) zero game numbered =
         let is : piece ≡ record { offset = entry.offset; kind = ReadableGame of.parts } = cc in
-        let same : number ≡ entry.number = omega arith in
+        let same : entry.number ≡ number = omega arith in
         let has = own_has aim number entry.offset of.parts own (subst (λ (p : MarkedPiece). ArePieceEntries aim p.kind number p.offset own) is here)
-        of.replay (replay_of of.is_replay) entry.ply of.within of.listed in
-        subst (λ e. Contains e entry) (sym parted)
-        (Contains-append_left own rest entry (subst (λ n. Contains own (entry_at n entry.offset entry.ply)) same has))
+        of.replay (replay_of of.is_replay) entry (ap (λ n. entry_at n entry.offset entry.ply entry.shown) same) of.within of.listed of.shows in
+        subst (λ e. Contains e entry) (sym parted) (Contains-append_left own rest entry has)
     by_place number (piece ∷ more) entries (own, rest, parted, here, others) (suc place) game numbered =
         subst (λ e. Contains e entry) (sym parted)
         (Contains-append_right own rest entry (by_place (number + 1) more rest others place game (omega arith)))
 
--- positions in a row have their entries in order
-ascend_positions : (number offset ply : ℕ) (positions : List State) → Ascend (entries_from number offset ply positions)
-ascend_positions number offset ply [] = tt
-ascend_positions number offset ply (position ∷ more) = (
-  λ later has.
-      let of = of_positions number offset (ply + 1) more later has in
-      inr (sym (ap (λ (e : Entry). e.number) of.is), (let l = of.low in omega arith)),
-  ascend_positions number offset (ply + 1) more,
+-- the plies of positions in a row rise
+plies_rise : (ply : ℕ) (positions : List State) → Rise (plies_of ply positions)
+plies_rise ply [] = tt
+plies_rise ply (position ∷ more) = (
+  λ later has. let low = (of_plies (ply + 1) more later has).0 in omega arith,
+  plies_rise (ply + 1) more,
 )
 
 -- some entries, and behind them later ones
@@ -165,7 +154,7 @@ ascend-append (x ∷ xs) ys before behind cross = (
 -- the entries of a piece are in order
 ascend_own : (aim : Aim) (kind : PieceKind) (number offset : ℕ) (own : List Entry) → ArePieceEntries aim kind number offset own → Ascend own
 ascend_own aim (ReadableGame parts) number offset own (sound replay is these) =
-    chosen_ascend (λ e. IsEntry aim (tags_in parts) replay e.ply) (entries_from number offset 0 replay.positions) own these (ascend_positions number offset 0 replay.positions)
+    chosen_ascend number offset (IsEntry aim (tags_in parts) replay) (AreFields aim.fields replay) (plies_of 0 replay.positions) own these (plies_rise 0 replay.positions)
 ascend_own aim (ReadableGame parts) number offset own (faulty fault is none) = subst Ascend (sym none) tt
 ascend_own aim (UnreadableRest bytes) number offset own none = subst Ascend (sym none) tt
 ascend_own aim TooLongBlock number offset own none = subst Ascend (sym none) tt

@@ -21,8 +21,8 @@ use Rattle.pgn_game.specs.declared.replayer.Lines.TheVariants.{Main}
 use Rattle.pgn_game.specs.Starts.{fen_tag}
 use Rattle.pgn_extract.specs.Blockwise.{AddsVerdict, AddsListed, AddsExported, AddsGame, IsGivenText, IsGameWritten, AddsMark, IsPieceOf, AddsPiece, NamesBlockStop, IsBlockVerdict, IsMarkVerdict}
 use Rattle.pgn_extract.specs.Index.{fault_text, mark_line}
-use Rattle.pgn_extract.specs.Listing.{Entry, listing, tags_in}
-use Rattle.pgn_extract.specs.GameReports.{entries_from, AreListed, cause_text, IsReplayOf, IsFaultOf}
+use Rattle.pgn_extract.specs.Listing.{Entry, AreFields, listing, tags_in}
+use Rattle.pgn_extract.specs.GameReports.{plies_of, AreListed, cause_text, IsReplayOf, IsFaultOf}
 use Rattle.pgn_game.specs.GameLines.{IsGameLine}
 use Rattle.pgn_extract.specs.declared.settings.Form.{Form}
 use Rattle.pgn_extract.specs.declared.settings.Form.TheVariants.{Standard, AsItStands, Line}
@@ -73,10 +73,10 @@ pub listed_replay : (aim : Aim) {old new : Report} {number offset : ℕ} {game :
 listed_replay aim {old} {new} {number} {offset} {game} replay entries is these adds at parts shows =
     let own = λ (name : List ℕ). tag_in name game.tags in
     let listed : AreListed aim number offset (tags_in parts) replay entries =
-    chosen_by (λ entry. IsEntry aim own replay entry.ply) (λ entry. IsEntry aim (tags_in parts) replay entry.ply)
-    (λ entry. entry_same own (tags_in parts) shows.tags replay aim entry.ply)
-    (λ entry. entry_same (tags_in parts) own (λ name. sym (shows.tags name)) replay aim entry.ply)
-    (entries_from number offset 0 replay.positions) entries these in
+    chosen_by number offset (IsEntry aim own replay) (IsEntry aim (tags_in parts) replay) (AreFields aim.fields replay)
+    (entry_same own (tags_in parts) shows.tags replay aim)
+    (entry_same (tags_in parts) own (λ name. sym (shows.tags name)) replay aim)
+    (plies_of 0 replay.positions) entries these in
     (SoundGame (listing aim.name entries), (replay, entries, shown_replay Main shows replay is, listed, refl), verdict_sound old new (listing aim.name entries) adds)
 
 -- or its fault

@@ -9,6 +9,7 @@ pub mod Dropping
 pub mod ModeOutputs
 pub mod ExactEntries
 pub mod Exported
+pub mod FieldTexts
 pub mod GameExport
 pub mod Gathered
 pub mod GameVerdict

@@ -9,7 +9,8 @@ use Rattle.pgn_extract.specs.Aims.{Aim}
 use Rattle.pgn_extract.specs.Laws.{PiecesHaveOneListing}
 use Rattle.pgn_extract.specs.Listing.{Entry, IsPlyOfGame, IsEarlier, Ascend, AreEntries, entries_at_least}
 use Rattle.pgn_extract.specs.declared.settings.Mode.TheVariants as modes
-use Rattle.pgn_extract.proofs.ExactEntries.{none_within, first_or_other, are_entries}
+use Rattle.pgn_extract.proofs.Chosen.{none_in, in_front}
+use Rattle.pgn_extract.proofs.ExactEntries.{are_entries}
 use Rattle.pgn_extract.proofs.ModeOutputs.{of_pieces}
 use Rattle.pgn_extract.proofs.SomeReport.{some_report}
 
@@ -31,10 +32,10 @@ has_other x xs e (k, less, is) = (suc k, omega arith, is)
 same_first : (x y : Entry) (xs ys : List Entry) → Ascend (x ∷ xs) → Ascend (y ∷ ys) → ((e : Entry) → Contains (x ∷ xs) e → Contains (y ∷ ys) e)
     → ((e : Entry) → Contains (y ∷ ys) e → Contains (x ∷ xs) e) → x ≡ y
 same_first x y xs ys up also_up there back =
-    elim (first_or_other y ys x (there x (has_first x xs))) [
+    elim (in_front y ys x (there x (has_first x xs))) [
       | inl is ↦ sym is
       | inr later ↦
-          elim (first_or_other x xs y (back y (has_first y ys))) [
+          elim (in_front x xs y (back y (has_first y ys))) [
             | inl is ↦ is
             | inr also ↦ absurd (not_both x y (up.0 y also) (also_up.0 x later))
           ]
@@ -44,7 +45,7 @@ same_first x y xs ys up also_up there back =
 others_there : (x y : Entry) (xs ys : List Entry) → Ascend (x ∷ xs) → x ≡ y → ((e : Entry) → Contains (x ∷ xs) e → Contains (y ∷ ys) e)
     → (e : Entry) → Contains xs e → Contains ys e
 others_there x y xs ys up same there e has =
-    elim (first_or_other y ys e (there e (has_other x xs e has))) [
+    elim (in_front y ys e (there e (has_other x xs e has))) [
       | inl is ↦ (let it = subst (λ z. IsEarlier z e) (same ∙ is) (up.0 e has) in absurd (not_both e e it it))
       | inr later ↦ later
     ]
@@ -52,8 +53,8 @@ others_there x y xs ys up same there e has =
 -- two ascending lists of the same entries are one
 one_ascending : (xs ys : List Entry) → Ascend xs → Ascend ys → ((e : Entry) → Contains xs e → Contains ys e) → ((e : Entry) → Contains ys e → Contains xs e) → xs ≡ ys
 one_ascending [] [] up also_up there back = refl
-one_ascending [] (y ∷ ys) up also_up there back = absurd (none_within y (back y (has_first y ys)))
-one_ascending (x ∷ xs) [] up also_up there back = absurd (none_within x (there x (has_first x xs)))
+one_ascending [] (y ∷ ys) up also_up there back = absurd (none_in y (back y (has_first y ys)))
+one_ascending (x ∷ xs) [] up also_up there back = absurd (none_in x (there x (has_first x xs)))
 one_ascending (x ∷ xs) (y ∷ ys) up also_up there back =
     let same : x ≡ y = same_first x y xs ys up also_up there back in
     ap (λ e. e ∷ xs) same ∙ ap (λ es. y ∷ es)
@@ -68,27 +69,27 @@ one_listing aim number pieces entries others are also =
 
 -- which entries of some have at least a number
 kept_all : (least : ℕ) (entries : List Entry) (e : Entry) → Contains entries e → least ≤ e.number → Contains (entries_at_least least entries) e
-kept_all least [] e has low = absurd (none_within e has)
+kept_all least [] e has low = absurd (none_in e has)
 kept_all least (x ∷ xs) e has low =
     elim (cases_lt x.number least) [
       | inl below ↦
           let out : nat_le least x.number ≡ false = grind (arith, nat_tests) in
           subst (λ b. Contains (cond b (x ∷ entries_at_least least xs) (entries_at_least least xs)) e) (sym out)
-          (elim (first_or_other x xs e has) [
+          (elim (in_front x xs e has) [
             | inl is ↦ (let same : x.number ≡ e.number = ap (λ (z : Entry). z.number) is in absurd (omega arith))
             | inr later ↦ kept_all least xs e later low
           ])
       | inr above ↦
           let in_it : nat_le least x.number ≡ true = grind (arith, nat_tests) in
           subst (λ b. Contains (cond b (x ∷ entries_at_least least xs) (entries_at_least least xs)) e) (sym in_it)
-          (elim (first_or_other x xs e has) [
+          (elim (in_front x xs e has) [
             | inl is ↦ subst (Contains (x ∷ entries_at_least least xs)) is (has_first x (entries_at_least least xs))
             | inr later ↦ has_other x (entries_at_least least xs) e (kept_all least xs e later low)
           ])
     ]
 
 kept_from : (least : ℕ) (entries : List Entry) (e : Entry) → Contains (entries_at_least least entries) e → Contains entries e × (least ≤ e.number)
-kept_from least [] e has = absurd (none_within e has)
+kept_from least [] e has = absurd (none_in e has)
 kept_from least (x ∷ xs) e has =
     elim (cases_lt x.number least) [
       | inl below ↦
@@ -97,7 +98,7 @@ kept_from least (x ∷ xs) e has =
           (has_other x xs e of.0, of.1)
       | inr above ↦
           let in_it : nat_le least x.number ≡ true = grind (arith, nat_tests) in
-          elim (first_or_other x (entries_at_least least xs) e (subst (λ b. Contains (cond b (x ∷ entries_at_least least xs) (entries_at_least least xs)) e) in_it has)) [
+          elim (in_front x (entries_at_least least xs) e (subst (λ b. Contains (cond b (x ∷ entries_at_least least xs) (entries_at_least least xs)) e) in_it has)) [
             | inl is ↦ (subst (Contains (x ∷ xs)) is (has_first x xs), subst (λ (z : Entry). least ≤ z.number) is (omega arith))
             | inr later ↦ (let of = kept_from least xs e later in (has_other x xs e of.0, of.1))
           ]
@@ -135,6 +136,7 @@ of_whole aim before rest number e of = record {
   is_replay = of.is_replay;
   within = of.within;
   listed = of.listed;
+  shows = of.shows;
 }
 
 -- a ply of a game of the whole with no lower number is one of the rest
@@ -151,6 +153,7 @@ of_rest aim before rest number e of low =
       is_replay = of.is_replay;
       within = of.within;
       listed = of.listed;
+      shows = of.shows;
     }
 
 -- the entries of the rest are those of the whole with no lower number
@@ -173,6 +176,7 @@ listing_aim aim = record {
   min_ply = aim.min_ply;
   max_ply = aim.max_ply;
   first = aim.first;
+  fields = aim.fields;
   select = aim.select;
   form = aim.form;
   style = aim.style;
@@ -190,6 +194,7 @@ listed_ply aim number pieces e of = record {
   is_replay = of.is_replay;
   within = of.within;
   listed = of.listed;
+  shows = of.shows;
 }
 
 ply_listed : (aim : Aim) (number : ℕ) (pieces : List MarkedPiece) (e : Entry) → IsPlyOfGame aim number pieces e → IsPlyOfGame (listing_aim aim) number pieces e
@@ -202,6 +207,7 @@ ply_listed aim number pieces e of = record {
   is_replay = of.is_replay;
   within = of.within;
   listed = of.listed;
+  shows = of.shows;
 }
 
 -- the pieces of each text have entries

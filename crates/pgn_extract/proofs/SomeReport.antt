@@ -15,8 +15,8 @@ use Rattle.pgn_game.specs.declared.replayer.Lines.{Lines}
 use Rattle.pgn_game.specs.declared.replayer.Lines.TheVariants.{Main}
 use Rattle.pgn_game.specs.Starts.{fen_tag}
 use Rattle.pgn_extract.specs.Index.{fault_text, mark_line}
-use Rattle.pgn_extract.specs.Listing.{listing, tags_in}
-use Rattle.pgn_extract.specs.GameReports.{entries_from, cause_text, IsReplayOf, IsFaultOf}
+use Rattle.pgn_extract.specs.Listing.{AreFields, listing, tags_in}
+use Rattle.pgn_extract.specs.GameReports.{plies_of, cause_text, IsReplayOf, IsFaultOf}
 use Rattle.pgn_game.proofs.GameLineFacts.{some_line}
 use Rattle.pgn_extract.specs.declared.settings.Form.{Form}
 use Rattle.pgn_extract.specs.declared.settings.Form.TheVariants.{Standard, AsItStands, Line}
@@ -28,8 +28,9 @@ use Rattle.pgn_extract.specs.Aims.{Aim, IsMet, IsWanted, IsEntry}
 use Rattle.pgn_extract.specs.Laws.{TextHasAReport}
 use Rattle.pgn_extract.proofs.Chosen.{some_chosen}
 use Rattle.pgn_extract.proofs.Decided.{IsDecided, all_decided}
-use Rattle.pgn_extract.proofs.ExactEntries.{of_positions}
+use Rattle.pgn_extract.proofs.ExactEntries.{within_plies}
 use Rattle.pgn_extract.proofs.Exported.{selected_or_not}
+use Rattle.pgn_extract.proofs.FieldTexts.{some_fields}
 use Rattle.pgn_extract.proofs.GameExport.{some_export_of_parts}
 use Rattle.pgn_extract.proofs.NoteLines.{empty_note, some_stop_note}
 use Rattle.pgn_extract.specs.declared.settings.Mode.{Mode}
@@ -181,12 +182,11 @@ module _ (aim : Aim) (decided : IsDecided aim) (number offset : ℕ) (parts : Li
   game_reported modes.Index = (SoundGame (mark_line aim.name number offset), refl)
   game_reported modes.List = elim (answers parts made Main) [
     | inl sound ↦
-        let all = entries_from number offset 0 sound.0.positions in
+        let all = plies_of 0 sound.0.positions in
         let some =
-        some_chosen (λ entry. IsEntry aim (tags_in parts) sound.0 entry.ply) all
-        (λ entry has.
-        let high = (of_positions number offset 0 sound.0.positions entry has).high in
-        listed_or_not Main sound.0 sound.1 entry.ply (omega arith)) in
+        some_chosen number offset (IsEntry aim (tags_in parts) sound.0) (AreFields aim.fields sound.0) all
+        (λ ply has. listed_or_not Main sound.0 sound.1 ply (within_plies sound.0.positions ply has))
+        (λ ply has. some_fields aim.fields Main (first_tag fen_tag parts) (items_of parts) sound.0 sound.1 ply (within_plies sound.0.positions ply has)) in
         (SoundGame (listing aim.name some.0), (sound.0, some.0, sound.1, some.1, refl))
     | inr faulty ↦ (FaultyGame [] (fault_text aim.name number offset (cause_text faulty.0)) [], (faulty.0, faulty.1, refl, empty_note aim.explain, refl))
   ]

@@ -4,6 +4,7 @@ use Rattle.pgn_game.specs.Replays.{Replay}
 use Rattle.pgn_game.specs.declared.style.Style.{Style}
 use Rattle.pgn_criteria.specs.Meeting.{Tags, Meets}
 use Rattle.pgn_criteria.specs.declared.condition.Condition.{Condition}
+use Rattle.pgn_extract.specs.declared.settings.Fields.{Fields}
 use Rattle.pgn_extract.specs.declared.settings.Form.{Form}
 use Rattle.pgn_extract.specs.declared.settings.Mode.{Mode}
 use Rattle.pgn_extract.specs.declared.settings.Select.{Select}
@@ -17,6 +18,7 @@ pub record Aim : Type 0 where
   pub min_ply : ℕ
   pub max_ply : ℕ
   pub first : Bool
+  pub fields : Fields
   pub select : Select
   pub form : Form
   pub style : Style
@@ -31,6 +33,7 @@ aim_of settings = record {
   min_ply = settings.min_ply;
   max_ply = settings.max_ply;
   first = settings.first;
+  fields = settings.fields;
   select = settings.select;
   form = settings.form;
   style = settings.style;

@@ -9,7 +9,7 @@ use Rattle.pgn_game.specs.declared.replayer.Lines.{Lines}
 use Rattle.pgn_game.specs.Starts.{fen_tag}
 use Rattle.pgn_criteria.specs.Meeting.{Tags}
 use Rattle.pgn_extract.specs.Aims.{Aim, IsEntry}
-use Rattle.pgn_extract.specs.Listing.{Entry}
+use Rattle.pgn_extract.specs.Listing.{Entry, AreFields}
 
 -- the game of these parts is sound in these lines, and this is their replay
 abbrev pub IsReplayOf : Lines → List Part → Replay → Type 0
@@ -25,19 +25,20 @@ cause_text BadStart = codes "bad position"
 cause_text (IllegalMove word ply) = codes "illegal move " ++ word ++ codes " at ply " ++ decimal ply
 cause_text (AmbiguousMove word ply) = codes "ambiguous move " ++ word ++ codes " at ply " ++ decimal ply
 
--- an entry for each of the positions in a row, of which the first stands at the ply
-abbrev pub entries_from : ℕ → ℕ → ℕ → List State → List Entry
-entries_from number offset ply [] = []
-entries_from number offset ply (position ∷ more) =
-    record { number = number; offset = offset; ply = ply } ∷ entries_from number offset (ply + 1) more
+-- the plies of positions in a row, of which the first stands at the ply
+abbrev pub plies_of : ℕ → List State → List ℕ
+plies_of ply [] = []
+plies_of ply (position ∷ more) = ply ∷ plies_of (ply + 1) more
 
--- the second list is what of the first has the fact, in its order
-pub data AreChosen (P : Entry → Type 0) : List Entry → List Entry → Type 0 where
-  none : AreChosen P [] []
-  keep : (entry : Entry) (all chosen : List Entry) → P entry → AreChosen P all chosen → AreChosen P (entry ∷ all) (entry ∷ chosen)
-  leave : (entry : Entry) (all chosen : List Entry) → (P entry → ⊥) → AreChosen P all chosen → AreChosen P (entry ∷ all) chosen
+-- of a game with this mark these are the entries at those of the plies that have the fact, in their order, each with what is shown of its ply
+pub data AreChosen (number offset : ℕ) (P : ℕ → Type 0) (S : ℕ → List ℕ → Type 0) : List ℕ → List Entry → Type 0 where
+  none : AreChosen number offset P S [] []
+  keep : (ply : ℕ) (shown all : List ℕ) (chosen : List Entry) → P ply → S ply shown → AreChosen number offset P S all chosen
+      → AreChosen number offset P S (ply ∷ all) (record { number = number; offset = offset; ply = ply; shown = shown } ∷ chosen)
+  leave : (ply : ℕ) (all : List ℕ) (chosen : List Entry) → (P ply → ⊥) → AreChosen number offset P S all chosen
+      → AreChosen number offset P S (ply ∷ all) chosen
 
 -- the entries that a sound game with these tags lists, of its positions from ply 0 on
 abbrev pub AreListed : Aim → ℕ → ℕ → Tags → Replay → List Entry → Type 0
 AreListed aim number offset tags replay entries =
-    AreChosen (λ entry. IsEntry aim tags replay entry.ply) (entries_from number offset 0 replay.positions) entries
+    AreChosen number offset (IsEntry aim tags replay) (AreFields aim.fields replay) (plies_of 0 replay.positions) entries

@@ -33,6 +33,10 @@ pub struct Request<'a> {
     pub max_ply: u32,
     /// `--first` was given.
     pub first: bool,
+    /// `--fen` was given.
+    pub fen: bool,
+    /// `--next` was given.
+    pub next: bool,
     /// `--others` was given.
     pub others: bool,
     /// `--faulty` was given.
@@ -126,6 +130,17 @@ fn mode_options<'a>(alloc: Global, command: Command<'a>) -> Result<Command<'a>, 
             "list",
             "N@O P for each position looked for: the number\n\
              and offset of its game, and its ply",
+        ))?
+        .arg(flag(
+            alloc,
+            "fen",
+            "With --list, show each position after its ply, in FEN",
+        ))?
+        .arg(flag(
+            alloc,
+            "next",
+            "With --list, show the move that is played from there\n\
+             (- at the end of the game)",
         ))?
         .arg(flag(
             alloc,
@@ -323,6 +338,8 @@ pub fn read_arguments<'a>(alloc: Global, arguments: &'a [String]) -> Result<Requ
         min_ply: matches.get_one("min-ply").unwrap_or(0),
         max_ply: matches.get_one("max-ply").unwrap_or(u32::MAX),
         first: matches.get_flag("first"),
+        fen: matches.get_flag("fen"),
+        next: matches.get_flag("next"),
         others: matches.get_flag("others"),
         faulty: matches.get_flag("faulty"),
         as_is: matches.get_flag("as-is"),

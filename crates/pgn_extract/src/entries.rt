@@ -1,8 +1,9 @@
 //! The entries of a game, found while its main line is played.
-ghost use Rattle.std.specs.Prelude.{◌≡◌, MatchResult, IfOk, IfSome, Some};
+ghost use Rattle.std.specs.Prelude.{◌≡◌, true, MatchResult, IfOk, IfSome, Some};
 ghost use Rattle.pgn_game.specs.Replays.{fault_of};
 ghost use Rattle.pgn_extract.specs.Aims.{aim_of};
 ghost use Rattle.pgn_extract.specs.Finding.{named_mark, AsksFor, AddsEntries, StopsAtFault, GoesOn};
+ghost use Rattle.pgn_extract.specs.Listing.{is_plain};
 
 use crate::listing::MARK_ROOM;
 use crate::settings::Settings;
@@ -39,6 +40,7 @@ impl<'s, 'a> Finder<'s, 'a> {
         line: &MainLine<'_, '_>,
         is_open: bool,
     ) -> Result<bool, AllocError>
+        requires plain { is_plain self.now.settings.now.fields ≡ true }
         requires marked { self.now.mark.items ≡ named_mark self.now.settings.now.name self.now.own.number self.now.own.offset }
         ensures { IfOk result (GoesOn (aim_of self.now.settings.now) self.now.own.number self.now.own.offset self.now.search line.now text.old.items text.new.items is_open) }
     {
@@ -61,6 +63,7 @@ impl<'s, 'a> Finder<'s, 'a> {
         text: &mut Vec<u8>,
         game: &RawGame<'b>,
     ) -> Result<(), GameFault<'b>>
+        requires plain { is_plain self.now.settings.now.fields ≡ true }
         requires asks { AsksFor (aim_of self.now.settings.now) game.now self.now.search }
         requires marked { self.now.mark.items ≡ named_mark self.now.settings.now.name self.now.own.number self.now.own.offset }
         ensures { MatchResult result
@@ -76,7 +79,7 @@ impl<'s, 'a> Finder<'s, 'a> {
     }
 }
 
-/// Adds the lines of the entries of a game by criteria, or answers its fault. Each position is asked as it is reached, and none is kept.
+/// Adds the lines of the entries of a game by criteria, which show no more than the ply, or answers its fault. Each position is asked as it is reached, and none is kept.
 pub fn push_found<'a>(
     alloc: Global,
     text: &mut Vec<u8>,
@@ -85,7 +88,8 @@ pub fn push_found<'a>(
     own: GameMark,
     game: &RawGame<'a>,
 ) -> Result<(), GameFault<'a>>
-    requires { settings.now.criteria ≡ Some criteria.now }
+    requires plain { is_plain settings.now.fields ≡ true }
+    requires criteria { settings.now.criteria ≡ Some criteria.now }
     ensures { MatchResult result
         (λ _. AddsEntries (aim_of settings.now) own.number own.offset game.now text.old.items text.new.items)
         (λ fault. IfSome (fault_of fault) (StopsAtFault game.now text.old.items text.new.items)) }

@@ -1,7 +1,8 @@
 //! Which plies are listed where no criteria are given.
-ghost use Rattle.std.specs.Prelude.{◌≡◌, ◌↔◌, ℕ, ◌<◌, ◌≤◌, None, OnOk};
+ghost use Rattle.std.specs.Prelude.{◌≡◌, ◌↔◌, ℕ, ◌<◌, ◌≤◌, None, true, OnOk};
 ghost use Rattle.pgn_extract.specs.Aims.{aim_of};
 ghost use Rattle.pgn_extract.specs.Blockwise.{IsPlainEntry, AddsPlies};
+ghost use Rattle.pgn_extract.specs.Listing.{is_plain};
 
 use crate::settings::Settings;
 use crate::texts::{count_up, push_entry, push_named_mark};
@@ -35,6 +36,7 @@ pub fn push_plies(
     plies: usize,
 ) -> Result<(), AllocError>
     requires criteria { settings.now.criteria ≡ None }
+    requires plain { is_plain settings.now.fields ≡ true }
     ensures { OnOk result (AddsPlies (aim_of settings.now) number offset plies text.old.items text.new.items) }
 {
     let mut mark = Vec::with_capacity(alloc, MARK_ROOM)?;

@@ -13,6 +13,9 @@ pub const BOTH_CHOICES: &str = "pgn-extract: --others and --faulty exclude each 
 pub const NO_GAMES_WRITTEN: &str =
     "pgn-extract: --others, --faulty and --as-is go with neither --list nor --index\n";
 
+/// Where no entries are listed, their lines show nothing.
+pub const NO_ENTRIES_LISTED: &str = "pgn-extract: --fen and --next go with --list\n";
+
 /// Moves have one notation.
 pub const BOTH_NOTATIONS: &str = "pgn-extract: --moves and --uci exclude each other\n";
 

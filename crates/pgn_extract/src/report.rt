@@ -1,10 +1,12 @@
 //! What is reported of the pieces of one block, piece by piece.
-ghost use Rattle.std.specs.Prelude.{◌≡◌, ℕ, List, None, Some, ◌+◌, ◌^◌, ◌<◌, ◌≤◌, [], ◌∷◌, length, codes, OnOk};
+ghost use Rattle.std.specs.Prelude.{◌≡◌, ℕ, List, None, Some, true, MatchResult, IfSome, ◌+◌, ◌^◌, ◌<◌, ◌≤◌, [], ◌∷◌, length, codes, OnOk};
 ghost use Rattle.pgn_text.specs.Left.{piece_place};
 ghost use Rattle.pgn_text.specs.LeftMarks.{mark_place};
 ghost use Rattle.pgn_extract.specs.Aims.{aim_of};
 ghost use Rattle.pgn_extract.specs.Blockwise.{Reports, AddsVerdict, AddsGame, AddsListed, AddsExported, AddsPiece, IsBlockVerdict, IsMarkVerdict, too_long_piece};
+ghost use Rattle.pgn_extract.specs.Finding.{AddsEntries, StopsAtFault};
 ghost use Rattle.pgn_extract.specs.Index.{fault_text};
+ghost use Rattle.pgn_extract.specs.Listing.{is_plain};
 ghost use Rattle.pgn_extract.specs.GameReports.{cause_text};
 ghost use Rattle.pgn_extract.specs.Notes.{IsNote};
 ghost use Rattle.pgn_extract.specs.Verdicts.{Verdict, FaultyGame};
@@ -17,8 +19,8 @@ use crate::listing::push_plies;
 use crate::move_notes::{Site, push_game_note};
 use crate::notes::{Origin, Spot, push_stop_note, push_too_long_note};
 use crate::settings::{Mode, Settings};
+use crate::showing::push_shown;
 use crate::texts::{push_fault_line, push_game_fault, push_mark_line};
-use pgn_criteria::Criteria;
 use pgn_game::{GameFault, Lines, count_plies};
 use pgn_text::{Mark, Piece, RawGame};
 use std::alloc::{AllocError, Global};
@@ -129,25 +131,43 @@ fn add_fault<'a>(
     push_game_note(alloc, &mut report.faults, site, game, lines)
 }
 
-/// Adds what the listing reports of a game where criteria are given: the lines of its entries, or of its fault.
+/// Adds the lines of the entries of a game, or answers its fault.
+fn push_entries<'a>(
+    alloc: Global,
+    text: &mut Vec<u8>,
+    settings: &'a Settings,
+    own: GameMark,
+    game: &RawGame<'a>,
+) -> Result<(), GameFault<'a>>
+    ensures { MatchResult result
+        (λ _. AddsEntries (aim_of settings.now) own.number own.offset game.now text.old.items text.new.items)
+        (λ fault. IfSome (fault_of fault) (StopsAtFault game.now text.old.items text.new.items)) }
+{
+    if settings.fields.is_empty()
+        && let Some(criteria) = &settings.criteria
+    {
+        return push_found(alloc, text, settings, criteria, own, game);
+    }
+    push_shown(alloc, text, settings, own, game)
+}
+
+/// Adds what the listing reports of a game whose positions are asked: the lines of its entries, or of its fault.
 fn add_entries<'a>(
     alloc: Global,
     report: &mut Report,
     settings: &'a Settings,
-    criteria: &'a Criteria,
     number: u64,
     offset: u64,
     site: Site<'a>,
     game: &RawGame<'a>,
 ) -> Result<(), AllocError>
-    requires criteria { settings.now.criteria ≡ Some criteria.now }
     requires faulty { report.old.faulty + 1 < 2 ^ 64 }
     requires room { site.origin.offset + length site.block.now < 2 ^ 64 }
     ensures { OnOk result (AddsListed (aim_of settings.now) report.old report.new number offset game.now) }
 {
     let length = report.output.len();
     let own = GameMark { number, offset };
-    match push_found(alloc, &mut report.output, settings, criteria, own, game) {
+    match push_entries(alloc, &mut report.output, settings, own, game) {
         Ok(()) => Ok(()),
         Err(fault) => {
             report.output.truncate(length);
@@ -156,7 +176,7 @@ fn add_entries<'a>(
     }
 }
 
-/// Adds what the listing reports of a game where no criteria are given: the lines of its plies within the bounds, or of its fault.
+/// Adds what the listing reports of a game where neither criteria nor fields are given: the lines of its plies within the bounds, or of its fault.
 fn add_plies<'a>(
     alloc: Global,
     report: &mut Report,
@@ -169,6 +189,7 @@ fn add_plies<'a>(
     requires faulty { report.old.faulty + 1 < 2 ^ 64 }
     requires room { site.origin.offset + length site.block.now < 2 ^ 64 }
     requires criteria { settings.now.criteria ≡ None }
+    requires plain { is_plain settings.now.fields ≡ true }
     ensures { OnOk result (AddsListed (aim_of settings.now) report.old report.new number offset game.now) }
 {
     match count_plies(alloc, game) {
@@ -191,12 +212,10 @@ fn add_listed<'a>(
     requires room { site.origin.offset + length site.block.now < 2 ^ 64 }
     ensures { OnOk result (AddsListed (aim_of settings.now) report.old report.new number offset game.now) }
 {
-    match &settings.criteria {
-        Some(criteria) => add_entries(
-            alloc, report, settings, criteria, number, offset, site, game,
-        ),
-        None => add_plies(alloc, report, settings, number, offset, site, game),
+    if settings.fields.is_empty() && settings.criteria.is_none() {
+        return add_plies(alloc, report, settings, number, offset, site, game);
     }
+    add_entries(alloc, report, settings, number, offset, site, game)
 }
 
 /// Adds what the export reports of a game: its text where it is selected, or the line of its fault.

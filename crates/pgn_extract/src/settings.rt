@@ -1,4 +1,7 @@
 //! What a run is to do.
+ghost use Rattle.std.specs.Prelude.{◌≡◌};
+ghost use Rattle.pgn_extract.specs.Listing.{is_plain};
+
 use crate::file_name::FileName;
 use pgn_criteria::Criteria;
 use pgn_game::{Notation, Style};
@@ -23,6 +26,24 @@ pub enum Select {
     Others,
     /// The faulty games and the unreadable pieces, each as it stands. They are reported as ever.
     Faulty,
+}
+
+/// What the line of an entry shows after the ply.
+#[derive(Clone, Copy, Debug, PartialEq, Eq)]
+pub struct Fields {
+    /// The text of the position in FEN.
+    pub fen: bool,
+    /// The move that is played from there.
+    pub next: bool,
+}
+
+impl Fields {
+    /// Whether the line ends after the ply.
+    pub fn is_empty(&self) -> bool
+        ensures { result ≡ is_plain self.now }
+    {
+        !self.fen && !self.next
+    }
 }
 
 /// How a game that the export selects is written.
@@ -51,6 +72,8 @@ pub struct Settings {
     pub max_ply: u32,
     /// Whether of each game only the first entry is listed.
     pub first: bool,
+    /// What the line of an entry shows after the ply.
+    pub fields: Fields,
     /// Which games the export writes.
     pub select: Select,
     /// How each game that the export selects is written.

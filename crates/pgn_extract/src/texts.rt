@@ -81,6 +81,15 @@ pub fn push_entry(text: &mut Vec<u8>, mark: &[u8], ply: usize) -> Result<(), All
     Ok(())
 }
 
+/// Appends how the line of an entry begins: the mark of its game, a space and the ply.
+pub fn push_ply(text: &mut Vec<u8>, mark: &[u8], ply: usize) -> Result<(), AllocError>
+    ensures { OnOk result (text.new.items ≡ text.old.items ++ (mark.now ++ 32 ∷ decimal ply)) }
+{
+    text.extend_from_slice(mark)?;
+    text.extend_from_slice(b" ")?;
+    push_number(text, ply)
+}
+
 /// Makes the line of an entry that of the entry at the next ply.
 pub fn count_up(line: &mut Vec<u8>, mark: &[u8], ply: usize) -> Result<(), AllocError>
     requires line { line.old.items ≡ mark.now ++ 32 ∷ decimal ply ++ 10 ∷ [] }

@@ -10,7 +10,7 @@ use crate::mark::{Mark, read_mark};
 use crate::messages;
 use crate::put::put;
 use crate::refusal_notes::{file_note, line_note};
-use crate::settings::{Form, Mode, Select, Settings};
+use crate::settings::{Fields, Form, Mode, Select, Settings};
 use crate::status::{FAILED, FAULTY, REFUSED, SOUND};
 use clap::Error;
 use clap::error::ErrorKind;
@@ -79,6 +79,9 @@ fn read_order<'a>(alloc: Global, arguments: &'a [String]) -> Result<Order<'a>, R
         Ok(mode) => mode,
         Err(line) => return Err(Refusal::Line(line)),
     };
+    if (request.fen || request.next) && mode != Mode::List {
+        return Err(Refusal::Line(messages::NO_ENTRIES_LISTED));
+    }
     let select = match select_of(&request, mode) {
         Ok(select) => select,
         Err(line) => return Err(Refusal::Line(line)),
@@ -190,6 +193,10 @@ fn settings_of(order: &Order<'_>, criteria: Option<Criteria>) -> Settings
         min_ply: request.min_ply,
         max_ply: request.max_ply,
         first: request.first,
+        fields: Fields {
+            fen: request.fen,
+            next: request.next,
+        },
         select: order.select,
         form: order.form,
         style: style_of(request),

@@ -4,7 +4,7 @@ ghost use Rattle.std.specs.Prelude.{◌≤◌, ◌^◌, IfOk};
 use crate::runs::{FAULT_BETWEEN, LOST_BRACE, Shelf, run_words};
 use crate::trials::Trial;
 use pgn_criteria::Criteria;
-use pgn_extract::{Form, Mode, Select, Settings};
+use pgn_extract::{Fields, Form, Mode, Select, Settings};
 use pgn_game::Style;
 use std::alloc::{AllocError, Global};
 use std::test::Fail;
@@ -31,6 +31,10 @@ fn all(mode: Mode) -> Settings
         min_ply: 0,
         max_ply: u32::MAX,
         first: false,
+        fields: Fields {
+            fen: false,
+            next: false,
+        },
         select: Select::Matching,
         form: Form::Standard,
         style: PLAIN,
@@ -52,6 +56,10 @@ fn rest(mode: Mode) -> Settings
         min_ply: 0,
         max_ply: u32::MAX,
         first: false,
+        fields: Fields {
+            fen: false,
+            next: false,
+        },
         select: Select::Matching,
         form: Form::Standard,
         style: PLAIN,

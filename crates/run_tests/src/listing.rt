@@ -8,7 +8,7 @@ use std::io::{ErrorKind, Write};
 use std::test::Fail;
 use test_support::{Page, TWO_GAMES};
 
-const ROWS: [Row; 25] = [
+const ROWS: [Row; 38] = [
     (&["--list"], b"", b"", b"", 0),
     (&["--list"], b"1. e4 e5 *", b"1@0 0\n1@0 1\n1@0 2\n", b"", 0),
     (
@@ -160,6 +160,106 @@ const ROWS: [Row; 25] = [
         0,
     ),
     (&["--index"], FAULT_BETWEEN, b"1@0\n2@8\n3@18\n", b"", 0),
+    // The positions that the standard gives as its examples (PGN 16.1.4).
+    (
+        &["--list", "--fen"],
+        b"1. e4 c5 2. Nf3 *",
+        b"1@0 0 rnbqkbnr/pppppppp/8/8/8/8/PPPPPPPP/RNBQKBNR w KQkq - 0 1\n\
+          1@0 1 rnbqkbnr/pppppppp/8/8/4P3/8/PPPP1PPP/RNBQKBNR b KQkq e3 0 1\n\
+          1@0 2 rnbqkbnr/pp1ppppp/8/2p5/4P3/8/PPPP1PPP/RNBQKBNR w KQkq c6 0 2\n\
+          1@0 3 rnbqkbnr/pp1ppppp/8/2p5/4P3/5N2/PPPP1PPP/RNBQKB1R b KQkq - 1 2\n",
+        b"",
+        0,
+    ),
+    (
+        &["--list", "--fen", "--first", "--where", "turn black"],
+        b"1. e4 c5 2. Nf3 *",
+        b"1@0 1 rnbqkbnr/pppppppp/8/8/4P3/8/PPPP1PPP/RNBQKBNR b KQkq e3 0 1\n",
+        b"",
+        0,
+    ),
+    (
+        &["--list", "--fen", "--min-ply", "3"],
+        b"1. e4 c5 2. Nf3 *\n1. e4 *",
+        b"1@0 3 rnbqkbnr/pp1ppppp/8/2p5/4P3/5N2/PPPP1PPP/RNBQKB1R b KQkq - 1 2\n",
+        b"",
+        0,
+    ),
+    (
+        &["--list", "--fen", "--max-ply", "0"],
+        b"[FEN \"4k3/8/8/8/8/8/4P3/4K3 w - - 5 39\"]\n\n1. e4 *\n1. e5 *",
+        b"1@0 0 4k3/8/8/8/8/8/4P3/4K3 w - - 5 39\n",
+        b"pgn-extract: game 2@50: illegal move e5 at ply 1\n",
+        1,
+    ),
+    (
+        &["--list", "--fen", "--where", "tag White = \"a\""],
+        b"1. e4 *",
+        b"",
+        b"",
+        0,
+    ),
+    (
+        &["--list", "--next"],
+        b"1. f2f3 (1. d4 d5 (1... Nf6)) 1... e7e5 {better} 2. g2g4 $6 (2. Nc3 Nf6) ({no} 2. h4) 2... Qh4 0-1",
+        b"1@0 0 f3\n1@0 1 e5\n1@0 2 g4\n1@0 3 Qh4#\n1@0 4 -\n",
+        b"",
+        0,
+    ),
+    // The positions that the standard gives as its examples (PGN 16.1.4), with the moves between them.
+    (
+        &["--list", "--next", "--fen", "--min-ply", "2"],
+        b"1. e4 c5 2. Nf3 *",
+        b"1@0 2 rnbqkbnr/pp1ppppp/8/2p5/4P3/8/PPPP1PPP/RNBQKBNR w KQkq c6 0 2 Nf3\n\
+          1@0 3 rnbqkbnr/pp1ppppp/8/2p5/4P3/5N2/PPPP1PPP/RNBQKB1R b KQkq - 1 2 -\n",
+        b"",
+        0,
+    ),
+    (
+        &["--list", "--next", "--first", "--where", "turn black"],
+        b"1. e4 c5 2. Nf3 *\n*",
+        b"1@0 1 c5\n",
+        b"",
+        0,
+    ),
+    // What a game shows is dropped with its lines where a later move cannot be played, or the very one that is shown.
+    (
+        &["--list", "--next"],
+        b"1. e4 (1. d4) e5 2. Ke3 *\n1. e5 *\n1. Nd2 *\n*",
+        b"4@43 0 -\n",
+        b"pgn-extract: game 1@0: illegal move Ke3 at ply 3\n\
+          pgn-extract: game 2@26: illegal move e5 at ply 1\n\
+          pgn-extract: game 3@34: illegal move Nd2 at ply 1\n",
+        1,
+    ),
+    (
+        &["--list", "--next", "--first"],
+        b"[FEN \"4k3/8/8/8/8/8/8/R3K2R w KQ - 0 1\"]\n\n1. O-O-O+ (1. Rf1) *\n1. e4 e4 *",
+        b"1@0 0 O-O-O\n",
+        b"pgn-extract: game 2@63: illegal move e4 at ply 2\n",
+        1,
+    ),
+    (
+        &["--fen", "absent.pgn"],
+        b"",
+        b"",
+        b"pgn-extract: --fen and --next go with --list\n",
+        2,
+    ),
+    (
+        &["--index", "--fen"],
+        b"1. e4 *",
+        b"",
+        b"pgn-extract: --fen and --next go with --list\n",
+        2,
+    ),
+    (
+        &["--next", "--moves"],
+        b"1. e4 *",
+        b"",
+        b"pgn-extract: --fen and --next go with --list\n",
+        2,
+    ),
 ];
 
 #[test]

@@ -5,7 +5,7 @@ use Rattle.pgn_extract.proofs.Sought.{within_entry}
 use Rattle.pgn_extract.proofs.choosing.has_entry.Goals as goal
 
 pub play-requires : goal.play-requires
-play-requires c replay own ply =
+play-requires c replay own ply within =
     same_met (tags_of c.args.game.now) replay c.args.settings.now.criteria _ c.in_ok-search-in-Some.search ply c.in-Some.is (c.in_ok-search-in-Some.ensures replay own ply)
 
 pub returns-in_ok-count_plies-in-None : goal.returns-in_ok-count_plies-in-None

@@ -19,5 +19,5 @@ returns-in_err-search c =
     rw (p.1, p.2) (IfSome_then _ c.in_err-search.ensures stops)
 
 pub play-requires-clause-asks : goal.play-requires-clause-asks
-play-requires-clause-asks c replay own ply =
-    same_met (tags_of c.args.game.now) replay c.args.settings.now.criteria _ c.in_ok-search.search ply c.requires (c.in_ok-search.ensures replay own ply)
+play-requires-clause-asks c replay own ply within =
+    same_met (tags_of c.args.game.now) replay c.args.settings.now.criteria _ c.in_ok-search.search ply c.requires.criteria (c.in_ok-search.ensures replay own ply)

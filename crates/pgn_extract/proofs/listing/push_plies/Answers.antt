@@ -38,6 +38,6 @@ returns c tags replay size =
     let end = c.end_ply-ply-end.result in
     let same : c.loop-ply.ply - least ≡ end - least = omega arith in (
       plies_from c.args.number c.args.offset least (end - least),
-      listed_plies (aim_of c.args.settings.now) c.args.number c.args.offset c.args.plies end c.requires.criteria c.end_ply-ply-end.ensures tags replay size,
+      listed_plies (aim_of c.args.settings.now) c.args.number c.args.offset c.args.plies end c.requires.criteria c.requires.plain c.end_ply-ply-end.ensures tags replay size,
       c.loop-ply.invariant.written ∙ ap (λ n. c.args.text.now.items ++ listing c.args.settings.now.name (plies_from c.args.number c.args.offset least n)) same,
     )

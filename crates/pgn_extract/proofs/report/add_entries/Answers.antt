@@ -15,7 +15,7 @@ returns-in-Ok c =
 pub returns-in-Err : goal.returns-in-Err
 returns-in-Err c =
     let old = c.args.report.now.output.items in
-    let new = c.push_found.new.text.items in
+    let new = c.push_entries.new.text.items in
     let size : c.len-length.result ≡ length old = let ok = c.args.report.now.output.ok in let is = c.len-length.ensures in omega arith in
     on_ok_weaker c.add_fault.result
     (λ of.

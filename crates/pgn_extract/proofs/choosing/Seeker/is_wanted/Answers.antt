@@ -5,7 +5,7 @@ use Rattle.pgn_criteria.specs.Meeting.{Tags, SomeHold}
 use Rattle.pgn_criteria.proofs.MeetFacts.{meets_at}
 use Rattle.pgn_extract.specs.Aims.{aim_of}
 use Rattle.pgn_extract.specs.Finding.{tags_of}
-use Rattle.pgn_extract.proofs.Found.{at_seam, is_wanted}
+use Rattle.pgn_extract.proofs.Found.{at_seam, seam_within, is_wanted}
 use Rattle.pgn_extract.proofs.choosing.Seeker.is_wanted.Goals as goal
 
 pub returns : goal.returns
@@ -18,5 +18,5 @@ returns c game asks before count replay own rest is =
     let here = ap (λ ps. slice_get ps (length before)) is ∙ at_seam before P rest in (
       (λ yes. is_wanted (aim_of c.args.self.now.settings.now) game asked asks before P c.is_met.result told yes
           (omega (arith, ply, c.if-ply-self.false)) (omega (arith, ply, c.if-ply-self-2.false)) replay own rest is),
-      (λ wanted. (meets_at (tags_of game) replay (length before) asked P c.is_met.result here (told (tags_of game) replay)).1 ((asks replay own (length before)).1 wanted.2)),
+      (λ wanted. (meets_at (tags_of game) replay (length before) asked P c.is_met.result here (told (tags_of game) replay)).1 ((asks replay own (length before) (seam_within replay.positions before P rest is)).1 wanted.2)),
     )

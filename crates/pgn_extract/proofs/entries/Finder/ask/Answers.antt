@@ -3,24 +3,25 @@ use Rattle.pgn_game.specs.Replays.{Replay}
 use Rattle.pgn_criteria.specs.Meeting.{Tags, SomeHold}
 use Rattle.pgn_extract.specs.Aims.{aim_of}
 use Rattle.pgn_extract.specs.Finding.{named_mark}
+use Rattle.pgn_extract.proofs.FieldTexts.{no_fields}
 use Rattle.pgn_extract.proofs.Found.{leaves_shut, leaves_past, leaves_unwanted, keeps_one, is_wanted, not_wanted}
 use Rattle.pgn_extract.proofs.entries.Finder.ask.Goals as goal
 use Rattle.pgn_extract.proofs.entries.Finder.ask.Goals.{then-not-is_open-via-then-not-is_open, then-not-is_open-via-else-not-is_open+then-ply-self, then-ply-self-2-via-then-ply-self-2, then-ply-self-2-via-else-ply-self-2+then-not-is_met}
 
 pub returns-then-not-is_open : goal.returns-then-not-is_open
-returns-then-not-is_open c game asks before text count so_far =
+returns-then-not-is_open c game asks before played text to so_far =
     let P = c.args.line.now.position in
     elim c.then-not-is_open.branch [
       | then-not-is_open-via-then-not-is_open w ↦ leaves_shut P so_far w.if-not-is_open.true
-      | then-not-is_open-via-else-not-is_open+then-ply-self w ↦ leaves_past P so_far (omega (arith, count, c.plies-ply.ensures, w.if-ply-self.true))
+      | then-not-is_open-via-else-not-is_open+then-ply-self w ↦ leaves_past P so_far (let count = to.count in omega (arith, count, c.plies-ply.ensures, w.if-ply-self.true))
     ]
 
 pub returns-then-ply-self-2 : goal.returns-then-ply-self-2
-returns-then-ply-self-2 c game asks before text count so_far =
+returns-then-ply-self-2 c game asks before played text to so_far =
     let P = c.args.line.now.position in
     leaves_unwanted P so_far c.if-not-is_open.false (elim c.then-ply-self-2.branch [
       | then-ply-self-2-via-then-ply-self-2 w ↦ λ replay own rest is wanted.
-          let low = wanted.0 in omega (arith, count, c.plies-ply.ensures, w.if-ply-self-2.true, low)
+          let low = wanted.0 in let count = to.count in omega (arith, count, c.plies-ply.ensures, w.if-ply-self-2.true, low)
       | then-ply-self-2-via-else-ply-self-2+then-not-is_met w ↦
           let told : (tags : Tags) (replay : Replay) → IsTrue w.is_met.result ↔ SomeHold tags replay P c.args.self.now.search =
           λ tags replay. subst (λ p. IsTrue w.is_met.result ↔ SomeHold tags replay p c.args.self.now.search) w.position.ensures (w.is_met.ensures tags replay) in
@@ -28,15 +29,16 @@ returns-then-ply-self-2 c game asks before text count so_far =
     ])
 
 pub returns : goal.returns
-returns c game asks before text count so_far =
+returns c game asks before played text to so_far =
     let P = c.args.line.now.position in
     let own = c.args.self.now.own in
     let met : (tags : Tags) (replay : Replay) → IsTrue c.is_met.result ↔ SomeHold tags replay P c.args.self.now.search =
     λ tags replay. subst (λ p. IsTrue c.is_met.result ↔ SomeHold tags replay p c.args.self.now.search) c.position.ensures (c.is_met.ensures tags replay) in
-    let ply : c.plies-ply.result ≡ length before = c.plies-ply.ensures ∙ sym count in
+    let ply : c.plies-ply.result ≡ length before = c.plies-ply.ensures ∙ sym to.count in
     let marked : c.deref.result.now ≡ named_mark c.args.self.now.settings.now.name own.number own.offset = c.deref.ensures.value ∙ c.requires.marked in
-    keeps_one P so_far c.if-not-is_open.false
+    keeps_one P so_far [] c.if-not-is_open.false
     (is_wanted (aim_of c.args.self.now.settings.now) game c.args.self.now.search asks before P c.is_met.result met c.if-not-is_met.false
     (omega (arith, ply, c.if-ply-self-2.false)) (omega (arith, ply, c.if-ply-self.false)))
+    (λ replay own rest is. no_fields c.args.self.now.settings.now.fields c.requires.plain replay (length before))
     (c.in_ok-push_entry.ensures ∙ ap (λ m. c.args.text.now.items ++ (m ++ 32 ∷ decimal c.plies-ply.result ++ 10 ∷ [])) marked
     ∙ ap (λ n. c.args.text.now.items ++ (named_mark c.args.self.now.settings.now.name own.number own.offset ++ 32 ∷ decimal n ++ 10 ∷ [])) ply)

@@ -24,7 +24,7 @@ loop-text-init c =
     let to = played_none c.in_ok-line.ensures in
     let start = finds_none (aim_of finder.settings.now) finder.own.number finder.own.offset c.args.game.now finder.search text (not c.is_empty.result) c.requires.asks
     (none_left c.is_empty.result (length finder.search) c.is_empty.ensures) in
-    ([], [], to, c.in_ok-is_open.ensures c.args.game.now c.requires.asks [] text to.count start)
+    ([], [], to, c.in_ok-is_open.ensures c.args.game.now c.requires.asks [] [] text to start)
 
 pub returns-in_err-advance : goal.returns-in_err-advance
 returns-in_err-advance c =
@@ -43,7 +43,7 @@ loop-text-preserved c =
     let word : PlaysWord c.loop-text.line c.advance.new.self =
     subst (HasAdvanced c.loop-text.line c.advance.new.self) c.if-branch.true c.in_ok-advance.ensures in
     let to = played_on at.2 word in
-    (at.0 ++ P ∷ [], at.1 ++ word.m ∷ [], to, c.in_ok-is_open-2.ensures c.args.game.now c.requires.asks (at.0 ++ P ∷ []) c.args.text.now.items to.count at.3)
+    (at.0 ++ P ∷ [], at.1 ++ word.m ∷ [], to, c.in_ok-is_open-2.ensures c.args.game.now c.requires.asks (at.0 ++ P ∷ []) (at.1 ++ word.m ∷ []) c.args.text.now.items to at.3)
 
 pub returns : goal.returns
 returns c =

@@ -1,0 +1,19 @@
+use Rattle.std.proofs.Common.{◌≡◌, [], ◌++◌, drop, refl, ap, subst, ◌∙◌}
+use Rattle.pgn_text.specs.Limits.{block_limit, depth_limit}
+use Rattle.pgn_text.specs.Marks.{AreMarkedPieces}
+use Rattle.pgn_extract.specs.Listing.{listing}
+use Rattle.pgn_extract.proofs.memory.run_over.Goals as goal
+
+pub returns-in-Ok-clause-lists : goal.returns-in-Ok-clause-lists
+returns-in-Ok-clause-lists c mode =
+    let settings = c.args.settings.now in
+    let lists = c.in-Ok.ensures.lists mode in
+    let text : c.new-input.result.inner.now ≡ c.args.text.now = rw c.new-input.ensures refl in
+    let empty : c.new-out.result.inner.items ≡ [] = rw c.new-out.ensures c.new.ensures.items in
+    let written : c.into_inner.result.items ≡ c.run.new.out.inner.items = rw c.into_inner.ensures refl in (
+      lists.pieces,
+      lists.entries,
+      subst (λ t. AreMarkedPieces block_limit depth_limit settings.offset (drop settings.offset t) lists.pieces) text lists.each,
+      lists.are,
+      written ∙ lists.listed ∙ ap (λ t. t ++ listing settings.name lists.entries) empty,
+    )

@@ -1,0 +1,10 @@
+use Rattle.std.proofs.Common.{◌↔◌, ℕ, List, Option, IsTrue, sym, subst}
+use Rattle.pgn_criteria.specs.Meeting.{SomeHold}
+use Rattle.pgn_criteria.specs.declared.condition.Condition.{Condition}
+use Rattle.pgn_extract.specs.Finding.{asked_of}
+use Rattle.pgn_extract.proofs.showing.Shower.is_met.Goals as goal
+
+pub returns-in-Some : goal.returns-in-Some
+returns-in-Some c tags replay =
+    subst (λ (o : Option (List (List (Condition (List ℕ))))). IsTrue c.is_met.result ↔ SomeHold tags replay c.args.position.now (asked_of o)) (sym c.in-Some.is)
+    (c.is_met.ensures tags replay)
