@@ -320,11 +320,7 @@ const EXPLAINED: [Complaint; 41] = [
     ),
     ("flip turn white", 5, "flip: fen and a pattern"),
     ("filp fen */*", 0, "did you mean flip?"),
-    (
-        "plies 50",
-        6,
-        "plies: a comparison, one of = <> < <= > >=",
-    ),
+    ("plies 50", 6, "plies: a comparison, one of = <> < <= > >="),
     (
         "not plies <= many",
         13,
@@ -514,14 +510,16 @@ fn refused_lines_are_explained(rt: HostRuntime) -> Result<(), Fail> {
 }
 
 /// A text of 256 bytes that a value is to contain.
-const CONTAINED: &str = "tag White has \"xxxxxxxxxxxxxxxxxxxxxxxxxxxxxxxxxxxxxxxxxxxxxxxxxxxxxxxxxxxxxxxx\
+const CONTAINED: &str =
+    "tag White has \"xxxxxxxxxxxxxxxxxxxxxxxxxxxxxxxxxxxxxxxxxxxxxxxxxxxxxxxxxxxxxxxx\
     xxxxxxxxxxxxxxxxxxxxxxxxxxxxxxxxxxxxxxxxxxxxxxxxxxxxxxxxxxxxxxxx\
     xxxxxxxxxxxxxxxxxxxxxxxxxxxxxxxxxxxxxxxxxxxxxxxxxxxxxxxxxxxxxxxx\
     xxxxxxxxxxxxxxxxxxxxxxxxxxxxxxxxxxxxxxxxxxxxxxxxxxxxxxxxxxxxxxxx\"";
 
 #[test]
 fn a_text_to_be_contained_has_at_most_255_bytes(rt: HostRuntime) -> Result<(), Fail> {
-    let text = b"pgn-extract: criteria line 1\n  tag White has \"xxxxxxxxxxxxxxxxxx\n                \
+    let text =
+        b"pgn-extract: criteria line 1\n  tag White has \"xxxxxxxxxxxxxxxxxx\n                \
         ^ tag: a text of at most 255 bytes after has\n";
     let words = ["--explain", "--list", "--where", CONTAINED];
     let (end, opened) = run_with(rt.alloc(), &words, b"", E4_E5)?;
