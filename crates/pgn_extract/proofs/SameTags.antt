@@ -9,7 +9,7 @@ use Rattle.std.specs.Prelude.{if◌then◌else◌}
 use Rattle.pgn_criteria.specs.Mirrors.{mirror}
 use Rattle.pgn_criteria.specs.declared.condition.Condition.{Condition}
 use Rattle.pgn_criteria.specs.declared.condition.Claim.{Claim}
-use Rattle.pgn_criteria.specs.declared.condition.Claim.TheVariants.{Tag, Fen, Flip, Material, Moves, Turn, Check, Mate, Stalemate}
+use Rattle.pgn_criteria.specs.declared.condition.Claim.TheVariants.{Tag, Fen, Flip, Material, Moves, Plies, Turn, Check, Mate, Stalemate}
 use Rattle.pgn_extract.specs.Aims.{Aim, IsMet, IsWanted, IsEntry}
 
 taken_same : {A B : Type 0} (denied : Bool) → (A → B) → (B → A) → Taken denied A → Taken denied B
@@ -28,6 +28,7 @@ is_so_same f g same replay P (Fen pattern) h = h
 is_so_same f g same replay P (Flip pattern) h = h
 is_so_same f g same replay P (Material white black) h = h
 is_so_same f g same replay P (Moves words) h = h
+is_so_same f g same replay P (Plies comparison count) h = h
 is_so_same f g same replay P (Turn side) h = h
 is_so_same f g same replay P Check h = h
 is_so_same f g same replay P Mate h = h
