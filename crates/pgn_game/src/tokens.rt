@@ -14,18 +14,35 @@ use chess::{Side, play_san};
 use itoa::Buffer;
 use std::alloc::AllocError;
 
-/// Writes a number with bytes behind it, as one token.
+/// Writes digits with bytes behind them, as one token.
+#[inline(always)]
+fn put_digits(pen: &mut Pen, out: &mut Vec<u8>, digits: &[u8], end: &[u8]) -> Result<(), AllocError>
+    ensures text { OnOk result (HasPut pen.old pen.new out.old.items out.new.items ((digits.now ++ end.now) ∷ [])) }
+    ensures kept { (some : List ℕ) × (out.new.items ≡ out.old.items ++ some) }
+    ensures width { pen.new.width ≡ pen.old.width }
+{
+    pen.start(out, digits.len() + end.len())?;
+    out.extend_from_slice(digits)?;
+    out.extend_from_slice(end)?;
+    Ok(())
+}
+
+/// Writes a number with bytes behind it, as one token: most numbers of moves have one digit or two.
+#[inline(always)]
 fn put_count(pen: &mut Pen, out: &mut Vec<u8>, number: u32, end: &[u8]) -> Result<(), AllocError>
     ensures text { OnOk result (HasPut pen.old pen.new out.old.items out.new.items ((decimal number ++ end.now) ∷ [])) }
     ensures kept { (some : List ℕ) × (out.new.items ≡ out.old.items ++ some) }
     ensures width { pen.new.width ≡ pen.old.width }
 {
+    if number < 10 {
+        return put_digits(pen, out, &[b'0' + number as u8], end);
+    }
+    if number < 100 {
+        let digits = [b'0' + (number / 10) as u8, b'0' + (number % 10) as u8];
+        return put_digits(pen, out, &digits, end);
+    }
     let mut buffer = Buffer::new();
-    let digits = buffer.format(number).as_bytes();
-    pen.start(out, digits.len() + end.len())?;
-    out.extend_from_slice(digits)?;
-    out.extend_from_slice(end)?;
-    Ok(())
+    put_digits(pen, out, buffer.format(number).as_bytes(), end)
 }
 
 /// Writes the number of a move of the side, if it is to have one: White's always, Black's where it stands apart from the move before it.
