@@ -61,7 +61,7 @@ some_fen_field true replay ply less =
     let text = some_fen at.0 in
     (32 ∷ text.0, (at.0, text.0, at.1, text.1, refl))
 
--- behind each ply of a main line a move is played that has a text, or none is
+-- after each ply of a main line a move is played that has a text, or none is
 some_next : (now : State) (words : List (List ℕ)) (positions : List State) (played : List Move) → AreOnBoard now.men → IsMainLine now words positions played
     → (ply : ℕ) → (text : List ℕ) × IsNextMove positions played ply text
 some_next now [] positions played stands line ply =

@@ -29,7 +29,7 @@ use Rattle.pgn_extract.specs.declared.settings.Fields.{Fields}
 use Rattle.pgn_extract.proofs.Chosen.{entry_at}
 use Rattle.pgn_extract.proofs.ModeOutputs.{listing-append}
 
--- what is left of the main line is left behind one more move
+-- what is left after one more move
 goes_behind : {old new : PlayedLine} (word : PlaysWord old new) (before positions : List State) (played all : List Move)
     → GoesOnWith old before played positions all → GoesOnWith new (before ++ old.position ∷ []) (played ++ word.m ∷ []) positions all
 goes_behind {old} {new} word before positions played all (later, more, line, positions_is, all_is) =
@@ -232,7 +232,7 @@ at_end : {A : Type 0} (before more : List A) → slice_get (before ++ more) (len
 at_end [] more = refl
 at_end (first ∷ before) more = at_end before more
 
--- behind so many positions and moves it is the move at their ply
+-- after so many positions and moves it is the move at their ply
 next_behind : (before later : List State) (played more : List Move) (text : List ℕ) → length played ≡ length before
     → IsNextMove later more 0 text → IsNextMove (before ++ later) (played ++ more) (length before) text
 next_behind before later played more text same is =

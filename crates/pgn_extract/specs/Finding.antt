@@ -56,7 +56,7 @@ ShowsNext true line shown = (text : List ℕ) × IsNextText line.position line.w
 abbrev pub ShowsHere : Fields → PlayedLine → List ℕ → Type 0
 ShowsHere fields line shown = (fen : List ℕ) × (next : List ℕ) × ShowsPosition fields.fen line.position fen × ShowsNext fields.next line next × (shown ≡ fen ++ next)
 
--- the line goes on to the fault, and something may be added already
+-- the rest of the line has the fault, and something may be added already
 abbrev pub StopsInLine : PlayedLine → List ℕ → List ℕ → Fault → Type 0
 StopsInLine line old new fault = IsMoveFault line.position line.plies line.words fault × (more : List ℕ) × (new ≡ old ++ more)
 
@@ -70,7 +70,7 @@ AddsEntries aim number offset game old new =
 abbrev pub StopsAtFault : GameText → List ℕ → List ℕ → Fault → Type 0
 StopsAtFault game old new fault = IsFault Main (tag_in fen_tag game.tags) game.elements fault × (more : List ℕ) × (new ≡ old ++ more)
 
--- these positions and moves of the whole main line go on behind those before with what is left of the line
+-- the positions and moves of the whole main line are those before, and then those that are left of the line
 abbrev pub GoesOnWith : PlayedLine → List State → List Move → List State → List Move → Type 0
 GoesOnWith line before played positions moves =
     (later : List State) × (more : List Move) × IsMainLine line.position line.words later more × (positions ≡ before ++ later) × (moves ≡ played ++ more)

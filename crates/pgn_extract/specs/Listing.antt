@@ -31,13 +31,13 @@ abbrev pub listing : Option (List ℕ) → List Entry → List ℕ
 listing name [] = []
 listing name (entry ∷ more) = entry_line name entry ++ listing name more
 
--- what is shown of the position behind so many plies of a main line where its text is asked for: a blank, and its text in FEN
+-- what is shown of the position after so many plies of a main line, where its text is asked for: a blank, and its text in FEN
 abbrev pub IsFenField : Bool → Replay → ℕ → List ℕ → Type 0
 IsFenField false replay ply shown = shown ≡ []
 IsFenField true replay ply shown =
     (position : State) × (text : List ℕ) × (slice_get replay.positions ply ≡ Some position) × IsFen position text × (shown ≡ 32 ∷ text)
 
--- the text of the move that is played behind so many plies of a main line: its standard text in the position there, and `-` behind the last
+-- the text of the move that is played after so many plies of a main line: its standard text, and `-` where none is played
 abbrev pub IsNextMove : List State → List Move → ℕ → List ℕ → Type 0
 IsNextMove positions played ply text =
     MatchOption (slice_get played ply) (text ≡ codes "-") (λ m. (position : State) × (slice_get positions ply ≡ Some position) × IsSan position m text)
@@ -47,11 +47,11 @@ abbrev pub IsNextField : Bool → Replay → ℕ → List ℕ → Type 0
 IsNextField false replay ply shown = shown ≡ []
 IsNextField true replay ply shown = (text : List ℕ) × IsNextMove replay.positions replay.played ply text × (shown ≡ 32 ∷ text)
 
--- nothing is asked for
+-- neither is asked for, so that the line ends after the ply
 abbrev pub is_plain : Fields → Bool
 is_plain fields = not fields.fen && not fields.next
 
--- what a line shows after a ply of a main line: of the position, and of the move behind it
+-- what a line shows after a ply of a main line: the position there, and then the move
 abbrev pub AreFields : Fields → Replay → ℕ → List ℕ → Type 0
 AreFields fields replay ply shown =
     (fen : List ℕ) × (next : List ℕ) × IsFenField fields.fen replay ply fen × IsNextField fields.next replay ply next × (shown ≡ fen ++ next)

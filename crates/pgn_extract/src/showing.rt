@@ -29,7 +29,7 @@ fn push_fen(text: &mut Vec<u8>, is_asked: bool, position: &GamePosition) -> Resu
     Ok(())
 }
 
-/// Appends what a line shows of the next move: its text after a blank, where that is asked for; or answers the fault of its ply.
+/// Appends the text of the next move after a blank, where that is asked for. A move that cannot be played is answered as a fault.
 fn push_next<'a>(
     text: &mut Vec<u8>,
     is_asked: bool,
@@ -45,7 +45,8 @@ fn push_next<'a>(
     line.push_next(text)
 }
 
-/// Appends the line of the ply that is reached: the mark of its game, the ply, and what is shown after it; or answers the fault of the next.
+/// Appends the line of the ply that is reached: the mark of its game, the ply, and what is shown after it. Where the next move is shown and
+/// cannot be played, its fault is the answer.
 fn push_entry_line<'a>(
     text: &mut Vec<u8>,
     mark: &[u8],
@@ -93,8 +94,8 @@ impl<'s, 'a> Shower<'s, 'a> {
         }
     }
 
-    /// Adds the line of the position that is reached, if it is an entry. Answers whether a later one may be one; or the fault of the next
-    /// move, where that is shown.
+    /// Adds the line of the position that is reached, if it is an entry. Answers whether a later one may be one, or the fault of the move
+    /// that is shown.
     fn ask<'b>(
         &self,
         text: &mut Vec<u8>,
