@@ -1,4 +1,4 @@
-use Rattle.std.proofs.Common.{◌≡◌, subst, Option, Some, None}
+use Rattle.std.proofs.Common.{subst, Option, None}
 use Rattle.chess.specs.Squares.{Place}
 use Rattle.chess.specs.Attacks.{IsInReach}
 use Rattle.chess.specs.Positions.{IsOnlyKing}
