@@ -326,7 +326,7 @@ const EXPLAINED: [Complaint; 41] = [
         13,
         "plies: a number of one to four digits",
     ),
-    ("plys < 50", 0, "did you mean plies?"),
+    ("plise < 50", 0, "did you mean plies?"),
     ("either plies < 50", 7, MIRRORED),
 ];
 
