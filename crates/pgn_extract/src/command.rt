@@ -81,8 +81,7 @@ const AFTER_HELP: &str =
     moves e4 c5 * d6           how the main line begins; * is any one move\n  \
     plies <= 50                how many the main line has; also = <> < > >=\n  \
     turn black, not check      not denies a condition; also mate and stalemate\n  \
-    or                         between two alternatives: one is enough\n  \
-    # a comment                nothing\n\
+    or, # a comment            between two alternatives, one is enough; nothing\n\
     \n\
     Examples:\n  \
     pgn-extract games.pgn > clean.pgn                 # the sound games, cleaned\n  \
