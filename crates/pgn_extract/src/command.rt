@@ -75,13 +75,13 @@ const ABOUT: &str =
 const AFTER_HELP: &str =
     "Criteria, a condition a line; all of them hold (man pgn-extract-criteria):\n  \
     tag White|Black = \"Tal\"    the value of a tag; also <> < <= > >= has begins\n  \
-    fen */*/*/*/*/*/*PPP/*RK1  the men as FEN writes them; ? one square, ! a man,\n                             \
-    A a man of White, a one of Black, * any squares\n  \
+    fen */*/*/*/*/*/*PPP/*RK1  men as in FEN; ? a square, ! a man, * any squares\n  \
     material KRP* v KRP*       each side's men: P* any number, R2+ two or more\n  \
     moves e4 c5 * d6           how the main line begins; * is any one move\n  \
     plies <= 50                how many the main line has; also = <> < > >=\n  \
     turn black, not check      not denies a condition; also mate and stalemate\n  \
-    or, # a comment            between two alternatives, one is enough; nothing\n\
+    or                         between two alternatives: one is enough\n  \
+    # a comment                nothing\n\
     \n\
     Examples:\n  \
     pgn-extract games.pgn > clean.pgn                 # the sound games, cleaned\n  \
