@@ -1,16 +1,18 @@
 -- What the definitions say of lines that every reader can check.
-use Rattle.std.proofs.Common.{◌==◌, ◌≡◌, ◌≤◌, ℕ, Bool, true, false, List, [], ◌∷◌, ◌++◌, length, get_or, refl, sym, ap, ◌∙◌, inl, inr, arith, codes}
+use Rattle.std.proofs.Common.{◌==◌, ◌≡◌, ◌≤◌, ◌<◌, ℕ, Bool, true, false, List, [], ◌∷◌, ◌++◌, length, get_or, refl, sym, ap, ◌∙◌, inl, inr, arith, codes}
+use Rattle.std.specs.Prelude.{replicate}
 use Rattle.chess.specs.Fen.{parted_at}
 use Rattle.chess.specs.declared.board.man.Kind.{Kind}
 use Rattle.chess.specs.declared.board.man.Kind.TheVariants.{King, Queen, Rook, Bishop, Knight, Pawn}
 use Rattle.chess.specs.declared.board.man.Side.TheVariants.{White}
 use Rattle.pgn_text.specs.Strings.{Single}
-use Rattle.pgn_criteria.specs.Lines.{SpellsClaim, AreNames, SpellsCount, SpellsTaken, Spells, SpellsLimits, IsLimitIn, IsMoveWord, a_word, and_words, IsLine, Accepts, alternatives_of, SpellsTurned}
+use Rattle.pgn_criteria.specs.Lines.{SpellsClaim, AreNames, SpellsCount, CanBeCompared, SpellsTaken, Spells, SpellsLimits, IsLimitIn, IsMoveWord, a_word, and_words, IsLine, Accepts, alternatives_of, SpellsTurned}
 use Rattle.pgn_criteria.specs.Lines.SpellsLimit.{one, exactly, at_least, at_most, any}
+use Rattle.pgn_criteria.specs.Comparing.{Compares}
 use Rattle.pgn_criteria.specs.Materials.{limit_of}
 use Rattle.pgn_criteria.specs.Mirrors.{can_be_mirrored}
-use Rattle.pgn_criteria.specs.declared.compare.Comparison.TheVariants.{LessOrEqual}
-use Rattle.pgn_criteria.specs.declared.compare.Relation.TheVariants.{GreaterOrEqual, Begins}
+use Rattle.pgn_criteria.specs.declared.compare.Comparison.TheVariants.{Less, LessOrEqual}
+use Rattle.pgn_criteria.specs.declared.compare.Relation.TheVariants.{GreaterOrEqual, Has, Begins}
 use Rattle.pgn_criteria.specs.declared.material.Limit.{Limit}
 use Rattle.pgn_criteria.specs.declared.material.Limit.TheVariants.{Exactly, AtLeast, AtMost, AnyNumber}
 use Rattle.pgn_criteria.specs.declared.material.Limits.{Limits}
@@ -78,6 +80,17 @@ fifty_plies = (codes " ", codes " ", codes "50", refl, ((λ none. cc), refl), ((
 -- five digits are no number of plies
 not_five_digits : (count : ℕ) → SpellsCount (codes "10000") count → ⊥
 not_five_digits count spells = let few : 5 ≤ 4 = spells.short.1 in absurd (omega arith)
+
+-- 51 plies are not at most 50, and 50 are not fewer
+fifty_one_not_at_most : Compares LessOrEqual 51 50 → ⊥
+fifty_one_not_at_most most = let few : 51 ≤ 50 = most in absurd (omega arith)
+
+fifty_not_fewer : Compares Less 50 50 → ⊥
+fifty_not_fewer less = let fewer : 50 < 50 = less in absurd (omega arith)
+
+-- a text of 256 bytes is too long to be contained
+too_long_to_contain : CanBeCompared Has (replicate 256 120) → ⊥
+too_long_to_contain fits = let short : 256 ≤ 255 = fits refl in absurd (omega arith)
 
 -- each name has a byte
 no_last_name : AreNames (parted_at 124 (codes "A|")) → ⊥
