@@ -1,18 +1,20 @@
 -- The text of a claim begins and ends with a solid byte, and its first word is that of its kind, so it is never that of a denied claim.
-use Rattle.std.proofs.Common.{◌≡◌, ℕ, List, [], ◌∷◌, ◌++◌, refl, sym, ap, ◌∙◌, subst, arith}
+use Rattle.std.proofs.Common.{◌≡◌, ℕ, IsTrue, List, [], ◌∷◌, ◌++◌, refl, sym, ap, ◌∙◌, subst, arith}
 use Rattle.std.specs.Prelude.{codes, true, ◌+◌}
 use Rattle.pgn_criteria.specs.Reading.{run_of, behind_word}
-use Rattle.pgn_criteria.specs.Lines.{SpellsClaim, SpellsTaken, side_text, relation_text, comparison_text}
+use Rattle.pgn_criteria.specs.Lines.{SpellsClaim, SpellsTaken, can_be_denied, side_text, relation_text, comparison_text}
+use Rattle.pgn_criteria.specs.Stages.{claim_seen}
 use Rattle.pgn_criteria.specs.declared.condition.Claim.{Claim}
-use Rattle.pgn_criteria.specs.declared.condition.Claim.TheVariants.{Tag, Fen, Flip, Material, Moves, Plies, Turn, Check, Mate, Stalemate}
+use Rattle.pgn_criteria.specs.declared.condition.Claim.TheVariants.{Tag, Fen, Flip, Material, Moves, Plies, Result, Next, Played, For, Count, Turn, Check, Mate, Stalemate}
 use Rattle.pgn_criteria.proofs.SolidFacts.{BeginsSolid, EndsSolid, solid_ends, ends_behind, begins_some, word_read, word_spelled}
 use Rattle.pgn_criteria.proofs.TurnFacts.{side_ends, turn_read}
 use Rattle.pgn_criteria.proofs.FenFacts.{pattern_some, pattern_solid, fen_read, flip_read}
-use Rattle.pgn_criteria.proofs.PliesFacts.{count_ends, plies_read}
+use Rattle.pgn_criteria.proofs.PliesFacts.{count_ends, plies_read, counted_read, for_read}
 use Rattle.pgn_criteria.proofs.TagFacts.{tag_read}
 use Rattle.pgn_criteria.proofs.MaterialFacts.{material_read}
 use Rattle.pgn_criteria.proofs.LimitFacts.{limits_some, limits_solid}
-use Rattle.pgn_criteria.proofs.MoveWordFacts.{words_end, moves_read}
+use Rattle.pgn_criteria.proofs.MoveWordFacts.{words_end, moves_read, like_ends, next_read, played_read}
+use Rattle.pgn_criteria.proofs.ResultFacts.{result_ends, result_read}
 
 -- both ends of its text
 pub claim_begins : (text : List ℕ) (claim : Claim (List ℕ)) → SpellsClaim text claim → BeginsSolid text
@@ -22,6 +24,11 @@ claim_begins text (Flip pattern) s = (102, _, s.2, refl)
 claim_begins text (Material white black) s = (109, _, s.5, refl)
 claim_begins text (Moves words) s = (109, _, s.1, refl)
 claim_begins text (Plies comparison count) s = (112, _, s.3, refl)
+claim_begins text (Result result) s = (114, _, s.1, refl)
+claim_begins text (Next word) s = (110, _, s.1, refl)
+claim_begins text (Played word) s = (112, _, s.1, refl)
+claim_begins text (For count) s = (102, _, s.2, refl)
+claim_begins text (Count comparison count) s = (99, _, s.3, refl)
 claim_begins text (Turn side) s = (116, _, s.1, refl)
 claim_begins text Check s = (99, _, s, refl)
 claim_begins text Mate s = (109, _, s, refl)
@@ -55,6 +62,18 @@ claim_ends text (Plies comparison count) (first, second, digits, is, g, h, count
     ends_as text _ is (ends_behind (codes "plies") (first ++ (comparison_text comparison ++ (second ++ digits)))
     (ends_behind first (comparison_text comparison ++ (second ++ digits))
     (ends_behind (comparison_text comparison) (second ++ digits) (ends_behind second digits (count_ends digits count counted)))))
+claim_ends text (Result result) (gap, is, g, good) =
+    ends_as text _ is (ends_behind (codes "result") (gap ++ result) (ends_behind gap result (result_ends result good)))
+claim_ends text (Next word) (gap, is, g, like) =
+    ends_as text _ is (ends_behind (codes "next") (gap ++ word) (ends_behind gap word (like_ends word like)))
+claim_ends text (Played word) (gap, is, g, like) =
+    ends_as text _ is (ends_behind (codes "played") (gap ++ word) (ends_behind gap word (like_ends word like)))
+claim_ends text (For count) (gap, digits, is, g, counted, some) =
+    ends_as text _ is (ends_behind (codes "for") (gap ++ digits) (ends_behind gap digits (count_ends digits count counted)))
+claim_ends text (Count comparison count) (first, second, digits, is, g, h, counted) =
+    ends_as text _ is (ends_behind (codes "count") (first ++ (comparison_text comparison ++ (second ++ digits)))
+    (ends_behind first (comparison_text comparison ++ (second ++ digits))
+    (ends_behind (comparison_text comparison) (second ++ digits) (ends_behind second digits (count_ends digits count counted)))))
 claim_ends text (Turn side) (gap, is, g) =
     ends_as text _ is (ends_behind (codes "turn") (gap ++ side_text side) (ends_behind gap (side_text side) (side_ends side)))
 claim_ends text Check is = ends_as text _ is (codes "chec", 107, refl, refl)
@@ -69,6 +88,11 @@ key (Flip pattern) = codes "flip"
 key (Material white black) = codes "material"
 key (Moves words) = codes "moves"
 key (Plies comparison count) = codes "plies"
+key (Result result) = codes "result"
+key (Next word) = codes "next"
+key (Played word) = codes "played"
+key (For count) = codes "for"
+key (Count comparison count) = codes "count"
 key (Turn side) = codes "turn"
 key Check = codes "check"
 key Mate = codes "mate"
@@ -81,6 +105,11 @@ key_read text (Flip pattern) spells = (flip_read text pattern spells).0
 key_read text (Material white black) spells = (material_read text white black spells).key_is
 key_read text (Moves words) spells = (moves_read text words spells).0
 key_read text (Plies comparison count) spells = (plies_read text comparison count spells).key_is
+key_read text (Result result) spells = (result_read text result spells).0
+key_read text (Next word) spells = (next_read text word spells).0
+key_read text (Played word) spells = (played_read text word spells).0
+key_read text (For count) spells = (for_read text count spells).0
+key_read text (Count comparison count) spells = (counted_read text comparison count spells).key_is
 key_read text (Turn side) spells = (turn_read text side spells).0
 key_read text Check spells = ap run_of spells
 key_read text Mate spells = ap run_of spells
@@ -98,6 +127,11 @@ not_apart (Flip pattern) same = omega arith
 not_apart (Material white black) same = omega arith
 not_apart (Moves words) same = omega arith
 not_apart (Plies comparison count) same = omega arith
+not_apart (Result result) same = omega arith
+not_apart (Next word) same = omega arith
+not_apart (Played word) same = omega arith
+not_apart (For count) same = omega arith
+not_apart (Count comparison count) same = omega arith
 not_apart (Turn side) same = omega arith
 not_apart Check same = omega arith
 not_apart Mate same = omega arith
@@ -110,6 +144,11 @@ either_apart (Flip pattern) same = omega arith
 either_apart (Material white black) same = omega arith
 either_apart (Moves words) same = omega arith
 either_apart (Plies comparison count) same = omega arith
+either_apart (Result result) same = omega arith
+either_apart (Next word) same = omega arith
+either_apart (Played word) same = omega arith
+either_apart (For count) same = omega arith
+either_apart (Count comparison count) same = omega arith
 either_apart (Turn side) same = omega arith
 either_apart Check same = omega arith
 either_apart Mate same = omega arith
@@ -121,13 +160,33 @@ claim_either text claim run spells = either_apart claim (ap total (sym run ∙ k
 pub claim_not : (text : List ℕ) (claim : Claim (List ℕ)) → run_of text ≡ codes "not" → SpellsClaim text claim → ⊥
 claim_not text claim run spells = not_apart claim (ap total (sym run ∙ key_read text claim spells))
 
--- a denied claim is read behind its first word, and the other way round
-pub not_read : (text : List ℕ) (claim : Claim (List ℕ)) → SpellsTaken text true claim → (run_of text ≡ codes "not") × SpellsClaim (behind_word text) claim
-not_read text claim (gap, own, is, g, spells) =
-    let parts = word_read text (codes "not") gap own is refl g (claim_begins own claim spells) in
-    (parts.0, subst (λ x. SpellsClaim x claim) (sym parts.1) spells)
+-- a claim can be denied, whatever its texts are held in
+pub denied_seen : {T : Type 0} (bytes : T → List ℕ) (claim : Claim T) → can_be_denied (claim_seen bytes claim) ≡ can_be_denied claim
+denied_seen bytes (Tag name relation contents) = refl
+denied_seen bytes (Fen pattern) = refl
+denied_seen bytes (Flip pattern) = refl
+denied_seen bytes (Material white black) = refl
+denied_seen bytes (Moves words) = refl
+denied_seen bytes (Plies comparison count) = refl
+denied_seen bytes (Result result) = refl
+denied_seen bytes (Next word) = refl
+denied_seen bytes (Played word) = refl
+denied_seen bytes (For count) = refl
+denied_seen bytes (Count comparison count) = refl
+denied_seen bytes (Turn side) = refl
+denied_seen bytes Check = refl
+denied_seen bytes Mate = refl
+denied_seen bytes Stalemate = refl
 
-pub not_spelled : (text : List ℕ) (claim : Claim (List ℕ)) → run_of text ≡ codes "not" → SpellsClaim (behind_word text) claim → SpellsTaken text true claim
-not_spelled text claim run spells =
+-- a denied claim is read behind its first word, and the other way round
+pub not_read : (text : List ℕ) (claim : Claim (List ℕ)) → SpellsTaken text true claim
+    → (run_of text ≡ codes "not") × IsTrue (can_be_denied claim) × SpellsClaim (behind_word text) claim
+not_read text claim (gap, own, is, g, of, spells) =
+    let parts = word_read text (codes "not") gap own is refl g (claim_begins own claim spells) in
+    (parts.0, of, subst (λ x. SpellsClaim x claim) (sym parts.1) spells)
+
+pub not_spelled : (text : List ℕ) (claim : Claim (List ℕ)) → run_of text ≡ codes "not" → IsTrue (can_be_denied claim) → SpellsClaim (behind_word text) claim
+    → SpellsTaken text true claim
+not_spelled text claim run of spells =
     let two = word_spelled text (codes "not") (behind_word text) run refl (begins_some (behind_word text) (claim_begins (behind_word text) claim spells)) in
-    (two.0, behind_word text, two.1, two.2, spells)
+    (two.0, behind_word text, two.1, two.2, of, spells)

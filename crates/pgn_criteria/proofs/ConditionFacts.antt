@@ -14,7 +14,7 @@ use Rattle.pgn_criteria.proofs.CoreFacts.{core_about, solid_core, empty_core, co
 
 taken_begins : (text : List ℕ) (denied : Bool) (claim : Claim (List ℕ)) → SpellsTaken text denied claim → BeginsSolid text
 taken_begins text false claim spells = claim_begins text claim spells
-taken_begins text true claim (gap, own, is, g, spells) = (110, _, is, refl)
+taken_begins text true claim (gap, own, is, g, of, spells) = (110, _, is, refl)
 
 condition_begins : (text : List ℕ) (condition : Condition (List ℕ)) → SpellsCondition text condition → BeginsSolid text
 condition_begins text condition spells = begins condition.is_either spells
@@ -25,7 +25,7 @@ condition_begins text condition spells = begins condition.is_either spells
 
 taken_ends : (text : List ℕ) (denied : Bool) (claim : Claim (List ℕ)) → SpellsTaken text denied claim → EndsSolid text
 taken_ends text false claim spells = claim_ends text claim spells
-taken_ends text true claim (gap, own, is, g, spells) =
+taken_ends text true claim (gap, own, is, g, of, spells) =
     ends_as text _ is (ends_behind (codes "not") (gap ++ own) (ends_behind gap own (claim_ends own claim spells)))
 
 condition_ends : (text : List ℕ) (condition : Condition (List ℕ)) → SpellsCondition text condition → EndsSolid text

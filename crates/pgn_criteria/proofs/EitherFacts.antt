@@ -10,7 +10,7 @@ use Rattle.pgn_criteria.specs.Patterns.{FitsPattern}
 use Rattle.pgn_criteria.specs.Stages.{SaysOfPosition, OfPosition, AllSaid, EachOfPosition, AllOfPosition, AreFixed, IsMirrorOf, claim_seen}
 use Rattle.pgn_criteria.specs.declared.condition.Condition.{Condition}
 use Rattle.pgn_criteria.specs.declared.condition.Claim.{Claim}
-use Rattle.pgn_criteria.specs.declared.condition.Claim.TheVariants.{Tag, Fen, Flip, Material, Moves, Plies, Turn, Check, Mate, Stalemate}
+use Rattle.pgn_criteria.specs.declared.condition.Claim.TheVariants.{Tag, Fen, Flip, Material, Moves, Plies, Result, Next, Played, For, Count, Turn, Check, Mate, Stalemate}
 use Rattle.pgn_criteria.specs.declared.material.Limits.{Limits}
 use Rattle.pgn_criteria.proofs.MirrorFacts.{flipped_mirrored, material_mirrored, turn_exchanged}
 use Rattle.pgn_criteria.proofs.OpeningFacts.{same_taken}
@@ -22,6 +22,11 @@ can_be_seen bytes (Flip pattern) = refl
 can_be_seen bytes (Material white black) = refl
 can_be_seen bytes (Moves words) = refl
 can_be_seen bytes (Plies comparison count) = refl
+can_be_seen bytes (Result result) = refl
+can_be_seen bytes (Next word) = refl
+can_be_seen bytes (Played word) = refl
+can_be_seen bytes (For count) = refl
+can_be_seen bytes (Count comparison count) = refl
 can_be_seen bytes (Turn side) = refl
 can_be_seen bytes Check = refl
 can_be_seen bytes Mate = refl

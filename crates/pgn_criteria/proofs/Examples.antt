@@ -1,5 +1,6 @@
 -- What the definitions say of values, ranks and words that every reader can check.
-use Rattle.std.proofs.Common.{◌≡◌, ◌≤◌, ◌==◌, List, [], ◌∷◌, Option, Some, None, true, false, refl, ap, arith, codes, get_or, drop, ◌++◌}
+use Rattle.std.proofs.Common.{◌≡◌, ◌≤◌, ◌==◌, ℕ, List, [], ◌∷◌, Option, Some, None, true, false, refl, ap, arith, codes, get_or, drop, ◌++◌, length, inl, inr}
+use Rattle.std.proofs.lemmas.Option.{slice_get_within}
 use Rattle.std.specs.declared.cmp.Ordering.TheVariants as order
 use Rattle.chess.specs.Letters.{man_letter}
 use Rattle.chess.specs.Fen.{IsSquares, has_byte}
@@ -15,8 +16,11 @@ use Rattle.pgn_criteria.specs.Patterns.IsStretch.{spelled, any, occupied, white,
 use Rattle.pgn_criteria.specs.Materials.{is_man}
 use Rattle.pgn_criteria.specs.Materials as material
 use Rattle.pgn_criteria.specs.Mirrors.{across, beside}
-use Rattle.pgn_criteria.specs.MoveTexts.{without_marks}
+use Rattle.pgn_game.specs.Replays.{Replay}
+use Rattle.pgn_criteria.specs.MoveTexts.{without_marks, IsLike, GoesOnBy, IsReachedBy}
 use Rattle.pgn_criteria.specs.Meeting.{IsFirst}
+use Rattle.pgn_criteria.proofs.EndFacts.{ends_in, like_ends}
+use Rattle.pgn_criteria.proofs.MoveFacts.{byte_back}
 use Rattle.pgn_criteria.specs.declared.compare.Relation.TheVariants.{Equal, Has, Begins}
 use Rattle.pgn_criteria.specs.declared.material.Limit.TheVariants.{Exactly, AtLeast, AtMost, AnyNumber}
 
@@ -224,6 +228,34 @@ check_left_out = refl
 
 mate_left_out : without_marks (codes "Qxf7#") ≡ codes "Qxf7"
 mate_left_out = refl
+
+-- * stands for any bytes, also for none, and each other byte for itself
+takes_on_f3 : IsLike (codes "*xf3") (codes "Bxf3")
+takes_on_f3 = inl (refl, (codes "B", codes "xf3", refl, inr (codes "f3", refl, inr (codes "3", refl, inr ([], refl, refl)))))
+
+castles_short : IsLike (codes "O-O*") (codes "O-O")
+castles_short = inr (codes "-O", refl, inr (codes "O", refl, inr ([], refl, inl (refl, ([], [], refl, refl)))))
+
+not_on_h8 : IsLike (codes "*h8") (codes "Rh7") → ⊥
+not_on_h8 like =
+    let ends = like_ends (codes "*h") 56 (codes "Rh7") (λ e. absurd (omega (arith, e))) like in
+    let same : 56 ≡ 55 = ends_in (codes "Rh7") (codes "Rh") 56 55 refl ends in absurd (omega (arith, same))
+
+no_cross : IsLike (codes "x*") (codes "Nf3") → ⊥
+no_cross like = let same = (byte_back (codes "*") 120 78 (codes "f3") (λ e. absurd (omega (arith, e))) like).0 in absurd (omega (arith, same))
+
+no_letter_between : IsLike (codes "Ne2") (codes "Nge2") → ⊥
+no_letter_between like =
+    let behind = (byte_back (codes "e2") 78 78 (codes "ge2") (λ e. absurd (omega (arith, e))) like).1 in
+    let same = (byte_back (codes "2") 101 103 (codes "e2") (λ e. absurd (omega (arith, e))) behind).0 in absurd (omega (arith, same))
+
+-- no move leads to the first position of a main line, and none follows the last
+none_before : (replay : Replay) (word : List ℕ) → IsReachedBy replay 0 word → ⊥
+none_before replay word (before, is, goes) = absurd (omega (arith, is))
+
+none_after : (replay : Replay) (word : List ℕ) → GoesOnBy replay (length replay.played) word → ⊥
+none_after replay word goes =
+    let within = slice_get_within replay.played (length replay.played) goes.move goes.played in absurd (omega (arith, within))
 
 -- the first of the numbers 1 to 5 that is 3 or more is 3; none is found between 2 and 1
 third : IsFirst (λ n. 3 ≤ n) 1 5 (Some 3)

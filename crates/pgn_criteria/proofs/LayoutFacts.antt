@@ -17,7 +17,7 @@ use Rattle.pgn_criteria.specs.Items.{IsOf, EachOf, Reads, IsNextItem, has_man}
 use Rattle.chess.specs.declared.board.man.Kind.{Kind}
 use Rattle.chess.specs.declared.board.man.Kind.TheVariants.{King, Queen, Rook, Bishop, Knight, Pawn}
 use Rattle.chess.specs.declared.board.man.Side.TheVariants.{White, Black}
-use Rattle.pgn_criteria.specs.Layouts.{AllStand, AreEmpty, EachFrom, Lays, NoneOf}
+use Rattle.pgn_criteria.specs.Layouts.{AllStand, AreEmpty, EachFrom, Extends, Lays, NoneOf}
 use Rattle.pgn_criteria.specs.declared.rank.Men.{Men}
 use Rattle.pgn_criteria.specs.declared.rank.Class.TheVariants.{Other}
 use Rattle.pgn_criteria.specs.declared.layout.Asked.{Asked}
@@ -27,13 +27,14 @@ use Rattle.pgn_criteria.specs.declared.rank.Item.TheVariants.{Run, Many}
 use Rattle.pgn_criteria.proofs.NeedFacts.{behind_own, left_behind, left_at_end}
 
 -- nothing is laid out yet
-pub lays_start : (whole : State → Type 0) (old : Layout) → Lays whole whole old old true
-lays_start whole old = record { needed = λ P laid all. (laid, all); enough = λ so P laid all. (laid, all) }
+pub lays_start : {T : Type 0} {Sound : T → Type 0} {Stands : Placement → T → Type 0} (whole : State → Type 0) (old : T) → Extends Sound Stands whole whole old old true
+lays_start whole old = record { sound = λ s. s; needed = λ P laid all. (laid, all); enough = λ so P laid all. (laid, all) }
 
 -- one fact more
-pub lays_step : (whole rest fact more : State → Type 0) (a b c : Layout) (r s t : Bool) → Lays whole rest a b r → Lays fact (λ P. Unit {0}) b c s
-    → ((P : State) → rest P ↔ (fact P × more P)) → (IsTrue t → IsTrue r × IsTrue s) → Lays whole more a c t
+pub lays_step : {T : Type 0} {Sound : T → Type 0} {Stands : Placement → T → Type 0} (whole rest fact more : State → Type 0) (a b c : T) (r s t : Bool) → Extends Sound Stands whole rest a b r
+    → Extends Sound Stands fact (λ P. Unit {0}) b c s → ((P : State) → rest P ↔ (fact P × more P)) → (IsTrue t → IsTrue r × IsTrue s) → Extends Sound Stands whole more a c t
 lays_step whole rest fact more a b c r s t first next parts both = record {
+  sound = λ is. next.sound (first.sound is);
   needed = λ P laid all.
       let one = first.needed P laid all in
       let two = (parts P).0 one.1 in
@@ -46,13 +47,16 @@ lays_step whole rest fact more a b c r s t first next parts both = record {
 -- what is left says the same
 pub lays_same : (whole rest more : State → Type 0) (a b : Layout) (r : Bool) → Lays whole rest a b r → ((P : State) → rest P ↔ more P) → Lays whole more a b r
 lays_same whole rest more a b r first same = record {
+  sound = first.sound;
   needed = λ P laid all. let one = first.needed P laid all in (one.0, (same P).0 one.1);
   enough = λ so P laid left. first.enough so P laid ((same P).1 left);
 }
 
 -- nothing is left, or it is not all
-pub lays_end : (whole rest : State → Type 0) (a b : Layout) (r s : Bool) → Lays whole rest a b r → (IsTrue s → IsTrue r × ((P : State) → rest P)) → Lays whole (λ P. Unit {0}) a b s
+pub lays_end : {T : Type 0} {Sound : T → Type 0} {Stands : Placement → T → Type 0} (whole rest : State → Type 0) (a b : T) (r s : Bool) → Extends Sound Stands whole rest a b r
+    → (IsTrue s → IsTrue r × ((P : State) → rest P)) → Extends Sound Stands whole (λ P. Unit {0}) a b s
 lays_end whole rest a b r s first ends = record {
+  sound = first.sound;
   needed = λ P laid all. ((first.needed P laid all).0, tt);
   enough = λ so P laid left. first.enough (ends so).0 P laid ((ends so).1 P);
 }
@@ -67,6 +71,7 @@ stand_more men (first ∷ more) one =
 pub lays_asked : (old new : Layout) (class : Class) (square : Place) (one : Asked) → one.class ≡ class → one.square ≡ square → new.asked.items ≡ old.asked.items ++ one ∷ [] → new.barred.items ≡ old.barred.items → new.empty ≡ old.empty
     → Lays (λ P. IsOf class (man_at P.men square)) (λ P. Unit {0}) old new true
 lays_asked old new class square one is at items barred empty = record {
+  sound = λ s. tt;
   needed = λ P laid here. (
     (
       subst (AllStand P.men) (sym items) ((stand_more P.men old.asked.items one).1 (laid.0, subst (λ c. IsOf c (man_at P.men one.square)) (sym is) (subst (λ s. IsOf class (man_at P.men s)) (sym at) here))),
@@ -86,6 +91,7 @@ lays_asked old new class square one is at items barred empty = record {
 pub lays_barred : (old new : Layout) (class : Class) (square : Place) (one : Asked) → one.class ≡ class → one.square ≡ square → new.barred.items ≡ old.barred.items ++ one ∷ [] → new.asked.items ≡ old.asked.items → new.empty ≡ old.empty
     → Lays (λ P. IsTrue true → IsOf class (man_at P.men square)) (λ P. Unit {0}) old new true
 lays_barred old new class square one is at items asked empty = record {
+  sound = λ s. tt;
   needed = λ P laid here. (
     (
       subst (AllStand P.men) (sym asked) laid.0,
@@ -102,17 +108,21 @@ lays_barred old new class square one is at items asked empty = record {
 }
 
 pub lays_unbarred : (fact : State → Type 0) (old : Layout) → Lays (λ P. IsTrue false → fact P) (λ P. Unit {0}) old old true
-lays_unbarred fact old = record { needed = λ P laid all. (laid, tt); enough = λ so P laid left. (laid, λ t. absurd (cc)) }
+lays_unbarred fact old = record { sound = λ s. tt; needed = λ P laid all. (laid, tt); enough = λ so P laid left. (laid, λ t. absurd (cc)) }
 
 -- two facts, one after the other, and the same fact in other words
-pub lays_both : (first second : State → Type 0) (a b c : Layout) → Lays first (λ P. Unit {0}) a b true → Lays second (λ P. Unit {0}) b c true → Lays (λ P. first P × second P) (λ P. Unit {0}) a c true
+pub lays_both : {T : Type 0} {Sound : T → Type 0} {Stands : Placement → T → Type 0} (first second : State → Type 0) (a b c : T) → Extends Sound Stands first (λ P. Unit {0}) a b true
+    → Extends Sound Stands second (λ P. Unit {0}) b c true → Extends Sound Stands (λ P. first P × second P) (λ P. Unit {0}) a c true
 lays_both first second a b c one two = record {
+  sound = λ s. two.sound (one.sound s);
   needed = λ P laid both. two.needed P (one.needed P laid both.0).0 both.1;
   enough = λ so P laid left. let back = two.enough refl P laid tt in let front = one.enough refl P back.0 tt in (front.0, (front.1, back.1));
 }
 
-pub lays_like : (whole other : State → Type 0) (a b : Layout) → ((P : State) → whole P ↔ other P) → Lays whole (λ P. Unit {0}) a b true → Lays other (λ P. Unit {0}) a b true
+pub lays_like : {T : Type 0} {Sound : T → Type 0} {Stands : Placement → T → Type 0} (whole other : State → Type 0) (a b : T) → ((P : State) → whole P ↔ other P)
+    → Extends Sound Stands whole (λ P. Unit {0}) a b true → Extends Sound Stands other (λ P. Unit {0}) a b true
 lays_like whole other a b same first = record {
+  sound = first.sound;
   needed = λ P laid all. first.needed P laid ((same P).1 all);
   enough = λ so P laid left. let back = first.enough so P laid left in (back.0, (same P).0 back.1);
 }
@@ -150,6 +160,7 @@ second_true false b e = e
 pub lays_empty : (old new : Layout) (square : Place) → ((s : Place) → is_in new.empty s ≡ (same_square square s || is_in old.empty s)) → new.asked.items ≡ old.asked.items → new.barred.items ≡ old.barred.items
     → Lays (λ P. man_at P.men square ≡ None) (λ P. Unit {0}) old new true
 lays_empty old new square told items barred = record {
+  sound = λ s. tt;
   needed = λ P laid here. (
     (
       subst (AllStand P.men) (sym items) laid.0,

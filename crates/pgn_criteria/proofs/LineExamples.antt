@@ -6,11 +6,13 @@ use Rattle.chess.specs.declared.board.man.Kind.{Kind}
 use Rattle.chess.specs.declared.board.man.Kind.TheVariants.{King, Queen, Rook, Bishop, Knight, Pawn}
 use Rattle.chess.specs.declared.board.man.Side.TheVariants.{White}
 use Rattle.pgn_text.specs.Strings.{Single}
-use Rattle.pgn_criteria.specs.Lines.{SpellsClaim, AreNames, SpellsCount, CanBeCompared, SpellsTaken, Spells, SpellsLimits, IsLimitIn, IsMoveWord, a_word, and_words, IsLine, Accepts, alternatives_of, SpellsTurned}
+use Rattle.pgn_text.specs.GameTexts.{IsResult}
+use Rattle.pgn_criteria.specs.Lines.{SpellsClaim, AreNames, SpellsCount, CanBeCompared, SpellsTaken, Spells, SpellsLimits, IsLimitIn, IsMoveWord, IsMoveLike, a_word, and_words, IsLine, Accepts, alternatives_of, SpellsTurned}
 use Rattle.pgn_criteria.specs.Lines.SpellsLimit.{one, exactly, at_least, at_most, any}
 use Rattle.pgn_criteria.specs.Comparing.{Compares}
 use Rattle.pgn_criteria.specs.Materials.{limit_of}
 use Rattle.pgn_criteria.specs.Mirrors.{can_be_mirrored}
+use Rattle.pgn_criteria.specs.declared.compare.Comparison.{Comparison}
 use Rattle.pgn_criteria.specs.declared.compare.Comparison.TheVariants.{Less, LessOrEqual}
 use Rattle.pgn_criteria.specs.declared.compare.Relation.TheVariants.{GreaterOrEqual, Has, Begins}
 use Rattle.pgn_criteria.specs.declared.material.Limit.{Limit}
@@ -18,11 +20,12 @@ use Rattle.pgn_criteria.specs.declared.material.Limit.TheVariants.{Exactly, AtLe
 use Rattle.pgn_criteria.specs.declared.material.Limits.{Limits}
 use Rattle.pgn_criteria.specs.declared.condition.Condition.{Condition}
 use Rattle.pgn_criteria.specs.declared.condition.Claim.{Claim}
-use Rattle.pgn_criteria.specs.declared.condition.Claim.TheVariants.{Tag, Moves, Plies, Turn, Check, Mate, Stalemate}
+use Rattle.pgn_criteria.specs.declared.condition.Claim.TheVariants.{Tag, Moves, Plies, Result, Next, Played, For, Count, Turn, Check, Mate, Stalemate}
 use Rattle.pgn_criteria.specs.declared.line.Meaning.{Meaning}
 use Rattle.pgn_criteria.specs.declared.line.Meaning.TheVariants.{Nothing, Or, Asks}
 use Rattle.pgn_criteria.proofs.ClaimFacts.{claim_not, not_read}
 use Rattle.pgn_criteria.proofs.ConditionFacts.{line_read, either_read}
+use Rattle.pgn_criteria.proofs.PliesFacts.{for_read}
 
 -- more blanks may stand where one stands
 turn : SpellsClaim (codes "turn  white") (Turn White)
@@ -80,6 +83,27 @@ fifty_plies = (codes " ", codes " ", codes "50", refl, ((λ none. cc), refl), ((
 -- five digits are no number of plies
 not_five_digits : (count : ℕ) → SpellsCount (codes "10000") count → ⊥
 not_five_digits count spells = let few : 5 ≤ 4 = spells.short.1 in absurd (omega arith)
+
+-- for 40, and count <= 9
+for_forty : SpellsClaim (codes "for 40") (For 40)
+for_forty = (codes " ", codes "40", refl, ((λ none. cc), refl), record { digits = refl; short = (omega arith, omega arith); value = refl }, omega arith)
+
+count_nine : SpellsClaim (codes "count <= 9") (Count LessOrEqual 9)
+count_nine = (codes " ", codes " ", codes "9", refl, ((λ none. cc), refl), ((λ none. cc), refl), record { digits = refl; short = (omega arith, omega arith); value = refl })
+
+-- 0 plies in a row are not asked for
+not_for_zero : (count : ℕ) → SpellsClaim (codes "for 0") (For count) → ⊥
+not_for_zero count spells =
+    let read = for_read (codes "for 0") count spells in
+    let zero : count ≡ 0 = read.1.value in
+    let some : 1 ≤ count = read.2 in omega (arith, zero, some)
+
+-- for and count are not denied
+not_denied_for : (count : ℕ) → SpellsTaken (codes "not for 3") true (For count) → ⊥
+not_denied_for count spells = let so : false ≡ true = (not_read (codes "not for 3") (For count) spells).1 in cc
+
+not_denied_count : (comparison : Comparison) (count : ℕ) → SpellsTaken (codes "not count = 3") true (Count comparison count) → ⊥
+not_denied_count comparison count spells = let so : false ≡ true = (not_read (codes "not count = 3") (Count comparison count) spells).1 in cc
 
 -- 51 plies are not at most 50, and 50 are not fewer
 fifty_one_not_at_most : Compares LessOrEqual 51 50 → ⊥
@@ -164,6 +188,50 @@ not_one_letter is = let few : 2 ≤ 1 = (bytes_of (codes "e") is (λ star. cc)).
 not_eight_letters : IsMoveWord (codes "Nb1xd2ef") → ⊥
 not_eight_letters is = let many : 8 ≤ 7 = (bytes_of (codes "Nb1xd2ef") is (λ star. cc)).1 in absurd (omega arith)
 
+-- a word for the move that follows, and for the one before
+next_takes : SpellsClaim (codes "next *x*") (Next (codes "*x*"))
+next_takes = (codes " ", refl, ((λ none. cc), refl), (omega arith, omega arith, refl))
+
+played_castling : SpellsClaim (codes "played  O-O*") (Played (codes "O-O*"))
+played_castling = (codes "  ", refl, ((λ none. cc), refl), (omega arith, omega arith, refl))
+
+-- such a word has 1 to 7 bytes, and no mark of check
+one_star : IsMoveLike (codes "*")
+one_star = (omega arith, omega arith, refl)
+
+seven_bytes : IsMoveLike (codes "Nb1*d2=")
+seven_bytes = (omega arith, omega arith, refl)
+
+not_no_byte : IsMoveLike [] → ⊥
+not_no_byte is = let some : 1 ≤ 0 = is.0 in absurd (omega arith)
+
+not_eight_bytes : IsMoveLike (codes "********") → ⊥
+not_eight_bytes is = let few : 8 ≤ 7 = is.1 in absurd (omega arith)
+
+not_check_mark : IsMoveLike (codes "Nf3+") → ⊥
+not_check_mark is = let each : false ≡ true = is.2 in cc
+
+-- two words are none
+not_two_words : IsMoveLike (codes "e4 e5") → ⊥
+not_two_words is = let each : false ≡ true = is.2 in cc
+
+-- a result
+drawn : SpellsClaim (codes "result 1/2-1/2") (Result (codes "1/2-1/2"))
+drawn = (codes " ", refl, ((λ none. cc), refl), inr (inr (inl refl)))
+
+-- half of a draw is none, nor is a text without bytes
+not_half : IsResult (codes "1/2") → ⊥
+not_half (inl white) = let second : get_or (codes "1/2") 1 0 ≡ 45 = ap (λ x. get_or x 1 0) white in omega arith
+not_half (inr (inl black)) = let first : get_or (codes "1/2") 0 0 ≡ 48 = ap (λ x. get_or x 0 0) black in omega arith
+not_half (inr (inr (inl draw))) = let size : length (codes "1/2") ≡ 7 = ap length draw in omega arith
+not_half (inr (inr (inr star))) = let size : length (codes "1/2") ≡ 1 = ap length star in omega arith
+
+not_no_result : IsResult [] → ⊥
+not_no_result (inl white) = cc
+not_no_result (inr (inl black)) = cc
+not_no_result (inr (inr (inl draw))) = cc
+not_no_result (inr (inr (inr star))) = cc
+
 -- a claim that is to be so, and one that is denied
 abbrev pub so : Claim (List ℕ) → Condition (List ℕ)
 so claim = record { is_either = false; is_denied = false; claim = claim }
@@ -181,7 +249,33 @@ not_check = record {
   blank_before = refl;
   blank_after = refl;
   end = inl refl;
-  spells = (codes " ", codes "check", refl, ((λ none. cc), refl), refl);
+  spells = (codes " ", codes "check", refl, ((λ none. cc), refl), refl, refl);
+}
+
+not_decided : IsLine (codes "not result *") (Asks (denied (Result (codes "*"))))
+not_decided = record {
+  before = [];
+  text = codes "not result *";
+  after = [];
+  last = [];
+  whole = refl;
+  blank_before = refl;
+  blank_after = refl;
+  end = inl refl;
+  spells = (codes " ", codes "result *", refl, ((λ none. cc), refl), refl, (codes " ", refl, ((λ none. cc), refl), inr (inr (inr refl))));
+}
+
+not_promoted : IsLine (codes "not next *=Q") (Asks (denied (Next (codes "*=Q"))))
+not_promoted = record {
+  before = [];
+  text = codes "not next *=Q";
+  after = [];
+  last = [];
+  whole = refl;
+  blank_before = refl;
+  blank_after = refl;
+  end = inl refl;
+  spells = (codes " ", codes "next *=Q", refl, ((λ none. cc), refl), refl, (codes " ", refl, ((λ none. cc), refl), (omega arith, omega arith, refl)));
 }
 
 -- `not` is written once
@@ -190,7 +284,7 @@ not_twice means is = no_meaning means (line_read (codes "not not check") means i
   where
     no_claim : (denied : Bool) (claim : Claim (List ℕ)) → SpellsTaken (codes "not not check") denied claim → ⊥
     no_claim false claim spells = claim_not (codes "not not check") claim refl spells
-    no_claim true claim spells = claim_not (codes "not check") claim refl (not_read (codes "not not check") claim spells).1
+    no_claim true claim spells = claim_not (codes "not check") claim refl (not_read (codes "not not check") claim spells).2
 
     no_condition : (either taken : Bool) (claim : Claim (List ℕ)) → SpellsTurned (codes "not not check") either taken claim → ⊥
     no_condition false taken claim spells = no_claim taken claim spells
@@ -214,13 +308,31 @@ either_turn = record {
   blank_before = refl;
   blank_after = refl;
   end = inl refl;
-  spells = (codes " ", codes "not turn white", refl, ((λ none. cc), refl), refl, (codes " ", codes "turn white", refl, ((λ none. cc), refl), (codes " ", refl, ((λ none. cc), refl))));
+  spells = (codes " ", codes "not turn white", refl, ((λ none. cc), refl), refl, (codes " ", codes "turn white", refl, ((λ none. cc), refl), refl, (codes " ", refl, ((λ none. cc), refl))));
 }
 
 -- check is not seen from the other side
 not_either_check : (taken : Bool) (claim : Claim (List ℕ)) → SpellsTurned (codes "either check") true taken claim → claim ≡ Check → ⊥
 not_either_check taken claim spells is =
     let so : false ≡ true = ap (λ (c : Claim (List ℕ)). can_be_mirrored c) (sym is) ∙ (either_read (codes "either check") taken claim spells).1 in cc
+
+-- nor are moves and results
+not_either_next : (taken : Bool) (word : List ℕ) → SpellsTurned (codes "either next e4") true taken (Next word) → ⊥
+not_either_next taken word spells = let so : false ≡ true = (either_read (codes "either next e4") taken (Next word) spells).1 in cc
+
+not_either_played : (taken : Bool) (word : List ℕ) → SpellsTurned (codes "either played e4") true taken (Played word) → ⊥
+not_either_played taken word spells = let so : false ≡ true = (either_read (codes "either played e4") taken (Played word) spells).1 in cc
+
+not_either_result : (taken : Bool) (result : List ℕ) → SpellsTurned (codes "either result 1-0") true taken (Result result) → ⊥
+not_either_result taken result spells = let so : false ≡ true = (either_read (codes "either result 1-0") taken (Result result) spells).1 in cc
+
+-- nor are for and count
+not_either_for : (taken : Bool) (count : ℕ) → SpellsTurned (codes "either for 3") true taken (For count) → ⊥
+not_either_for taken count spells = let so : false ≡ true = (either_read (codes "either for 3") taken (For count) spells).1 in cc
+
+not_either_count : (taken : Bool) (comparison : Comparison) (count : ℕ) → SpellsTurned (codes "either count = 3") true taken (Count comparison count) → ⊥
+not_either_count taken comparison count spells =
+    let so : false ≡ true = (either_read (codes "either count = 3") taken (Count comparison count) spells).1 in cc
 
 -- blanks about a line do not count, nor does one carriage return
 ended : IsLine (32 ∷ 9 ∷ 99 ∷ 104 ∷ 101 ∷ 99 ∷ 107 ∷ 32 ∷ 13 ∷ []) (Asks (so Check))

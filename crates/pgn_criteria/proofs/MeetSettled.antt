@@ -1,5 +1,5 @@
 -- Whether a position of a sound game meets criteria is settled.
-use Rattle.std.proofs.Common.{◌≡◌, ℕ, ◌+◌, Bool, true, false, List, [], ◌∷◌, length, Option, Some, None, refl, ap, ◌∙◌, inl, inr}
+use Rattle.std.proofs.Common.{◌≡◌, ◌<◌, ℕ, zero, suc, ◌+◌, Bool, true, false, List, [], ◌∷◌, length, Option, Some, None, refl, ap, ◌∙◌, sym, subst, inl, inr, arith}
 use Rattle.std.specs.Prelude.{codes, if◌then◌else◌}
 use Rattle.std.specs.List.{slice_get}
 use Rattle.chess.specs.Fen.{parted_at}
@@ -7,6 +7,8 @@ use Rattle.chess.specs.Placements.{AreOnBoard}
 use Rattle.chess.specs.Positions.{State}
 use Rattle.chess.specs.Moves.{IsLegal}
 use Rattle.chess.specs.declared.moves.Move.{Move}
+use Rattle.std.proofs.lemmas.Bool.{cases_eq, cases_lt}
+use Rattle.std.proofs.lemmas.Option.{slice_get_within}
 use Rattle.chess.proofs.Settled.{Settled, settled_like, settled_both, settled_either, settled_held, cases_bytes}
 use Rattle.chess.proofs.Searches.{cases_side}
 use Rattle.chess.proofs.LegalSettled.{settled_check}
@@ -17,21 +19,22 @@ use Rattle.pgn_game.specs.MainLines.{main_words}
 use Rattle.pgn_game.specs.Replays.{Replay}
 use Rattle.pgn_game.proofs.AnAnswer.{start_on_board}
 use Rattle.pgn_game.proofs.OnBoard.{line_on_board, line_legal}
-use Rattle.pgn_criteria.specs.Meeting.{Tags, HasOneOf, IsSo, Taken, Holds, AllHold, SomeHold, Meets, is_turned, EachHold}
+use Rattle.pgn_criteria.specs.Meeting.{Heading, HasOneOf, IsSo, Taken, Holds, AllHold, HoldsThere, AreAll, SpanHolds, SpansHold, IsMetBy, SomeHold, Meets, is_turned, EachHold}
 use Rattle.pgn_criteria.specs.Mirrors.{flipped_men, mirror}
-use Rattle.pgn_criteria.specs.MoveTexts.{without_marks, FitsWord, FitsMove, FitMoves}
+use Rattle.pgn_criteria.specs.MoveTexts.{without_marks, FitsWord, FitsMove, FitMoves, IsLike, GoesOnBy, IsReachedBy}
 use Rattle.pgn_criteria.specs.Stages.{AreLegal}
 use Rattle.pgn_criteria.specs.Words.{words_of}
-use Rattle.pgn_criteria.specs.Comparing.{Stands}
+use Rattle.pgn_criteria.specs.Comparing.{Stands, Compares}
 use Rattle.pgn_criteria.specs.Laws.{EachPositionMeetsOrDoesNot}
 use Rattle.pgn_criteria.specs.declared.condition.Condition.{Condition}
 use Rattle.pgn_criteria.specs.declared.condition.Claim.{Claim}
-use Rattle.pgn_criteria.specs.declared.condition.Claim.TheVariants.{Tag, Fen, Flip, Material, Moves, Plies, Turn, Check, Mate, Stalemate}
+use Rattle.pgn_criteria.specs.declared.condition.Claim.TheVariants.{Tag, Fen, Flip, Material, Moves, Plies, Result, Next, Played, For, Count, Turn, Check, Mate, Stalemate}
 use Rattle.pgn_criteria.specs.declared.compare.Relation.{Relation}
 use Rattle.pgn_criteria.proofs.MeetFacts.{meets_at}
-use Rattle.pgn_criteria.proofs.MoveFacts.{by_move}
+use Rattle.pgn_criteria.proofs.MoveFacts.{by_move, star_now, star_on, star_none, star_cases, byte_now, byte_back, byte_none, by_like}
 use Rattle.pgn_criteria.proofs.MirrorFacts.{mirrored_on}
 use Rattle.pgn_criteria.proofs.MenSettled.{settled_material}
+use Rattle.pgn_criteria.proofs.SpanFacts.{AreFrom, none_from, one_before, none_before, from_first, one_number}
 use Rattle.pgn_criteria.proofs.SplitSettled.{settled_pattern}
 use Rattle.pgn_criteria.proofs.StandsSettled.{settled_by, settled_compared, settled_stands}
 
@@ -42,10 +45,10 @@ settled_tag : (given : Option (List ℕ)) (relation : Relation) (contents : List
 settled_tag given relation contents =
     settled_held given (λ own. Stands relation own contents) (λ own. settled_stands relation own contents)
 
-settled_one_of : (tags : Tags) (relation : Relation) (contents : List ℕ) (names : List (List ℕ)) → Settled (HasOneOf tags relation contents names)
-settled_one_of tags relation contents [] = inr (λ h. h)
-settled_one_of tags relation contents (name ∷ more) =
-    settled_either (settled_tag (tags name) relation contents) (settled_one_of tags relation contents more)
+settled_one_of : (heading : Heading) (relation : Relation) (contents : List ℕ) (names : List (List ℕ)) → Settled (HasOneOf heading relation contents names)
+settled_one_of heading relation contents [] = inr (λ h. h)
+settled_one_of heading relation contents (name ∷ more) =
+    settled_either (settled_tag (heading.named name) relation contents) (settled_one_of heading relation contents more)
 
 -- ---- moves
 
@@ -79,6 +82,46 @@ settled_moves replay plies [] on_board legal = inl tt
 settled_moves replay plies (word ∷ more) on_board legal =
     settled_both (settled_move replay plies word on_board legal) (settled_moves replay (plies + 1) more on_board legal)
 
+-- a text is like a word or not
+settled_star : (word : List ℕ) → ((text : List ℕ) → Settled (IsLike word text)) → (text : List ℕ) → Settled (IsLike (42 ∷ word) text)
+settled_star word each [] = settled_like (star_now word []) (star_none word) (each [])
+settled_star word each (b ∷ text) =
+    settled_like (λ either. elim either [ inl now ↦ star_now word (b ∷ text) now | inr on ↦ star_on word b text on ]) (star_cases word b text)
+    (settled_either (each (b ∷ text)) (settled_star word each text))
+
+settled_byte : (word : List ℕ) (b : ℕ) → (b ≡ 42 → ⊥) → ((text : List ℕ) → Settled (IsLike word text)) → (text : List ℕ) → Settled (IsLike (b ∷ word) text)
+settled_byte word b plain each [] = inr (byte_none word b plain)
+settled_byte word b plain each (c ∷ text) =
+    settled_like (λ both. subst (λ n. IsLike (b ∷ word) (n ∷ text)) (sym both.0) (byte_now word b text both.1)) (byte_back word b c text plain)
+    (settled_both (cases_eq c b) (each text))
+
+settled_alike : (word text : List ℕ) → Settled (IsLike word text)
+settled_alike [] text = cases_bytes text []
+settled_alike (b ∷ word) text = elim (cases_eq b 42) [
+  | inl is ↦ subst (λ n. Settled (IsLike (n ∷ word) text)) (sym is) (settled_star word (settled_alike word) text)
+  | inr plain ↦ settled_byte word b plain (settled_alike word) text
+]
+
+settled_on : (replay : Replay) (plies : ℕ) (word : List ℕ) → AllOnBoard replay → AreLegal replay → Settled (GoesOnBy replay plies word)
+settled_on replay plies word on_board legal =
+    elim (slice_get replay.positions plies) as (λ o. slice_get replay.positions plies ≡ o → Settled (GoesOnBy replay plies word)) [
+      | None ↦ λ none. inr (λ goes. let here = goes.here in cc)
+      | Some P ↦ λ here.
+          elim (slice_get replay.played plies) as (λ o. slice_get replay.played plies ≡ o → Settled (GoesOnBy replay plies word)) [
+            | None ↦ λ none. inr (λ goes. let played = goes.played in cc)
+            | Some m ↦ λ played.
+                let text = some_san P m (on_board plies P here) (legal plies P m here played) in
+                settled_by (λ r told. by_like replay plies word text.0 P m r one_san here played text.1 told) (settled_alike word (without_marks text.0))
+          ] refl
+    ] refl
+
+settled_reached : (replay : Replay) (plies : ℕ) (word : List ℕ) → AllOnBoard replay → AreLegal replay → Settled (IsReachedBy replay plies word)
+settled_reached replay zero word on_board legal = inr (λ h. let none = h.1 in omega (arith, none))
+settled_reached replay (suc plies) word on_board legal =
+    settled_like (λ goes. (plies, (omega arith), goes))
+    (λ h. let same : h.0 ≡ plies = (let is = h.1 in omega (arith, is)) in subst (λ n. GoesOnBy replay n word) same h.2)
+    (settled_on replay plies word on_board legal)
+
 -- ---- conditions, alternatives, criteria
 
 settled_taken : {A : Type 0} (denied : Bool) → Settled A → Settled (Taken denied A)
@@ -86,55 +129,121 @@ settled_taken false settled = settled
 settled_taken true (inl a) = inr (λ none. none a)
 settled_taken true (inr none) = inl none
 
-settled_claim : (tags : Tags) (replay : Replay) (P : State) (claim : Claim (List ℕ)) → AllOnBoard replay → AreLegal replay
-    → AreOnBoard P.men → Settled (IsSo tags replay P claim)
-settled_claim tags replay P (Tag name relation contents) all legal on_board = settled_one_of tags relation contents (parted_at 124 name)
-settled_claim tags replay P (Fen pattern) all legal on_board = settled_pattern P.men pattern
-settled_claim tags replay P (Flip pattern) all legal on_board = settled_either (settled_pattern P.men pattern) (settled_pattern (flipped_men P.men) pattern)
-settled_claim tags replay P (Material white black) all legal on_board = settled_material P.men white black
-settled_claim tags replay P (Moves words) all legal on_board = settled_moves replay 0 (words_of words) all legal
-settled_claim tags replay P (Plies comparison count) all legal on_board = settled_compared comparison (length replay.played) count
-settled_claim tags replay P (Turn side) all legal on_board = cases_side P.turn side
-settled_claim tags replay P Check all legal on_board = settled_check P.men P.turn on_board
-settled_claim tags replay P Mate all legal on_board = settled_mate P on_board
-settled_claim tags replay P Stalemate all legal on_board = settled_stalemate P on_board
+settled_claim : (heading : Heading) (replay : Replay) (ply : ℕ) (P : State) (claim : Claim (List ℕ)) → AllOnBoard replay → AreLegal replay
+    → AreOnBoard P.men → Settled (IsSo heading replay ply P claim)
+settled_claim heading replay ply P (Tag name relation contents) all legal on_board = settled_one_of heading relation contents (parted_at 124 name)
+settled_claim heading replay ply P (Fen pattern) all legal on_board = settled_pattern P.men pattern
+settled_claim heading replay ply P (Flip pattern) all legal on_board = settled_either (settled_pattern P.men pattern) (settled_pattern (flipped_men P.men) pattern)
+settled_claim heading replay ply P (Material white black) all legal on_board = settled_material P.men white black
+settled_claim heading replay ply P (Moves words) all legal on_board = settled_moves replay 0 (words_of words) all legal
+settled_claim heading replay ply P (Plies comparison count) all legal on_board = settled_compared comparison (length replay.played) count
+settled_claim heading replay ply P (Result result) all legal on_board = cases_bytes heading.result result
+settled_claim heading replay ply P (Next word) all legal on_board = settled_on replay ply word all legal
+settled_claim heading replay ply P (Played word) all legal on_board = settled_reached replay ply word all legal
+settled_claim heading replay ply P (For count) all legal on_board = inl tt
+settled_claim heading replay ply P (Count comparison count) all legal on_board = inl tt
+settled_claim heading replay ply P (Turn side) all legal on_board = cases_side P.turn side
+settled_claim heading replay ply P Check all legal on_board = settled_check P.men P.turn on_board
+settled_claim heading replay ply P Mate all legal on_board = settled_mate P on_board
+settled_claim heading replay ply P Stalemate all legal on_board = settled_stalemate P on_board
 
-settled_condition : (tags : Tags) (replay : Replay) (P : State) (condition : Condition (List ℕ)) → AllOnBoard replay → AreLegal replay
-    → AreOnBoard P.men → Settled (Holds tags replay P condition)
-settled_condition tags replay P condition all legal on_board =
-    settled_taken condition.is_denied (settled_claim tags replay P condition.claim all legal on_board)
+settled_condition : (heading : Heading) (replay : Replay) (ply : ℕ) (P : State) (condition : Condition (List ℕ)) → AllOnBoard replay → AreLegal replay
+    → AreOnBoard P.men → Settled (Holds heading replay ply P condition)
+settled_condition heading replay ply P condition all legal on_board =
+    settled_taken condition.is_denied (settled_claim heading replay ply P condition.claim all legal on_board)
 
 tried_on_board : (P other : State) (turned : Bool) → AreOnBoard P.men → AreOnBoard other.men → AreOnBoard (if turned then other else P).men
 tried_on_board P other true on_board other_on = other_on
 tried_on_board P other false on_board other_on = on_board
 
-settled_each : (tags : Tags) (replay : Replay) (P other : State) (conditions : List (Condition (List ℕ))) → AllOnBoard replay → AreLegal replay
-    → AreOnBoard P.men → AreOnBoard other.men → Settled (EachHold tags replay P other conditions)
-settled_each tags replay P other [] all legal on_board other_on = inl tt
-settled_each tags replay P other (condition ∷ more) all legal on_board other_on =
+settled_each : (heading : Heading) (replay : Replay) (ply : ℕ) (P other : State) (conditions : List (Condition (List ℕ))) → AllOnBoard replay → AreLegal replay
+    → AreOnBoard P.men → AreOnBoard other.men → Settled (EachHold heading replay ply P other conditions)
+settled_each heading replay ply P other [] all legal on_board other_on = inl tt
+settled_each heading replay ply P other (condition ∷ more) all legal on_board other_on =
     settled_both
-    (settled_condition tags replay (if is_turned condition then other else P) condition all legal (tried_on_board P other (is_turned condition) on_board other_on))
-    (settled_each tags replay P other more all legal on_board other_on)
+    (settled_condition heading replay ply (if is_turned condition then other else P) condition all legal (tried_on_board P other (is_turned condition) on_board other_on))
+    (settled_each heading replay ply P other more all legal on_board other_on)
 
-settled_all : (tags : Tags) (replay : Replay) (P : State) (conditions : List (Condition (List ℕ))) → AllOnBoard replay → AreLegal replay
-    → AreOnBoard P.men → Settled (AllHold tags replay P conditions)
-settled_all tags replay P conditions all legal on_board =
-    settled_either (settled_each tags replay P P conditions all legal on_board on_board)
-    (settled_each tags replay P (mirror P) conditions all legal on_board (mirrored_on P.men))
+settled_all : (heading : Heading) (replay : Replay) (ply : ℕ) (P : State) (conditions : List (Condition (List ℕ))) → AllOnBoard replay → AreLegal replay
+    → AreOnBoard P.men → Settled (AllHold heading replay ply P conditions)
+settled_all heading replay ply P conditions all legal on_board =
+    settled_either (settled_each heading replay ply P P conditions all legal on_board on_board)
+    (settled_each heading replay ply P (mirror P) conditions all legal on_board (mirrored_on P.men))
 
-settled_some : (tags : Tags) (replay : Replay) (P : State) (alternatives : List (List (Condition (List ℕ)))) → AllOnBoard replay
-    → AreLegal replay → AreOnBoard P.men → Settled (SomeHold tags replay P alternatives)
-settled_some tags replay P [] all legal on_board = inr (λ h. h)
-settled_some tags replay P (alternative ∷ more) all legal on_board =
-    settled_either (settled_all tags replay P alternative all legal on_board) (settled_some tags replay P more all legal on_board)
+-- the plies at which they hold
+settled_there : (heading : Heading) (replay : Replay) (conditions : List (Condition (List ℕ))) → AllOnBoard replay → AreLegal replay
+    → (ply : ℕ) → Settled (HoldsThere heading replay conditions ply)
+settled_there heading replay conditions all legal ply =
+    elim (slice_get replay.positions ply) as (λ o. slice_get replay.positions ply ≡ o → Settled (HoldsThere heading replay conditions ply)) [
+      | None ↦ λ none. inr (λ there. let here = there.1 in cc)
+      | Some P ↦ λ here.
+          settled_like (λ hold. (P, here, hold))
+          (λ there. let same : there.0 ≡ P = cc (there.1, here) in subst (λ p. AllHold heading replay ply p conditions) same there.2)
+          (settled_all heading replay ply P conditions all legal (all ply P here))
+    ] refl
+
+module _ (Such : ℕ → Type 0) (size : ℕ) (settled : (ply : ℕ) → Settled (Such ply)) (within : (ply : ℕ) → Such ply → ply < size) where
+  counted_down : (least many : ℕ) → AreFrom Such least many → (all : ℕ) × AreFrom Such 0 all
+  counted_down zero many from = (many, from)
+  counted_down (suc least) many from =
+      let next : suc least ≡ least + 1 = omega arith in
+      let here : AreFrom Such (least + 1) many = subst (λ n. AreFrom Such n many) next from in
+      elim (settled least) [
+        | inl such ↦ counted_down least (many + 1) (one_before Such least many here such)
+        | inr none ↦ counted_down least many (none_before Such least many here none)
+      ]
+
+  all_listed : (plies : List ℕ) × AreAll Such plies
+  all_listed =
+      let counted = counted_down size 0 (none_from Such size within) in
+      let listed = from_first Such counted.0 counted.1 in
+      (listed.0, listed.1)
+
+  settled_run : (ply count : ℕ) → Settled ((i : ℕ) → i < count → Such (ply + i))
+  settled_run ply zero = inl (λ i less. absurd (omega (arith, less)))
+  settled_run ply (suc count) = elim (settled_run ply count) [
+    | inr fails ↦ inr (λ all. fails (λ i less. all i (omega (arith, less))))
+    | inl before ↦ elim (settled (ply + count)) [
+      | inr none ↦ inr (λ all. none (all count (omega arith)))
+      | inl such ↦ inl (λ i less. elim (cases_lt i count) [
+        | inl sooner ↦ before i sooner
+        | inr up ↦ let same : count ≡ i = omega (arith, up, less) in subst (λ n. Such (ply + n)) same such
+      ])
+    ]
+  ]
+
+  settled_span : (ply : ℕ) (claim : Claim (List ℕ)) → Settled (SpanHolds Such ply claim)
+  settled_span ply (For count) = settled_run ply count
+  settled_span ply (Count comparison count) =
+      settled_like (λ compares. (all_listed.0, all_listed.1, compares))
+      (λ holds. subst (λ n. Compares comparison n count) (one_number Such holds.0 all_listed.0 holds.1 all_listed.1) holds.2)
+      (settled_compared comparison (length all_listed.0) count)
+  settled_span ply claim = inl tt
+
+  settled_spans : (ply : ℕ) (conditions : List (Condition (List ℕ))) → Settled (SpansHold Such ply conditions)
+  settled_spans ply [] = inl tt
+  settled_spans ply (condition ∷ more) = settled_both (settled_span ply condition.claim) (settled_spans ply more)
+
+settled_met : (heading : Heading) (replay : Replay) (ply : ℕ) (P : State) (alternative : List (Condition (List ℕ))) → AllOnBoard replay → AreLegal replay
+    → AreOnBoard P.men → Settled (IsMetBy heading replay ply P alternative)
+settled_met heading replay ply P alternative all legal on_board =
+    settled_both (settled_all heading replay ply P alternative all legal on_board)
+    (settled_spans (HoldsThere heading replay alternative) (length replay.positions) (settled_there heading replay alternative all legal)
+    (λ at there. slice_get_within replay.positions at there.0 there.1) ply alternative)
+
+settled_some : (heading : Heading) (replay : Replay) (ply : ℕ) (P : State) (alternatives : List (List (Condition (List ℕ)))) → AllOnBoard replay
+    → AreLegal replay → AreOnBoard P.men → Settled (SomeHold heading replay ply P alternatives)
+settled_some heading replay ply P [] all legal on_board = inr (λ h. h)
+settled_some heading replay ply P (alternative ∷ more) all legal on_board =
+    settled_either (settled_met heading replay ply P alternative all legal on_board) (settled_some heading replay ply P more all legal on_board)
 
 pub each_position_meets : EachPositionMeetsOrDoesNot
-each_position_meets lines fen items replay is tags alternatives plies =
+each_position_meets lines fen items replay is heading alternatives plies =
     let all = line_on_board (main_words items 0) is.start replay.positions replay.played (start_on_board fen is.start is.is_start) is.line in
     let legal = line_legal (main_words items 0) is.start replay.positions replay.played is.line in
-    elim (slice_get replay.positions plies) as (λ o. slice_get replay.positions plies ≡ o → Settled (Meets tags replay plies alternatives)) [
+    elim (slice_get replay.positions plies) as (λ o. slice_get replay.positions plies ≡ o → Settled (Meets heading replay plies alternatives)) [
       | None ↦ λ none. inr (λ met. let here = met.here in cc)
       | Some P ↦ λ here.
-          settled_by (λ r told. meets_at tags replay plies alternatives P r here told)
-          (settled_some tags replay P alternatives all legal (all plies P here))
+          settled_by (λ r told. meets_at heading replay plies alternatives P r here told)
+          (settled_some heading replay plies P alternatives all legal (all plies P here))
     ] refl

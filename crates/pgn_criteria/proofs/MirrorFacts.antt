@@ -39,7 +39,7 @@ squares_twice (square ∷ more) = λ i. square_twice square i ∷ squares_twice 
 pub across_twice : (s : Place) → IsOnBoard s → across (across s) ≡ s
 across_twice s on = let low = on.rank_low in let high = on.rank_high in let rank : 9 - (9 - s.rank) ≡ s.rank = omega arith in λ i. record { file = s.file; rank = rank i }
 
-beside_twice : (s : Place) → IsOnBoard s → beside (beside s) ≡ s
+pub beside_twice : (s : Place) → IsOnBoard s → beside (beside s) ≡ s
 beside_twice s on = let low = on.file_low in let high = on.file_high in let file : 9 - (9 - s.file) ≡ s.file = omega arith in λ i. record { file = file i; rank = s.rank }
 
 across_on : (s : Place) → IsOnBoard s → IsOnBoard (across s)
@@ -47,7 +47,7 @@ across_on s on =
     let low = on.rank_low in
     let high = on.rank_high in record { file_low = on.file_low; file_high = on.file_high; rank_low = omega arith; rank_high = omega arith }
 
-beside_on : (s : Place) → IsOnBoard s → IsOnBoard (beside s)
+pub beside_on : (s : Place) → IsOnBoard s → IsOnBoard (beside s)
 beside_on s on =
     let low = on.file_low in
     let high = on.file_high in record { file_low = omega arith; file_high = omega arith; rank_low = on.rank_low; rank_high = on.rank_high }
@@ -91,7 +91,7 @@ row_flipped men r low high = λ i. at 1 (omega arith) (omega arith) i ∷ at 2 (
     at file a b = flipped_at men (record { file = file; rank = r }) (on_rank file r a b low high)
 
 -- the mirror of the mirror, and the two ways of turning in either order
-none_there : (square : Option Man) → ((man : Man) → square ≡ Some man → ⊥) → square ≡ None
+pub none_there : (square : Option Man) → ((man : Man) → square ≡ Some man → ⊥) → square ≡ None
 none_there None none = refl
 none_there (Some man) none = absurd (none man refl)
 

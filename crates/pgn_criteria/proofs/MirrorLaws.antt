@@ -5,7 +5,7 @@ use Rattle.chess.specs.Squares.{Place, IsOnBoard}
 use Rattle.chess.specs.Positions.{State}
 use Rattle.pgn_game.specs.Replays.{Replay}
 use Rattle.pgn_criteria.specs.Laws.{MirrorIsUndone, AreTurned, SidesAreAlike}
-use Rattle.pgn_criteria.specs.Meeting.{Tags, Holds, EachHold, is_turned}
+use Rattle.pgn_criteria.specs.Meeting.{Heading, Holds, EachHold, is_turned}
 use Rattle.pgn_criteria.specs.Mirrors.{across, mirror}
 use Rattle.pgn_criteria.specs.declared.condition.Condition.{Condition}
 use Rattle.pgn_criteria.proofs.MirrorFacts.{mirrored_twice, other_twice, across_twice}
@@ -33,25 +33,25 @@ tried_there : (P Q : State) (turned : Bool) → turned ≡ true → (if turned t
 tried_there P Q true e = refl
 tried_there P Q false e = absurd (cc)
 
-each_there : (tags : Tags) (replay : Replay) (P R Q : State) (conditions : List (Condition (List ℕ))) → AreTurned conditions
-    → EachHold tags replay P Q conditions → EachHold tags replay R Q conditions
-each_there tags replay P R Q [] turned each = tt
-each_there tags replay P R Q (condition ∷ more) turned each =
+each_there : (heading : Heading) (replay : Replay) (ply : ℕ) (P R Q : State) (conditions : List (Condition (List ℕ))) → AreTurned conditions
+    → EachHold heading replay ply P Q conditions → EachHold heading replay ply R Q conditions
+each_there heading replay ply P R Q [] turned each = tt
+each_there heading replay ply P R Q (condition ∷ more) turned each =
     let here = tried_there P Q (is_turned condition) turned.0 in
     let there = tried_there R Q (is_turned condition) turned.0 in (
-      subst (λ p. Holds tags replay p condition) (here ∙ sym there) each.0,
-      each_there tags replay P R Q more turned.1 each.1,
+      subst (λ p. Holds heading replay ply p condition) (here ∙ sym there) each.0,
+      each_there heading replay ply P R Q more turned.1 each.1,
     )
 
 pub sides_alike : SidesAreAlike
-sides_alike tags replay P conditions on turned =
+sides_alike heading replay ply P conditions on turned =
     let back : mirror (mirror P) ≡ P = mirror_undone P on in (
       λ hold. elim hold [
-        | inl plain ↦ inr (subst (λ Q. EachHold tags replay (mirror P) Q conditions) (sym back) (each_there tags replay P (mirror P) P conditions turned plain))
-        | inr turns ↦ inl (each_there tags replay P (mirror P) (mirror P) conditions turned turns)
+        | inl plain ↦ inr (subst (λ Q. EachHold heading replay ply (mirror P) Q conditions) (sym back) (each_there heading replay ply P (mirror P) P conditions turned plain))
+        | inr turns ↦ inl (each_there heading replay ply P (mirror P) (mirror P) conditions turned turns)
       ],
       λ hold. elim hold [
-        | inl plain ↦ inr (each_there tags replay (mirror P) P (mirror P) conditions turned plain)
-        | inr turns ↦ inl (each_there tags replay (mirror P) P P conditions turned (subst (λ Q. EachHold tags replay (mirror P) Q conditions) back turns))
+        | inl plain ↦ inr (each_there heading replay ply (mirror P) P (mirror P) conditions turned plain)
+        | inr turns ↦ inl (each_there heading replay ply (mirror P) P P conditions turned (subst (λ Q. EachHold heading replay ply (mirror P) Q conditions) back turns))
       ],
     )

@@ -1,12 +1,12 @@
--- The words of a condition on the moves, one after the other.
+-- The words of a condition on the moves, one after the other, and the word of one on the move about a position.
 use Rattle.std.proofs.Common.{◌≡◌, ◌≢◌, ◌<◌, ℕ, true, false, List, [], ◌∷◌, ◌++◌, length, refl, sym, ap, ◌∙◌, subst, inl, inr, append-nil, arith, length-append}
-use Rattle.std.specs.Prelude.{codes, ◌⊎◌, ◌≤◌, ◌+◌, if◌then◌else◌}
+use Rattle.std.specs.Prelude.{codes, ◌⊎◌, ◌≤◌, ◌+◌, ◌||◌, ◌==◌, if◌then◌else◌}
 use Rattle.std.specs.List.{list_all}
 use Rattle.std.proofs.lemmas.Bool.Decides.{nat_tests}
 use Rattle.pgn_criteria.specs.Words.{is_blank}
 use Rattle.pgn_criteria.specs.Reading.{run_of, after_run, behind_blanks, behind_word}
-use Rattle.pgn_criteria.specs.Lines.{is_move_byte, IsMoveWord, AreMoveWords, a_word, and_words, SpellsClaim}
-use Rattle.pgn_criteria.specs.declared.condition.Claim.TheVariants.{Moves}
+use Rattle.pgn_criteria.specs.Lines.{is_move_byte, IsMoveWord, IsMoveLike, AreMoveWords, a_word, and_words, SpellsClaim}
+use Rattle.pgn_criteria.specs.declared.condition.Claim.TheVariants.{Moves, Next, Played}
 use Rattle.pgn_criteria.proofs.WordFacts.{run_whole}
 use Rattle.pgn_criteria.proofs.SolidFacts.{is_solid, AreSolid, BeginsSolid, EndsSolid, all_solid, solid_begins, solid_ends, begins_front, begins_some, ends_behind, word_alone, word_read, word_spelled}
 
@@ -77,3 +77,36 @@ pub moves_spelled : (text words : List ℕ) → run_of text ≡ codes "moves" �
 moves_spelled text words run behind are =
     let spelled = word_spelled text (codes "moves") words run (sym behind) (begins_some words (words_begin words are)) in
     (spelled.0, spelled.1, spelled.2, are)
+
+-- a word for moves that are alike
+like_byte_solid : (b : ℕ) → (is_move_byte b || b == 42) ≡ true → is_solid b ≡ true
+like_byte_solid b is = grind (arith, nat_tests)
+
+like_solid : (word : List ℕ) → IsMoveLike word → AreSolid word
+like_solid word (long, short, each) = all_solid (λ b. is_move_byte b || b == 42) like_byte_solid word each
+
+like_some : (word : List ℕ) → IsMoveLike word → word ≢ []
+like_some word (long, short, each) none = let clash : 1 ≤ 0 = subst (λ x. 1 ≤ length x) none long in absurd (omega arith)
+
+like_begins : (word : List ℕ) → IsMoveLike word → BeginsSolid word
+like_begins word is = solid_begins word (like_some word is) (like_solid word is)
+
+pub like_ends : (word : List ℕ) → IsMoveLike word → EndsSolid word
+like_ends word is = solid_ends word (like_some word is) (like_solid word is)
+
+-- the conditions with such a word: what spells one is read as it, and the other way round
+pub next_read : (text word : List ℕ) → SpellsClaim text (Next word) → (run_of text ≡ codes "next") × (behind_word text ≡ word)
+next_read text word (gap, is, g, like) = word_read text (codes "next") gap word is refl g (like_begins word like)
+
+pub next_spelled : (text word : List ℕ) → run_of text ≡ codes "next" → word ≡ behind_word text → IsMoveLike word → SpellsClaim text (Next word)
+next_spelled text word run behind like =
+    let spelled = word_spelled text (codes "next") word run (sym behind) (like_some word like) in
+    (spelled.0, spelled.1, spelled.2, like)
+
+pub played_read : (text word : List ℕ) → SpellsClaim text (Played word) → (run_of text ≡ codes "played") × (behind_word text ≡ word)
+played_read text word (gap, is, g, like) = word_read text (codes "played") gap word is refl g (like_begins word like)
+
+pub played_spelled : (text word : List ℕ) → run_of text ≡ codes "played" → word ≡ behind_word text → IsMoveLike word → SpellsClaim text (Played word)
+played_spelled text word run behind like =
+    let spelled = word_spelled text (codes "played") word run (sym behind) (like_some word like) in
+    (spelled.0, spelled.1, spelled.2, like)

@@ -18,14 +18,15 @@ use Rattle.pgn_criteria.specs.declared.compare.Relation.TheVariants.{Equal, Uneq
 use Rattle.pgn_criteria.specs.declared.material.Limits.{Limits}
 use Rattle.pgn_criteria.specs.declared.condition.Condition.{Condition}
 use Rattle.pgn_criteria.specs.declared.condition.Claim.{Claim}
-use Rattle.pgn_criteria.specs.declared.condition.Claim.TheVariants.{Tag, Fen, Flip, Material, Moves, Plies, Turn, Check, Mate, Stalemate}
+use Rattle.pgn_criteria.specs.declared.condition.Claim.TheVariants.{Tag, Fen, Flip, Material, Moves, Plies, Result, Next, Played, For, Count, Turn, Check, Mate, Stalemate}
 use Rattle.pgn_criteria.specs.declared.line.Meaning.{Meaning}
 use Rattle.pgn_criteria.specs.declared.line.Meaning.TheVariants.{Nothing, Or, Asks}
 use Rattle.pgn_criteria.proofs.TurnFacts.{turn_read}
 use Rattle.pgn_criteria.proofs.FenFacts.{fen_read, flip_read}
-use Rattle.pgn_criteria.proofs.PliesFacts.{IsPliesRead, plies_read}
+use Rattle.pgn_criteria.proofs.PliesFacts.{IsComparedRead, plies_read, counted_read, for_read}
 use Rattle.pgn_criteria.proofs.TagFacts.{IsTagRead, tag_read}
-use Rattle.pgn_criteria.proofs.MoveWordFacts.{moves_read}
+use Rattle.pgn_criteria.proofs.MoveWordFacts.{moves_read, next_read, played_read}
+use Rattle.pgn_criteria.proofs.ResultFacts.{result_read}
 use Rattle.pgn_criteria.proofs.MaterialFacts.{IsMaterialRead, material_read}
 use Rattle.pgn_criteria.proofs.LimitFacts.{limits_given}
 use Rattle.pgn_criteria.proofs.ClaimFacts.{key, key_read, total, claim_not, not_read}
@@ -104,12 +105,10 @@ comparison_back compared.GreaterOrEqual = refl
 one_comparison : (a b : Comparison) → comparison_text a ≡ comparison_text b → a ≡ b
 one_comparison a b e = sym (comparison_back a) ∙ ap (λ x. comparison_at (total x)) e ∙ comparison_back b
 
-one_plies : (text : List ℕ) (comparison other : Comparison) (count number : ℕ) → IsPliesRead text comparison count → IsPliesRead text other number
-    → ◌≡◌ {A = Claim (List ℕ)} (Plies comparison count) (Plies other number)
-one_plies text comparison other count number is has =
-    let comparisons : comparison ≡ other = one_comparison comparison other (sym is.sign_is ∙ has.sign_is) in
-    let counts : count ≡ number = is.count_is.value ∙ sym has.count_is.value in
-    ap (λ x. Plies x count) comparisons ∙ ap (λ x. Plies other x) counts
+one_compared : (key text : List ℕ) (comparison other : Comparison) (count number : ℕ) → IsComparedRead key text comparison count → IsComparedRead key text other number
+    → (comparison ≡ other) × (count ≡ number)
+one_compared key text comparison other count number is has =
+    (one_comparison comparison other (sym is.sign_is ∙ has.sign_is), is.count_is.value ∙ sym has.count_is.value)
 
 apart : (text : List ℕ) (c d : Claim (List ℕ)) → SpellsClaim text c → SpellsClaim text d → total (key c) ≡ total (key d)
 apart text c d spells has = ap total (sym (key_read text c spells) ∙ key_read text d has)
@@ -117,7 +116,7 @@ apart text c d spells has = ap total (sym (key_read text c spells) ∙ key_read 
 one_fen : (text pattern other : List ℕ) → SpellsFen text pattern → SpellsFen text other → pattern ≡ other
 one_fen text pattern other spells has = sym (fen_read text pattern spells).1 ∙ (fen_read text other has).1
 
-one_claim : (text : List ℕ) (c d : Claim (List ℕ)) → SpellsClaim text c → SpellsClaim text d → c ≡ d
+pub one_claim : (text : List ℕ) (c d : Claim (List ℕ)) → SpellsClaim text c → SpellsClaim text d → c ≡ d
 one_claim text (Tag name relation contents) (Tag other reverse more) spells has =
     one_tag text name other relation reverse contents more (tag_read text name relation contents spells) (tag_read text other reverse more has)
 one_claim text (Fen pattern) (Fen other) spells has = ap Fen (one_fen text pattern other spells has)
@@ -127,7 +126,15 @@ one_claim text (Material white black) (Material first second) spells has =
     one_material text white black first second (material_read text white black spells) (material_read text first second has)
 one_claim text (Moves words) (Moves other) spells has = ap Moves (sym (moves_read text words spells).1 ∙ (moves_read text other has).1)
 one_claim text (Plies comparison count) (Plies other number) spells has =
-    one_plies text comparison other count number (plies_read text comparison count spells) (plies_read text other number has)
+    let same = one_compared (codes "plies") text comparison other count number (plies_read text comparison count spells) (plies_read text other number has) in
+    ap (λ x. Plies x count) same.0 ∙ ap (λ x. Plies other x) same.1
+one_claim text (Result result) (Result other) spells has = ap Result (sym (result_read text result spells).1 ∙ (result_read text other has).1)
+one_claim text (Next word) (Next other) spells has = ap Next (sym (next_read text word spells).1 ∙ (next_read text other has).1)
+one_claim text (Played word) (Played other) spells has = ap Played (sym (played_read text word spells).1 ∙ (played_read text other has).1)
+one_claim text (For count) (For number) spells has = ap For ((for_read text count spells).1.value ∙ sym (for_read text number has).1.value)
+one_claim text (Count comparison count) (Count other number) spells has =
+    let same = one_compared (codes "count") text comparison other count number (counted_read text comparison count spells) (counted_read text other number has) in
+    ap (λ x. Count x count) same.0 ∙ ap (λ x. Count other x) same.1
 one_claim text (Turn side) (Turn other) spells has = ap Turn (one_side side other (sym (turn_read text side spells).1 ∙ (turn_read text other has).1))
 one_claim text Check Check spells has = refl
 one_claim text Mate Mate spells has = refl
@@ -139,7 +146,7 @@ pub one_taken : (text : List ℕ) (p q : Bool) (a b : Claim (List ℕ)) → Spel
 one_taken text false false a b spells has = (refl, one_claim text a b spells has)
 one_taken text false true a b spells has = absurd (claim_not text a (not_read text b has).0 spells)
 one_taken text true false a b spells has = absurd (claim_not text b (not_read text a spells).0 has)
-one_taken text true true a b spells has = (refl, one_claim (behind_word text) a b (not_read text a spells).1 (not_read text b has).1)
+one_taken text true true a b spells has = (refl, one_claim (behind_word text) a b (not_read text a spells).2 (not_read text b has).2)
 
 -- which both have `either` or have not
 one_turned : (text : List ℕ) (e f p q : Bool) (a b : Claim (List ℕ)) → SpellsTurned text e p a → SpellsTurned text f q b → (e ≡ f) × (p ≡ q) × (a ≡ b)
@@ -173,6 +180,11 @@ key_high (Flip pattern) = omega arith
 key_high (Material white black) = omega arith
 key_high (Moves words) = omega arith
 key_high (Plies comparison count) = omega arith
+key_high (Result result) = omega arith
+key_high (Next word) = omega arith
+key_high (Played word) = omega arith
+key_high (For count) = omega arith
+key_high (Count comparison count) = omega arith
 key_high (Turn side) = omega arith
 key_high Check = omega arith
 key_high Mate = omega arith
@@ -194,6 +206,11 @@ key_first (Flip pattern) = omega arith
 key_first (Material white black) = omega arith
 key_first (Moves words) = omega arith
 key_first (Plies comparison count) = omega arith
+key_first (Result result) = omega arith
+key_first (Next word) = omega arith
+key_first (Played word) = omega arith
+key_first (For count) = omega arith
+key_first (Count comparison count) = omega arith
 key_first (Turn side) = omega arith
 key_first Check = omega arith
 key_first Mate = omega arith

@@ -6,17 +6,18 @@ use Rattle.pgn_text.specs.Games.{Item}
 use Rattle.pgn_game.specs.Openings.{IsOpening}
 use Rattle.pgn_game.specs.Replays.{Replay, IsSomeReplay}
 use Rattle.pgn_game.proofs.Openings.{AgreeAt, opening_agrees}
-use Rattle.pgn_criteria.specs.Meeting.{Tags, IsSo, Taken, is_turned, Holds, EachHold, AllHold, SomeHold}
+use Rattle.pgn_criteria.specs.Meeting.{Heading, IsSo, Taken, is_turned, Holds, EachHold, AllHold, HoldsThere, SpansHold, SomeHold, Meets}
 use Rattle.pgn_criteria.specs.Mirrors.{mirror}
-use Rattle.pgn_criteria.specs.MoveTexts.{FitMoves}
+use Rattle.pgn_criteria.specs.MoveTexts.{FitMoves, GoesOnBy}
 use Rattle.pgn_criteria.specs.Words.{words_of}
 use Rattle.pgn_criteria.specs.Comparing.{Compares}
 use Rattle.pgn_criteria.specs.declared.compare.Comparison.{Comparison}
 use Rattle.pgn_criteria.specs.declared.compare.Comparison.TheVariants as compared
-use Rattle.pgn_criteria.specs.Stages.{AsksWithin, AllAskWithin, EachAsksWithin, FitTheSame, is_on_position, on_positions}
+use Rattle.pgn_criteria.specs.Stages.{AsksWithin, AllClaims, EachClaims, AllAskWithin, EachAsksWithin, FitTheSame, is_on_position, on_positions}
 use Rattle.pgn_criteria.specs.declared.condition.Condition.{Condition}
 use Rattle.pgn_criteria.specs.declared.condition.Claim.{Claim}
-use Rattle.pgn_criteria.specs.declared.condition.Claim.TheVariants.{Tag, Fen, Flip, Material, Moves, Plies, Turn, Check, Mate, Stalemate}
+use Rattle.pgn_criteria.specs.declared.condition.Claim.TheVariants.{Tag, Fen, Flip, Material, Moves, Plies, Result, Next, Played, For, Count, Turn, Check, Mate, Stalemate}
+use Rattle.pgn_criteria.proofs.SpanFacts.{spans_same, no_spans_hold, within_no_spans}
 
 -- where two replays agree before so many plies, the same words fit
 fit_on : (most plies : ℕ) (replay other : Replay) → ((i : ℕ) → i < most → AgreeAt replay.positions replay.played other.positions other.played i)
@@ -74,47 +75,152 @@ pub same_taken : {A B : Type 0} (denied : Bool) → A ↔ B → Taken denied A �
 same_taken false same = same
 same_taken true same = (λ none b. none (same.1 b), λ none a. none (same.0 a))
 
--- so the same conditions hold
-module _ (tags : Tags) (most : ℕ) (replay other : Replay) (same : FitTheSame most replay other) where
-  one_so_there : (P : State) (claim : Claim (List ℕ)) → AsksWithin most claim → IsSo tags replay P claim ↔ IsSo tags other P claim
-  one_so_there P (Tag name relation contents) within = (λ holds. holds, λ holds. holds)
-  one_so_there P (Fen pattern) within = (λ holds. holds, λ holds. holds)
-  one_so_there P (Flip pattern) within = (λ holds. holds, λ holds. holds)
-  one_so_there P (Material white black) within = (λ holds. holds, λ holds. holds)
-  one_so_there P (Moves words) within = same.words (words_of words) within
-  one_so_there P (Plies comparison count) within = same.counts comparison count within
-  one_so_there P (Turn side) within = (λ holds. holds, λ holds. holds)
-  one_so_there P Check within = (λ holds. holds, λ holds. holds)
-  one_so_there P Mate within = (λ holds. holds, λ holds. holds)
-  one_so_there P Stalemate within = (λ holds. holds, λ holds. holds)
+-- where claims are so of both replays or of neither, alternatives of such claims hold of both or of neither
+module _ (heading : Heading) (replay other : Replay) (Such : Claim (List ℕ) → Type 0)
+    (same : (ply : ℕ) (P : State) (claim : Claim (List ℕ)) → Such claim → IsSo heading replay ply P claim ↔ IsSo heading other ply P claim) where
+  one_holds_there : (ply : ℕ) (P : State) (condition : Condition (List ℕ)) → Such condition.claim → Holds heading replay ply P condition ↔ Holds heading other ply P condition
+  one_holds_there ply P condition such = same_taken condition.is_denied (same ply P condition.claim such)
 
-  one_holds_there : (P : State) (condition : Condition (List ℕ)) → AsksWithin most condition.claim → Holds tags replay P condition ↔ Holds tags other P condition
-  one_holds_there P condition within = same_taken condition.is_denied (one_so_there P condition.claim within)
-
-  each_hold_there : (P Q : State) (conditions : List (Condition (List ℕ))) → AllAskWithin most conditions → EachHold tags replay P Q conditions ↔ EachHold tags other P Q conditions
-  each_hold_there P Q [] within = (λ hold. tt, λ hold. tt)
-  each_hold_there P Q (condition ∷ more) within =
-      let here = one_holds_there (if is_turned condition then Q else P) condition within.0 in
-      let there = each_hold_there P Q more within.1 in
+  each_hold_there : (ply : ℕ) (P Q : State) (conditions : List (Condition (List ℕ))) → AllClaims Such conditions
+      → EachHold heading replay ply P Q conditions ↔ EachHold heading other ply P Q conditions
+  each_hold_there ply P Q [] such = (λ hold. tt, λ hold. tt)
+  each_hold_there ply P Q (condition ∷ more) such =
+      let here = one_holds_there ply (if is_turned condition then Q else P) condition such.0 in
+      let there = each_hold_there ply P Q more such.1 in
       (λ hold. (here.0 hold.0, there.0 hold.1), λ hold. (here.1 hold.0, there.1 hold.1))
 
-  all_hold_there : (P : State) (conditions : List (Condition (List ℕ))) → AllAskWithin most conditions → AllHold tags replay P conditions ↔ AllHold tags other P conditions
-  all_hold_there P conditions within =
-      let plain = each_hold_there P P conditions within in
-      let turned = each_hold_there P (mirror P) conditions within in (
+  all_hold_there : (ply : ℕ) (P : State) (conditions : List (Condition (List ℕ))) → AllClaims Such conditions
+      → AllHold heading replay ply P conditions ↔ AllHold heading other ply P conditions
+  all_hold_there ply P conditions such =
+      let plain = each_hold_there ply P P conditions such in
+      let turned = each_hold_there ply P (mirror P) conditions such in (
         λ hold. elim hold [ inl h ↦ inl (plain.0 h) | inr h ↦ inr (turned.0 h) ],
         λ hold. elim hold [ inl h ↦ inl (plain.1 h) | inr h ↦ inr (turned.1 h) ],
       )
 
-  pub some_hold_there : (P : State) (alternatives : List (List (Condition (List ℕ)))) → EachAsksWithin most alternatives
-      → SomeHold tags replay P alternatives ↔ SomeHold tags other P alternatives
-  some_hold_there P [] within = (λ hold. hold, λ hold. hold)
-  some_hold_there P (alternative ∷ more) within =
-      let here = all_hold_there P alternative within.0 in
-      let there = some_hold_there P more within.1 in (
-        λ hold. elim hold [ inl all ↦ inl (here.0 all) | inr some ↦ inr (there.0 some) ],
-        λ hold. elim hold [ inl all ↦ inl (here.1 all) | inr some ↦ inr (there.1 some) ],
+  some_hold_there : ((ply : ℕ) (conditions : List (Condition (List ℕ))) → AllClaims Such conditions
+      → SpansHold (HoldsThere heading replay conditions) ply conditions ↔ SpansHold (HoldsThere heading other conditions) ply conditions)
+      → (ply : ℕ) (P : State) (alternatives : List (List (Condition (List ℕ)))) → EachClaims Such alternatives
+      → SomeHold heading replay ply P alternatives ↔ SomeHold heading other ply P alternatives
+  some_hold_there spans ply P [] such = (λ hold. hold, λ hold. hold)
+  some_hold_there spans ply P (alternative ∷ more) such =
+      let here = all_hold_there ply P alternative such.0 in
+      let about = spans ply alternative such.0 in
+      let there = some_hold_there spans ply P more such.1 in (
+        λ hold. elim hold [ inl met ↦ inl (here.0 met.0, about.0 met.1) | inr some ↦ inr (there.0 some) ],
+        λ hold. elim hold [ inl met ↦ inl (here.1 met.0, about.1 met.1) | inr some ↦ inr (there.1 some) ],
       )
+
+-- so what asks for no more first moves than an opening has
+so_within : (heading : Heading) (most : ℕ) (replay other : Replay) → FitTheSame most replay other
+    → (ply : ℕ) (P : State) (claim : Claim (List ℕ)) → AsksWithin most claim → IsSo heading replay ply P claim ↔ IsSo heading other ply P claim
+so_within heading most replay other same ply P (Tag name relation contents) within = (λ holds. holds, λ holds. holds)
+so_within heading most replay other same ply P (Fen pattern) within = (λ holds. holds, λ holds. holds)
+so_within heading most replay other same ply P (Flip pattern) within = (λ holds. holds, λ holds. holds)
+so_within heading most replay other same ply P (Material white black) within = (λ holds. holds, λ holds. holds)
+so_within heading most replay other same ply P (Moves words) within = same.words (words_of words) within
+so_within heading most replay other same ply P (Plies comparison count) within = same.counts comparison count within
+so_within heading most replay other same ply P (Result result) within = (λ holds. holds, λ holds. holds)
+so_within heading most replay other same ply P (Next word) within = absurd within
+so_within heading most replay other same ply P (Played word) within = absurd within
+so_within heading most replay other same ply P (For count) within = absurd within
+so_within heading most replay other same ply P (Count comparison count) within = absurd within
+so_within heading most replay other same ply P (Turn side) within = (λ holds. holds, λ holds. holds)
+so_within heading most replay other same ply P Check within = (λ holds. holds, λ holds. holds)
+so_within heading most replay other same ply P Mate within = (λ holds. holds, λ holds. holds)
+so_within heading most replay other same ply P Stalemate within = (λ holds. holds, λ holds. holds)
+
+pub within_hold_there : (heading : Heading) (most : ℕ) (replay other : Replay) → FitTheSame most replay other
+    → (ply : ℕ) (P : State) (alternatives : List (List (Condition (List ℕ)))) → EachAsksWithin most alternatives
+    → SomeHold heading replay ply P alternatives ↔ SomeHold heading other ply P alternatives
+within_hold_there heading most replay other same ply P alternatives within =
+    some_hold_there heading replay other (AsksWithin most) (so_within heading most replay other same)
+    (λ at conditions asks.
+    let none = within_no_spans most conditions asks in (
+      λ hold. no_spans_hold (HoldsThere heading other conditions) at conditions none,
+      λ hold. no_spans_hold (HoldsThere heading replay conditions) at conditions none,
+    ))
+    ply P alternatives within
+
+-- and all that is so of a replay is so of another with the same positions and moves
+fits_there : (replay other : Replay) → replay.positions ≡ other.positions → replay.played ≡ other.played → (plies : ℕ) (words : List (List ℕ))
+    → FitMoves replay plies words → FitMoves other plies words
+fits_there replay other positions played plies [] fit = tt
+fits_there replay other positions played plies (word ∷ more) fit = (
+  record {
+    position = fit.0.position;
+    move = fit.0.move;
+    here = ap (λ ps. slice_get ps plies) (sym positions) ∙ fit.0.here;
+    played = ap (λ ms. slice_get ms plies) (sym played) ∙ fit.0.played;
+    fits = fit.0.fits;
+  },
+  fits_there replay other positions played (plies + 1) more fit.1,
+)
+
+goes_there : (replay other : Replay) → replay.positions ≡ other.positions → replay.played ≡ other.played → (plies : ℕ) (word : List ℕ)
+    → GoesOnBy replay plies word → GoesOnBy other plies word
+goes_there replay other positions played plies word goes = record {
+  position = goes.position;
+  move = goes.move;
+  text = goes.text;
+  here = ap (λ ps. slice_get ps plies) (sym positions) ∙ goes.here;
+  played = ap (λ ms. slice_get ms plies) (sym played) ∙ goes.played;
+  is_text = goes.is_text;
+  like = goes.like;
+}
+
+so_alike : (heading : Heading) (replay other : Replay) → replay.positions ≡ other.positions → replay.played ≡ other.played
+    → (ply : ℕ) (P : State) (claim : Claim (List ℕ)) → IsSo heading replay ply P claim → IsSo heading other ply P claim
+so_alike heading replay other positions played ply P (Tag name relation contents) so = so
+so_alike heading replay other positions played ply P (Fen pattern) so = so
+so_alike heading replay other positions played ply P (Flip pattern) so = so
+so_alike heading replay other positions played ply P (Material white black) so = so
+so_alike heading replay other positions played ply P (Moves words) so = fits_there replay other positions played 0 (words_of words) so
+so_alike heading replay other positions played ply P (Plies comparison count) so = subst (λ ms. Compares comparison (length ms) count) played so
+so_alike heading replay other positions played ply P (Result result) so = so
+so_alike heading replay other positions played ply P (Next word) so = goes_there replay other positions played ply word so
+so_alike heading replay other positions played ply P (Played word) so = (so.0, so.1, goes_there replay other positions played so.0 word so.2)
+so_alike heading replay other positions played ply P (For count) so = so
+so_alike heading replay other positions played ply P (Count comparison count) so = so
+so_alike heading replay other positions played ply P (Turn side) so = so
+so_alike heading replay other positions played ply P Check so = so
+so_alike heading replay other positions played ply P Mate so = so
+so_alike heading replay other positions played ply P Stalemate so = so
+
+abbrev Any : Claim (List ℕ) → Type 0
+Any claim = Unit {0}
+
+all_any : (conditions : List (Condition (List ℕ))) → AllClaims Any conditions
+all_any [] = tt
+all_any (condition ∷ more) = (tt, all_any more)
+
+each_any : (alternatives : List (List (Condition (List ℕ)))) → EachClaims Any alternatives
+each_any [] = tt
+each_any (alternative ∷ more) = (all_any alternative, each_any more)
+
+pub met_alike : (heading : Heading) (replay other : Replay) → replay.positions ≡ other.positions → replay.played ≡ other.played
+    → (ply : ℕ) (alternatives : List (List (Condition (List ℕ)))) → Meets heading replay ply alternatives → Meets heading other ply alternatives
+met_alike heading replay other positions played ply alternatives met = record {
+  position = met.position;
+  here = ap (λ ps. slice_get ps ply) (sym positions) ∙ met.here;
+  hold = (some_hold_there heading replay other Any so spans ply met.position alternatives (each_any alternatives)).0 met.hold;
+}
+  where
+    so : (ply : ℕ) (P : State) (claim : Claim (List ℕ)) → Any claim → IsSo heading replay ply P claim ↔ IsSo heading other ply P claim
+    so ply P claim any = (so_alike heading replay other positions played ply P claim, so_alike heading other replay (sym positions) (sym played) ply P claim)
+
+    there : (conditions : List (Condition (List ℕ))) (ply : ℕ) → HoldsThere heading replay conditions ply ↔ HoldsThere heading other conditions ply
+    there conditions ply = (
+      λ holds. (holds.0, ap (λ ps. slice_get ps ply) (sym positions) ∙ holds.1, (all_hold_there heading replay other Any so ply holds.0 conditions (all_any conditions)).0 holds.2),
+      λ holds. (holds.0, ap (λ ps. slice_get ps ply) positions ∙ holds.1, (all_hold_there heading replay other Any so ply holds.0 conditions (all_any conditions)).1 holds.2),
+    )
+
+    spans : (ply : ℕ) (conditions : List (Condition (List ℕ))) → AllClaims Any conditions
+        → SpansHold (HoldsThere heading replay conditions) ply conditions ↔ SpansHold (HoldsThere heading other conditions) ply conditions
+    spans ply conditions any = (
+      λ hold. spans_same (HoldsThere heading replay conditions) (HoldsThere heading other conditions) (there conditions) ply conditions hold,
+      λ hold. spans_same (HoldsThere heading other conditions) (HoldsThere heading replay conditions) (λ n. ((there conditions n).1, (there conditions n).0)) ply conditions hold,
+    )
 
 -- conditions on positions ask for no moves
 asks_none : (claim : Claim (List ℕ)) → is_on_position claim ≡ true → AsksWithin 0 claim
@@ -124,6 +230,11 @@ asks_none (Flip pattern) on = tt
 asks_none (Material white black) on = tt
 asks_none (Moves words) on = cc
 asks_none (Plies comparison count) on = cc
+asks_none (Result result) on = tt
+asks_none (Next word) on = absurd (cc)
+asks_none (Played word) on = absurd (cc)
+asks_none (For count) on = absurd (cc)
+asks_none (Count comparison count) on = absurd (cc)
 asks_none (Turn side) on = tt
 asks_none Check on = tt
 asks_none Mate on = tt
@@ -149,6 +260,11 @@ asks_more least most up (Flip pattern) within = tt
 asks_more least most up (Material white black) within = tt
 asks_more least most up (Moves words) within = omega (arith, within, up)
 asks_more least most up (Plies comparison count) within = omega (arith, within, up)
+asks_more least most up (Result result) within = tt
+asks_more least most up (Next word) within = absurd within
+asks_more least most up (Played word) within = absurd within
+asks_more least most up (For count) within = absurd within
+asks_more least most up (Count comparison count) within = absurd within
 asks_more least most up (Turn side) within = tt
 asks_more least most up Check within = tt
 asks_more least most up Mate within = tt

@@ -7,7 +7,7 @@ use Rattle.pgn_criteria.specs.Reading.{with_open}
 use Rattle.pgn_criteria.specs.Stages.{IsGood, AllGood}
 use Rattle.pgn_criteria.specs.declared.condition.Condition.{Condition}
 use Rattle.pgn_criteria.specs.declared.condition.Claim.{Claim}
-use Rattle.pgn_criteria.specs.declared.condition.Claim.TheVariants.{Tag, Fen, Flip, Material, Moves, Plies, Turn, Check, Mate, Stalemate}
+use Rattle.pgn_criteria.specs.declared.condition.Claim.TheVariants.{Tag, Fen, Flip, Material, Moves, Plies, Result, Next, Played, For, Count, Turn, Check, Mate, Stalemate}
 use Rattle.pgn_criteria.specs.declared.line.Meaning.{Meaning}
 use Rattle.pgn_criteria.specs.declared.line.Meaning.TheVariants.{Nothing, Or, Asks}
 
@@ -184,6 +184,11 @@ claim_good text (Flip pattern) spells = tt
 claim_good text (Material white black) spells = tt
 claim_good text (Moves words) spells = tt
 claim_good text (Plies comparison count) spells = tt
+claim_good text (Result result) spells = tt
+claim_good text (Next word) spells = tt
+claim_good text (Played word) spells = tt
+claim_good text (For count) spells = tt
+claim_good text (Count comparison count) spells = tt
 claim_good text (Turn side) spells = tt
 claim_good text Check spells = tt
 claim_good text Mate spells = tt
@@ -191,7 +196,7 @@ claim_good text Stalemate spells = tt
 
 taken_good : (text : List ℕ) (denied : Bool) (claim : Claim (List ℕ)) → SpellsTaken text denied claim → IsGood claim
 taken_good text false claim spells = claim_good text claim spells
-taken_good text true claim (gap, own, is, g, spells) = claim_good own claim spells
+taken_good text true claim (gap, own, is, g, of, spells) = claim_good own claim spells
 
 turned_good : (text : List ℕ) (either denied : Bool) (claim : Claim (List ℕ)) → SpellsTurned text either denied claim → IsGood claim
 turned_good text false denied claim spells = taken_good text denied claim spells

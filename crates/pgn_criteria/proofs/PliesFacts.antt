@@ -7,10 +7,10 @@ use Rattle.chess.specs.Fen.{is_digit}
 use Rattle.chess.specs.FenWords.{ten_to}
 use Rattle.pgn_criteria.specs.Numbers.{IsCounted}
 use Rattle.pgn_criteria.specs.Reading.{run_of, behind_word}
-use Rattle.pgn_criteria.specs.Lines.{SpellsClaim, SpellsCount, comparison_text}
+use Rattle.pgn_criteria.specs.Lines.{SpellsClaim, SpellsCompared, SpellsCount, comparison_text}
 use Rattle.pgn_criteria.specs.declared.compare.Comparison.{Comparison}
 use Rattle.pgn_criteria.specs.declared.compare.Comparison.TheVariants.{Equal, Unequal, Less, LessOrEqual, Greater, GreaterOrEqual}
-use Rattle.pgn_criteria.specs.declared.condition.Claim.TheVariants.{Plies}
+use Rattle.pgn_criteria.specs.declared.condition.Claim.TheVariants.{Plies, For, Count}
 use Rattle.pgn_criteria.proofs.SolidFacts.{is_solid, AreSolid, BeginsSolid, EndsSolid, all_solid, solid_begins, solid_ends, begins_front, front_some, word_read, word_spelled}
 
 comparison_solid : (comparison : Comparison) → AreSolid (comparison_text comparison)
@@ -45,27 +45,44 @@ count_begins digits count spells = solid_begins digits (count_some digits count 
 pub count_ends : (digits : List ℕ) (count : ℕ) → SpellsCount digits count → EndsSolid digits
 count_ends digits count spells = solid_ends digits (count_some digits count spells) (all_solid is_digit digit_solid digits spells.digits)
 
--- the words of the text are those of the condition
-pub record IsPliesRead (text : List ℕ) (comparison : Comparison) (count : ℕ) : Type 0 where
-  pub key_is : run_of text ≡ codes "plies"
+-- the words of the text are those of a condition with this key word
+pub record IsComparedRead (key text : List ℕ) (comparison : Comparison) (count : ℕ) : Type 0 where
+  pub key_is : run_of text ≡ key
   pub sign_is : run_of (behind_word text) ≡ comparison_text comparison
   pub count_is : SpellsCount (behind_word (behind_word text)) count
 
-pub plies_read : (text : List ℕ) (comparison : Comparison) (count : ℕ) → SpellsClaim text (Plies comparison count) → IsPliesRead text comparison count
-plies_read text comparison count (first, second, digits, is, g, h, counted) =
+pub compared_read : (key text : List ℕ) (comparison : Comparison) (count : ℕ) → AreSolid key → SpellsCompared key text comparison count → IsComparedRead key text comparison count
+compared_read key text comparison count solid (first, second, digits, is, g, h, counted) =
     let sign = comparison_text comparison in
-    let one = word_read text (codes "plies") first (sign ++ (second ++ digits)) is refl g (begins_front sign (second ++ digits) (comparison_begins comparison)) in
+    let one = word_read text key first (sign ++ (second ++ digits)) is solid g (begins_front sign (second ++ digits) (comparison_begins comparison)) in
     let two = word_read (behind_word text) sign second digits one.1 (comparison_solid comparison) h (count_begins digits count counted) in
     record { key_is = one.0; sign_is = two.0; count_is = subst (λ x. SpellsCount x count) (sym two.1) counted }
 
 -- and a text of such words spells it
-pub plies_spelled : (text : List ℕ) (comparison : Comparison) (count : ℕ) → IsPliesRead text comparison count → SpellsClaim text (Plies comparison count)
-plies_spelled text comparison count read =
+pub compared_spelled : (key text : List ℕ) (comparison : Comparison) (count : ℕ) → IsComparedRead key text comparison count → SpellsCompared key text comparison count
+compared_spelled key text comparison count read =
     let sign = comparison_text comparison in
     let digits = behind_word (behind_word text) in
     let two = word_spelled (behind_word text) sign digits read.sign_is refl (count_some digits count read.count_is) in
-    let one = word_spelled text (codes "plies") (sign ++ (two.0 ++ digits)) read.key_is two.1 (front_some sign (two.0 ++ digits) (comparison_begins comparison)) in
+    let one = word_spelled text key (sign ++ (two.0 ++ digits)) read.key_is two.1 (front_some sign (two.0 ++ digits) (comparison_begins comparison)) in
     (one.0, two.0, digits, one.1, one.2, two.2, read.count_is)
+
+pub plies_read : (text : List ℕ) (comparison : Comparison) (count : ℕ) → SpellsClaim text (Plies comparison count) → IsComparedRead (codes "plies") text comparison count
+plies_read text comparison count spells = compared_read (codes "plies") text comparison count refl spells
+
+pub counted_read : (text : List ℕ) (comparison : Comparison) (count : ℕ) → SpellsClaim text (Count comparison count) → IsComparedRead (codes "count") text comparison count
+counted_read text comparison count spells = compared_read (codes "count") text comparison count refl spells
+
+-- a number of plies in a row
+pub for_read : (text : List ℕ) (count : ℕ) → SpellsClaim text (For count) → (run_of text ≡ codes "for") × SpellsCount (behind_word text) count × (1 ≤ count)
+for_read text count (gap, digits, is, g, counted, some) =
+    let parts = word_read text (codes "for") gap digits is refl g (count_begins digits count counted) in
+    (parts.0, subst (λ x. SpellsCount x count) (sym parts.1) counted, some)
+
+pub for_spelled : (text digits : List ℕ) (count : ℕ) → run_of text ≡ codes "for" → digits ≡ behind_word text → SpellsCount digits count → 1 ≤ count → SpellsClaim text (For count)
+for_spelled text digits count run behind counted some =
+    let spelled = word_spelled text (codes "for") digits run (sym behind) (count_some digits count counted) in
+    (spelled.0, digits, spelled.1, spelled.2, counted, some)
 
 -- how the number is read digit by digit
 ten_positive : (k : ℕ) → 0 < ten_to k

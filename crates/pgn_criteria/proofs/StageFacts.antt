@@ -1,194 +1,344 @@
 -- Conditions on a game are what they say of the game alone and what they say of a position.
-use Rattle.std.proofs.Common.{◌≡◌, ◌↔◌, ◌+◌, ◌++◌, if◌then◌else◌, ℕ, Bool, true, false, List, [], ◌∷◌, Option, Some, None, IsTrue, refl, subst, inl, inr, arith}
-use Rattle.std.specs.Prelude.{◌⊎◌}
+use Rattle.std.proofs.Common.{◌≡◌, ◌↔◌, ◌+◌, ◌++◌, ◌<◌, if◌then◌else◌, ℕ, zero, suc, Bool, true, false, List, [], ◌∷◌, length, get_or, Option, Some, None, IsTrue, refl, sym, ◌∙◌, subst, inl, inr, arith}
+use Rattle.std.proofs.lemmas.Option.{slice_get_within, slice_get-get_or, get_or_from_slice_get}
+use Rattle.std.specs.Prelude.{◌⊎◌, replicate}
 use Rattle.std.specs.Option.{unwrap_or}
 use Rattle.std.specs.List.{slice_get}
 use Rattle.chess.specs.Positions.{State}
 use Rattle.pgn_game.specs.Replays.{Replay}
 use Rattle.pgn_criteria.specs.Mirrors.{mirror}
-use Rattle.pgn_criteria.specs.Meeting.{Tags, IsSo, Taken, is_turned, EachHold, AllHold, SomeHold, Meets, IsFirst}
-use Rattle.pgn_criteria.specs.Stages.{SaysOfGame, AllOfGame, SaysOfTags, AllOfTags, IsFreeOfMoves, AreFreeOfMoves, SaysOfPosition, AllSaid, EachOfPosition, AllOfPosition, AllOfStage, stage_of, is_on_position, on_positions, FitsAt, IsFirstBefore}
+use Rattle.pgn_criteria.specs.Meeting.{Heading, IsSo, Taken, is_turned, EachHold, AllHold, HoldsThere, SpansHold, IsMetBy, SomeHold, Meets, AreMet, IsFirst}
+use Rattle.pgn_criteria.specs.Stages.{SaysOfGame, AllOfGame, SaysOfHeading, AllOfHeading, IsFreeOfMoves, AreFreeOfMoves, AsksWithin, AllAskWithin, SaysOfPosition, OfPosition, SaysOfPly, AllOfPly, AllSaid, EachOfPosition, AllOfPosition, AllOfStage, AllOfRest, ArePatterns, stage_of, is_on_position, on_positions, FitsAt, FitsAbout, IsFirstBefore}
 use Rattle.pgn_criteria.specs.declared.meets.Stage.{Stage}
-use Rattle.pgn_criteria.specs.declared.meets.Stage.TheVariants.{Men, Attacks, Replies}
+use Rattle.pgn_criteria.specs.declared.meets.Stage.TheVariants.{Game, Squares, Men, Attacks, Replies}
 use Rattle.pgn_criteria.specs.declared.condition.Condition.{Condition}
 use Rattle.pgn_criteria.specs.declared.condition.Claim.{Claim}
-use Rattle.pgn_criteria.specs.declared.condition.Claim.TheVariants.{Tag, Fen, Flip, Material, Moves, Plies, Turn, Check, Mate, Stalemate}
+use Rattle.pgn_criteria.specs.declared.condition.Claim.TheVariants.{Tag, Fen, Flip, Material, Moves, Plies, Result, Next, Played, For, Count, Turn, Check, Mate, Stalemate}
+use Rattle.pgn_criteria.proofs.OpeningFacts.{positions_ask_none}
+use Rattle.pgn_criteria.proofs.SpanFacts.{spans_same, no_spans_hold, within_no_spans}
 
 -- each condition on the position is tried at some stage
-one_stage : (P : State) (denied : Bool) (claim : Claim (List ℕ)) → (stage_of claim ≡ Men → SaysOfPosition P denied claim) → (stage_of claim ≡ Attacks → SaysOfPosition P denied claim)
-    → (stage_of claim ≡ Replies → SaysOfPosition P denied claim) → SaysOfPosition P denied claim
-one_stage P denied (Tag name relation contents) men attacks replies = tt
-one_stage P denied (Fen pattern) men attacks replies = men refl
-one_stage P denied (Flip pattern) men attacks replies = men refl
-one_stage P denied (Material white black) men attacks replies = men refl
-one_stage P denied (Moves words) men attacks replies = tt
-one_stage P denied (Plies comparison count) men attacks replies = tt
-one_stage P denied (Turn side) men attacks replies = men refl
-one_stage P denied Check men attacks replies = attacks refl
-one_stage P denied Mate men attacks replies = replies refl
-one_stage P denied Stalemate men attacks replies = replies refl
+one_stage : (P : State) (denied : Bool) (claim : Claim (List ℕ)) → (stage_of claim ≡ Squares → SaysOfPosition P denied claim) → (stage_of claim ≡ Men → SaysOfPosition P denied claim)
+    → (stage_of claim ≡ Attacks → SaysOfPosition P denied claim) → (stage_of claim ≡ Replies → SaysOfPosition P denied claim) → SaysOfPosition P denied claim
+one_stage P denied (Tag name relation contents) squares men attacks replies = tt
+one_stage P denied (Fen pattern) squares men attacks replies = squares refl
+one_stage P denied (Flip pattern) squares men attacks replies = squares refl
+one_stage P denied (Material white black) squares men attacks replies = men refl
+one_stage P denied (Moves words) squares men attacks replies = tt
+one_stage P denied (Plies comparison count) squares men attacks replies = tt
+one_stage P denied (Result result) squares men attacks replies = tt
+one_stage P denied (Next word) squares men attacks replies = tt
+one_stage P denied (Played word) squares men attacks replies = tt
+one_stage P denied (For count) squares men attacks replies = tt
+one_stage P denied (Count comparison count) squares men attacks replies = tt
+one_stage P denied (Turn side) squares men attacks replies = men refl
+one_stage P denied Check squares men attacks replies = attacks refl
+one_stage P denied Mate squares men attacks replies = replies refl
+one_stage P denied Stalemate squares men attacks replies = replies refl
 
-all_stages : (P : State) (conditions : List (Condition (List ℕ))) → AllOfStage Men P conditions → AllOfStage Attacks P conditions → AllOfStage Replies P conditions → AllSaid P conditions
-all_stages P [] men attacks replies = tt
-all_stages P (condition ∷ more) men attacks replies = (one_stage P condition.is_denied condition.claim men.0 attacks.0 replies.0, all_stages P more men.1 attacks.1 replies.1)
+all_stages : (P : State) (conditions : List (Condition (List ℕ))) → AllOfStage Squares P conditions → AllOfStage Men P conditions → AllOfStage Attacks P conditions
+    → AllOfStage Replies P conditions → AllSaid P conditions
+all_stages P [] squares men attacks replies = tt
+all_stages P (condition ∷ more) squares men attacks replies = (
+  one_stage P condition.is_denied condition.claim squares.0 men.0 attacks.0 replies.0,
+  all_stages P more squares.1 men.1 attacks.1 replies.1,
+)
 
 each_stage : (stage : Stage) (P : State) (conditions : List (Condition (List ℕ))) → AllSaid P conditions → AllOfStage stage P conditions
 each_stage stage P [] all = tt
 each_stage stage P (condition ∷ more) all = ((λ here. all.0), each_stage stage P more all.1)
 
-pub last_stage : (P : State) (conditions : List (Condition (List ℕ))) (men attacks r : Bool) → IsTrue men → IsTrue attacks → (IsTrue men ↔ AllOfStage Men P conditions)
-    → (IsTrue attacks ↔ AllOfStage Attacks P conditions) → (IsTrue r ↔ AllOfStage Replies P conditions) → IsTrue r ↔ AllSaid P conditions
-last_stage P conditions men attacks r by_men by_attacks told_men told_attacks told = (
-  λ t. all_stages P conditions (told_men.0 by_men) (told_attacks.0 by_attacks) (told.0 t),
-  λ all. told.1 (each_stage Replies P conditions all),
+-- what is said of a position is what patterns say, and what the others say
+pub stages_parted : (P : State) (conditions : List (Condition (List ℕ))) → AllSaid P conditions ↔ (AllOfStage Squares P conditions × AllOfRest P conditions)
+stages_parted P conditions = (
+  λ all. (each_stage Squares P conditions all, (each_stage Men P conditions all, each_stage Attacks P conditions all, each_stage Replies P conditions all)),
+  λ both. all_stages P conditions both.0 both.1.0 both.1.1 both.1.2,
 )
 
-pub stage_fails : (stage : Stage) (P : State) (conditions : List (Condition (List ℕ))) (r : Bool) → r ≡ false → (IsTrue r ↔ AllOfStage stage P conditions)
-    → IsTrue false ↔ AllSaid P conditions
-stage_fails stage P conditions r fails told = (
-  λ t. absurd (cc),
-  λ all. let t : IsTrue r = told.1 (each_stage stage P conditions all) in absurd (cc),
+-- where all are patterns, the others say nothing
+none_of_stage : (stage : Stage) (P : State) (conditions : List (Condition (List ℕ))) → (Game ≡ stage → ⊥) → (Squares ≡ stage → ⊥) → ArePatterns conditions → AllOfStage stage P conditions
+none_of_stage stage P [] no_game no_squares patterns = tt
+none_of_stage stage P (condition ∷ more) no_game no_squares patterns = (
+  λ here. elim patterns.0 [ inl game ↦ absurd (no_game (sym game ∙ here)) | inr squares ↦ absurd (no_squares (sym squares ∙ here)) ],
+  none_of_stage stage P more no_game no_squares patterns.1,
+)
+
+pub patterns_rest : (P : State) (conditions : List (Condition (List ℕ))) → ArePatterns conditions → AllOfRest P conditions
+patterns_rest P conditions patterns = (
+  none_of_stage Men P conditions (λ is. cc) (λ is. cc) patterns,
+  none_of_stage Attacks P conditions (λ is. cc) (λ is. cc) patterns,
+  none_of_stage Replies P conditions (λ is. cc) (λ is. cc) patterns,
+)
+
+-- one condition that is no pattern is all of the rest
+pub rest_of_pattern : (P : State) (condition : Condition (List ℕ)) → stage_of condition.claim ≡ Squares → AllOfRest P (condition ∷ [])
+rest_of_pattern P condition is = patterns_rest P (condition ∷ []) (inr is, tt)
+
+pub rest_of_one : (P : State) (condition : Condition (List ℕ)) → (stage_of condition.claim ≡ Squares → ⊥) → OfPosition P condition ↔ AllOfRest P (condition ∷ [])
+rest_of_one P condition other = (
+  λ here. ((λ is. here, tt), (λ is. here, tt), (λ is. here, tt)),
+  λ rest. one_stage P condition.is_denied condition.claim (λ is. absurd (other is)) rest.0.0 rest.1.0 rest.2.0,
 )
 
 -- what is said of the game is what is said of its tags, where nothing is said of its moves
-one_of_tags : (tags : Tags) (replay : Replay) (denied : Bool) (claim : Claim (List ℕ)) → IsFreeOfMoves claim → SaysOfTags tags denied claim → SaysOfGame tags replay denied claim
-one_of_tags tags replay denied (Tag name relation contents) free told = told
-one_of_tags tags replay denied (Fen pattern) free told = tt
-one_of_tags tags replay denied (Flip pattern) free told = tt
-one_of_tags tags replay denied (Material white black) free told = tt
-one_of_tags tags replay denied (Moves words) free told = absurd free
-one_of_tags tags replay denied (Plies comparison count) free told = absurd free
-one_of_tags tags replay denied (Turn side) free told = tt
-one_of_tags tags replay denied Check free told = tt
-one_of_tags tags replay denied Mate free told = tt
-one_of_tags tags replay denied Stalemate free told = tt
+one_of_heading : (heading : Heading) (replay : Replay) (denied : Bool) (claim : Claim (List ℕ)) → IsFreeOfMoves claim → SaysOfHeading heading denied claim → SaysOfGame heading replay denied claim
+one_of_heading heading replay denied (Tag name relation contents) free told = told
+one_of_heading heading replay denied (Fen pattern) free told = tt
+one_of_heading heading replay denied (Flip pattern) free told = tt
+one_of_heading heading replay denied (Material white black) free told = tt
+one_of_heading heading replay denied (Moves words) free told = absurd free
+one_of_heading heading replay denied (Plies comparison count) free told = absurd free
+one_of_heading heading replay denied (Result result) free told = told
+one_of_heading heading replay denied (Next word) free told = absurd free
+one_of_heading heading replay denied (Played word) free told = absurd free
+one_of_heading heading replay denied (For count) free told = absurd free
+one_of_heading heading replay denied (Count comparison count) free told = absurd free
+one_of_heading heading replay denied (Turn side) free told = tt
+one_of_heading heading replay denied Check free told = tt
+one_of_heading heading replay denied Mate free told = tt
+one_of_heading heading replay denied Stalemate free told = tt
 
-pub all_of_tags : (tags : Tags) (replay : Replay) (conditions : List (Condition (List ℕ))) → AreFreeOfMoves conditions → AllOfTags tags conditions
-    → AllOfGame tags replay conditions
-all_of_tags tags replay [] free told = tt
-all_of_tags tags replay (condition ∷ more) free told =
-    (one_of_tags tags replay condition.is_denied condition.claim free.0 told.0, all_of_tags tags replay more free.1 told.1)
+pub all_of_heading : (heading : Heading) (replay : Replay) (conditions : List (Condition (List ℕ))) → AreFreeOfMoves conditions → AllOfHeading heading conditions
+    → AllOfGame heading replay conditions
+all_of_heading heading replay [] free told = tt
+all_of_heading heading replay (condition ∷ more) free told =
+    (one_of_heading heading replay condition.is_denied condition.claim free.0 told.0, all_of_heading heading replay more free.1 told.1)
 
-tags_of_one : (tags : Tags) (replay : Replay) (denied : Bool) (claim : Claim (List ℕ)) → SaysOfGame tags replay denied claim → SaysOfTags tags denied claim
-tags_of_one tags replay denied (Tag name relation contents) told = told
-tags_of_one tags replay denied (Fen pattern) told = tt
-tags_of_one tags replay denied (Flip pattern) told = tt
-tags_of_one tags replay denied (Material white black) told = tt
-tags_of_one tags replay denied (Moves words) told = tt
-tags_of_one tags replay denied (Plies comparison count) told = tt
-tags_of_one tags replay denied (Turn side) told = tt
-tags_of_one tags replay denied Check told = tt
-tags_of_one tags replay denied Mate told = tt
-tags_of_one tags replay denied Stalemate told = tt
+heading_of_one : (heading : Heading) (replay : Replay) (denied : Bool) (claim : Claim (List ℕ)) → SaysOfGame heading replay denied claim → SaysOfHeading heading denied claim
+heading_of_one heading replay denied (Tag name relation contents) told = told
+heading_of_one heading replay denied (Fen pattern) told = tt
+heading_of_one heading replay denied (Flip pattern) told = tt
+heading_of_one heading replay denied (Material white black) told = tt
+heading_of_one heading replay denied (Moves words) told = tt
+heading_of_one heading replay denied (Plies comparison count) told = tt
+heading_of_one heading replay denied (Result result) told = told
+heading_of_one heading replay denied (Next word) told = tt
+heading_of_one heading replay denied (Played word) told = tt
+heading_of_one heading replay denied (For count) told = tt
+heading_of_one heading replay denied (Count comparison count) told = tt
+heading_of_one heading replay denied (Turn side) told = tt
+heading_of_one heading replay denied Check told = tt
+heading_of_one heading replay denied Mate told = tt
+heading_of_one heading replay denied Stalemate told = tt
 
-tags_of_all : (tags : Tags) (replay : Replay) (conditions : List (Condition (List ℕ))) → AllOfGame tags replay conditions → AllOfTags tags conditions
-tags_of_all tags replay [] told = tt
-tags_of_all tags replay (condition ∷ more) told = (tags_of_one tags replay condition.is_denied condition.claim told.0, tags_of_all tags replay more told.1)
+heading_of_all : (heading : Heading) (replay : Replay) (conditions : List (Condition (List ℕ))) → AllOfGame heading replay conditions → AllOfHeading heading conditions
+heading_of_all heading replay [] told = tt
+heading_of_all heading replay (condition ∷ more) told = (heading_of_one heading replay condition.is_denied condition.claim told.0, heading_of_all heading replay more told.1)
 
 -- so it is not said of the game where it is not of its tags
-pub not_of_tags : (tags : Tags) (replay : Replay) (conditions : List (Condition (List ℕ))) (r : Bool) → r ≡ false → (IsTrue r ↔ AllOfTags tags conditions)
-    → IsTrue r ↔ AllOfGame tags replay conditions
-not_of_tags tags replay conditions r fails told = (λ t. absurd (cc), λ all. told.1 (tags_of_all tags replay conditions all))
+pub not_of_heading : (heading : Heading) (replay : Replay) (conditions : List (Condition (List ℕ))) (r : Bool) → r ≡ false → (IsTrue r ↔ AllOfHeading heading conditions)
+    → IsTrue r ↔ AllOfGame heading replay conditions
+not_of_heading heading replay conditions r fails told = (λ t. absurd (cc), λ all. told.1 (heading_of_all heading replay conditions all))
 
--- a condition is both that it says
-one_parted : (tags : Tags) (replay : Replay) (P : State) (denied : Bool) (claim : Claim (List ℕ))
-    → Taken denied (IsSo tags replay P claim) ↔ (SaysOfGame tags replay denied claim × SaysOfPosition P denied claim)
-one_parted tags replay P denied (Tag name relation contents) = (λ holds. (holds, tt), λ both. both.0)
-one_parted tags replay P denied (Fen pattern) = (λ holds. (tt, holds), λ both. both.1)
-one_parted tags replay P denied (Flip pattern) = (λ holds. (tt, holds), λ both. both.1)
-one_parted tags replay P denied (Material white black) = (λ holds. (tt, holds), λ both. both.1)
-one_parted tags replay P denied (Moves words) = (λ holds. (holds, tt), λ both. both.0)
-one_parted tags replay P denied (Plies comparison count) = (λ holds. (holds, tt), λ both. both.0)
-one_parted tags replay P denied (Turn side) = (λ holds. (tt, holds), λ both. both.1)
-one_parted tags replay P denied Check = (λ holds. (tt, holds), λ both. both.1)
-one_parted tags replay P denied Mate = (λ holds. (tt, holds), λ both. both.1)
-one_parted tags replay P denied Stalemate = (λ holds. (tt, holds), λ both. both.1)
+-- a condition is all that it says
+one_parted : (heading : Heading) (replay : Replay) (ply : ℕ) (P : State) (denied : Bool) (claim : Claim (List ℕ))
+    → Taken denied (IsSo heading replay ply P claim) ↔ (SaysOfGame heading replay denied claim × SaysOfPosition P denied claim × SaysOfPly replay ply denied claim)
+one_parted heading replay ply P denied (Tag name relation contents) = (λ holds. (holds, tt, tt), λ all. all.0)
+one_parted heading replay ply P denied (Fen pattern) = (λ holds. (tt, holds, tt), λ all. all.1)
+one_parted heading replay ply P denied (Flip pattern) = (λ holds. (tt, holds, tt), λ all. all.1)
+one_parted heading replay ply P denied (Material white black) = (λ holds. (tt, holds, tt), λ all. all.1)
+one_parted heading replay ply P denied (Moves words) = (λ holds. (holds, tt, tt), λ all. all.0)
+one_parted heading replay ply P denied (Plies comparison count) = (λ holds. (holds, tt, tt), λ all. all.0)
+one_parted heading replay ply P denied (Result result) = (λ holds. (holds, tt, tt), λ all. all.0)
+one_parted heading replay ply P denied (Next word) = (λ holds. (tt, tt, holds), λ all. all.2)
+one_parted heading replay ply P denied (Played word) = (λ holds. (tt, tt, holds), λ all. all.2)
+one_parted heading replay ply P denied (For count) = (λ holds. (holds, tt, tt), λ all. all.0)
+one_parted heading replay ply P denied (Count comparison count) = (λ holds. (holds, tt, tt), λ all. all.0)
+one_parted heading replay ply P denied (Turn side) = (λ holds. (tt, holds, tt), λ all. all.1)
+one_parted heading replay ply P denied Check = (λ holds. (tt, holds, tt), λ all. all.1)
+one_parted heading replay ply P denied Mate = (λ holds. (tt, holds, tt), λ all. all.1)
+one_parted heading replay ply P denied Stalemate = (λ holds. (tt, holds, tt), λ all. all.1)
 
-each_parted : (tags : Tags) (replay : Replay) (P other : State) (conditions : List (Condition (List ℕ)))
-    → EachHold tags replay P other conditions ↔ (AllOfGame tags replay conditions × EachOfPosition P other conditions)
-each_parted tags replay P other [] = (λ hold. (tt, tt), λ both. tt)
-each_parted tags replay P other (condition ∷ more) =
-    let here = one_parted tags replay (if is_turned condition then other else P) condition.is_denied condition.claim in
-    let there = each_parted tags replay P other more in (
-      (λ hold. (((here.0 hold.0).0, (there.0 hold.1).0), ((here.0 hold.0).1, (there.0 hold.1).1))),
-      (λ both. (here.1 (both.0.0, both.1.0), there.1 (both.0.1, both.1.1))),
+each_parted : (heading : Heading) (replay : Replay) (ply : ℕ) (P other : State) (conditions : List (Condition (List ℕ)))
+    → EachHold heading replay ply P other conditions ↔ (AllOfGame heading replay conditions × EachOfPosition P other conditions × AllOfPly replay ply conditions)
+each_parted heading replay ply P other [] = (λ hold. (tt, tt, tt), λ all. tt)
+each_parted heading replay ply P other (condition ∷ more) =
+    let here = one_parted heading replay ply (if is_turned condition then other else P) condition.is_denied condition.claim in
+    let there = each_parted heading replay ply P other more in (
+      (λ hold. let own = here.0 hold.0 in let others = there.0 hold.1 in ((own.0, others.0), (own.1, others.1), (own.2, others.2))),
+      (λ all. (here.1 (all.0.0, all.1.0, all.2.0), there.1 (all.0.1, all.1.1, all.2.1))),
     )
 
-all_parted : (tags : Tags) (replay : Replay) (P : State) (conditions : List (Condition (List ℕ)))
-    → AllHold tags replay P conditions ↔ (AllOfGame tags replay conditions × AllOfPosition P conditions)
-all_parted tags replay P conditions =
-    let plain = each_parted tags replay P P conditions in
-    let turned = each_parted tags replay P (mirror P) conditions in (
+all_parted : (heading : Heading) (replay : Replay) (ply : ℕ) (P : State) (conditions : List (Condition (List ℕ)))
+    → AllHold heading replay ply P conditions ↔ (AllOfGame heading replay conditions × AllOfPosition P conditions × AllOfPly replay ply conditions)
+all_parted heading replay ply P conditions =
+    let plain = each_parted heading replay ply P P conditions in
+    let turned = each_parted heading replay ply P (mirror P) conditions in (
       λ hold. elim hold [
-        | inl as_it_stands ↦ let both = plain.0 as_it_stands in (both.0, inl both.1)
-        | inr in_mirror ↦ let both = turned.0 in_mirror in (both.0, inr both.1)
+        | inl as_it_stands ↦ let all = plain.0 as_it_stands in (all.0, inl all.1, all.2)
+        | inr in_mirror ↦ let all = turned.0 in_mirror in (all.0, inr all.1, all.2)
       ],
-      λ both. elim both.1 [ inl as_it_stands ↦ inl (plain.1 (both.0, as_it_stands)) | inr in_mirror ↦ inr (turned.1 (both.0, in_mirror)) ],
+      λ all. elim all.1 [ inl as_it_stands ↦ inl (plain.1 (all.0, as_it_stands, all.2)) | inr in_mirror ↦ inr (turned.1 (all.0, in_mirror, all.2)) ],
     )
 
-pub both_parts : (tags : Tags) (replay : Replay) (P : State) (conditions : List (Condition (List ℕ))) (first r : Bool) → IsTrue first → (IsTrue first ↔ AllOfGame tags replay conditions)
-    → (IsTrue r ↔ AllOfPosition P conditions) → IsTrue r ↔ AllHold tags replay P conditions
-both_parts tags replay P conditions first r holds of_game of_position = (
-  λ t. (all_parted tags replay P conditions).1 (of_game.0 holds, of_position.0 t),
-  λ hold. of_position.1 ((all_parted tags replay P conditions).0 hold).1,
+-- of conditions that do not speak of moves, nothing is said of those about a ply
+one_still : (replay : Replay) (ply : ℕ) (denied : Bool) (claim : Claim (List ℕ)) (most : ℕ) → AsksWithin most claim → SaysOfPly replay ply denied claim
+one_still replay ply denied (Tag name relation contents) most within = tt
+one_still replay ply denied (Fen pattern) most within = tt
+one_still replay ply denied (Flip pattern) most within = tt
+one_still replay ply denied (Material white black) most within = tt
+one_still replay ply denied (Moves words) most within = tt
+one_still replay ply denied (Plies comparison count) most within = tt
+one_still replay ply denied (Result result) most within = tt
+one_still replay ply denied (Next word) most within = absurd within
+one_still replay ply denied (Played word) most within = absurd within
+one_still replay ply denied (For count) most within = tt
+one_still replay ply denied (Count comparison count) most within = tt
+one_still replay ply denied (Turn side) most within = tt
+one_still replay ply denied Check most within = tt
+one_still replay ply denied Mate most within = tt
+one_still replay ply denied Stalemate most within = tt
+
+all_still : (replay : Replay) (ply most : ℕ) (conditions : List (Condition (List ℕ))) → AllAskWithin most conditions → AllOfPly replay ply conditions
+all_still replay ply most [] within = tt
+all_still replay ply most (condition ∷ more) within =
+    (one_still replay ply condition.is_denied condition.claim most within.0, all_still replay ply most more within.1)
+
+free_within : (claim : Claim (List ℕ)) → IsFreeOfMoves claim → AsksWithin 0 claim
+free_within (Tag name relation contents) free = tt
+free_within (Fen pattern) free = tt
+free_within (Flip pattern) free = tt
+free_within (Material white black) free = tt
+free_within (Moves words) free = absurd free
+free_within (Plies comparison count) free = absurd free
+free_within (Result result) free = tt
+free_within (Next word) free = absurd free
+free_within (Played word) free = absurd free
+free_within (For count) free = absurd free
+free_within (Count comparison count) free = absurd free
+free_within (Turn side) free = tt
+free_within Check free = tt
+free_within Mate free = tt
+free_within Stalemate free = tt
+
+pub all_free_within : (conditions : List (Condition (List ℕ))) → AreFreeOfMoves conditions → AllAskWithin 0 conditions
+all_free_within [] free = tt
+all_free_within (condition ∷ more) free = (free_within condition.claim free.0, all_free_within more free.1)
+
+-- what is said of the position, and then of the moves about it
+pub fits_both : (replay : Replay) (ply : ℕ) (conditions : List (Condition (List ℕ))) (P : State) (first r : Bool) → slice_get replay.positions ply ≡ Some P
+    → (IsTrue first ↔ AllOfPosition P conditions) → IsTrue first → (IsTrue r ↔ AllOfPly replay ply conditions) → IsTrue r ↔ FitsAt replay conditions ply
+fits_both replay ply conditions P first r here of_position holds of_ply = (λ t. (P, here, of_position.0 holds, of_ply.0 t), λ fits. of_ply.1 fits.3)
+
+-- of a game of which what conditions say is so, they hold at the plies that fit
+there_fits : (heading : Heading) (replay : Replay) (conditions : List (Condition (List ℕ))) → AllOfGame heading replay conditions
+    → (ply : ℕ) → FitsAt replay conditions ply ↔ HoldsThere heading replay conditions ply
+there_fits heading replay conditions of_game ply = (
+  λ fits. (fits.0, fits.1, (all_parted heading replay ply fits.0 conditions).1 (of_game, fits.2, fits.3)),
+  λ there. let said = (all_parted heading replay ply there.0 conditions).0 there.2 in (there.0, there.1, said.1, said.2),
 )
 
-pub first_part_fails : (tags : Tags) (replay : Replay) (P : State) (conditions : List (Condition (List ℕ))) (first : Bool) → first ≡ false
-    → (IsTrue first ↔ AllOfGame tags replay conditions) → IsTrue first ↔ AllHold tags replay P conditions
-first_part_fails tags replay P conditions first fails of_game = (
-  λ t. absurd (cc),
-  λ hold. of_game.1 ((all_parted tags replay P conditions).0 hold).0,
-)
+spans_there : (heading : Heading) (replay : Replay) (conditions : List (Condition (List ℕ))) → AllOfGame heading replay conditions
+    → (ply : ℕ) → SpansHold (FitsAt replay conditions) ply conditions ↔ SpansHold (HoldsThere heading replay conditions) ply conditions
+spans_there heading replay conditions of_game ply =
+    let same = there_fits heading replay conditions of_game in (
+      λ hold. spans_same (FitsAt replay conditions) (HoldsThere heading replay conditions) same ply conditions hold,
+      λ hold. spans_same (HoldsThere heading replay conditions) (FitsAt replay conditions) (λ n. ((same n).1, (same n).0)) ply conditions hold,
+    )
+
+-- an alternative is met where all that it says is so
+met_parted : (heading : Heading) (replay : Replay) (ply : ℕ) (P : State) (conditions : List (Condition (List ℕ)))
+    → IsMetBy heading replay ply P conditions ↔ (AllOfGame heading replay conditions × AllOfPosition P conditions × AllOfPly replay ply conditions
+    × SpansHold (FitsAt replay conditions) ply conditions)
+met_parted heading replay ply P conditions =
+    let parts = all_parted heading replay ply P conditions in (
+      λ met. let said = parts.0 met.0 in (said.0, said.1, said.2, (spans_there heading replay conditions said.0 ply).1 met.1),
+      λ all. (parts.1 (all.0, all.1, all.2), (spans_there heading replay conditions all.0 ply).0 all.3),
+    )
 
 -- one alternative at one place of the main line
-pub one_meets : (tags : Tags) (replay : Replay) (plies : ℕ) (conditions : List (Condition (List ℕ))) (P : State) → slice_get replay.positions plies ≡ Some P
-    → AllOfGame tags replay conditions → AllOfPosition P conditions → Meets tags replay plies (conditions ∷ [])
-one_meets tags replay plies conditions P here of_game of_position =
-    record { position = P; here = here; hold = inl ((all_parted tags replay P conditions).1 (of_game, of_position)) }
+pub one_meets : (heading : Heading) (replay : Replay) (plies : ℕ) (conditions : List (Condition (List ℕ))) → AllOfGame heading replay conditions → FitsAbout replay conditions plies
+    → Meets heading replay plies (conditions ∷ [])
+one_meets heading replay plies conditions of_game (fits, spans) =
+    record { position = fits.0; here = fits.1; hold = inl ((met_parted heading replay plies fits.0 conditions).1 (of_game, fits.2, fits.3, spans)) }
 
-one_holds : (tags : Tags) (replay : Replay) (P : State) (conditions : List (Condition (List ℕ))) → SomeHold tags replay P (conditions ∷ []) → AllHold tags replay P conditions
-one_holds tags replay P conditions hold = elim hold [ inl all ↦ all | inr none ↦ absurd none ]
+one_holds : (heading : Heading) (replay : Replay) (ply : ℕ) (P : State) (conditions : List (Condition (List ℕ))) → SomeHold heading replay ply P (conditions ∷ []) → IsMetBy heading replay ply P conditions
+one_holds heading replay ply P conditions hold = elim hold [ inl all ↦ all | inr none ↦ absurd none ]
 
-pub game_of : (tags : Tags) (replay : Replay) (plies : ℕ) (conditions : List (Condition (List ℕ))) → Meets tags replay plies (conditions ∷ []) → AllOfGame tags replay conditions
-game_of tags replay plies conditions met = ((all_parted tags replay met.position conditions).0 (one_holds tags replay met.position conditions met.hold)).0
+pub game_of : (heading : Heading) (replay : Replay) (plies : ℕ) (conditions : List (Condition (List ℕ))) → Meets heading replay plies (conditions ∷ []) → AllOfGame heading replay conditions
+game_of heading replay plies conditions met = ((met_parted heading replay plies met.position conditions).0 (one_holds heading replay plies met.position conditions met.hold)).0
 
-pub position_of : (tags : Tags) (replay : Replay) (plies : ℕ) (conditions : List (Condition (List ℕ))) (P : State) → slice_get replay.positions plies ≡ Some P
-    → Meets tags replay plies (conditions ∷ []) → AllOfPosition P conditions
-position_of tags replay plies conditions P here met =
-    let same : met.position ≡ P = cc (met.here, here) in
-    subst (λ p. AllOfPosition p conditions) same ((all_parted tags replay met.position conditions).0 (one_holds tags replay met.position conditions met.hold)).1
+pub fits_of : (heading : Heading) (replay : Replay) (plies : ℕ) (conditions : List (Condition (List ℕ))) → Meets heading replay plies (conditions ∷ []) → FitsAbout replay conditions plies
+fits_of heading replay plies conditions met =
+    let all = (met_parted heading replay plies met.position conditions).0 (one_holds heading replay plies met.position conditions met.hold) in
+    ((met.position, met.here, all.1, all.2), all.3)
+
+pub both_parts : (heading : Heading) (replay : Replay) (plies : ℕ) (conditions : List (Condition (List ℕ))) (first r : Bool) → IsTrue first
+    → (IsTrue first ↔ AllOfGame heading replay conditions) → (IsTrue r ↔ FitsAbout replay conditions plies) → IsTrue r ↔ Meets heading replay plies (conditions ∷ [])
+both_parts heading replay plies conditions first r holds of_game of_ply =
+    (λ t. one_meets heading replay plies conditions (of_game.0 holds) (of_ply.0 t), λ met. of_ply.1 (fits_of heading replay plies conditions met))
+
+pub first_part_fails : (heading : Heading) (replay : Replay) (plies : ℕ) (conditions : List (Condition (List ℕ))) (first : Bool) → first ≡ false
+    → (IsTrue first ↔ AllOfGame heading replay conditions) → IsTrue first ↔ Meets heading replay plies (conditions ∷ [])
+first_part_fails heading replay plies conditions first fails of_game = (λ t. absurd (cc), λ met. of_game.1 (game_of heading replay plies conditions met))
+
+-- one alternative more
+one_more : (heading : Heading) (replay : Replay) (plies : ℕ) (a : List (Condition (List ℕ))) (more : List (List (Condition (List ℕ))))
+    → Meets heading replay plies (a ∷ more) → Meets heading replay plies (a ∷ []) ⊎ Meets heading replay plies more
+one_more heading replay plies a more met = elim met.hold [
+  | inl all ↦ inl (record { position = met.position; here = met.here; hold = inl all })
+  | inr some ↦ inr (record { position = met.position; here = met.here; hold = some })
+]
+
+pub meets_found : (heading : Heading) (replay : Replay) (plies : ℕ) (left behind : List (List (Condition (List ℕ)))) (a : List (Condition (List ℕ))) (r : Bool)
+    (whole : List (List (Condition (List ℕ)))) → left ≡ a ∷ behind → r ≡ true → (IsTrue r ↔ Meets heading replay plies (a ∷ []))
+    → (Meets heading replay plies left ↔ Meets heading replay plies whole) → IsTrue true ↔ Meets heading replay plies whole
+meets_found heading replay plies left behind a r whole front holds told kept = (
+  λ t. let met = told.0 holds in
+      kept.0 (subst (Meets heading replay plies) (sym front) (record {
+        position = met.position;
+        here = met.here;
+        hold = inl (one_holds heading replay plies met.position a met.hold);
+      })),
+  λ met. refl,
+)
+
+pub meets_left : (heading : Heading) (replay : Replay) (plies : ℕ) (left behind : List (List (Condition (List ℕ)))) (a : List (Condition (List ℕ))) (r : Bool)
+    (whole : List (List (Condition (List ℕ)))) → left ≡ a ∷ behind → r ≡ false → (IsTrue r ↔ Meets heading replay plies (a ∷ []))
+    → (Meets heading replay plies left ↔ Meets heading replay plies whole) → Meets heading replay plies behind ↔ Meets heading replay plies whole
+meets_left heading replay plies left behind a r whole front fails told kept = (
+  λ met. kept.0 (subst (Meets heading replay plies) (sym front) (record { position = met.position; here = met.here; hold = inr met.hold })),
+  λ met. elim (one_more heading replay plies a behind (subst (Meets heading replay plies) front (kept.1 met))) [
+    | inl own ↦ let t : IsTrue r = told.1 own in absurd (cc)
+    | inr more ↦ more
+  ],
+)
 
 -- what is looked for before a ply, where what the conditions say of the game is so
-pub fits_first : (tags : Tags) (replay : Replay) (conditions : List (Condition (List ℕ))) (from end : ℕ) (found : Option ℕ) → AllOfGame tags replay conditions
-    → IsFirstBefore (FitsAt replay conditions) from end found → IsFirstBefore (λ plies. Meets tags replay plies (conditions ∷ [])) from end found
-fits_first tags replay conditions from end None of_game first = λ n low less met.
-    first n low less (met.position, met.here, position_of tags replay n conditions met.position met.here met)
-fits_first tags replay conditions from end (Some n) of_game (low, less, fits, least) = (
+pub fits_first : (heading : Heading) (replay : Replay) (conditions : List (Condition (List ℕ))) (from end : ℕ) (found : Option ℕ) → AllOfGame heading replay conditions
+    → IsFirstBefore (FitsAbout replay conditions) from end found → IsFirstBefore (λ plies. Meets heading replay plies (conditions ∷ [])) from end found
+fits_first heading replay conditions from end None of_game first = λ n low less met. first n low less (fits_of heading replay n conditions met)
+fits_first heading replay conditions from end (Some n) of_game (low, less, fits, least) = (
   low,
   less,
-  one_meets tags replay n conditions fits.0 fits.1 of_game fits.2,
-  λ m above under met. least m above under (met.position, met.here, position_of tags replay m conditions met.position met.here met),
+  one_meets heading replay n conditions of_game fits,
+  λ m above under met. least m above under (fits_of heading replay m conditions met),
 )
 
 -- where it is not so, there is none
-pub no_first : (tags : Tags) (replay : Replay) (conditions : List (Condition (List ℕ))) (from end : ℕ) (r : Bool) → r ≡ false → (IsTrue r ↔ AllOfGame tags replay conditions)
-    → IsFirstBefore (λ plies. Meets tags replay plies (conditions ∷ [])) from end None
-no_first tags replay conditions from end r fails told n low less met =
-    let so : IsTrue r = told.1 (game_of tags replay n conditions met) in absurd (cc)
+pub no_first : (heading : Heading) (replay : Replay) (conditions : List (Condition (List ℕ))) (from end : ℕ) (r : Bool) → r ≡ false → (IsTrue r ↔ AllOfGame heading replay conditions)
+    → IsFirstBefore (λ plies. Meets heading replay plies (conditions ∷ [])) from end None
+no_first heading replay conditions from end r fails told n low less met =
+    let so : IsTrue r = told.1 (game_of heading replay n conditions met) in absurd (cc)
 
 -- the conditions that speak of positions hold where what all say of positions is so
-on_position : (tags : Tags) (replay : Replay) (P : State) (denied : Bool) (claim : Claim (List ℕ)) → is_on_position claim ≡ true
-    → Taken denied (IsSo tags replay P claim) ↔ SaysOfPosition P denied claim
-on_position tags replay P denied (Tag name relation contents) on = absurd (cc)
-on_position tags replay P denied (Fen pattern) on = (λ holds. holds, λ says. says)
-on_position tags replay P denied (Flip pattern) on = (λ holds. holds, λ says. says)
-on_position tags replay P denied (Material white black) on = (λ holds. holds, λ says. says)
-on_position tags replay P denied (Moves words) on = absurd (cc)
-on_position tags replay P denied (Plies comparison count) on = absurd (cc)
-on_position tags replay P denied (Turn side) on = (λ holds. holds, λ says. says)
-on_position tags replay P denied Check on = (λ holds. holds, λ says. says)
-on_position tags replay P denied Mate on = (λ holds. holds, λ says. says)
-on_position tags replay P denied Stalemate on = (λ holds. holds, λ says. says)
+on_position : (heading : Heading) (replay : Replay) (ply : ℕ) (P : State) (denied : Bool) (claim : Claim (List ℕ)) → is_on_position claim ≡ true
+    → Taken denied (IsSo heading replay ply P claim) ↔ SaysOfPosition P denied claim
+on_position heading replay ply P denied (Tag name relation contents) on = absurd (cc)
+on_position heading replay ply P denied (Fen pattern) on = (λ holds. holds, λ says. says)
+on_position heading replay ply P denied (Flip pattern) on = (λ holds. holds, λ says. says)
+on_position heading replay ply P denied (Material white black) on = (λ holds. holds, λ says. says)
+on_position heading replay ply P denied (Moves words) on = absurd (cc)
+on_position heading replay ply P denied (Plies comparison count) on = absurd (cc)
+on_position heading replay ply P denied (Result result) on = absurd (cc)
+on_position heading replay ply P denied (Next word) on = absurd (cc)
+on_position heading replay ply P denied (Played word) on = absurd (cc)
+on_position heading replay ply P denied (For count) on = absurd (cc)
+on_position heading replay ply P denied (Count comparison count) on = absurd (cc)
+on_position heading replay ply P denied (Turn side) on = (λ holds. holds, λ says. says)
+on_position heading replay ply P denied Check on = (λ holds. holds, λ says. says)
+on_position heading replay ply P denied Mate on = (λ holds. holds, λ says. says)
+on_position heading replay ply P denied Stalemate on = (λ holds. holds, λ says. says)
 
 off_position : (P : State) (denied : Bool) (claim : Claim (List ℕ)) → is_on_position claim ≡ false → SaysOfPosition P denied claim
 off_position P denied (Tag name relation contents) off = tt
@@ -197,76 +347,102 @@ off_position P denied (Flip pattern) off = absurd (cc)
 off_position P denied (Material white black) off = absurd (cc)
 off_position P denied (Moves words) off = tt
 off_position P denied (Plies comparison count) off = tt
+off_position P denied (Result result) off = tt
+off_position P denied (Next word) off = tt
+off_position P denied (Played word) off = tt
+off_position P denied (For count) off = tt
+off_position P denied (Count comparison count) off = tt
 off_position P denied (Turn side) off = absurd (cc)
 off_position P denied Check off = absurd (cc)
 off_position P denied Mate off = absurd (cc)
 off_position P denied Stalemate off = absurd (cc)
 
-each_position_holds : (tags : Tags) (replay : Replay) (P other : State) (conditions : List (Condition (List ℕ)))
-    → EachHold tags replay P other (on_positions conditions) ↔ EachOfPosition P other conditions
-each_position_holds tags replay P other [] = (λ hold. tt, λ all. tt)
-each_position_holds tags replay P other (condition ∷ more) =
-    let there = each_position_holds tags replay P other more in
+each_position_holds : (heading : Heading) (replay : Replay) (ply : ℕ) (P other : State) (conditions : List (Condition (List ℕ)))
+    → EachHold heading replay ply P other (on_positions conditions) ↔ EachOfPosition P other conditions
+each_position_holds heading replay ply P other [] = (λ hold. tt, λ all. tt)
+each_position_holds heading replay ply P other (condition ∷ more) =
+    let there = each_position_holds heading replay ply P other more in
     let tried = if is_turned condition then other else P in
     elim (is_on_position condition.claim) as (λ t. is_on_position condition.claim ≡ t
-    → EachHold tags replay P other (if t then condition ∷ on_positions more else on_positions more) ↔ EachOfPosition P other (condition ∷ more)) [
+    → EachHold heading replay ply P other (if t then condition ∷ on_positions more else on_positions more) ↔ EachOfPosition P other (condition ∷ more)) [
       | true ↦ λ on.
-          let here = on_position tags replay tried condition.is_denied condition.claim on in (λ hold. (here.0 hold.0, there.0 hold.1), λ all. (here.1 all.0, there.1 all.1))
+          let here = on_position heading replay ply tried condition.is_denied condition.claim on in (λ hold. (here.0 hold.0, there.0 hold.1), λ all. (here.1 all.0, there.1 all.1))
       | false ↦ λ off. (λ hold. (off_position tried condition.is_denied condition.claim off, there.0 hold), λ all. there.1 all.1)
     ] refl
 
-pub positions_hold : (tags : Tags) (replay : Replay) (P : State) (conditions : List (Condition (List ℕ)))
-    → AllHold tags replay P (on_positions conditions) ↔ AllOfPosition P conditions
-positions_hold tags replay P conditions =
-    let plain = each_position_holds tags replay P P conditions in
-    let turned = each_position_holds tags replay P (mirror P) conditions in (
+positions_hold : (heading : Heading) (replay : Replay) (ply : ℕ) (P : State) (conditions : List (Condition (List ℕ)))
+    → AllHold heading replay ply P (on_positions conditions) ↔ AllOfPosition P conditions
+positions_hold heading replay ply P conditions =
+    let plain = each_position_holds heading replay ply P P conditions in
+    let turned = each_position_holds heading replay ply P (mirror P) conditions in (
       λ hold. elim hold [ inl h ↦ inl (plain.0 h) | inr h ↦ inr (turned.0 h) ],
       λ all. elim all [ inl h ↦ inl (plain.1 h) | inr h ↦ inr (turned.1 h) ],
     )
 
-pub told_positions : (tags : Tags) (replay : Replay) (P : State) (conditions : List (Condition (List ℕ))) (r : Bool) → (IsTrue r ↔ AllOfPosition P conditions)
-    → IsTrue r ↔ AllHold tags replay P (on_positions conditions)
-told_positions tags replay P conditions r told =
-    let same = positions_hold tags replay P conditions in (λ t. same.1 (told.0 t), λ hold. told.1 (same.0 hold))
+-- none of them is `for` or `count`
+positions_met : (heading : Heading) (replay : Replay) (ply : ℕ) (P : State) (conditions : List (Condition (List ℕ)))
+    → IsMetBy heading replay ply P (on_positions conditions) ↔ AllOfPosition P conditions
+positions_met heading replay ply P conditions =
+    let same = positions_hold heading replay ply P conditions in
+    let own = on_positions conditions in (
+      λ met. same.0 met.0,
+      λ all. (same.1 all, no_spans_hold (HoldsThere heading replay own) ply own (within_no_spans 0 own (positions_ask_none conditions))),
+    )
+
+pub told_positions : (heading : Heading) (replay : Replay) (ply : ℕ) (P : State) (conditions : List (Condition (List ℕ))) (r : Bool) → (IsTrue r ↔ AllOfPosition P conditions)
+    → IsTrue r ↔ IsMetBy heading replay ply P (on_positions conditions)
+told_positions heading replay ply P conditions r told =
+    let same = positions_met heading replay ply P conditions in (λ t. same.1 (told.0 t), λ hold. told.1 (same.0 hold))
 
 -- alternatives and one more
-hold_before : (tags : Tags) (replay : Replay) (P : State) (before : List (List (Condition (List ℕ)))) (more : List (List (Condition (List ℕ))))
-    → SomeHold tags replay P before → SomeHold tags replay P (before ++ more)
-hold_before tags replay P [] more hold = absurd hold
-hold_before tags replay P (first ∷ before) more hold = elim hold [ inl all ↦ inl all | inr some ↦ inr (hold_before tags replay P before more some) ]
+hold_before : (heading : Heading) (replay : Replay) (ply : ℕ) (P : State) (before : List (List (Condition (List ℕ)))) (more : List (List (Condition (List ℕ))))
+    → SomeHold heading replay ply P before → SomeHold heading replay ply P (before ++ more)
+hold_before heading replay ply P [] more hold = absurd hold
+hold_before heading replay ply P (first ∷ before) more hold = elim hold [ inl all ↦ inl all | inr some ↦ inr (hold_before heading replay ply P before more some) ]
 
-hold_behind : (tags : Tags) (replay : Replay) (P : State) (before : List (List (Condition (List ℕ)))) (more : List (List (Condition (List ℕ))))
-    → SomeHold tags replay P more → SomeHold tags replay P (before ++ more)
-hold_behind tags replay P [] more hold = hold
-hold_behind tags replay P (first ∷ before) more hold = inr (hold_behind tags replay P before more hold)
+hold_behind : (heading : Heading) (replay : Replay) (ply : ℕ) (P : State) (before : List (List (Condition (List ℕ)))) (more : List (List (Condition (List ℕ))))
+    → SomeHold heading replay ply P more → SomeHold heading replay ply P (before ++ more)
+hold_behind heading replay ply P [] more hold = hold
+hold_behind heading replay ply P (first ∷ before) more hold = inr (hold_behind heading replay ply P before more hold)
 
-hold_either : (tags : Tags) (replay : Replay) (P : State) (before : List (List (Condition (List ℕ)))) (more : List (List (Condition (List ℕ))))
-    → SomeHold tags replay P (before ++ more) → SomeHold tags replay P before ⊎ SomeHold tags replay P more
-hold_either tags replay P [] more hold = inr hold
-hold_either tags replay P (first ∷ before) more hold = elim hold [
+hold_either : (heading : Heading) (replay : Replay) (ply : ℕ) (P : State) (before : List (List (Condition (List ℕ)))) (more : List (List (Condition (List ℕ))))
+    → SomeHold heading replay ply P (before ++ more) → SomeHold heading replay ply P before ⊎ SomeHold heading replay ply P more
+hold_either heading replay ply P [] more hold = inr hold
+hold_either heading replay ply P (first ∷ before) more hold = elim hold [
   | inl all ↦ inl (inl all)
-  | inr some ↦ elim (hold_either tags replay P before more some) [ inl here ↦ inl (inr here) | inr there ↦ inr there ]
+  | inr some ↦ elim (hold_either heading replay ply P before more some) [ inl here ↦ inl (inr here) | inr there ↦ inr there ]
 ]
 
--- the least of the best so far and of the first ply of one more alternative
-pub next_best : (tags : Tags) (replay : Replay) (before : List (List (Condition (List ℕ)))) (more : List (List (Condition (List ℕ)))) (min max : ℕ) (best found : Option ℕ)
-    → IsFirst (λ plies. Meets tags replay plies before) min max best → IsFirstBefore (λ plies. Meets tags replay plies more) min (unwrap_or best (max + 1)) found
-    → IsFirst (λ plies. Meets tags replay plies (before ++ more)) min max (elim found [ None ↦ best | Some plies ↦ Some plies ])
-next_best tags replay before more min max best found first here = go best found first here
-  where
-    either : (plies : ℕ) → Meets tags replay plies (before ++ more) → Meets tags replay plies before ⊎ Meets tags replay plies more
-    either plies met = elim (hold_either tags replay met.position before more met.hold) [
-      | inl hold ↦ inl (record { position = met.position; here = met.here; hold = hold })
-      | inr hold ↦ inr (record { position = met.position; here = met.here; hold = hold })
-    ]
+-- a ply meets alternatives and more where it meets those or these
+module _ (heading : Heading) (replay : Replay) (before more : List (List (Condition (List ℕ)))) where
+  either_met : (ply : ℕ) → Meets heading replay ply (before ++ more) → Meets heading replay ply before ⊎ Meets heading replay ply more
+  either_met ply met = elim (hold_either heading replay ply met.position before more met.hold) [
+    | inl hold ↦ inl (record { position = met.position; here = met.here; hold = hold })
+    | inr hold ↦ inr (record { position = met.position; here = met.here; hold = hold })
+  ]
 
-    go : (best found : Option ℕ) → IsFirst (λ plies. Meets tags replay plies before) min max best → IsFirstBefore (λ plies. Meets tags replay plies more) min (unwrap_or best (max + 1)) found
-        → IsFirst (λ plies. Meets tags replay plies (before ++ more)) min max (elim found [ None ↦ best | Some plies ↦ Some plies ])
+  met_before : (ply : ℕ) → Meets heading replay ply before → Meets heading replay ply (before ++ more)
+  met_before ply met = record { position = met.position; here = met.here; hold = hold_before heading replay ply met.position before more met.hold }
+
+  met_behind : (ply : ℕ) → Meets heading replay ply more → Meets heading replay ply (before ++ more)
+  met_behind ply met = record { position = met.position; here = met.here; hold = hold_behind heading replay ply met.position before more met.hold }
+
+-- the least of the best so far and of the first ply of one more alternative
+pub next_best : (heading : Heading) (replay : Replay) (before : List (List (Condition (List ℕ)))) (more : List (List (Condition (List ℕ)))) (min max : ℕ) (best found : Option ℕ)
+    → IsFirst (λ plies. Meets heading replay plies before) min max best → IsFirstBefore (λ plies. Meets heading replay plies more) min (unwrap_or best (max + 1)) found
+    → IsFirst (λ plies. Meets heading replay plies (before ++ more)) min max (elim found [ None ↦ best | Some plies ↦ Some plies ])
+next_best heading replay before more min max best found first here = go best found first here
+  where
+    either : (plies : ℕ) → Meets heading replay plies (before ++ more) → Meets heading replay plies before ⊎ Meets heading replay plies more
+    either plies met = either_met heading replay before more plies met
+
+    go : (best found : Option ℕ) → IsFirst (λ plies. Meets heading replay plies before) min max best → IsFirstBefore (λ plies. Meets heading replay plies more) min (unwrap_or best (max + 1)) found
+        → IsFirst (λ plies. Meets heading replay plies (before ++ more)) min max (elim found [ None ↦ best | Some plies ↦ Some plies ])
     go None None first here = λ n low high met. elim (either n met) [ inl old ↦ first n low high old | inr new ↦ here n low (omega arith) new ]
     go None (Some plies) first here = (
       here.0,
       (let less = here.1 in omega arith),
-      (record { position = here.2.position; here = here.2.here; hold = hold_behind tags replay here.2.position before more here.2.hold }),
+      (record { position = here.2.position; here = here.2.here; hold = hold_behind heading replay plies here.2.position before more here.2.hold }),
       λ m low less met.
           let past = here.1 in
           elim (either m met) [ inl old ↦ first m low (omega arith) old | inr new ↦ here.3 m low less new ],
@@ -274,60 +450,116 @@ next_best tags replay before more min max best found first here = go best found 
     go (Some best) None first here = (
       first.0,
       first.1,
-      (record { position = first.2.position; here = first.2.here; hold = hold_before tags replay first.2.position before more first.2.hold }),
+      (record { position = first.2.position; here = first.2.here; hold = hold_before heading replay best first.2.position before more first.2.hold }),
       λ m low less met. elim (either m met) [ inl old ↦ first.3 m low less old | inr new ↦ here m low less new ],
     )
     go (Some best) (Some plies) first here = (
       here.0,
       (let less = here.1 in let high = first.1 in omega arith),
-      (record { position = here.2.position; here = here.2.here; hold = hold_behind tags replay here.2.position before more here.2.hold }),
+      (record { position = here.2.position; here = here.2.here; hold = hold_behind heading replay plies here.2.position before more here.2.hold }),
       λ m low less met.
           let past = here.1 in
           elim (either m met) [ inl old ↦ first.3 m low (omega arith) old | inr new ↦ here.3 m low less new ],
     )
 
 -- one more alternative of which what it says of the game is so is kept by what it says of positions, and one of which it is not so is dropped
-pub kept_one : (tags : Tags) (replay : Replay) (P : State) (before rest : List (List (Condition (List ℕ)))) (own : List (Condition (List ℕ))) → AllOfGame tags replay own
-    → SomeHold tags replay P ((before ++ on_positions own ∷ []) ++ rest) ↔ SomeHold tags replay P (before ++ own ∷ rest)
-kept_one tags replay P before rest own of_game =
-    let parts = all_parted tags replay P own in
-    let same = positions_hold tags replay P own in (
-      λ hold. elim (hold_either tags replay P (before ++ on_positions own ∷ []) rest hold) [
-        | inl front ↦ elim (hold_either tags replay P before (on_positions own ∷ []) front) [
-          | inl old ↦ hold_before tags replay P before (own ∷ rest) old
-          | inr here ↦ hold_behind tags replay P before (own ∷ rest) (inl (parts.1 (of_game, same.0 (one_holds tags replay P (on_positions own) here))))
+pub kept_one : (heading : Heading) (replay : Replay) (ply : ℕ) (P : State) (before rest : List (List (Condition (List ℕ)))) (own : List (Condition (List ℕ))) (most : ℕ)
+    → AllOfGame heading replay own → AllAskWithin most own
+    → SomeHold heading replay ply P ((before ++ on_positions own ∷ []) ++ rest) ↔ SomeHold heading replay ply P (before ++ own ∷ rest)
+kept_one heading replay ply P before rest own most of_game within =
+    let parts = met_parted heading replay ply P own in
+    let same = positions_met heading replay ply P own in
+    let still = all_still replay ply most own within in
+    let spans = no_spans_hold (FitsAt replay own) ply own (within_no_spans most own within) in (
+      λ hold. elim (hold_either heading replay ply P (before ++ on_positions own ∷ []) rest hold) [
+        | inl front ↦ elim (hold_either heading replay ply P before (on_positions own ∷ []) front) [
+          | inl old ↦ hold_before heading replay ply P before (own ∷ rest) old
+          | inr here ↦ hold_behind heading replay ply P before (own ∷ rest) (inl (parts.1 (of_game, same.0 (one_holds heading replay ply P (on_positions own) here), still, spans)))
         ]
-        | inr there ↦ hold_behind tags replay P before (own ∷ rest) (inr there)
+        | inr there ↦ hold_behind heading replay ply P before (own ∷ rest) (inr there)
       ],
-      λ hold. elim (hold_either tags replay P before (own ∷ rest) hold) [
-        | inl old ↦ hold_before tags replay P (before ++ on_positions own ∷ []) rest (hold_before tags replay P before (on_positions own ∷ []) old)
+      λ hold. elim (hold_either heading replay ply P before (own ∷ rest) hold) [
+        | inl old ↦ hold_before heading replay ply P (before ++ on_positions own ∷ []) rest (hold_before heading replay ply P before (on_positions own ∷ []) old)
         | inr more ↦ elim more [
-          | inl here ↦ hold_before tags replay P (before ++ on_positions own ∷ []) rest (hold_behind tags replay P before (on_positions own ∷ []) (inl (same.1 (parts.0 here).1)))
-          | inr there ↦ hold_behind tags replay P (before ++ on_positions own ∷ []) rest there
+          | inl here ↦ hold_before heading replay ply P (before ++ on_positions own ∷ []) rest (hold_behind heading replay ply P before (on_positions own ∷ []) (inl (same.1 (parts.0 here).1)))
+          | inr there ↦ hold_behind heading replay ply P (before ++ on_positions own ∷ []) rest there
         ]
       ],
     )
 
-pub dropped_one : (tags : Tags) (replay : Replay) (P : State) (before rest : List (List (Condition (List ℕ)))) (own : List (Condition (List ℕ))) (r : Bool) → r ≡ false
-    → (IsTrue r ↔ AllOfGame tags replay own) → SomeHold tags replay P (before ++ rest) ↔ SomeHold tags replay P (before ++ own ∷ rest)
-dropped_one tags replay P before rest own r fails told = (
-  λ hold. elim (hold_either tags replay P before rest hold) [
-    | inl old ↦ hold_before tags replay P before (own ∷ rest) old
-    | inr there ↦ hold_behind tags replay P before (own ∷ rest) (inr there)
+pub dropped_one : (heading : Heading) (replay : Replay) (ply : ℕ) (P : State) (before rest : List (List (Condition (List ℕ)))) (own : List (Condition (List ℕ))) (r : Bool) → r ≡ false
+    → (IsTrue r ↔ AllOfGame heading replay own) → SomeHold heading replay ply P (before ++ rest) ↔ SomeHold heading replay ply P (before ++ own ∷ rest)
+dropped_one heading replay ply P before rest own r fails told = (
+  λ hold. elim (hold_either heading replay ply P before rest hold) [
+    | inl old ↦ hold_before heading replay ply P before (own ∷ rest) old
+    | inr there ↦ hold_behind heading replay ply P before (own ∷ rest) (inr there)
   ],
-  λ hold. elim (hold_either tags replay P before (own ∷ rest) hold) [
-    | inl old ↦ hold_before tags replay P before rest old
+  λ hold. elim (hold_either heading replay ply P before (own ∷ rest) hold) [
+    | inl old ↦ hold_before heading replay ply P before rest old
     | inr more ↦ elim more [
-      | inl here ↦ let so : IsTrue r = told.1 ((all_parted tags replay P own).0 here).0 in absurd (cc)
-      | inr there ↦ hold_behind tags replay P before rest there
+      | inl here ↦ let so : IsTrue r = told.1 ((met_parted heading replay ply P own).0 here).0 in absurd (cc)
+      | inr there ↦ hold_behind heading replay ply P before rest there
     ]
   ],
 )
 
 -- the same plies meet alternatives that hold of the same positions
-pub same_plies : (tags : Tags) (replay : Replay) (alternatives others : List (List (Condition (List ℕ))))
-    → ((P : State) → SomeHold tags replay P alternatives ↔ SomeHold tags replay P others) → (ply : ℕ) → Meets tags replay ply alternatives ↔ Meets tags replay ply others
-same_plies tags replay alternatives others same ply = (
-  λ met. record { position = met.position; here = met.here; hold = (same met.position).0 met.hold },
-  λ met. record { position = met.position; here = met.here; hold = (same met.position).1 met.hold },
+pub same_plies : (heading : Heading) (replay : Replay) (alternatives others : List (List (Condition (List ℕ))))
+    → ((ply : ℕ) (P : State) → SomeHold heading replay ply P alternatives ↔ SomeHold heading replay ply P others) → (ply : ℕ) → Meets heading replay ply alternatives ↔ Meets heading replay ply others
+same_plies heading replay alternatives others same ply = (
+  λ met. record { position = met.position; here = met.here; hold = (same ply met.position).0 met.hold },
+  λ met. record { position = met.position; here = met.here; hold = (same ply met.position).1 met.hold },
 )
+
+-- the answers for each ply, with one more alternative
+module _ (heading : Heading) (replay : Replay) (before : List (List (Condition (List ℕ)))) (own : List (Condition (List ℕ))) where
+  pub met_added : (old new : List Bool) → AllOfGame heading replay own → length new ≡ length old
+      → ((ply : ℕ) → ply < length old → IsTrue (get_or new ply false) ↔ (IsTrue (get_or old ply false) ⊎ FitsAbout replay own ply))
+      → AreMet heading replay before old → AreMet heading replay (before ++ own ∷ []) new
+  met_added old new of_game size told met = record {
+    each = size ∙ met.each;
+    told = λ ply is here.
+        let within : ply < length old = let less = slice_get_within new ply is here in omega (arith, less, size) in
+        let so_far = met.told ply (get_or old ply false) (slice_get-get_or old ply false within) in
+        let now = told ply within in
+        let same : get_or new ply false ≡ is = get_or_from_slice_get new ply is false here in (
+          λ t. elim (now.0 (same ∙ t)) [
+            | inl old ↦ met_before heading replay before (own ∷ []) ply (so_far.0 old)
+            | inr fits ↦ met_behind heading replay before (own ∷ []) ply (one_meets heading replay ply own of_game fits)
+          ],
+          λ all. sym same ∙ elim (either_met heading replay before (own ∷ []) ply all) [
+            | inl old ↦ now.1 (inl (so_far.1 old))
+            | inr one ↦ now.1 (inr (fits_of heading replay ply own one))
+          ],
+        );
+  }
+
+  pub met_dropped : (met : List Bool) (r : Bool) → r ≡ false → (IsTrue r ↔ AllOfGame heading replay own)
+      → AreMet heading replay before met → AreMet heading replay (before ++ own ∷ []) met
+  met_dropped answers r fails told met = record {
+    each = met.each;
+    told = λ ply is here. (
+      λ t. met_before heading replay before (own ∷ []) ply ((met.told ply is here).0 t),
+      λ all. elim (either_met heading replay before (own ∷ []) ply all) [
+        | inl old ↦ (met.told ply is here).1 old
+        | inr one ↦ let so : IsTrue r = told.1 (game_of heading replay ply own one) in absurd (cc)
+      ],
+    );
+  }
+
+-- no ply meets no alternative
+pub none_met : (heading : Heading) (replay : Replay) (count : ℕ) → length replay.positions ≡ count + 1 → AreMet heading replay [] (replicate count false ++ false ∷ [])
+none_met heading replay count size = record {
+  each = lasting count ∙ sym size;
+  told = λ ply is here. (λ t. let no = all_false count ply is here in absurd (cc (no, t)), λ met. absurd met.hold);
+}
+  where
+    lasting : (count : ℕ) → length (replicate count false ++ false ∷ []) ≡ count + 1
+    lasting zero = refl
+    lasting (suc count) = let rest = lasting count in omega (arith, rest)
+
+    all_false : (count ply : ℕ) (is : Bool) → slice_get (replicate count false ++ false ∷ []) ply ≡ Some is → is ≡ false
+    all_false zero zero is here = cc (here)
+    all_false zero (suc ply) is here = absurd (cc (here))
+    all_false (suc count) zero is here = cc (here)
+    all_false (suc count) (suc ply) is here = all_false count ply is here

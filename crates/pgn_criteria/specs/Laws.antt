@@ -7,7 +7,7 @@ use Rattle.pgn_text.specs.Games.{Item}
 use Rattle.pgn_game.specs.Replays.{Replay, IsReplay}
 use Rattle.pgn_game.specs.declared.replayer.Lines.{Lines}
 use Rattle.pgn_criteria.specs.Lines.{Accepts, IsRefused}
-use Rattle.pgn_criteria.specs.Meeting.{Tags, AllHold, Meets, is_turned}
+use Rattle.pgn_criteria.specs.Meeting.{Heading, AllHold, Meets, is_turned}
 use Rattle.pgn_criteria.specs.Mirrors.{flipped_men, mirror}
 use Rattle.pgn_criteria.specs.declared.condition.Condition.{Condition}
 use Rattle.pgn_criteria.specs.declared.parse.CriteriaError.TheVariants.{TooLong, Line, OutOfMemory}
@@ -34,8 +34,8 @@ MemoryIsTheOnlyFault =
 abbrev pub EachPositionMeetsOrDoesNot : Type 0
 EachPositionMeetsOrDoesNot =
     (lines : Lines) (fen : Option (List ℕ)) (items : List Item) (replay : Replay) → IsReplay lines fen items replay
-    → (tags : Tags) (alternatives : List (List (Condition (List ℕ)))) (plies : ℕ)
-    → Meets tags replay plies alternatives ⊎ (Meets tags replay plies alternatives → ⊥)
+    → (heading : Heading) (alternatives : List (List (Condition (List ℕ)))) (plies : ℕ)
+    → Meets heading replay plies alternatives ⊎ (Meets heading replay plies alternatives → ⊥)
 
 -- men and the en passant square stand on the board
 abbrev pub StandsOnBoard : State → Type 0
@@ -56,5 +56,5 @@ AreTurned (condition ∷ more) = IsTrue (is_turned condition) × AreTurned more
 -- of one tags and moves, a position meets an alternative of such conditions exactly where its mirror does
 abbrev pub SidesAreAlike : Type 0
 SidesAreAlike =
-    (tags : Tags) (replay : Replay) (P : State) (conditions : List (Condition (List ℕ))) → StandsOnBoard P → AreTurned conditions
-    → AllHold tags replay P conditions ↔ AllHold tags replay (mirror P) conditions
+    (heading : Heading) (replay : Replay) (ply : ℕ) (P : State) (conditions : List (Condition (List ℕ))) → StandsOnBoard P → AreTurned conditions
+    → AllHold heading replay ply P conditions ↔ AllHold heading replay ply (mirror P) conditions

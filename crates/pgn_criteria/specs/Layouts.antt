@@ -8,8 +8,6 @@ use Rattle.chess.specs.declared.board.man.Side.{Side}
 use Rattle.chess.specs.declared.board.man.Kind.{Kind}
 use Rattle.chess.specs.declared.board.man.Man.{Man}
 use Rattle.pgn_criteria.specs.Items.{IsOf, has_kind}
-use Rattle.pgn_criteria.specs.Stages.{AllSaid}
-use Rattle.pgn_criteria.specs.declared.condition.Condition.{Condition}
 use Rattle.pgn_criteria.specs.declared.rank.Class.{Class}
 use Rattle.pgn_criteria.specs.declared.rank.Kinds.{Kinds}
 use Rattle.pgn_criteria.specs.declared.layout.Asked.{Asked}
@@ -41,16 +39,15 @@ abbrev pub EachFrom : Placement → Class → ℕ → ℕ → ℕ → ℕ → Ty
 EachFrom men class rank before step count =
     (k : ℕ) → step ≤ k → k < count → IsOf class (man_at men (record { file = before + k + 1; rank = rank }))
 
--- what is new in a layout follows from a fact, of which the rest stays. Where it is all, the layout and the rest give the fact
-pub record Lays (whole rest : State → Type 0) (old new : Layout) (all : Bool) : Type 0 where
-  pub needed : (P : State) → Laid P.men old → whole P → Laid P.men new × rest P
-  pub enough : IsTrue all → (P : State) → Laid P.men new → rest P → Laid P.men old × whole P
+-- what is new in what is laid out follows from a fact, of which the rest stays. Where it is all, what is laid out and the rest give the fact
+pub record Extends {T : Type 0} (Sound : T → Type 0) (Stands : Placement → T → Type 0) (whole rest : State → Type 0) (old new : T) (all : Bool) : Type 0 where
+  pub sound : Sound old → Sound new
+  pub needed : (P : State) → Stands P.men old → whole P → Stands P.men new × rest P
+  pub enough : IsTrue all → (P : State) → Stands P.men new → rest P → Stands P.men old × whole P
+
+abbrev pub Lays : (State → Type 0) → (State → Type 0) → Layout → Layout → Bool → Type 0
+Lays = Extends (λ layout. Unit {0}) Laid
 
 -- the man of that kind stands on squares of the set alone
 unfoldable pub KindWithin : Placement → Places → Side → Kind → Type 0
 KindWithin men free side kind = (s : Place) → man_at men s ≡ Some (record { side = side; kind = kind }) → is_in free s ≡ true
-
--- what is laid out of conditions follows from them. Where it is all, it gives what they say of positions
-abbrev pub IsLaidOut : List (Condition (List ℕ)) → Layout → Bool → Type 0
-IsLaidOut conditions layout all =
-    ((P : State) → AllSaid P conditions → Laid P.men layout) × (IsTrue all → (P : State) → Laid P.men layout → AllSaid P conditions)

@@ -1,5 +1,5 @@
 -- How lines are read: the words that the code equals.
-use Rattle.std.specs.Prelude.{ℕ, ◌-◌, ◌++◌, ◌==◌, if◌then◌else◌, List, [], ◌∷◌, reverse, IsTrue, map}
+use Rattle.std.specs.Prelude.{ℕ, ◌-◌, ◌++◌, ◌==◌, if◌then◌else◌, Bool, List, [], ◌∷◌, reverse, IsTrue, map}
 use Rattle.chess.specs.Fen.{is_digit, is_distinct}
 use Rattle.chess.specs.Letters.{kind_letter}
 use Rattle.chess.specs.declared.board.man.Kind.{Kind}
@@ -66,3 +66,7 @@ AreEntries text = (entries : List (Kind × Limit)) × SpellsEntries text entries
 abbrev pub with_open : List (List (Condition (List ℕ))) → List (Condition (List ℕ)) → List (List (Condition (List ℕ))) → List (List (Condition (List ℕ)))
 with_open done begun [] = done ++ (begun ∷ [])
 with_open done begun (first ∷ more) = done ++ ((begun ++ first) ∷ more)
+
+-- the byte *
+abbrev pub is_star : ℕ → Bool
+is_star b = b == 42

@@ -1,5 +1,5 @@
 -- Conditions by what they are tried on: the game alone, or a position.
-use Rattle.std.specs.Prelude.{◌≡◌, ◌↔◌, ◌≤◌, ◌<◌, if◌then◌else◌, ℕ, Bool, true, false, List, [], ◌∷◌, length, Option, Some, None, ◌⊎◌}
+use Rattle.std.specs.Prelude.{◌≡◌, ◌↔◌, ◌≤◌, ◌<◌, ◌+◌, if◌then◌else◌, ℕ, Bool, true, false, List, [], ◌∷◌, length, Option, Some, None, ◌⊎◌}
 use Rattle.chess.specs.Fen.{parted_at}
 use Rattle.chess.specs.Positions.{State, IsCheck}
 use Rattle.std.specs.List.{slice_get}
@@ -10,16 +10,16 @@ use Rattle.pgn_game.specs.Replays.{Replay}
 use Rattle.pgn_criteria.specs.Patterns.{FitsPattern}
 use Rattle.pgn_criteria.specs.Materials.{FitsMaterial}
 use Rattle.pgn_criteria.specs.Mirrors.{mirror, FitsEitherWay}
-use Rattle.pgn_criteria.specs.MoveTexts.{FitMoves}
+use Rattle.pgn_criteria.specs.MoveTexts.{FitMoves, GoesOnBy, IsReachedBy}
 use Rattle.pgn_criteria.specs.Words.{words_of}
 use Rattle.pgn_criteria.specs.Comparing.{Compares}
 use Rattle.pgn_criteria.specs.declared.compare.Comparison.{Comparison}
-use Rattle.pgn_criteria.specs.Meeting.{Tags, HasOneOf, Taken, is_turned}
+use Rattle.pgn_criteria.specs.Meeting.{Heading, HasOneOf, Taken, is_turned, AreAll, SpansHold}
 use Rattle.pgn_criteria.specs.declared.meets.Stage.{Stage}
-use Rattle.pgn_criteria.specs.declared.meets.Stage.TheVariants.{Game, Men, Attacks, Replies}
+use Rattle.pgn_criteria.specs.declared.meets.Stage.TheVariants.{Game, Squares, Men, Attacks, Replies}
 use Rattle.pgn_criteria.specs.declared.condition.Condition.{Condition}
 use Rattle.pgn_criteria.specs.declared.condition.Claim.{Claim}
-use Rattle.pgn_criteria.specs.declared.condition.Claim.TheVariants.{Tag, Fen, Flip, Material, Moves, Plies, Turn, Check, Mate, Stalemate}
+use Rattle.pgn_criteria.specs.declared.condition.Claim.TheVariants.{Tag, Fen, Flip, Material, Moves, Plies, Result, Next, Played, For, Count, Turn, Check, Mate, Stalemate}
 
 -- a claim, and a condition, by the bytes of their texts
 abbrev pub claim_seen : {T : Type 0} → (T → List ℕ) → Claim T → Claim (List ℕ)
@@ -29,6 +29,11 @@ claim_seen bytes (Flip pattern) = Flip (bytes pattern)
 claim_seen bytes (Material white black) = Material white black
 claim_seen bytes (Moves words) = Moves (bytes words)
 claim_seen bytes (Plies comparison count) = Plies comparison count
+claim_seen bytes (Result result) = Result (bytes result)
+claim_seen bytes (Next word) = Next (bytes word)
+claim_seen bytes (Played word) = Played (bytes word)
+claim_seen bytes (For count) = For count
+claim_seen bytes (Count comparison count) = Count comparison count
 claim_seen bytes (Turn side) = Turn side
 claim_seen bytes Check = Check
 claim_seen bytes Mate = Mate
@@ -45,6 +50,11 @@ IsGood (Flip pattern) = Unit {0}
 IsGood (Material white black) = Unit {0}
 IsGood (Moves words) = Unit {0}
 IsGood (Plies comparison count) = Unit {0}
+IsGood (Result result) = Unit {0}
+IsGood (Next word) = Unit {0}
+IsGood (Played word) = Unit {0}
+IsGood (For count) = Unit {0}
+IsGood (Count comparison count) = Unit {0}
 IsGood (Turn side) = Unit {0}
 IsGood Check = Unit {0}
 IsGood Mate = Unit {0}
@@ -63,44 +73,54 @@ abbrev pub AreLegal : Replay → Type 0
 AreLegal replay = (i : ℕ) (P : State) (m : Move) → slice_get replay.positions i ≡ Some P → slice_get replay.played i ≡ Some m → IsLegal P m
 
 -- what a condition says of the game alone
-abbrev pub SaysOfGame : Tags → Replay → Bool → Claim (List ℕ) → Type 0
-SaysOfGame tags replay denied (Tag names relation contents) = Taken denied (HasOneOf tags relation contents (parted_at 124 names))
-SaysOfGame tags replay denied (Fen pattern) = Unit {0}
-SaysOfGame tags replay denied (Flip pattern) = Unit {0}
-SaysOfGame tags replay denied (Material white black) = Unit {0}
-SaysOfGame tags replay denied (Moves words) = Taken denied (FitMoves replay 0 (words_of words))
-SaysOfGame tags replay denied (Plies comparison count) = Taken denied (Compares comparison (length replay.played) count)
-SaysOfGame tags replay denied (Turn side) = Unit {0}
-SaysOfGame tags replay denied Check = Unit {0}
-SaysOfGame tags replay denied Mate = Unit {0}
-SaysOfGame tags replay denied Stalemate = Unit {0}
+abbrev pub SaysOfGame : Heading → Replay → Bool → Claim (List ℕ) → Type 0
+SaysOfGame heading replay denied (Tag names relation contents) = Taken denied (HasOneOf heading relation contents (parted_at 124 names))
+SaysOfGame heading replay denied (Fen pattern) = Unit {0}
+SaysOfGame heading replay denied (Flip pattern) = Unit {0}
+SaysOfGame heading replay denied (Material white black) = Unit {0}
+SaysOfGame heading replay denied (Moves words) = Taken denied (FitMoves replay 0 (words_of words))
+SaysOfGame heading replay denied (Plies comparison count) = Taken denied (Compares comparison (length replay.played) count)
+SaysOfGame heading replay denied (Result result) = Taken denied (heading.result ≡ result)
+SaysOfGame heading replay denied (Next word) = Unit {0}
+SaysOfGame heading replay denied (Played word) = Unit {0}
+SaysOfGame heading replay denied (For count) = Taken denied (Unit {0})
+SaysOfGame heading replay denied (Count comparison count) = Taken denied (Unit {0})
+SaysOfGame heading replay denied (Turn side) = Unit {0}
+SaysOfGame heading replay denied Check = Unit {0}
+SaysOfGame heading replay denied Mate = Unit {0}
+SaysOfGame heading replay denied Stalemate = Unit {0}
 
-abbrev pub OfGame : Tags → Replay → Condition (List ℕ) → Type 0
-OfGame tags replay condition = SaysOfGame tags replay condition.is_denied condition.claim
+abbrev pub OfGame : Heading → Replay → Condition (List ℕ) → Type 0
+OfGame heading replay condition = SaysOfGame heading replay condition.is_denied condition.claim
 
-abbrev pub AllOfGame : Tags → Replay → List (Condition (List ℕ)) → Type 0
-AllOfGame tags replay [] = Unit {0}
-AllOfGame tags replay (condition ∷ more) = OfGame tags replay condition × AllOfGame tags replay more
+abbrev pub AllOfGame : Heading → Replay → List (Condition (List ℕ)) → Type 0
+AllOfGame heading replay [] = Unit {0}
+AllOfGame heading replay (condition ∷ more) = OfGame heading replay condition × AllOfGame heading replay more
 
 -- what a condition says of the tags of the game
-abbrev pub SaysOfTags : Tags → Bool → Claim (List ℕ) → Type 0
-SaysOfTags tags denied (Tag names relation contents) = Taken denied (HasOneOf tags relation contents (parted_at 124 names))
-SaysOfTags tags denied (Fen pattern) = Unit {0}
-SaysOfTags tags denied (Flip pattern) = Unit {0}
-SaysOfTags tags denied (Material white black) = Unit {0}
-SaysOfTags tags denied (Moves words) = Unit {0}
-SaysOfTags tags denied (Plies comparison count) = Unit {0}
-SaysOfTags tags denied (Turn side) = Unit {0}
-SaysOfTags tags denied Check = Unit {0}
-SaysOfTags tags denied Mate = Unit {0}
-SaysOfTags tags denied Stalemate = Unit {0}
+abbrev pub SaysOfHeading : Heading → Bool → Claim (List ℕ) → Type 0
+SaysOfHeading heading denied (Tag names relation contents) = Taken denied (HasOneOf heading relation contents (parted_at 124 names))
+SaysOfHeading heading denied (Fen pattern) = Unit {0}
+SaysOfHeading heading denied (Flip pattern) = Unit {0}
+SaysOfHeading heading denied (Material white black) = Unit {0}
+SaysOfHeading heading denied (Moves words) = Unit {0}
+SaysOfHeading heading denied (Plies comparison count) = Unit {0}
+SaysOfHeading heading denied (Result result) = Taken denied (heading.result ≡ result)
+SaysOfHeading heading denied (Next word) = Unit {0}
+SaysOfHeading heading denied (Played word) = Unit {0}
+SaysOfHeading heading denied (For count) = Unit {0}
+SaysOfHeading heading denied (Count comparison count) = Unit {0}
+SaysOfHeading heading denied (Turn side) = Unit {0}
+SaysOfHeading heading denied Check = Unit {0}
+SaysOfHeading heading denied Mate = Unit {0}
+SaysOfHeading heading denied Stalemate = Unit {0}
 
-abbrev pub OfTags : Tags → Condition (List ℕ) → Type 0
-OfTags tags condition = SaysOfTags tags condition.is_denied condition.claim
+abbrev pub OfHeading : Heading → Condition (List ℕ) → Type 0
+OfHeading heading condition = SaysOfHeading heading condition.is_denied condition.claim
 
-abbrev pub AllOfTags : Tags → List (Condition (List ℕ)) → Type 0
-AllOfTags tags [] = Unit {0}
-AllOfTags tags (condition ∷ more) = OfTags tags condition × AllOfTags tags more
+abbrev pub AllOfHeading : Heading → List (Condition (List ℕ)) → Type 0
+AllOfHeading heading [] = Unit {0}
+AllOfHeading heading (condition ∷ more) = OfHeading heading condition × AllOfHeading heading more
 
 -- the claim does not speak of the moves of the game
 abbrev pub IsFreeOfMoves : Claim (List ℕ) → Type 0
@@ -110,6 +130,11 @@ IsFreeOfMoves (Flip pattern) = Unit {0}
 IsFreeOfMoves (Material white black) = Unit {0}
 IsFreeOfMoves (Moves words) = ⊥
 IsFreeOfMoves (Plies comparison count) = ⊥
+IsFreeOfMoves (Result result) = Unit {0}
+IsFreeOfMoves (Next word) = ⊥
+IsFreeOfMoves (Played word) = ⊥
+IsFreeOfMoves (For count) = ⊥
+IsFreeOfMoves (Count comparison count) = ⊥
 IsFreeOfMoves (Turn side) = Unit {0}
 IsFreeOfMoves Check = Unit {0}
 IsFreeOfMoves Mate = Unit {0}
@@ -127,24 +152,66 @@ AsksWithin most (Flip pattern) = Unit {0}
 AsksWithin most (Material white black) = Unit {0}
 AsksWithin most (Moves words) = length (words_of words) ≤ most
 AsksWithin most (Plies comparison count) = count < most
+AsksWithin most (Result result) = Unit {0}
+AsksWithin most (Next word) = ⊥
+AsksWithin most (Played word) = ⊥
+AsksWithin most (For count) = ⊥
+AsksWithin most (Count comparison count) = ⊥
 AsksWithin most (Turn side) = Unit {0}
 AsksWithin most Check = Unit {0}
 AsksWithin most Mate = Unit {0}
 AsksWithin most Stalemate = Unit {0}
 
+-- all claims of conditions, and of alternatives, are such
+abbrev pub AllClaims : (Claim (List ℕ) → Type 0) → List (Condition (List ℕ)) → Type 0
+AllClaims Such [] = Unit {0}
+AllClaims Such (condition ∷ more) = Such condition.claim × AllClaims Such more
+
+abbrev pub EachClaims : (Claim (List ℕ) → Type 0) → List (List (Condition (List ℕ))) → Type 0
+EachClaims Such [] = Unit {0}
+EachClaims Such (alternative ∷ more) = AllClaims Such alternative × EachClaims Such more
+
 abbrev pub AllAskWithin : ℕ → List (Condition (List ℕ)) → Type 0
-AllAskWithin most [] = Unit {0}
-AllAskWithin most (condition ∷ more) = AsksWithin most condition.claim × AllAskWithin most more
+AllAskWithin most conditions = AllClaims (AsksWithin most) conditions
 
 abbrev pub EachAsksWithin : ℕ → List (List (Condition (List ℕ))) → Type 0
-EachAsksWithin most [] = Unit {0}
-EachAsksWithin most (alternative ∷ more) = AllAskWithin most alternative × EachAsksWithin most more
+EachAsksWithin most alternatives = EachClaims (AsksWithin most) alternatives
+
+-- none of the conditions asks for more of a game than so many first moves; none where one asks for each
+abbrev pub AllWithin : Option ℕ → List (List (Condition (List ℕ))) → Type 0
+AllWithin None alternatives = Unit {0}
+AllWithin (Some most) alternatives = EachAsksWithin most alternatives
 
 -- so many first moves of a game fit the same words of either replay, and are compared alike with each lesser number
 pub record FitTheSame (most : ℕ) (replay other : Replay) : Type 0 where
   pub words : (words : List (List ℕ)) → length words ≤ most → FitMoves replay 0 words ↔ FitMoves other 0 words
   pub counts : (comparison : Comparison) (count : ℕ) → count < most
       → Compares comparison (length replay.played) count ↔ Compares comparison (length other.played) count
+
+-- what a condition says of the moves before and after so many plies
+abbrev pub SaysOfPly : Replay → ℕ → Bool → Claim (List ℕ) → Type 0
+SaysOfPly replay ply denied (Tag name relation contents) = Unit {0}
+SaysOfPly replay ply denied (Fen pattern) = Unit {0}
+SaysOfPly replay ply denied (Flip pattern) = Unit {0}
+SaysOfPly replay ply denied (Material white black) = Unit {0}
+SaysOfPly replay ply denied (Moves words) = Unit {0}
+SaysOfPly replay ply denied (Plies comparison count) = Unit {0}
+SaysOfPly replay ply denied (Result result) = Unit {0}
+SaysOfPly replay ply denied (Next word) = Taken denied (GoesOnBy replay ply word)
+SaysOfPly replay ply denied (Played word) = Taken denied (IsReachedBy replay ply word)
+SaysOfPly replay ply denied (For count) = Unit {0}
+SaysOfPly replay ply denied (Count comparison count) = Unit {0}
+SaysOfPly replay ply denied (Turn side) = Unit {0}
+SaysOfPly replay ply denied Check = Unit {0}
+SaysOfPly replay ply denied Mate = Unit {0}
+SaysOfPly replay ply denied Stalemate = Unit {0}
+
+abbrev pub OfPly : Replay → ℕ → Condition (List ℕ) → Type 0
+OfPly replay ply condition = SaysOfPly replay ply condition.is_denied condition.claim
+
+abbrev pub AllOfPly : Replay → ℕ → List (Condition (List ℕ)) → Type 0
+AllOfPly replay ply [] = Unit {0}
+AllOfPly replay ply (condition ∷ more) = OfPly replay ply condition × AllOfPly replay ply more
 
 -- what a condition says of the position alone
 abbrev pub SaysOfPosition : State → Bool → Claim (List ℕ) → Type 0
@@ -154,6 +221,11 @@ SaysOfPosition P denied (Flip pattern) = Taken denied (FitsEitherWay P.men patte
 SaysOfPosition P denied (Material white black) = Taken denied (FitsMaterial P.men white black)
 SaysOfPosition P denied (Moves words) = Unit {0}
 SaysOfPosition P denied (Plies comparison count) = Unit {0}
+SaysOfPosition P denied (Result result) = Unit {0}
+SaysOfPosition P denied (Next word) = Unit {0}
+SaysOfPosition P denied (Played word) = Unit {0}
+SaysOfPosition P denied (For count) = Unit {0}
+SaysOfPosition P denied (Count comparison count) = Unit {0}
 SaysOfPosition P denied (Turn side) = Taken denied (P.turn ≡ side)
 SaysOfPosition P denied Check = Taken denied (IsCheck P.men P.turn)
 SaysOfPosition P denied Mate = Taken denied (IsMate P)
@@ -193,6 +265,11 @@ is_on_position (Flip pattern) = true
 is_on_position (Material white black) = true
 is_on_position (Moves words) = false
 is_on_position (Plies comparison count) = false
+is_on_position (Result result) = false
+is_on_position (Next word) = false
+is_on_position (Played word) = false
+is_on_position (For count) = false
+is_on_position (Count comparison count) = false
 is_on_position (Turn side) = true
 is_on_position Check = true
 is_on_position Mate = true
@@ -202,18 +279,63 @@ abbrev pub on_positions : List (Condition (List ℕ)) → List (Condition (List 
 on_positions [] = []
 on_positions (condition ∷ more) = if is_on_position condition.claim then condition ∷ on_positions more else on_positions more
 
--- what they say of the position behind so many plies is so
+-- what they say of the position after so many plies, and of the moves before and after it, is so
 abbrev pub FitsAt : Replay → List (Condition (List ℕ)) → ℕ → Type 0
-FitsAt replay conditions plies = (P : State) × (slice_get replay.positions plies ≡ Some P) × AllOfPosition P conditions
+FitsAt replay conditions plies = (P : State) × (slice_get replay.positions plies ≡ Some P) × AllOfPosition P conditions × AllOfPly replay plies conditions
+
+-- and what `for` and `count` say of the plies at which they are so is so
+abbrev pub FitsAbout : Replay → List (Condition (List ℕ)) → ℕ → Type 0
+FitsAbout replay conditions plies = FitsAt replay conditions plies × SpansHold (FitsAt replay conditions) plies conditions
+
+-- such a ply begins a run of so many: they are such, and the next one is not
+pub record IsRun (Such : ℕ → Type 0) (ply run : ℕ) : Type 0 where
+  pub all : (i : ℕ) → i < run → Such (ply + i)
+  pub ended : Such (ply + run) → ⊥
+
+-- so many plies are such
+abbrev pub AreSoMany : (ℕ → Type 0) → ℕ → Type 0
+AreSoMany Such many = (plies : List ℕ) × AreAll Such plies × (length plies ≡ many)
+
+-- what `for` and `count` say of a ply that begins a run of so many, of so many in all
+abbrev pub SpanStands : ℕ → ℕ → Claim (List ℕ) → Type 0
+SpanStands run many (For count) = count ≤ run
+SpanStands run many (Count comparison count) = Compares comparison many count
+SpanStands run many claim = Unit {0}
+
+abbrev pub SpansStand : ℕ → ℕ → List (Condition (List ℕ)) → Type 0
+SpansStand run many [] = Unit {0}
+SpansStand run many (condition ∷ more) = SpanStands run many condition.claim × SpansStand run many more
+
+-- none of the conditions has `for` or `count`
+abbrev pub IsNoSpan : Claim (List ℕ) → Type 0
+IsNoSpan (For count) = ⊥
+IsNoSpan (Count comparison count) = ⊥
+IsNoSpan claim = Unit {0}
+
+abbrev pub AreNoSpans : List (Condition (List ℕ)) → Type 0
+AreNoSpans conditions = AllClaims IsNoSpan conditions
+
+-- none of the conditions has `count`
+abbrev pub IsNoCount : Claim (List ℕ) → Type 0
+IsNoCount (Count comparison count) = ⊥
+IsNoCount claim = Unit {0}
+
+abbrev pub AreNoCounts : List (Condition (List ℕ)) → Type 0
+AreNoCounts conditions = AllClaims IsNoCount conditions
 
 -- at which stage a claim is tried, and what the conditions of a stage say
 abbrev pub stage_of : Claim (List ℕ) → Stage
 stage_of (Tag name relation contents) = Game
-stage_of (Fen pattern) = Men
-stage_of (Flip pattern) = Men
+stage_of (Fen pattern) = Squares
+stage_of (Flip pattern) = Squares
 stage_of (Material white black) = Men
 stage_of (Moves words) = Game
 stage_of (Plies comparison count) = Game
+stage_of (Result result) = Game
+stage_of (Next word) = Game
+stage_of (Played word) = Game
+stage_of (For count) = Game
+stage_of (Count comparison count) = Game
 stage_of (Turn side) = Men
 stage_of Check = Attacks
 stage_of Mate = Replies
@@ -222,6 +344,14 @@ stage_of Stalemate = Replies
 abbrev pub AllOfStage : Stage → State → List (Condition (List ℕ)) → Type 0
 AllOfStage stage P [] = Unit {0}
 AllOfStage stage P (condition ∷ more) = (stage_of condition.claim ≡ stage → OfPosition P condition) × AllOfStage stage P more
+
+-- what the conditions that are no patterns say
+abbrev pub AllOfRest : State → List (Condition (List ℕ)) → Type 0
+AllOfRest P conditions = AllOfStage Men P conditions × AllOfStage Attacks P conditions × AllOfStage Replies P conditions
+
+-- none of the conditions says more of positions than patterns do
+abbrev pub ArePatterns : List (Condition (List ℕ)) → Type 0
+ArePatterns conditions = AllClaims (λ claim. (stage_of claim ≡ Game) ⊎ (stage_of claim ≡ Squares)) conditions
 
 -- the least number from one on and before another that has the fact, or none where none has
 abbrev pub IsFirstBefore : (ℕ → Type 0) → ℕ → ℕ → Option ℕ → Type 0

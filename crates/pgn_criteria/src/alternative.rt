@@ -1,15 +1,20 @@
 //! Alternatives of criteria.
-ghost use Rattle.std.specs.Prelude.{◌≡◌, ◌↔◌, List, map, IsTrue, IfOk, MatchOption};
-ghost use Rattle.pgn_text.specs.GameTexts.{tag_in};
+ghost use Rattle.std.specs.Prelude.{◌≡◌, ◌↔◌, List, map, IsTrue, IfOk, IfSome, MatchOption};
+ghost use Rattle.pgn_criteria.specs.Meeting.{heading_of};
 ghost use Rattle.chess.specs.Positions.{State};
 ghost use Rattle.pgn_criteria.specs.Mirrors.{mirror};
-ghost use Rattle.pgn_criteria.specs.Layouts.{Lays};
-ghost use Rattle.pgn_criteria.specs.Stages.{AreLegal, AreGood, AllOfGame, AllOfTags, AllAskWithin, AreFreeOfMoves, OfPosition, AllSaid, EachOfPosition, AllOfPosition, AreFixed, seen};
+ghost use Rattle.pgn_criteria.specs.Planning.{Plans};
+ghost use Rattle.pgn_criteria.specs.Stages.{AreLegal, AreGood, AllOfGame, AllOfHeading, AllAskWithin, AreFreeOfMoves, AllOfPly, OfPosition, AllSaid, EachOfPosition, AllOfPosition, AreFixed, AllOfStage, AllOfRest, AreNoSpans, AreNoCounts, SpansStand, claim_seen, seen, stage_of};
+ghost use Rattle.pgn_criteria.specs.declared.meets.Stage.TheVariants.{Squares};
 
 use crate::condition::{Claim, Condition};
-use crate::layout::Layout;
-use crate::meets::{are_free_of_moves, are_of_game, are_of_position, are_of_tags, longest_opening};
+use crate::meets::{
+    Stage, are_free_of_moves, are_of_game, are_of_heading, are_of_ply, are_of_rest, are_of_stage,
+    are_patterns, longest_opening, stage_of,
+};
 use crate::mirror::{all_mirrored, are_fixed};
+use crate::plan::Plan;
+use crate::spans::{are_no_counts, are_no_spans, spans_stand};
 use chess::SquareSet;
 use pgn_game::{GamePosition, Replayed};
 use pgn_text::RawGame;
@@ -21,25 +26,30 @@ use std::marker::Model;
 pub(crate) struct Form {
     pub(crate) conditions: Vec<Condition<Vec<u8>>>,
     /// What the patterns among them ask of squares, and where men may stand then.
-    layout: Layout,
+    plan: Plan,
     free: SquareSet,
-    /// Whether that is all that they say of positions.
-    is_laid_out: bool,
+    /// Whether that is all that the patterns ask.
+    is_planned: bool,
+    /// Whether the others say nothing of positions.
+    is_bare: bool,
 }
 
 impl Model for Form {
-    ghost use Rattle.std.specs.Prelude.{ℕ, List, map};
+    ghost use Rattle.std.specs.Prelude.{ℕ, List, IsTrue, map};
     ghost use Rattle.pgn_criteria.specs.declared.condition.Condition.{Condition};
-    ghost use Rattle.pgn_criteria.specs.Layouts.{IsRest, IsLaidOut};
-    ghost use Rattle.pgn_criteria.specs.Stages.{seen};
+    ghost use Rattle.pgn_criteria.specs.Layouts.{IsRest};
+    ghost use Rattle.pgn_criteria.specs.Planning.{IsSoundPlan, IsPlanned};
+    ghost use Rattle.pgn_criteria.specs.Stages.{ArePatterns, seen};
 
     ghost Value = { List (Condition (List ℕ)) };
 
     ghost view = { λ a. map (seen (λ text. text.items)) a.conditions.items };
 
     ghost invariant = { λ a. record {
-      rest : IsRest a.layout.empty a.free;
-      laid : IsLaidOut (map (seen (λ text. text.items)) a.conditions.items) a.layout a.is_laid_out;
+      sound : IsSoundPlan a.plan;
+      rest : IsRest a.plan.layout.empty a.free;
+      planned : IsPlanned (map (seen (λ text. text.items)) a.conditions.items) a.plan a.is_planned;
+      bare : IsTrue a.is_bare → ArePatterns (map (seen (λ text. text.items)) a.conditions.items);
     } };
 }
 
@@ -66,26 +76,47 @@ impl Model for Alternative {
     ghost invariant = { λ a. MatchOption a.mirrored (AreFixed a.plain) (λ form. (P : State) → AllSaid P form ↔ EachOfPosition P (mirror P) a.plain) };
 }
 
-/// Lays out what a condition asks of squares, if it is a pattern that is not denied. Answers whether that is all that it says of positions.
-fn lay_out(layout: &mut Layout, condition: &Condition<Vec<u8>>) -> Result<bool, AllocError>
-    ensures { IfOk result (Lays (λ P. OfPosition P (seen (λ text. text.items) condition.now)) (λ P. Unit {0}) layout.old layout.new) }
+/// Plans what a condition asks of squares, if it is a pattern. Answers whether that is all that it asks.
+fn plan_one(
+    alloc: Global,
+    plan: &mut Plan,
+    condition: &Condition<Vec<u8>>,
+) -> Result<bool, AllocError>
+    ensures { IfOk result (Plans (λ P. stage_of (claim_seen (λ text. text.items) condition.now.claim) ≡ Squares → OfPosition P (seen (λ text. text.items) condition.now)) (λ P. Unit {0}) plan.old plan.new) }
 {
+    if stage_of(&condition.claim) != Stage::Squares {
+        return Ok(true);
+    }
     match &condition.claim {
-        Claim::Tag { .. } => Ok(true),
-        Claim::Moves(_) => Ok(true),
-        Claim::Plies { .. } => Ok(true),
-        Claim::Fen(pattern) if !condition.is_denied => layout.add_pattern(pattern),
+        Claim::Fen(pattern) => {
+            if condition.is_denied {
+                plan.add_other(alloc, pattern)
+            } else {
+                plan.add_pattern(pattern)
+            }
+        }
+        Claim::Flip(pattern) => {
+            if condition.is_denied {
+                plan.add_no_way(alloc, pattern)
+            } else {
+                plan.add_ways(alloc, pattern)
+            }
+        }
         _ => Ok(false),
     }
 }
 
-/// Lays out what conditions ask of squares. Answers whether that is all that they say of positions.
-fn lay_out_all(layout: &mut Layout, conditions: &[Condition<Vec<u8>>]) -> Result<bool, AllocError>
-    ensures { IfOk result (Lays (λ P. AllSaid P (map (seen (λ text. text.items)) conditions.now)) (λ P. Unit {0}) layout.old layout.new) }
+/// Plans what conditions ask of squares. Answers whether that is all that the patterns among them ask.
+fn plan_all(
+    alloc: Global,
+    plan: &mut Plan,
+    conditions: &[Condition<Vec<u8>>],
+) -> Result<bool, AllocError>
+    ensures { IfOk result (Plans (λ P. AllOfStage Squares P (map (seen (λ text. text.items)) conditions.now)) (λ P. Unit {0}) plan.old plan.new) }
 {
     let mut is_all = true;
     for condition in conditions {
-        is_all = lay_out(layout, condition)? && is_all;
+        is_all = plan_one(alloc, plan, condition)? && is_all;
     }
     Ok(is_all)
 }
@@ -95,24 +126,35 @@ impl Form {
     fn new(alloc: Global, conditions: Vec<Condition<Vec<u8>>>) -> Result<Self, AllocError>
         ensures { IfOk result (λ own. own ≡ map (seen (λ text. text.items)) conditions.items) }
     {
-        let mut layout = Layout::new(alloc);
-        let is_laid_out = lay_out_all(&mut layout, &conditions)?;
-        let free = layout.free();
+        let mut plan = Plan::new(alloc);
+        let is_planned = plan_all(alloc, &mut plan, &conditions)?;
+        let is_bare = are_patterns(&conditions);
+        let free = plan.free();
         Ok(Form {
             conditions,
-            layout,
+            plan,
             free,
-            is_laid_out,
+            is_planned,
+            is_bare,
         })
     }
 
-    /// Whether what all conditions say of the position is so. What is laid out is looked at first.
+    /// Whether what the conditions that are no patterns say of the position is so.
+    #[inline(always)]
+    fn rest_is_met(&self, position: &GamePosition) -> bool
+        ensures { IsTrue result ↔ AllOfRest position.now self.now }
+    {
+        self.is_bare || are_of_rest(&self.conditions, position)
+    }
+
+    /// Whether what all conditions say of the position is so. What is planned is looked at first, and patterns of which that is not all last.
     #[inline(always)]
     fn is_met(&self, position: &GamePosition) -> bool
         ensures { IsTrue result ↔ AllSaid position.now self.now }
     {
-        self.layout.is_met(&self.free, position)
-            && (self.is_laid_out || are_of_position(&self.conditions, position))
+        self.plan.is_met(&self.free, position)
+            && self.rest_is_met(position)
+            && (self.is_planned || are_of_stage(&self.conditions, Stage::Squares, position))
     }
 }
 
@@ -148,24 +190,32 @@ impl Alternative {
     pub(crate) fn is_of_game<'a>(&'a self, game: &RawGame<'a>, replayed: &Replayed) -> bool
         requires good { AreGood self.now }
         requires legal { AreLegal replayed.now }
-        ensures { IsTrue result ↔ AllOfGame (λ name. tag_in name game.now.tags) replayed.now self.now }
+        ensures { IsTrue result ↔ AllOfGame (heading_of game.now) replayed.now self.now }
     {
         are_of_game(&self.plain.conditions, game, replayed)
     }
 
-    /// Whether what the conditions say of the tags of the game is so.
-    pub(crate) fn is_of_tags<'a>(&'a self, game: &RawGame<'a>) -> bool
+    /// Whether what the conditions say of the tags and the result of the game is so.
+    pub(crate) fn is_of_heading<'a>(&'a self, game: &RawGame<'a>) -> bool
         requires good { AreGood self.now }
-        ensures { IsTrue result ↔ AllOfTags (λ name. tag_in name game.now.tags) self.now }
+        ensures { IsTrue result ↔ AllOfHeading (heading_of game.now) self.now }
     {
-        are_of_tags(&self.plain.conditions, game)
+        are_of_heading(&self.plain.conditions, game)
     }
 
-    /// How many first moves of the game the conditions ask for at most.
-    pub(crate) fn opening(&self) -> usize
-        ensures { AllAskWithin result self.now }
+    /// How many first moves of the game the conditions ask for at most; `None` where they ask for each.
+    pub(crate) fn opening(&self) -> Option<usize>
+        ensures { IfSome result (λ most. AllAskWithin most self.now) }
     {
         longest_opening(&self.plain.conditions)
+    }
+
+    /// Whether what the conditions say of the moves before and after so many plies is so.
+    pub(crate) fn is_of_ply(&self, replayed: &Replayed, plies: usize) -> bool
+        requires { AreLegal replayed.now }
+        ensures { IsTrue result ↔ AllOfPly replayed.now plies self.now }
+    {
+        are_of_ply(&self.plain.conditions, replayed, plies)
     }
 
     /// Whether none of the conditions speaks of the moves of the game.
@@ -173,6 +223,27 @@ impl Alternative {
         ensures { IsTrue result ↔ AreFreeOfMoves self.now }
     {
         are_free_of_moves(&self.plain.conditions)
+    }
+
+    /// Whether none of the conditions has `for` or `count`.
+    pub(crate) fn is_free_of_spans(&self) -> bool
+        ensures { IsTrue result ↔ AreNoSpans self.now }
+    {
+        are_no_spans(&self.plain.conditions)
+    }
+
+    /// Whether none of the conditions has `count`.
+    pub(crate) fn is_free_of_counts(&self) -> bool
+        ensures { IsTrue result ↔ AreNoCounts self.now }
+    {
+        are_no_counts(&self.plain.conditions)
+    }
+
+    /// Whether what `for` and `count` say is so of a ply that begins a run of so many plies that fit, where so many fit in all.
+    pub(crate) fn spans_stand(&self, run: u128, many: u128) -> bool
+        ensures { IsTrue result ↔ SpansStand run many self.now }
+    {
+        spans_stand(&self.plain.conditions, run, many)
     }
 
     /// Whether what the conditions say of the position is so, as they stand or with those that have `either` tried at its mirror.

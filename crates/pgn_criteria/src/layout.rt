@@ -3,11 +3,14 @@ ghost use Rattle.std.specs.Prelude.{◌≡◌, ◌↔◌, ◌≤◌, ◌<◌, �
 ghost use Rattle.chess.specs.Fen.{row};
 ghost use Rattle.chess.specs.Placements.{Placement, man_at};
 ghost use Rattle.chess.specs.Positions.{State};
+ghost use Rattle.chess.specs.Sets.{is_in, HoldsExactly};
+ghost use Rattle.chess.specs.Squares.{IsOnBoard};
 ghost use Rattle.chess.specs.declared.board.man.Kind.{Kind};
 ghost use Rattle.chess.specs.declared.board.man.Side.{Side};
 ghost use Rattle.pgn_criteria.specs.Items.{IsOf};
 ghost use Rattle.pgn_criteria.specs.declared.rank.Class.TheVariants.{Not, Other};
 ghost use Rattle.pgn_criteria.specs.Layouts.{IsRest, EachFrom, AllStand, Laid, Lays, KindWithin, NoneOf};
+ghost use Rattle.pgn_criteria.specs.Mirrors.{beside, flipped_men};
 ghost use Rattle.pgn_criteria.specs.Patterns.{CanBeSplit, FitsPattern};
 ghost use Rattle.pgn_criteria.specs.Items.{items_of};
 
@@ -17,6 +20,17 @@ use chess::{Kind, Man, Side, Square, SquareSet};
 use pgn_game::GamePosition;
 use std::alloc::{AllocError, Global};
 
+/// The square on the same rank and as far from the other edge.
+fn square_beside(square: Square) -> Square
+    ensures square { result ≡ beside square }
+    ensures on_board { IsOnBoard square }
+{
+    let Some(other) = Square::new(9 - square.file(), square.rank()) else {
+        return square;
+    };
+    other
+}
+
 /// A square, and what must stand on it.
 #[derive(Drop)]
 pub(crate) struct Asked {
@@ -25,6 +39,18 @@ pub(crate) struct Asked {
 }
 
 impl Asked {
+    /// The same, asked of the square beside.
+    fn beside(&self) -> Self
+        ensures class { result.class ≡ self.now.class }
+        ensures square { result.square ≡ beside self.now.square }
+        ensures on_board { IsOnBoard self.now.square }
+    {
+        Asked {
+            class: self.class,
+            square: square_beside(self.square),
+        }
+    }
+
     /// Whether that stands on the square.
     #[inline(always)]
     fn is_met(&self, position: &GamePosition) -> bool
@@ -58,6 +84,34 @@ fn all_stand(all: &[Asked], position: &GamePosition) -> bool
         }
     }
     true
+}
+
+/// What asks of men whose files are turned what these ask of the men.
+fn all_beside(alloc: Global, all: &[Asked]) -> Result<Vec<Asked>, AllocError>
+    ensures { IfOk result (λ own. (men : Placement) → AllStand men own.items ↔ AllStand (flipped_men men) all.now) }
+{
+    let mut own = Vec::new(alloc);
+    for asked in all {
+        own.push(asked.beside())?;
+    }
+    Ok(own)
+}
+
+/// The squares beside those of the set.
+fn squares_beside(squares: &SquareSet) -> SquareSet
+    ensures { HoldsExactly (λ s. is_in squares.now (beside s) ≡ true) result }
+{
+    let mut turned = SquareSet::new();
+    for rank in 1u8..=8 {
+        for file in 1u8..=8 {
+            if let Some(square) = Square::new(file, rank)
+                && squares.has(square_beside(square))
+            {
+                turned.insert(square);
+            }
+        }
+    }
+    turned
 }
 
 impl Layout {
@@ -251,6 +305,20 @@ impl Layout {
         Ok(false)
     }
 
+    /// What is laid out for men whose files are turned.
+    pub(crate) fn turned(&self, alloc: Global) -> Result<Self, AllocError>
+        ensures { IfOk result (λ own. (men : Placement) → Laid men own ↔ Laid (flipped_men men) self.now) }
+    {
+        let asked = all_beside(alloc, &self.asked)?;
+        let barred = all_beside(alloc, &self.barred)?;
+        let empty = squares_beside(&self.empty);
+        Ok(Layout {
+            asked,
+            barred,
+            empty,
+        })
+    }
+
     /// The squares that men may stand on.
     pub(crate) fn free(&self) -> SquareSet
         ensures { IsRest self.now.empty result }
@@ -279,6 +347,33 @@ impl Layout {
         }
         position.known();
         self.empty.is_empty() || are_within(position, free)
+    }
+}
+
+/// What is laid out, and the squares that men may stand on then.
+#[derive(Drop)]
+pub(crate) struct Look {
+    layout: Layout,
+    free: SquareSet,
+}
+
+impl Look {
+    /// A look at what is laid out.
+    pub(crate) fn new(layout: Layout) -> Self
+        ensures layout { result.layout ≡ layout }
+        ensures free { IsRest result.layout.empty result.free }
+    {
+        let free = layout.free();
+        Look { layout, free }
+    }
+
+    /// Whether the men stand as is laid out.
+    #[inline(always)]
+    pub(crate) fn is_met(&self, position: &GamePosition) -> bool
+        requires { IsRest self.now.layout.empty self.now.free }
+        ensures { IsTrue result ↔ Laid position.now.men self.now.layout }
+    {
+        self.layout.is_met(&self.free, position)
     }
 }
 

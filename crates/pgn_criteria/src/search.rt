@@ -6,7 +6,7 @@ ghost use Rattle.pgn_game.specs.Faults.{IsFault};
 ghost use Rattle.pgn_game.specs.Replays.{Replay, IsSomeReplay, fault_of};
 ghost use Rattle.pgn_game.specs.Starts.{fen_tag};
 ghost use Rattle.pgn_game.specs.declared.replayer.Lines.TheVariants.{Main};
-ghost use Rattle.pgn_criteria.specs.Meeting.{Tags, SomeHold, Meets};
+ghost use Rattle.pgn_criteria.specs.Meeting.{Heading, heading_of, SomeHold, Meets};
 ghost use Rattle.pgn_criteria.specs.Stages.{AllGood, AreLegal, EachAsksWithin};
 
 use crate::alternative::Alternative;
@@ -44,7 +44,7 @@ impl<'a> Search<'a> {
     /// Whether the position meets what is asked: some alternative that is left holds there.
     #[inline(always)]
     pub fn is_met(&self, position: &GamePosition) -> bool
-        ensures { (tags : Tags) (replay : Replay) → IsTrue result ↔ SomeHold tags replay position.now self.now }
+        ensures { (heading : Heading) (replay : Replay) (ply : ℕ) → IsTrue result ↔ SomeHold heading replay ply position.now self.now }
     {
         for alternative in &self.left {
             if alternative.is_met(position) {
@@ -65,8 +65,9 @@ fn left_after<'a>(
 ) -> Result<Search<'a>, AllocError>
     requires good { AllGood alternatives.now }
     requires legal { AreLegal opening.now }
-    ensures kept { IfOk result (λ search. (P : State) → SomeHold (λ name. tag_in name game.now.tags) opening.now P search
-        ↔ SomeHold (λ name. tag_in name game.now.tags) opening.now P alternatives.now) }
+    requires still { (most : ℕ) × EachAsksWithin most alternatives.now }
+    ensures kept { IfOk result (λ search. (ply : ℕ) (P : State) → SomeHold (heading_of game.now) opening.now ply P search
+        ↔ SomeHold (heading_of game.now) opening.now ply P alternatives.now) }
     ensures free { IfOk result (EachAsksWithin 0) }
 {
     let mut left = Vec::new(alloc);
@@ -81,17 +82,17 @@ fn left_after<'a>(
 impl Criteria {
     /// What the criteria ask of the positions of the game, where that does not depend on its moves. It is `None` where an alternative
     /// whose conditions on tags hold has one on the moves.
-    fn watch_tags<'a>(
+    fn watch_heading<'a>(
         &'a self,
         alloc: Global,
         game: &RawGame<'a>,
     ) -> Result<Option<Search<'a>>, AllocError>
         ensures { IfOk result (λ watched. IfSome watched (λ search. (replay : Replay) (ply : ℕ)
-            → Meets (λ name. tag_in name game.now.tags) replay ply search ↔ Meets (λ name. tag_in name game.now.tags) replay ply self.now)) }
+            → Meets (heading_of game.now) replay ply search ↔ Meets (heading_of game.now) replay ply self.now)) }
     {
         let mut left = Vec::new(alloc);
         for alternative in &self.alternatives {
-            if alternative.is_of_tags(game) {
+            if alternative.is_of_heading(game) {
                 if !alternative.is_free_of_moves() {
                     return Ok(None);
                 }
@@ -102,22 +103,26 @@ impl Criteria {
     }
 
     /// What the criteria ask of the positions of the game, by which its plies are found while it is played. Conditions on tags and on the
-    /// moves are decided here, once. No more of the main line is played than conditions on its moves ask for; where it is faulty there,
-    /// the fault is answered.
+    /// first moves are decided here, once. No more of the main line is played than conditions on its moves ask for; where it is faulty
+    /// there, the fault is answered. It is `None` where a condition speaks of the moves at each ply, or of several plies: `met_plies` finds
+    /// the plies then.
     pub fn watch<'a>(
         &'a self,
         alloc: Global,
         game: &RawGame<'a>,
-    ) -> Result<Search<'a>, GameFault<'a>>
+    ) -> Result<Option<Search<'a>>, GameFault<'a>>
         ensures { MatchResult result
-            (λ search. (replay : Replay) → IsSomeReplay (tag_in fen_tag game.now.tags) game.now.elements replay
-            → (ply : ℕ) → Meets (λ name. tag_in name game.now.tags) replay ply search ↔ Meets (λ name. tag_in name game.now.tags) replay ply self.now)
+            (λ watched. IfSome watched (λ search. (replay : Replay) → IsSomeReplay (tag_in fen_tag game.now.tags) game.now.elements replay
+            → (ply : ℕ) → Meets (heading_of game.now) replay ply search ↔ Meets (heading_of game.now) replay ply self.now))
             (λ fault. IfSome (fault_of fault) (IsFault Main (tag_in fen_tag game.now.tags) game.now.elements)) }
     {
-        if let Some(search) = self.watch_tags(alloc, game)? {
-            return Ok(search);
+        if let Some(search) = self.watch_heading(alloc, game)? {
+            return Ok(Some(search));
         }
-        let opening = replay_opening(alloc, game, self.opening)?;
-        Ok(left_after(alloc, &self.alternatives, game, &opening)?)
+        let Some(most) = self.opening else {
+            return Ok(None);
+        };
+        let opening = replay_opening(alloc, game, most)?;
+        Ok(Some(left_after(alloc, &self.alternatives, game, &opening)?))
     }
 }

@@ -36,8 +36,8 @@ fn replayed(alloc: Global, game: &RawGame) -> Result<Replayed, Fail>
     }
 }
 
-/// Whether these plies of the game, and no others, meet the criteria. Each is asked alone, by the criteria and by what they ask of the
-/// positions of this game. Then they are looked for one after the other.
+/// Whether these plies of the game, and no others, meet the criteria. Each is asked alone, by the criteria, by what they ask of the
+/// positions of this game, and at once. Then they are looked for one after the other.
 pub(crate) fn are_met(
     alloc: Global,
     criteria: &[u8],
@@ -47,15 +47,21 @@ pub(crate) fn are_met(
     let criteria = read(alloc, criteria)?;
     let game = first_game(alloc, block)?;
     let replayed = replayed(alloc, &game)?;
-    let Ok(search) = criteria.watch(alloc, &game) else {
+    let Ok(watched) = criteria.watch(alloc, &game) else {
         return Ok(false);
     };
+    let met = criteria.met_plies(alloc, &game, &replayed)?;
     let mut min = 0u32;
     for ply in 0..=replayed.plies() {
         if criteria.meets(&game, &replayed, ply) != plies.contains(&ply) {
             return Ok(false);
         }
-        if search.is_met(replayed.position(ply)) != plies.contains(&ply) {
+        if met.get(ply) != Some(&plies.contains(&ply)) {
+            return Ok(false);
+        }
+        if let Some(search) = &watched
+            && search.is_met(replayed.position(ply)) != plies.contains(&ply)
+        {
             return Ok(false);
         }
     }
@@ -92,6 +98,138 @@ const PINNED: &[u8] = b"[FEN \"4k3/8/8/8/1b6/2N5/8/4K1N1 w - - 0 1\"]\n\n1. Nge2
 
 const ENDING: &[u8] =
     b"[Round \"9\"]\n[White \"O\\\"Neil\"]\n[FEN \"4k3/4p3/8/8/8/8/4P3/4K3 w - - 0 1\"]\n\n1. e4 *";
+
+/// Games whose moves are asked for, with castling to each side, a capture en passant and a promotion.
+const CASTLED: &[u8] = b"1. e4 e5 2. Nf3 Nc6 3. Bb5 a6 4. O-O Nf6 5. Bxc6 dxc6 1/2-1/2";
+
+const UNDERPROMOTED: &[u8] =
+    b"[FEN \"1n2k3/P7/8/8/8/8/8/4K3 w - - 0 1\"]\n\n1. axb8=N Ke7 2. Nc6+ 1-0";
+
+const CASTLED_LONG: &[u8] = b"1. d4 d5 2. Nc3 Nf6 3. Bf4 Bf5 4. Qd2 e6 5. O-O-O Nc6 *";
+
+const PASSED: &[u8] = b"1. e4 a6 2. e5 d5 3. exd6 cxd6 *";
+
+#[test]
+fn moves_hold_at_the_plies_about_them(rt: HostRuntime) -> Result<(), Fail> {
+    let alloc = rt.alloc();
+    let rows: [(&[u8], &[u8], &[usize]); 42] = [
+        (b"next e4", CASTLED, &[0]),
+        (b"played e4", CASTLED, &[1]),
+        (b"next *", CASTLED, &[0, 1, 2, 3, 4, 5, 6, 7, 8, 9]),
+        (b"played *", CASTLED, &[1, 2, 3, 4, 5, 6, 7, 8, 9, 10]),
+        (b"not next *", CASTLED, &[10]),
+        (b"not played *", CASTLED, &[0]),
+        (b"next *x*", CASTLED, &[8, 9]),
+        (b"next *xc6", CASTLED, &[8, 9]),
+        (b"next Bxc6", CASTLED, &[8]),
+        (b"next B*", CASTLED, &[4, 8]),
+        (b"next *6", CASTLED, &[3, 5, 7, 8, 9]),
+        (b"next O-O", CASTLED, &[6]),
+        (b"next O-O*", CASTLED, &[6]),
+        (b"next O", CASTLED, &[]),
+        (b"next O-O-O", CASTLED, &[]),
+        (b"next *******", CASTLED, &[0, 1, 2, 3, 4, 5, 6, 7, 8, 9]),
+        (b"next N*\nturn black", CASTLED, &[3, 7]),
+        (b"next Nf3\nplayed e5", CASTLED, &[2]),
+        (b"next Nf3\nplayed e4", CASTLED, &[]),
+        (b"next O-O\nor\nplayed dxc6", CASTLED, &[6, 10]),
+        (b"moves e4\nnext Bb5", CASTLED, &[4]),
+        (b"moves d4\nnext Bb5", CASTLED, &[]),
+        (b"result 1/2-1/2\nnext Bb5", CASTLED, &[4]),
+        (b"result 1-0\nnext Bb5", CASTLED, &[]),
+        (b"next O-O-O", CASTLED_LONG, &[8]),
+        (b"next O-O*", CASTLED_LONG, &[8]),
+        (b"next O-O", CASTLED_LONG, &[]),
+        (b"played *O", CASTLED_LONG, &[9]),
+        (b"next Q*2", CASTLED_LONG, &[6]),
+        (b"next *4", CASTLED_LONG, &[0, 4]),
+        (b"next d*", CASTLED_LONG, &[0, 1]),
+        (b"next e*", CASTLED_LONG, &[7]),
+        (b"next exd6", PASSED, &[4]),
+        (b"next *x*", PASSED, &[4, 5]),
+        (b"played e*", PASSED, &[1, 3, 5]),
+        (b"next *=N", UNDERPROMOTED, &[0]),
+        (b"next *=*", UNDERPROMOTED, &[0]),
+        (b"next *=Q", UNDERPROMOTED, &[]),
+        (b"next axb8=N", UNDERPROMOTED, &[0]),
+        (b"played Nc6", UNDERPROMOTED, &[3]),
+        (b"played Nc6\ncheck", UNDERPROMOTED, &[3]),
+        (b"either material KP v KN\nnext a*", UNDERPROMOTED, &[0]),
+    ];
+    for (criteria, block, plies) in rows {
+        if !are_met(alloc, criteria, block, plies)? {
+            Err("other plies meet the criteria")?;
+        }
+    }
+    Ok(())
+}
+
+#[test]
+fn results_hold_of_a_whole_game(rt: HostRuntime) -> Result<(), Fail> {
+    let alloc = rt.alloc();
+    let rows: [(&[u8], &[u8], &[usize]); 8] = [
+        (b"result *", SHORT, &[0, 1, 2]),
+        (b"result 1-0", SHORT, &[]),
+        (b"not result 1-0", SHORT, &[0, 1, 2]),
+        (b"not result *", SHORT, &[]),
+        (b"result 1-0\nmate", MATE, &[7]),
+        (b"result 0-1\nmate", MATE, &[]),
+        (
+            b"result 0-1\nor\nresult 1-0\nturn black",
+            b"[Result \"0-1\"]\n\n1. e4 e5 1-0",
+            &[1],
+        ),
+        (
+            b"tag Result = \"0-1\"\nresult 1-0",
+            b"[Result \"0-1\"]\n\n1. e4 e5 1-0",
+            &[0, 1, 2],
+        ),
+    ];
+    for (criteria, block, plies) in rows {
+        if !are_met(alloc, criteria, block, plies)? {
+            Err("other plies meet the criteria")?;
+        }
+    }
+    Ok(())
+}
+
+/// Whether the plies of the game that meet the criteria are found while it is played, with no position kept.
+fn are_watched(alloc: Global, criteria: &[u8], block: &[u8]) -> Result<bool, Fail> {
+    let criteria = read(alloc, criteria)?;
+    let game = first_game(alloc, block)?;
+    match criteria.watch(alloc, &game) {
+        Ok(watched) => Ok(watched.is_some()),
+        Err(_) => Err("the game is faulty")?,
+    }
+}
+
+#[test]
+fn a_game_is_kept_only_for_single_moves_and_several_plies(rt: HostRuntime) -> Result<(), Fail> {
+    let alloc = rt.alloc();
+    let rows: [(&[u8], bool); 15] = [
+        (b"", true),
+        (b"turn white", true),
+        (b"either fen */*/*/*/*/*/*/*", true),
+        (b"mate\nor\ncheck", true),
+        (b"moves e4 *", true),
+        (b"not plies < 9\nturn black", true),
+        (b"result *", true),
+        (b"tag White = \"x\"", true),
+        (b"next e4", false),
+        (b"not played e4", false),
+        (b"turn white\nfor 2", false),
+        (b"count > 1", false),
+        (b"turn white\nor\nnext e4", false),
+        (b"result 1-0\nnext e4", true),
+        (b"tag White = \"x\"\ncount > 1", true),
+    ];
+    for (criteria, expected) in rows {
+        if are_watched(alloc, criteria, SHORT)? != expected {
+            Err("a game is kept that need not be, or is not kept that has to be")?;
+        }
+    }
+    Ok(())
+}
 
 #[test]
 fn turns_checks_and_material_hold_at_their_plies(rt: HostRuntime) -> Result<(), Fail> {
@@ -390,10 +528,95 @@ fn plies_hold_of_a_whole_game(rt: HostRuntime) -> Result<(), Fail> {
     Ok(())
 }
 
+/// Criteria with `for` and `count`, a game and the plies of its positions that meet them.
+const SPANS: [(&[u8], &[u8], &[usize]); 53] = [
+    (b"for 1", SHORT, &[0, 1, 2]),
+    (b"for 2", SHORT, &[0, 1]),
+    (b"for 3", SHORT, &[0]),
+    (b"for 4", SHORT, &[]),
+    (b"for 9999", SHORT, &[]),
+    (b"for 2\nfor 3", SHORT, &[0]),
+    (b"for 3\nfor 2", SHORT, &[0]),
+    (b"turn white\nfor 1", SHORT, &[0, 2]),
+    (b"for 2\nturn white", SHORT, &[]),
+    (b"count = 3", SHORT, &[0, 1, 2]),
+    (b"count = 2", SHORT, &[]),
+    (b"count <> 3", SHORT, &[]),
+    (b"turn white\ncount = 2", SHORT, &[0, 2]),
+    (b"turn white\ncount <> 2", SHORT, &[]),
+    (b"count < 2\nturn black", SHORT, &[1]),
+    (b"turn black\ncount <= 0", SHORT, &[]),
+    (b"turn white\ncount > 1\ncount < 3", SHORT, &[0, 2]),
+    (b"turn white\ncount > 1\ncount < 2", SHORT, &[]),
+    (b"turn white\ncount >= 3", SHORT, &[]),
+    (b"turn white\ncount <= 2", SHORT, &[0, 2]),
+    (b"check\ncount = 0", SHORT, &[]),
+    (b"check\ncount = 1", MATE, &[7]),
+    (b"not check\nfor 7", MATE, &[0]),
+    (b"not check\nfor 8", MATE, &[]),
+    (
+        b"material KQR2B2N2P8 v KQR2B2N2P8\nfor 7",
+        CASTLED,
+        &[0, 1, 2],
+    ),
+    (b"material KQR2B2N2P8 v KQR2B2N2P8\nfor 9", CASTLED, &[0]),
+    (b"material KQR2B2N2P8 v KQR2B2N2P8\nfor 10", CASTLED, &[]),
+    (
+        b"material KQR2B2N2P8 v KQR2B2N2P8\ncount = 9\nfor 8",
+        CASTLED,
+        &[0, 1],
+    ),
+    (
+        b"material KQR2B2N2P8 v KQR2B2N2P8\ncount = 8\nfor 8",
+        CASTLED,
+        &[],
+    ),
+    (b"fen */*/*/*/*/*/*/*RK1\nfor 3", CASTLED, &[7, 8]),
+    (b"fen */*/*/*/*/*/*/*RK1\nfor 4", CASTLED, &[7]),
+    (b"fen */*/*/*/*/*/*/*RK1\nfor 5", CASTLED, &[]),
+    (b"not fen */*/*/*/*/*/*/*RK1\nfor 7", CASTLED, &[0]),
+    (b"next N*\nfor 1", CASTLED, &[2, 3, 7]),
+    (b"next N*\nfor 2", CASTLED, &[2]),
+    (b"next N*\nfor 3", CASTLED, &[]),
+    (b"next N*\ncount = 3", CASTLED, &[2, 3, 7]),
+    (b"count = 3\nnext N*\nfor 2", CASTLED, &[2]),
+    (b"next N*\nplayed e5\ncount = 1", CASTLED, &[2]),
+    (b"next *\nfor 10", CASTLED, &[0]),
+    (b"next N*\nfor 2\nor\nplayed dxc6", CASTLED, &[2, 10]),
+    (b"turn white\nfor 2\nor\nturn black", SHORT, &[1]),
+    (b"or\nfor 3", SHORT, &[0, 1, 2]),
+    (b"for 3\nor\nturn black\ncount = 1", SHORT, &[0, 1]),
+    (b"tag White = \"x\"\nfor 1", SHORT, &[]),
+    (b"tag Round = \"9\"\nfor 2", ENDING, &[0]),
+    (b"moves e4\nfor 3", SHORT, &[0]),
+    (b"moves d4\ncount = 0", SHORT, &[]),
+    (b"result 1-0\ncount = 3", SHORT, &[]),
+    (b"not moves d4\ncount = 3", SHORT, &[0, 1, 2]),
+    (
+        b"either turn white\ncount = 4",
+        UNDERPROMOTED,
+        &[0, 1, 2, 3],
+    ),
+    (b"material KN v K\nfor 3", UNDERPROMOTED, &[1]),
+    (b"either material K v KN\nfor 2", UNDERPROMOTED, &[1, 2]),
+];
+
+#[test]
+fn spans_hold_of_the_plies_about_them(rt: HostRuntime) -> Result<(), Fail> {
+    let alloc = rt.alloc();
+    for &(criteria, block, plies) in &SPANS {
+        assert!(rt;
+            are_met(alloc, criteria, block, plies)?,
+            "{criteria:?} in {block:?}"
+        );
+    }
+    Ok(())
+}
+
 #[test]
 fn the_first_stands_within_its_bounds(rt: HostRuntime) -> Result<(), Fail> {
     let alloc = rt.alloc();
-    let rows: [(&[u8], u32, u32, Option<usize>); 13] = [
+    let rows: [(&[u8], u32, u32, Option<usize>); 19] = [
         (b"", 0, 9, Some(0)),
         (b"", 1, 9, Some(1)),
         (b"", 2, 1, None),
@@ -407,6 +630,12 @@ fn the_first_stands_within_its_bounds(rt: HostRuntime) -> Result<(), Fail> {
         (b"mate\nor\nturn black", 2, 9, None),
         (b"turn black\nor\nturn white", 1, 1, Some(1)),
         (b"moves d4\nor\nturn white", 1, 2, Some(2)),
+        (b"for 2", 0, 0, Some(0)),
+        (b"for 2", 1, 1, Some(1)),
+        (b"for 2", 2, 9, None),
+        (b"turn white\ncount = 2", 1, 9, Some(2)),
+        (b"turn white\ncount = 1", 1, 9, None),
+        (b"for 3\nor\nturn black", 1, 9, Some(1)),
     ];
     for (criteria, min, max, expected) in rows {
         assert_eq!(rt;

@@ -6,14 +6,14 @@ use Rattle.pgn_game.specs.MainLines.{main_words}
 use Rattle.pgn_game.specs.Replays.{Replay, IsReplay}
 use Rattle.pgn_game.specs.Starts.{fen_tag}
 use Rattle.pgn_game.proofs.OneReplay.{line_length}
-use Rattle.pgn_criteria.specs.Meeting.{Tags}
+use Rattle.pgn_criteria.specs.Meeting.{heading_of, Heading}
 use Rattle.pgn_criteria.specs.declared.condition.Condition.{Condition}
 use Rattle.pgn_extract.specs.Aims.{Aim, IsMet}
 use Rattle.pgn_extract.specs.Blockwise.{IsGameWritten, IsGivenText, TakesAll}
 use Rattle.pgn_extract.specs.Exports.{HasEntry, IsSelected, written_lines}
 
 -- ply 0 is an entry
-first_is_entry : (aim : Aim) (tags : Tags) (replay : Replay) → TakesAll aim → 0 < length replay.positions → HasEntry aim tags replay
+first_is_entry : (aim : Aim) (tags : Heading) (replay : Replay) → TakesAll aim → 0 < length replay.positions → HasEntry aim tags replay
 first_is_entry aim tags replay all some =
     let met = subst (λ (criteria : Option (List (List (Condition (List ℕ))))). IsMet criteria tags replay 0) (sym all.criteria) (record {}) in (
       0,
@@ -25,7 +25,7 @@ pub all_written : (aim : Aim) (number offset : ℕ) (game : GameText) (replay : 
     → IsReplay (written_lines aim) (tag_in fen_tag game.tags) game.elements replay → IsGivenText aim.form aim number offset game text
     → IsGameWritten aim number offset game replay text
 all_written aim number offset game replay text all is given =
-    let tags = λ (name : List ℕ). tag_in name game.tags in
+    let tags = heading_of game in
     let count : length replay.positions ≡ length replay.played + 1 = line_length is.start (main_words game.elements 0) replay.positions replay.played is.line in
     let some : 0 < length replay.positions = omega (arith, count) in
     inl (subst (λ select. IsSelected select (HasEntry aim tags replay)) (sym all.select) (first_is_entry aim tags replay all some), given)

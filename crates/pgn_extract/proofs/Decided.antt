@@ -8,12 +8,12 @@ use Rattle.pgn_game.specs.declared.replayer.Lines.{Lines}
 use Rattle.pgn_criteria.specs.declared.condition.Condition.{Condition}
 use Rattle.pgn_criteria.proofs.MeetSettled.{each_position_meets}
 use Rattle.pgn_extract.specs.Aims.{Aim, IsMet}
-use Rattle.pgn_extract.specs.Listing.{tags_in}
+use Rattle.pgn_extract.specs.Listing.{heading_in}
 use Rattle.pgn_extract.specs.GameReports.{IsReplayOf}
 
 -- the position is decided
 abbrev pub IsDecidedAt : Option (List (List (Condition (List ℕ)))) → List Part → Replay → ℕ → Type 0
-IsDecidedAt criteria parts replay ply = IsMet criteria (tags_in parts) replay ply ⊎ (IsMet criteria (tags_in parts) replay ply → ⊥)
+IsDecidedAt criteria parts replay ply = IsMet criteria (heading_in parts) replay ply ⊎ (IsMet criteria (heading_in parts) replay ply → ⊥)
 
 abbrev pub IsDecided : Aim → Type 0
 IsDecided aim =
@@ -23,7 +23,7 @@ IsDecided aim =
 decided_at : (criteria : Option (List (List (Condition (List ℕ))))) (lines : Lines) (parts : List Part) (replay : Replay) → IsReplayOf lines parts replay → (ply : ℕ)
     → IsDecidedAt criteria parts replay ply
 decided_at None lines parts replay is ply = inl tt
-decided_at (Some criteria) lines parts replay is ply = each_position_meets lines (first_tag fen_tag parts) (items_of parts) replay is (tags_in parts) criteria ply
+decided_at (Some criteria) lines parts replay is ply = each_position_meets lines (first_tag fen_tag parts) (items_of parts) replay is (heading_in parts) criteria ply
 
 pub all_decided : (aim : Aim) → IsDecided aim
 all_decided aim lines parts replay is ply less = decided_at aim.criteria lines parts replay is ply

@@ -3,7 +3,7 @@ use Rattle.std.proofs.Common.{◌≡◌, ◌↔◌, ℕ, zero, suc, ◌+◌, ◌
 use Rattle.std.proofs.lemmas.Bool.{cases_lt}
 use Rattle.chess.specs.Positions.{State}
 use Rattle.pgn_game.specs.Replays.{Replay}
-use Rattle.pgn_criteria.specs.Meeting.{Tags}
+use Rattle.pgn_criteria.specs.Meeting.{Heading}
 use Rattle.pgn_criteria.specs.declared.condition.Condition.{Condition}
 use Rattle.pgn_extract.specs.Aims.{Aim, IsMet, IsEntry}
 use Rattle.pgn_extract.specs.Blockwise.{IsPlainEntry}
@@ -61,7 +61,7 @@ module _ (number offset : ℕ) (P : ℕ → Type 0) (S : ℕ → List ℕ → Ty
       ]
 
 -- without criteria a ply of the main line is an entry by the bounds alone
-plain_entry : (aim : Aim) → aim.criteria ≡ None → (tags : Tags) (replay : Replay) (plies n : ℕ) → n ≤ plies → IsEntry aim tags replay n ↔ IsPlainEntry aim plies n
+plain_entry : (aim : Aim) → aim.criteria ≡ None → (tags : Heading) (replay : Replay) (plies n : ℕ) → n ≤ plies → IsEntry aim tags replay n ↔ IsPlainEntry aim plies n
 plain_entry aim no_criteria tags replay plies n within = (to, from)
   where
     met : (ply : ℕ) → IsMet aim.criteria tags replay ply
@@ -85,7 +85,7 @@ plain_entry aim no_criteria tags replay plies n within = (to, from)
 
 -- so the entries are the plies from the least one on
 pub listed_plies : (aim : Aim) (number offset plies end : ℕ) → aim.criteria ≡ None → is_plain aim.fields ≡ true
-    → ((ply : ℕ) → IsPlainEntry aim plies ply ↔ (aim.min_ply ≤ ply) × (ply < end)) → (tags : Tags) (replay : Replay) → length replay.positions ≡ plies + 1
+    → ((ply : ℕ) → IsPlainEntry aim plies ply ↔ (aim.min_ply ≤ ply) × (ply < end)) → (tags : Heading) (replay : Replay) → length replay.positions ≡ plies + 1
     → AreListed aim number offset tags replay (plies_from number offset aim.min_ply (end - aim.min_ply))
 listed_plies aim number offset plies end no_criteria plain range tags replay size =
     between number offset (IsEntry aim tags replay) (AreFields aim.fields replay) (no_fields aim.fields plain replay) aim.min_ply end replay.positions

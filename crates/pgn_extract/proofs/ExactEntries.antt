@@ -14,7 +14,7 @@ use Rattle.pgn_game.specs.Starts.{fen_tag}
 use Rattle.pgn_extract.specs.Aims.{Aim, IsEntry}
 use Rattle.pgn_extract.proofs.Chosen.{entry_at, none_in, in_front, Rise, IsPicked, chosen_from, chosen_all, chosen_ascend}
 use Rattle.pgn_extract.proofs.FieldTexts.{one_text}
-use Rattle.pgn_extract.specs.Listing.{Entry, AreFields, tags_in, IsPlyOfGame, IsEarlier, Ascend, AreEntries}
+use Rattle.pgn_extract.specs.Listing.{Entry, AreFields, heading_in, IsPlyOfGame, IsEarlier, Ascend, AreEntries}
 use Rattle.pgn_extract.specs.GameReports.{plies_of, IsReplayOf}
 use Rattle.pgn_extract.specs.EntryRows.{AreGameEntries, sound, faulty, ArePieceEntries, AreEntryRows}
 
@@ -49,13 +49,13 @@ has_ply ply (position ∷ more) at low high =
 -- what an entry of a game with a replay is
 abbrev pub IsOfGame : Aim → ℕ → ℕ → List Part → Replay → Entry → Type 0
 IsOfGame aim number offset parts replay entry =
-    IsPicked number offset (IsEntry aim (tags_in parts) replay) (AreFields aim.fields replay) (plies_of 0 replay.positions) entry
+    IsPicked number offset (IsEntry aim (heading_in parts) replay) (AreFields aim.fields replay) (plies_of 0 replay.positions) entry
 
 -- the entries of a piece are those of one game
 own_ply : (aim : Aim) (kind : PieceKind) (number offset : ℕ) (own : List Entry) → ArePieceEntries aim kind number offset own → (entry : Entry) → Contains own entry
     → (parts : List Part) × (replay : Replay) × (kind ≡ ReadableGame parts) × IsReplayOf Main parts replay × IsOfGame aim number offset parts replay entry
 own_ply aim (ReadableGame parts) number offset own (sound replay is these) entry has =
-    let of = chosen_from number offset (IsEntry aim (tags_in parts) replay) (AreFields aim.fields replay) (plies_of 0 replay.positions) own these entry has in
+    let of = chosen_from number offset (IsEntry aim (heading_in parts) replay) (AreFields aim.fields replay) (plies_of 0 replay.positions) own these entry has in
     (parts, replay, refl, is, of)
 own_ply aim (ReadableGame parts) number offset own (faulty fault is none) entry has = absurd (none_in entry (subst (λ e. Contains e entry) none has))
 own_ply aim (UnreadableRest bytes) number offset own none entry has = absurd (none_in entry (subst (λ e. Contains e entry) none has))
@@ -64,15 +64,15 @@ own_ply aim TooLongBlock number offset own none entry has = absurd (none_in entr
 -- and all of them, where it is sound
 own_has : (aim : Aim) (number offset : ℕ) (parts : List Part) (own : List Entry) → AreGameEntries aim number offset parts own
     → (replay : Replay) → IsReplayOf Main parts replay → (entry : Entry) → entry ≡ entry_at number offset entry.ply entry.shown
-    → entry.ply < length replay.positions → IsEntry aim (tags_in parts) replay entry.ply → AreFields aim.fields replay entry.ply entry.shown → Contains own entry
+    → entry.ply < length replay.positions → IsEntry aim (heading_in parts) replay entry.ply → AreFields aim.fields replay entry.ply entry.shown → Contains own entry
 own_has aim number offset parts own (sound first is these) replay also entry marked less listed shows =
     let same : replay ≡ first = sym (one_replay Main (first_tag fen_tag parts) (items_of parts) first replay is also) in
     let here : entry.ply < length first.positions = subst (λ (r : Replay). entry.ply < length r.positions) same less in
-    chosen_all number offset (IsEntry aim (tags_in parts) first) (AreFields aim.fields first) (one_text aim.fields first) (plies_of 0 first.positions) own these entry
+    chosen_all number offset (IsEntry aim (heading_in parts) first) (AreFields aim.fields first) (one_text aim.fields first) (plies_of 0 first.positions) own these entry
     (record {
       is = marked;
       among = has_ply 0 first.positions entry.ply (omega arith) (omega arith);
-      fact = subst (λ (r : Replay). IsEntry aim (tags_in parts) r entry.ply) same listed;
+      fact = subst (λ (r : Replay). IsEntry aim (heading_in parts) r entry.ply) same listed;
       shows = subst (λ (r : Replay). AreFields aim.fields r entry.ply entry.shown) same shows;
     })
 own_has aim number offset parts own (faulty fault is none) replay also entry marked less listed shows =
@@ -154,7 +154,7 @@ ascend-append (x ∷ xs) ys before behind cross = (
 -- the entries of a piece are in order
 ascend_own : (aim : Aim) (kind : PieceKind) (number offset : ℕ) (own : List Entry) → ArePieceEntries aim kind number offset own → Ascend own
 ascend_own aim (ReadableGame parts) number offset own (sound replay is these) =
-    chosen_ascend number offset (IsEntry aim (tags_in parts) replay) (AreFields aim.fields replay) (plies_of 0 replay.positions) own these (plies_rise 0 replay.positions)
+    chosen_ascend number offset (IsEntry aim (heading_in parts) replay) (AreFields aim.fields replay) (plies_of 0 replay.positions) own these (plies_rise 0 replay.positions)
 ascend_own aim (ReadableGame parts) number offset own (faulty fault is none) = subst Ascend (sym none) tt
 ascend_own aim (UnreadableRest bytes) number offset own none = subst Ascend (sym none) tt
 ascend_own aim TooLongBlock number offset own none = subst Ascend (sym none) tt

@@ -3,13 +3,13 @@ use Rattle.std.proofs.Common.{◌≡◌, ◌↔◌, ◌⊎◌, ℕ, ◌<◌, Boo
 use Rattle.std.proofs.lemmas.Bool.{false≢true}
 use Rattle.std.specs.Prelude.{is_some, not}
 use Rattle.pgn_game.specs.Replays.{Replay}
-use Rattle.pgn_criteria.specs.Meeting.{Tags, IsFirst}
+use Rattle.pgn_criteria.specs.Meeting.{Heading, IsFirst}
 use Rattle.pgn_extract.specs.Aims.{Aim, IsMet}
 use Rattle.pgn_extract.specs.Exports.{HasEntry, IsSelected}
 use Rattle.pgn_extract.specs.declared.settings.Select.{Select}
 use Rattle.pgn_extract.specs.declared.settings.Select.TheVariants.{Matching, Others, Faulty}
 
-module _ (aim : Aim) (tags : Tags) (replay : Replay) where
+module _ (aim : Aim) (tags : Heading) (replay : Replay) where
   -- a ply of the main line whose position meets the criteria
   abbrev IsMetPly : ℕ → Type 0
   IsMetPly ply = (ply < length replay.positions) × IsMet aim.criteria tags replay ply

@@ -7,7 +7,7 @@ use Rattle.pgn_extract.specs.Aims.{Aim, IsWanted}
 use Rattle.pgn_extract.specs.Exports.{AreExports, HasEntry, IsGameExport, IsPieceExport, IsTextOf, IsWritten, faulty, sound, selected, unselected, written_lines}
 use Rattle.pgn_extract.specs.GameReports.{IsReplayOf}
 use Rattle.pgn_extract.specs.Laws.{FirstChangesNoExport, with_first}
-use Rattle.pgn_extract.specs.Listing.{tags_in}
+use Rattle.pgn_extract.specs.Listing.{heading_in}
 use Rattle.pgn_extract.specs.declared.settings.Form.{Form}
 use Rattle.pgn_extract.specs.declared.settings.Form.TheVariants.{Standard, AsItStands, Line}
 use Rattle.pgn_extract.proofs.Decided.{all_decided}
@@ -23,19 +23,19 @@ text_of_any aim number offset parts text (Line notation) first other own = own
 
 module _ (aim : Aim) (number offset : ℕ) (parts : List Part) (replay : Replay) (is : IsReplayOf (written_lines aim) parts replay) where
   -- of the plies up to one that is wanted there is a first
-  first_wanted : (fuel ply : ℕ) → ply < fuel → ply < length replay.positions → IsWanted aim (tags_in parts) replay ply
-      → HasEntry (with_first true aim) (tags_in parts) replay
+  first_wanted : (fuel ply : ℕ) → ply < fuel → ply < length replay.positions → IsWanted aim (heading_in parts) replay ply
+      → HasEntry (with_first true aim) (heading_in parts) replay
   first_wanted zero ply within less wanted = absurd (omega arith)
   first_wanted (suc fuel) ply within less wanted =
-      elim (none_before aim (tags_in parts) replay ply (λ n below. all_decided aim (written_lines aim) parts replay is n (omega arith))) [
+      elim (none_before aim (heading_in parts) replay ply (λ n below. all_decided aim (written_lines aim) parts replay is n (omega arith))) [
         | inl none ↦ (ply, less, (wanted, λ only before earlier holds. none before earlier holds))
         | inr (n, below, earlier) ↦ first_wanted fuel n (omega arith) (omega arith) earlier
       ]
 
-  some_first : HasEntry (with_first false aim) (tags_in parts) replay → HasEntry (with_first true aim) (tags_in parts) replay
+  some_first : HasEntry (with_first false aim) (heading_in parts) replay → HasEntry (with_first true aim) (heading_in parts) replay
   some_first (ply, less, entry) = first_wanted (ply + 1) ply (omega arith) less entry.0
 
-  first_of_all : HasEntry (with_first true aim) (tags_in parts) replay → HasEntry (with_first false aim) (tags_in parts) replay
+  first_of_all : HasEntry (with_first true aim) (heading_in parts) replay → HasEntry (with_first false aim) (heading_in parts) replay
   first_of_all (ply, less, entry) = (ply, less, (entry.0, λ only. absurd (cc)))
 
   written_all : (text : List ℕ) → IsWritten (with_first true aim) number offset parts replay text → IsWritten (with_first false aim) number offset parts replay text

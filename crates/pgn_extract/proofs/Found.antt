@@ -17,11 +17,11 @@ use Rattle.pgn_game.specs.Replays.{Replay, IsReplay, IsSomeReplay}
 use Rattle.pgn_game.specs.Starts.{fen_tag}
 use Rattle.pgn_game.specs.declared.replayer.Lines.TheVariants.{Main}
 use Rattle.pgn_game.proofs.OneReplay.{one_move, one_start}
-use Rattle.pgn_criteria.specs.Meeting.{Tags, SomeHold}
+use Rattle.pgn_criteria.specs.Meeting.{heading_of, Heading, SomeHold}
 use Rattle.pgn_criteria.specs.declared.condition.Condition.{Condition}
 use Rattle.pgn_criteria.proofs.MeetFacts.{meets_at}
 use Rattle.pgn_extract.specs.Aims.{Aim, IsWanted, IsEntry}
-use Rattle.pgn_extract.specs.Finding.{AsksFor, IsOfGame, StopsAtFault, StopsInLine, GoesOnWith, IsPlayedTo, Finds, ShowsPosition, ShowsNext, ShowsHere, tags_of}
+use Rattle.pgn_extract.specs.Finding.{AsksFor, IsOfGame, StopsAtFault, StopsInLine, GoesOnWith, IsPlayedTo, Finds, ShowsPosition, ShowsNext, ShowsHere}
 use Rattle.pgn_extract.specs.GameReports.{plies_of, AreChosen, AreListed}
 use Rattle.pgn_extract.specs.GameReports.AreChosen.{none, keep, leave}
 use Rattle.pgn_extract.specs.Listing.{Entry, IsFenField, IsNextMove, IsNextField, AreFields, entry_line, listing}
@@ -105,20 +105,20 @@ finds_none aim number offset game asked text on asks off = record {
   found = [];
   written = sym (append-nil text);
   completes = λ replay own rest is later chosen.
-      subst (λ ps. AreChosen number offset (IsEntry aim (tags_of game) replay) (AreFields aim.fields replay) (plies_of 0 ps) later) (sym is) chosen;
+      subst (λ ps. AreChosen number offset (IsEntry aim (heading_of game) replay) (AreFields aim.fields replay) (plies_of 0 ps) later) (sym is) chosen;
   quiet = λ is first replay own rest at n less. absurd (omega arith);
-  shut = λ is replay own rest at n low within entry. let met = (asks replay own n within).1 entry.0.2 in no_met replay met.position asked (off is) met.hold;
+  shut = λ is replay own rest at n low within entry. let met = (asks replay own n within).1 entry.0.2 in no_met replay n met.position asked (off is) met.hold;
 }
   where
-    no_met : (replay : Replay) (P : State) (asked : List (List (Condition (List ℕ)))) → length asked ≡ 0 → SomeHold (tags_of game) replay P asked → ⊥
-    no_met replay P [] empty hold = hold
-    no_met replay P (first ∷ more) empty hold = absurd (omega arith)
+    no_met : (replay : Replay) (ply : ℕ) (P : State) (asked : List (List (Condition (List ℕ)))) → length asked ≡ 0 → SomeHold (heading_of game) replay ply P asked → ⊥
+    no_met replay ply P [] empty hold = hold
+    no_met replay ply P (first ∷ more) empty hold = absurd (omega arith)
 
 -- all are asked
 pub finds_all : {aim : Aim} {number offset : ℕ} {game : GameText} {asked : List State} {old new : List ℕ} {on : Bool} (all : Finds aim number offset game asked old new on)
-    (replay : Replay) → IsOfGame game replay → replay.positions ≡ asked → AreListed aim number offset (tags_of game) replay all.found
+    (replay : Replay) → IsOfGame game replay → replay.positions ≡ asked → AreListed aim number offset (heading_of game) replay all.found
 finds_all {aim} {number} {offset} {game} {asked} all replay own is =
-    subst (AreListed aim number offset (tags_of game) replay) (append-nil all.found) (all.completes replay own [] (is ∙ sym (append-nil asked)) [] none)
+    subst (AreListed aim number offset (heading_of game) replay) (append-nil all.found) (all.completes replay own [] (is ∙ sym (append-nil asked)) [] none)
 
 pub at_seam : (before : List State) (P : State) (rest : List State) → slice_get (before ++ P ∷ rest) (length before) ≡ Some P
 at_seam [] P rest = refl
@@ -141,11 +141,11 @@ module _ {aim : Aim} {number offset : ℕ} {game : GameText} {before : List Stat
   grown = length-append before (P ∷ [])
 
   leaves_one : (still : Bool)
-      → ((replay : Replay) → IsOfGame game replay → (rest : List State) → replay.positions ≡ before ++ P ∷ rest → IsEntry aim (tags_of game) replay (length before) → ⊥)
+      → ((replay : Replay) → IsOfGame game replay → (rest : List State) → replay.positions ≡ before ++ P ∷ rest → IsEntry aim (heading_of game) replay (length before) → ⊥)
       → (still ≡ true → aim.first ≡ true → (replay : Replay) → IsOfGame game replay → (rest : List State) → replay.positions ≡ before ++ P ∷ rest
-      → (n : ℕ) → n < length before + 1 → IsWanted aim (tags_of game) replay n → ⊥)
+      → (n : ℕ) → n < length before + 1 → IsWanted aim (heading_of game) replay n → ⊥)
       → (still ≡ false → (replay : Replay) → IsOfGame game replay → (rest : List State) → replay.positions ≡ before ++ P ∷ rest
-      → (n : ℕ) → length before + 1 ≤ n → n < length replay.positions → IsEntry aim (tags_of game) replay n → ⊥)
+      → (n : ℕ) → length before + 1 ≤ n → n < length replay.positions → IsEntry aim (heading_of game) replay n → ⊥)
       → Finds aim number offset game (before ++ P ∷ []) old new still
   leaves_one still fails quiet shut = record {
     found = so_far.found;
@@ -153,7 +153,7 @@ module _ {aim : Aim} {number offset : ℕ} {game : GameText} {before : List Stat
     completes = λ replay own rest is later chosen.
         so_far.completes replay own (P ∷ rest) (behind replay rest is) later
         (leave (length before) (plies_of (length before + 1) rest) later (fails replay own rest (behind replay rest is))
-        (subst (λ n. AreChosen number offset (IsEntry aim (tags_of game) replay) (AreFields aim.fields replay) (plies_of n rest) later) grown chosen));
+        (subst (λ n. AreChosen number offset (IsEntry aim (heading_of game) replay) (AreFields aim.fields replay) (plies_of n rest) later) grown chosen));
     quiet = λ is first replay own rest at n less. quiet is first replay own rest (behind replay rest at) n (subst (λ k. n < k) grown less);
     shut = λ is replay own rest at n low within. shut is replay own rest (behind replay rest at) n (subst (λ k. k ≤ n) grown low) within;
   }
@@ -176,20 +176,20 @@ module _ {aim : Aim} {number offset : ℕ} {game : GameText} {before : List Stat
       (λ same replay own rest is n low within entry. let most = entry.0.1 in omega arith)
 
   -- it is not wanted
-  pub leaves_unwanted : on ≡ true → ((replay : Replay) → IsOfGame game replay → (rest : List State) → replay.positions ≡ before ++ P ∷ rest → IsWanted aim (tags_of game) replay (length before) → ⊥)
+  pub leaves_unwanted : on ≡ true → ((replay : Replay) → IsOfGame game replay → (rest : List State) → replay.positions ≡ before ++ P ∷ rest → IsWanted aim (heading_of game) replay (length before) → ⊥)
       → Finds aim number offset game (before ++ P ∷ []) old new true
   leaves_unwanted still fails =
       leaves_one true
       (λ replay own rest is entry. fails replay own rest is entry.0)
       (λ same first replay own rest is n less wanted. elim (cases_lt n (length before)) [
         | inl under ↦ so_far.quiet still first replay own (P ∷ rest) is n under wanted
-        | inr over ↦ let here : n ≡ length before = omega arith in fails replay own rest is (subst (IsWanted aim (tags_of game) replay) here wanted)
+        | inr over ↦ let here : n ≡ length before = omega arith in fails replay own rest is (subst (IsWanted aim (heading_of game) replay) here wanted)
       ])
       (λ is. absurd (cc))
 
   -- it is an entry
   pub keeps_one : {next : List ℕ} (shown : List ℕ) → on ≡ true
-      → ((replay : Replay) → IsOfGame game replay → (rest : List State) → replay.positions ≡ before ++ P ∷ rest → IsWanted aim (tags_of game) replay (length before))
+      → ((replay : Replay) → IsOfGame game replay → (rest : List State) → replay.positions ≡ before ++ P ∷ rest → IsWanted aim (heading_of game) replay (length before))
       → ((replay : Replay) → IsOfGame game replay → (rest : List State) → replay.positions ≡ before ++ P ∷ rest → AreFields aim.fields replay (length before) shown)
       → next ≡ new ++ entry_line aim.name (entry_at number offset (length before) shown) → Finds aim number offset game (before ++ P ∷ []) old next (not aim.first)
   keeps_one {next} shown still wanted shows added = record {
@@ -197,11 +197,11 @@ module _ {aim : Aim} {number offset : ℕ} {game : GameText} {before : List Stat
     written = added ∙ ap (λ t. t ++ entry_line aim.name entry) so_far.written ∙ append_assoc old (listing aim.name so_far.found) (entry_line aim.name entry)
         ∙ ap (λ t. old ++ t) (ap (λ t. listing aim.name so_far.found ++ t) (sym (append-nil (entry_line aim.name entry))) ∙ sym (listing-append aim.name so_far.found (entry ∷ [])));
     completes = λ replay own rest is later chosen.
-        subst (AreListed aim number offset (tags_of game) replay) (sym (append_assoc so_far.found (entry ∷ []) later))
+        subst (AreListed aim number offset (heading_of game) replay) (sym (append_assoc so_far.found (entry ∷ []) later))
         (so_far.completes replay own (P ∷ rest) (behind replay rest is) (entry ∷ later)
         (keep (length before) shown (plies_of (length before + 1) rest) later (listed replay own rest (behind replay rest is))
         (shows replay own rest (behind replay rest is))
-        (subst (λ n. AreChosen number offset (IsEntry aim (tags_of game) replay) (AreFields aim.fields replay) (plies_of n rest) later) grown chosen)));
+        (subst (λ n. AreChosen number offset (IsEntry aim (heading_of game) replay) (AreFields aim.fields replay) (plies_of n rest) later) grown chosen)));
     quiet = λ is first replay own rest at n less. let no : not aim.first ≡ false = ap not first in absurd (both_ways (not aim.first) no is);
     shut = λ is replay own rest at n low within is_entry.
         is_entry.1 (first_by aim.first is) (length before) (let size = grown in omega arith) (wanted replay own rest (behind replay rest at));
@@ -210,7 +210,7 @@ module _ {aim : Aim} {number offset : ℕ} {game : GameText} {before : List Stat
       entry : Entry
       entry = entry_at number offset (length before) shown
 
-      listed : (replay : Replay) → IsOfGame game replay → (rest : List State) → replay.positions ≡ before ++ P ∷ rest → IsEntry aim (tags_of game) replay (length before)
+      listed : (replay : Replay) → IsOfGame game replay → (rest : List State) → replay.positions ≡ before ++ P ∷ rest → IsEntry aim (heading_of game) replay (length before)
       listed replay own rest is = (wanted replay own rest is, λ first n less earlier. so_far.quiet still first replay own (P ∷ rest) is n less earlier)
 
 -- what is shown of a position that is reached is shown of its ply
@@ -271,17 +271,17 @@ shows_there fields {line = line} {before = before} to replay own rest is shown (
 
 -- what is asked of a position decides whether it is wanted
 module _ (aim : Aim) (game : GameText) (asked : List (List (Condition (List ℕ)))) (asks : AsksFor aim game asked) (before : List State) (P : State) (r : Bool)
-    (told : (tags : Tags) (replay : Replay) → IsTrue r ↔ SomeHold tags replay P asked) where
+    (told : (tags : Heading) (replay : Replay) (ply : ℕ) → IsTrue r ↔ SomeHold tags replay ply P asked) where
   pub is_wanted : r ≡ true → aim.min_ply ≤ length before → length before ≤ aim.max_ply
-      → (replay : Replay) → IsOfGame game replay → (rest : List State) → replay.positions ≡ before ++ P ∷ rest → IsWanted aim (tags_of game) replay (length before)
+      → (replay : Replay) → IsOfGame game replay → (rest : List State) → replay.positions ≡ before ++ P ∷ rest → IsWanted aim (heading_of game) replay (length before)
   is_wanted holds low high replay own rest is = (
     low,
     high,
     (asks replay own (length before) (seam_within replay.positions before P rest is)).0
-        ((meets_at (tags_of game) replay (length before) asked P r (ap (λ ps. slice_get ps (length before)) is ∙ at_seam before P rest) (told (tags_of game) replay)).0 holds),
+        ((meets_at (heading_of game) replay (length before) asked P r (ap (λ ps. slice_get ps (length before)) is ∙ at_seam before P rest) (told (heading_of game) replay (length before))).0 holds),
   )
 
-  pub not_wanted : r ≡ false → (replay : Replay) → IsOfGame game replay → (rest : List State) → replay.positions ≡ before ++ P ∷ rest → IsWanted aim (tags_of game) replay (length before) → ⊥
+  pub not_wanted : r ≡ false → (replay : Replay) → IsOfGame game replay → (rest : List State) → replay.positions ≡ before ++ P ∷ rest → IsWanted aim (heading_of game) replay (length before) → ⊥
   not_wanted fails replay own rest is wanted =
-      let t : IsTrue r = (meets_at (tags_of game) replay (length before) asked P r (ap (λ ps. slice_get ps (length before)) is ∙ at_seam before P rest) (told (tags_of game) replay)).1
+      let t : IsTrue r = (meets_at (heading_of game) replay (length before) asked P r (ap (λ ps. slice_get ps (length before)) is ∙ at_seam before P rest) (told (heading_of game) replay (length before))).1
       ((asks replay own (length before) (seam_within replay.positions before P rest is)).1 wanted.2) in absurd (cc)

@@ -21,7 +21,7 @@ use Rattle.pgn_game.specs.declared.replayer.Lines.TheVariants.{Main}
 use Rattle.pgn_game.specs.Starts.{fen_tag}
 use Rattle.pgn_extract.specs.Blockwise.{AddsVerdict, AddsListed, AddsExported, AddsGame, IsGivenText, IsGameWritten, AddsMark, IsPieceOf, AddsPiece, NamesBlockStop, IsBlockVerdict, IsMarkVerdict}
 use Rattle.pgn_extract.specs.Index.{fault_text, mark_line}
-use Rattle.pgn_extract.specs.Listing.{Entry, AreFields, listing, tags_in}
+use Rattle.pgn_extract.specs.Listing.{Entry, AreFields, listing, heading_in}
 use Rattle.pgn_extract.specs.GameReports.{plies_of, AreListed, cause_text, IsReplayOf, IsFaultOf}
 use Rattle.pgn_game.specs.GameLines.{IsGameLine}
 use Rattle.pgn_extract.specs.declared.settings.Form.{Form}
@@ -30,13 +30,17 @@ use Rattle.pgn_extract.specs.Exports.{written_lines, HasEntry, IsTextOf, IsWritt
 use Rattle.pgn_extract.specs.Notes.{IsNote, NamesByte, NamesStop}
 use Rattle.pgn_extract.specs.Verdicts.{Verdict, SoundGame, FaultyGame, output_of, fault_line_of, is_faulty, IsVerdictIn, IsGameVerdict, IsUnreadableVerdict}
 use Rattle.pgn_extract.specs.declared.report.Report.{Report}
-use Rattle.pgn_criteria.specs.Meeting.{Tags}
+use Rattle.pgn_criteria.specs.Meeting.{Heading, heading_of}
 use Rattle.pgn_extract.specs.Aims.{Aim, IsEntry}
 use Rattle.pgn_extract.proofs.Chosen.{chosen_by}
 use Rattle.pgn_extract.proofs.Exported.{selected_by}
 use Rattle.pgn_extract.proofs.RestOfBlock.{rest_of_block}
-use Rattle.pgn_extract.proofs.SameTags.{entry_same}
+use Rattle.pgn_extract.proofs.SameTags.{IsSame, back, entry_same}
 use Rattle.pgn_extract.specs.declared.settings.Mode.TheVariants as modes
+
+-- the parts of a game have its heading
+shown_heading : {game : GameText} {at : ℕ} {parts : List Part} → ShowsGame game at parts → IsSame (heading_of game) (heading_in parts)
+shown_heading shows = record { named = shows.tags; result = shows.result }
 
 -- bytes go to the output, and nothing else changes
 pub record AddsOutput (old new : Report) (text : List ℕ) : Type 0 where
@@ -68,14 +72,14 @@ module _ (lines : Lines) {at : ℕ} {game : GameText} {parts : List Part} (shows
 
 -- by the listing, the entries of its replay
 pub listed_replay : (aim : Aim) {old new : Report} {number offset : ℕ} {game : GameText} (replay : Replay) (entries : List Entry)
-    → IsReplay Main (tag_in fen_tag game.tags) game.elements replay → AreListed aim number offset (λ name. tag_in name game.tags) replay entries
+    → IsReplay Main (tag_in fen_tag game.tags) game.elements replay → AreListed aim number offset (heading_of game) replay entries
     → AddsOutput old new (listing aim.name entries) → AddsListed aim old new number offset game
 listed_replay aim {old} {new} {number} {offset} {game} replay entries is these adds at parts shows =
-    let own = λ (name : List ℕ). tag_in name game.tags in
-    let listed : AreListed aim number offset (tags_in parts) replay entries =
-    chosen_by number offset (IsEntry aim own replay) (IsEntry aim (tags_in parts) replay) (AreFields aim.fields replay)
-    (entry_same own (tags_in parts) shows.tags replay aim)
-    (entry_same (tags_in parts) own (λ name. sym (shows.tags name)) replay aim)
+    let own = heading_of game in
+    let listed : AreListed aim number offset (heading_in parts) replay entries =
+    chosen_by number offset (IsEntry aim own replay) (IsEntry aim (heading_in parts) replay) (AreFields aim.fields replay)
+    (entry_same own (heading_in parts) (shown_heading shows) replay aim)
+    (entry_same (heading_in parts) own (back (shown_heading shows)) replay aim)
     (plies_of 0 replay.positions) entries these in
     (SoundGame (listing aim.name entries), (replay, entries, shown_replay Main shows replay is, listed, refl), verdict_sound old new (listing aim.name entries) adds)
 
@@ -93,14 +97,14 @@ pub exported_replay : (aim : Aim) {old new : Report} {number offset : ℕ} {game
 exported_replay aim {old} {new} {number} {offset} {game} is_game replay text is written adds at parts shows =
     (SoundGame text, (replay, shown_replay (written_lines aim) shows replay is, of_parts written), verdict_sound old new text adds)
   where
-    own : Tags
-    own = λ name. tag_in name game.tags
+    own : Heading
+    own = heading_of game
 
-    has : HasEntry aim own replay → HasEntry aim (tags_in parts) replay
-    has (ply, within, entry) = (ply, within, entry_same own (tags_in parts) shows.tags replay aim ply entry)
+    has : HasEntry aim own replay → HasEntry aim (heading_in parts) replay
+    has (ply, within, entry) = (ply, within, entry_same own (heading_in parts) (shown_heading shows) replay aim ply entry)
 
-    had : HasEntry aim (tags_in parts) replay → HasEntry aim own replay
-    had (ply, within, entry) = (ply, within, entry_same (tags_in parts) own (λ name. sym (shows.tags name)) replay aim ply entry)
+    had : HasEntry aim (heading_in parts) replay → HasEntry aim own replay
+    had (ply, within, entry) = (ply, within, entry_same (heading_in parts) own (back (shown_heading shows)) replay aim ply entry)
 
     text_of : (form : Form) → IsGivenText form aim number offset game text → IsTextOf form aim number offset parts text
     text_of Standard export =
@@ -114,9 +118,9 @@ exported_replay aim {old} {new} {number} {offset} {game} is_game replay text is 
     )
 
     of_parts : IsGameWritten aim number offset game replay text → IsWritten aim number offset parts replay text
-    of_parts (inl (is, given)) = selected (selected_by aim.select (HasEntry aim own replay) (HasEntry aim (tags_in parts) replay) has had is) (text_of aim.form given)
+    of_parts (inl (is, given)) = selected (selected_by aim.select (HasEntry aim own replay) (HasEntry aim (heading_in parts) replay) has had is) (text_of aim.form given)
     of_parts (inr (none, empty)) =
-        unselected (λ is. none (selected_by aim.select (HasEntry aim (tags_in parts) replay) (HasEntry aim own replay) had has is)) empty
+        unselected (λ is. none (selected_by aim.select (HasEntry aim (heading_in parts) replay) (HasEntry aim own replay) had has is)) empty
 
 -- after bytes that go to the output a fault is reported
 verdict_behind : {old mid new : Report} (text line note : List ℕ) → AddsOutput old mid text → AddsVerdict mid new (FaultyGame [] line note) 0

@@ -15,6 +15,7 @@ pub mod Gathered
 pub mod GameVerdict
 pub mod Indexed
 pub mod JoinedParts
+pub mod KeptFacts
 pub mod Listed
 pub mod OneExports
 pub mod OneListing

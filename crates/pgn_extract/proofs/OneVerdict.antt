@@ -13,7 +13,7 @@ use Rattle.pgn_extract.specs.declared.settings.Form.{Form}
 use Rattle.pgn_extract.specs.declared.settings.Form.TheVariants.{Standard, AsItStands, Line}
 use Rattle.pgn_extract.specs.Exports.{line_with, written_lines, IsTextOf, IsWritten, selected, unselected, faulty_text}
 use Rattle.pgn_extract.specs.Index.{fault_text}
-use Rattle.pgn_extract.specs.Listing.{AreFields, listing, tags_in}
+use Rattle.pgn_extract.specs.Listing.{AreFields, listing, heading_in}
 use Rattle.pgn_extract.specs.GameReports.{plies_of, AreListed, cause_text}
 use Rattle.pgn_extract.specs.Notes.{IsNote}
 use Rattle.pgn_extract.specs.Verdicts.{Verdict, SoundGame, FaultyGame, IsListed, IsExported, IsVerdictIn, IsReportedBy, IsPieceVerdict, AreVerdicts, without_note, IsUnreadableVerdict}
@@ -56,8 +56,8 @@ module _ (one_replay : GameHasOneReplay) (one_fault : GameHasOneFault) (no_fault
   one_listed aim (SoundGame x) (SoundGame y) number offset parts (first, xs, is, these, text) (second, ys, also, those, other) =
       let of : second ≡ first = one_replay Main (first_tag fen_tag parts) (items_of parts) second first also is in
       let same : xs ≡ ys =
-      one_chosen number offset (IsEntry aim (tags_in parts) first) (AreFields aim.fields first) (one_fields aim.fields first) (plies_of 0 first.positions) xs ys these
-      (subst (λ (r : Replay). AreListed aim number offset (tags_in parts) r ys) of those) in
+      one_chosen number offset (IsEntry aim (heading_in parts) first) (AreFields aim.fields first) (one_fields aim.fields first) (plies_of 0 first.positions) xs ys these
+      (subst (λ (r : Replay). AreListed aim number offset (heading_in parts) r ys) of those) in
       ap SoundGame (text ∙ ap (listing aim.name) same ∙ sym other)
   one_listed aim (SoundGame x) (FaultyGame z y v) number offset parts (first, xs, is, these, text) (second, also, other, note, out) = absurd (no_fault Main (first_tag fen_tag parts) (items_of parts) second (first, is) also)
   one_listed aim (FaultyGame w x u) (SoundGame y) number offset parts (first, is, text, note, out) (second, ys, also, those, other) = absurd (no_fault Main (first_tag fen_tag parts) (items_of parts) first (second, also) is)

@@ -1,13 +1,17 @@
 -- Plies of a game that are left, and criteria that are asked in place of others.
-use Rattle.std.proofs.Common.{◌≡◌, ◌↔◌, ℕ, zero, suc, ◌+◌, ◌<◌, ◌≤◌, List, [], ◌∷◌, length, drop, Option, Some, sym, subst, arith}
+use Rattle.std.proofs.Common.{◌≡◌, ◌↔◌, ℕ, zero, suc, ◌+◌, ◌<◌, ◌≤◌, List, [], ◌∷◌, length, drop, Option, Some, None, sym, subst, inl, arith}
+use Rattle.std.specs.Prelude.{IfSome}
 use Rattle.chess.specs.Positions.{State}
 use Rattle.pgn_game.specs.Replays.{Replay}
-use Rattle.pgn_criteria.specs.Meeting.{Tags, Meets}
+use Rattle.pgn_text.specs.GameTexts.{GameText}
+use Rattle.pgn_criteria.specs.Meeting.{Heading, heading_of, Meets}
 use Rattle.pgn_criteria.specs.declared.condition.Condition.{Condition}
-use Rattle.pgn_extract.specs.Aims.{IsMet}
+use Rattle.pgn_extract.specs.Aims.{Aim, IsMet}
+use Rattle.pgn_extract.specs.Finding.{IsOfGame, AsksFor}
 use Rattle.pgn_extract.specs.Listing.{Entry}
 use Rattle.pgn_extract.specs.GameReports.{plies_of, AreChosen}
 use Rattle.pgn_extract.specs.GameReports.AreChosen.{none, leave}
+use Rattle.pgn_extract.proofs.FieldTexts.{some_position}
 
 module _ (number offset : ℕ) (P : ℕ → Type 0) (S : ℕ → List ℕ → Type 0) where
   -- of positions in a row the first are left
@@ -40,7 +44,28 @@ dropped (suc count) (position ∷ more) =
     (let size = of.0 in omega arith, λ some. let fits = of.1 some in omega arith)
 
 -- what is looked for in place of criteria that are given
-pub same_met : (tags : Tags) (replay : Replay) (criteria : Option (List (List (Condition (List ℕ))))) (alternatives others : List (List (Condition (List ℕ)))) (ply : ℕ)
+pub same_met : (tags : Heading) (replay : Replay) (criteria : Option (List (List (Condition (List ℕ))))) (alternatives others : List (List (Condition (List ℕ)))) (ply : ℕ)
     → criteria ≡ Some alternatives → (Meets tags replay ply others ↔ Meets tags replay ply alternatives) → IsMet (Some others) tags replay ply ↔ IsMet criteria tags replay ply
 same_met tags replay criteria alternatives others ply is same =
     subst (λ (c : Option (List (List (Condition (List ℕ))))). Meets tags replay ply others ↔ IsMet c tags replay ply) (sym is) same
+
+-- of each replay of the game the same plies are met
+abbrev pub AsksAlike : GameText → List (List (Condition (List ℕ))) → List (List (Condition (List ℕ))) → Type 0
+AsksAlike game alternatives others =
+    (replay : Replay) → IsOfGame game replay → (ply : ℕ) → Meets (heading_of game) replay ply others ↔ Meets (heading_of game) replay ply alternatives
+
+-- so what is watched for in place of criteria that are given asks for them
+pub asks_given : (aim : Aim) (game : GameText) (alternatives : List (List (Condition (List ℕ)))) (watched : Option (List (List (Condition (List ℕ)))))
+    (others : List (List (Condition (List ℕ)))) → aim.criteria ≡ Some alternatives → watched ≡ Some others → IfSome watched (AsksAlike game alternatives)
+    → AsksFor aim game others
+asks_given aim game alternatives watched others given is alike replay own ply within =
+    let here : AsksAlike game alternatives others = subst (λ o. IfSome o (AsksAlike game alternatives)) is alike in
+    same_met (heading_of game) replay aim.criteria alternatives others ply given (here replay own ply)
+
+-- and without criteria every position is met
+pub none_given : (aim : Aim) (game : GameText) → aim.criteria ≡ None → AsksFor aim game ([] ∷ [])
+none_given aim game without replay own ply within =
+    let at = some_position replay.positions ply within in (
+      λ met. subst (λ (o : Option (List (List (Condition (List ℕ))))). IsMet o (heading_of game) replay ply) (sym without) tt,
+      λ met. record { position = at.0; here = at.1; hold = inl (inl tt, tt) },
+    )

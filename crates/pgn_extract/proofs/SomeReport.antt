@@ -15,7 +15,7 @@ use Rattle.pgn_game.specs.declared.replayer.Lines.{Lines}
 use Rattle.pgn_game.specs.declared.replayer.Lines.TheVariants.{Main}
 use Rattle.pgn_game.specs.Starts.{fen_tag}
 use Rattle.pgn_extract.specs.Index.{fault_text, mark_line}
-use Rattle.pgn_extract.specs.Listing.{AreFields, listing, tags_in}
+use Rattle.pgn_extract.specs.Listing.{AreFields, listing, heading_in}
 use Rattle.pgn_extract.specs.GameReports.{plies_of, cause_text, IsReplayOf, IsFaultOf}
 use Rattle.pgn_game.proofs.GameLineFacts.{some_line}
 use Rattle.pgn_extract.specs.declared.settings.Form.{Form}
@@ -23,7 +23,7 @@ use Rattle.pgn_extract.specs.declared.settings.Form.TheVariants.{Standard, AsItS
 use Rattle.pgn_extract.specs.Exports.{line_with, lines_in, written_lines, HasEntry, IsTextOf, IsWritten, selected, unselected, as_it_stands, faulty_text}
 use Rattle.pgn_extract.specs.Verdicts.{Verdict, SoundGame, FaultyGame, IsVerdictIn, IsReportedBy, IsPieceVerdict, AreVerdicts, IsUnreadableVerdict}
 use Rattle.pgn_game.specs.Replays.{Replay}
-use Rattle.pgn_criteria.specs.Meeting.{Tags}
+use Rattle.pgn_criteria.specs.Meeting.{Heading}
 use Rattle.pgn_extract.specs.Aims.{Aim, IsMet, IsWanted, IsEntry}
 use Rattle.pgn_extract.specs.Laws.{TextHasAReport}
 use Rattle.pgn_extract.proofs.Chosen.{some_chosen}
@@ -90,7 +90,7 @@ module _ (parts : List Part) (made : IsMade (ReadableGame parts)) where
       (λ all. subst (IsPaired 0) made.2.elements made.1.paired)
 
 -- a ply is wanted or not, where its position is decided
-wanted_or_not : (aim : Aim) (tags : Tags) (replay : Replay) (ply : ℕ) → IsMet aim.criteria tags replay ply ⊎ (IsMet aim.criteria tags replay ply → ⊥)
+wanted_or_not : (aim : Aim) (tags : Heading) (replay : Replay) (ply : ℕ) → IsMet aim.criteria tags replay ply ⊎ (IsMet aim.criteria tags replay ply → ⊥)
     → IsWanted aim tags replay ply ⊎ (IsWanted aim tags replay ply → ⊥)
 wanted_or_not aim tags replay ply met = elim (cases_lt ply aim.min_ply) [
   | inl under ↦ inr (λ wanted. let low = wanted.0 in omega arith)
@@ -104,7 +104,7 @@ wanted_or_not aim tags replay ply met = elim (cases_lt ply aim.min_ply) [
 ]
 
 -- none before a ply is wanted, or one is
-pub none_before : (aim : Aim) (tags : Tags) (replay : Replay) (ply : ℕ)
+pub none_before : (aim : Aim) (tags : Heading) (replay : Replay) (ply : ℕ)
     → ((n : ℕ) → n < ply → IsMet aim.criteria tags replay n ⊎ (IsMet aim.criteria tags replay n → ⊥))
     → ((n : ℕ) → n < ply → IsWanted aim tags replay n → ⊥) ⊎ ((n : ℕ) × (n < ply) × IsWanted aim tags replay n)
 none_before aim tags replay zero met = inl (λ n less wanted. omega arith)
@@ -120,7 +120,7 @@ none_before aim tags replay (suc ply) met = elim (none_before aim tags replay pl
 ]
 
 -- so a ply is listed or not
-entry_or_not : (aim : Aim) (tags : Tags) (replay : Replay) (ply : ℕ)
+entry_or_not : (aim : Aim) (tags : Heading) (replay : Replay) (ply : ℕ)
     → ((n : ℕ) → n < ply + 1 → IsMet aim.criteria tags replay n ⊎ (IsMet aim.criteria tags replay n → ⊥))
     → IsEntry aim tags replay ply ⊎ (IsEntry aim tags replay ply → ⊥)
 entry_or_not aim tags replay ply met = elim (wanted_or_not aim tags replay ply (met ply (omega arith))) [
@@ -135,7 +135,7 @@ entry_or_not aim tags replay ply met = elim (wanted_or_not aim tags replay ply (
 ]
 
 -- a game has an entry or has none
-entry_or_none : (aim : Aim) (tags : Tags) (replay : Replay) (count : ℕ) → count ≤ length replay.positions
+entry_or_none : (aim : Aim) (tags : Heading) (replay : Replay) (count : ℕ) → count ≤ length replay.positions
     → ((n : ℕ) → n < count → IsEntry aim tags replay n ⊎ (IsEntry aim tags replay n → ⊥))
     → HasEntry aim tags replay ⊎ ((n : ℕ) → n < count → IsEntry aim tags replay n → ⊥)
 entry_or_none aim tags replay zero fits each = inr (λ n less entry. omega arith)
@@ -153,14 +153,14 @@ entry_or_none aim tags replay (suc count) fits each = elim (entry_or_none aim ta
 module _ (aim : Aim) (decided : IsDecided aim) (number offset : ℕ) (parts : List Part) (made : IsMade (ReadableGame parts)) where
   -- a ply of a sound game is listed or not
   listed_or_not : (lines : Lines) (replay : Replay) → IsReplayOf lines parts replay → (ply : ℕ) → ply < length replay.positions
-      → IsEntry aim (tags_in parts) replay ply ⊎ (IsEntry aim (tags_in parts) replay ply → ⊥)
+      → IsEntry aim (heading_in parts) replay ply ⊎ (IsEntry aim (heading_in parts) replay ply → ⊥)
   listed_or_not lines replay is ply short =
-      entry_or_not aim (tags_in parts) replay ply (λ n less. decided lines parts replay is n (omega arith))
+      entry_or_not aim (heading_in parts) replay ply (λ n less. decided lines parts replay is n (omega arith))
 
   -- so a sound game has an entry or none
-  has_or_not : (replay : Replay) → IsReplayOf (written_lines aim) parts replay → HasEntry aim (tags_in parts) replay ⊎ (HasEntry aim (tags_in parts) replay → ⊥)
+  has_or_not : (replay : Replay) → IsReplayOf (written_lines aim) parts replay → HasEntry aim (heading_in parts) replay ⊎ (HasEntry aim (heading_in parts) replay → ⊥)
   has_or_not replay is =
-      elim (entry_or_none aim (tags_in parts) replay (length replay.positions) (omega arith) (listed_or_not (written_lines aim) replay is)) [
+      elim (entry_or_none aim (heading_in parts) replay (length replay.positions) (omega arith) (listed_or_not (written_lines aim) replay is)) [
         | inl has ↦ inl has
         | inr none ↦ inr (λ has. none has.0 has.1 has.2)
       ]
@@ -173,7 +173,7 @@ module _ (aim : Aim) (decided : IsDecided aim) (number offset : ℕ) (parts : Li
       (line_with aim.name number offset own.0, (own.0, own.1, refl))
 
   written : (replay : Replay) → IsReplayOf (written_lines aim) parts replay → (text : List ℕ) × IsWritten aim number offset parts replay text
-  written replay is = elim (selected_or_not aim.select (HasEntry aim (tags_in parts) replay) (has_or_not replay is)) [
+  written replay is = elim (selected_or_not aim.select (HasEntry aim (heading_in parts) replay) (has_or_not replay is)) [
     | inl has ↦ let own = some_text aim.form replay is in (own.0, selected has own.1)
     | inr none ↦ ([], unselected none refl)
   ]
@@ -184,7 +184,7 @@ module _ (aim : Aim) (decided : IsDecided aim) (number offset : ℕ) (parts : Li
     | inl sound ↦
         let all = plies_of 0 sound.0.positions in
         let some =
-        some_chosen number offset (IsEntry aim (tags_in parts) sound.0) (AreFields aim.fields sound.0) all
+        some_chosen number offset (IsEntry aim (heading_in parts) sound.0) (AreFields aim.fields sound.0) all
         (λ ply has. listed_or_not Main sound.0 sound.1 ply (within_plies sound.0.positions ply has))
         (λ ply has. some_fields aim.fields Main (first_tag fen_tag parts) (items_of parts) sound.0 sound.1 ply (within_plies sound.0.positions ply has)) in
         (SoundGame (listing aim.name some.0), (sound.0, some.0, sound.1, some.1, refl))

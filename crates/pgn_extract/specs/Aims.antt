@@ -2,7 +2,7 @@
 use Rattle.std.specs.Prelude.{◌≡◌, ◌<◌, ◌≤◌, ℕ, Bool, true, List, Option, Some, None}
 use Rattle.pgn_game.specs.Replays.{Replay}
 use Rattle.pgn_game.specs.declared.style.Style.{Style}
-use Rattle.pgn_criteria.specs.Meeting.{Tags, Meets}
+use Rattle.pgn_criteria.specs.Meeting.{Heading, Meets}
 use Rattle.pgn_criteria.specs.declared.condition.Condition.{Condition}
 use Rattle.pgn_extract.specs.declared.settings.Fields.{Fields}
 use Rattle.pgn_extract.specs.declared.settings.Form.{Form}
@@ -41,15 +41,15 @@ aim_of settings = record {
 }
 
 -- the position behind so many plies of a main line meets the criteria; without criteria every one does
-abbrev pub IsMet : Option (List (List (Condition (List ℕ)))) → Tags → Replay → ℕ → Type 0
+abbrev pub IsMet : Option (List (List (Condition (List ℕ)))) → Heading → Replay → ℕ → Type 0
 IsMet None tags replay ply = Unit {0}
 IsMet (Some criteria) tags replay ply = Meets tags replay ply criteria
 
 -- the ply is within the bounds, both included, and its position meets the criteria
-abbrev pub IsWanted : Aim → Tags → Replay → ℕ → Type 0
+abbrev pub IsWanted : Aim → Heading → Replay → ℕ → Type 0
 IsWanted aim tags replay ply = (aim.min_ply ≤ ply) × (ply ≤ aim.max_ply) × IsMet aim.criteria tags replay ply
 
 -- the ply is listed: it is wanted, and where only the first of each game is to be listed, none before it in the game is
-abbrev pub IsEntry : Aim → Tags → Replay → ℕ → Type 0
+abbrev pub IsEntry : Aim → Heading → Replay → ℕ → Type 0
 IsEntry aim tags replay ply =
     IsWanted aim tags replay ply × (aim.first ≡ true → (before : ℕ) → before < ply → IsWanted aim tags replay before → ⊥)

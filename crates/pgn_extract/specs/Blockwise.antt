@@ -31,7 +31,7 @@ use Rattle.pgn_extract.specs.declared.report.Report.{Report}
 use Rattle.pgn_extract.specs.declared.outcome.RunError.{RunError}
 use Rattle.pgn_extract.specs.declared.outcome.RunError.TheVariants.{Read, Write, OutOfMemory, InputTooLong}
 use Rattle.pgn_extract.specs.declared.outcome.Summary.{Summary}
-use Rattle.pgn_criteria.specs.Meeting.{Tags}
+use Rattle.pgn_criteria.specs.Meeting.{heading_of, Heading}
 use Rattle.pgn_extract.specs.Aims.{Aim}
 use Rattle.pgn_extract.specs.Listing.{Entry, listing}
 use Rattle.pgn_extract.specs.declared.settings.Form.{Form}
@@ -73,7 +73,7 @@ IsPlainEntry aim plies ply = (ply ≤ plies) × (aim.min_ply ≤ ply) × (ply �
 -- the lines of the entries of any main line with so many plies are added
 abbrev pub AddsPlies : Aim → ℕ → ℕ → ℕ → List ℕ → List ℕ → Type 0
 AddsPlies aim number offset plies old new =
-    (tags : Tags) (replay : Replay) → length replay.positions ≡ plies + 1
+    (tags : Heading) (replay : Replay) → length replay.positions ≡ plies + 1
     → (entries : List Entry) × AreListed aim number offset tags replay entries × (new ≡ old ++ listing aim.name entries)
 
 -- the text of the game that is given: its export, or the game as it stands, or its line
@@ -85,7 +85,7 @@ IsGivenText (Line notation) aim number offset game text =
 
 -- the sound game that is given is selected
 abbrev pub IsGameSelected : Aim → GameText → Replay → Type 0
-IsGameSelected aim game replay = IsSelected aim.select (HasEntry aim (λ name. tag_in name game.tags) replay)
+IsGameSelected aim game replay = IsSelected aim.select (HasEntry aim (heading_of game) replay)
 
 -- what is written of the game that is given: its text where it is selected, and else nothing
 abbrev pub IsGameWritten : Aim → ℕ → ℕ → GameText → Replay → List ℕ → Type 0

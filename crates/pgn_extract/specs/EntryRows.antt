@@ -7,11 +7,11 @@ use Rattle.pgn_game.specs.Replays.{Replay}
 use Rattle.pgn_game.specs.declared.replayer.Lines.TheVariants.{Main}
 use Rattle.pgn_extract.specs.Aims.{Aim}
 use Rattle.pgn_extract.specs.GameReports.{AreListed, IsReplayOf, IsFaultOf}
-use Rattle.pgn_extract.specs.Listing.{Entry, tags_in}
+use Rattle.pgn_extract.specs.Listing.{Entry, heading_in}
 
 -- the entries of a game: those that it lists where it is sound, and none where it is faulty
 pub data AreGameEntries (aim : Aim) (number offset : ℕ) (parts : List Part) (entries : List Entry) : Type 0 where
-  sound : (replay : Replay) → IsReplayOf Main parts replay → AreListed aim number offset (tags_in parts) replay entries
+  sound : (replay : Replay) → IsReplayOf Main parts replay → AreListed aim number offset (heading_in parts) replay entries
       → AreGameEntries aim number offset parts entries
   faulty : (fault : Fault) → IsFaultOf Main parts fault → entries ≡ [] → AreGameEntries aim number offset parts entries
 

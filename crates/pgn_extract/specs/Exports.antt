@@ -14,10 +14,10 @@ use Rattle.pgn_game.specs.declared.notation.Notation.{Notation}
 use Rattle.pgn_game.specs.declared.replayer.Lines.{Lines}
 use Rattle.pgn_game.specs.declared.replayer.Lines.TheVariants.{Main}
 use Rattle.pgn_game.specs.declared.style.Style.{Style}
-use Rattle.pgn_criteria.specs.Meeting.{Tags}
+use Rattle.pgn_criteria.specs.Meeting.{Heading}
 use Rattle.pgn_extract.specs.Aims.{Aim, IsEntry}
 use Rattle.pgn_extract.specs.Index.{mark, titled}
-use Rattle.pgn_extract.specs.Listing.{tags_in}
+use Rattle.pgn_extract.specs.Listing.{heading_in}
 use Rattle.pgn_extract.specs.GameReports.{IsReplayOf, IsFaultOf}
 use Rattle.pgn_extract.specs.declared.settings.Form.{Form}
 use Rattle.pgn_extract.specs.declared.settings.Form.TheVariants.{Standard, AsItStands, Line}
@@ -36,7 +36,7 @@ abbrev pub written_lines : Aim → Lines
 written_lines aim = lines_in aim.form aim.style
 
 -- some ply of the main line is listed
-abbrev pub HasEntry : Aim → Tags → Replay → Type 0
+abbrev pub HasEntry : Aim → Heading → Replay → Type 0
 HasEntry aim tags replay = (ply : ℕ) × (ply < length replay.positions) × IsEntry aim tags replay ply
 
 -- the text is the export of the game that these parts make
@@ -69,9 +69,9 @@ IsTextOf (Line notation) aim number offset parts text = IsGameLineOf notation ai
 
 -- what is written of a sound game: its text where it is selected, once however many entries it has, and else nothing
 pub data IsWritten (aim : Aim) (number offset : ℕ) (parts : List Part) (replay : Replay) (text : List ℕ) : Type 0 where
-  selected : IsSelected aim.select (HasEntry aim (tags_in parts) replay) → IsTextOf aim.form aim number offset parts text
+  selected : IsSelected aim.select (HasEntry aim (heading_in parts) replay) → IsTextOf aim.form aim number offset parts text
       → IsWritten aim number offset parts replay text
-  unselected : (IsSelected aim.select (HasEntry aim (tags_in parts) replay) → ⊥) → text ≡ [] → IsWritten aim number offset parts replay text
+  unselected : (IsSelected aim.select (HasEntry aim (heading_in parts) replay) → ⊥) → text ≡ [] → IsWritten aim number offset parts replay text
 
 -- what a mode writes of faulty bytes: where the export selects them, the bytes as they stand, and else nothing
 abbrev pub faulty_text : Mode → Select → List ℕ → List ℕ

@@ -11,7 +11,7 @@ use Rattle.pgn_game.specs.PlayedLines.{PlayedLine, IsNextText}
 use Rattle.pgn_game.specs.Replays.{Replay, IsReplay, IsSomeReplay, IsSoundGame}
 use Rattle.pgn_game.specs.Starts.{fen_tag, IsStart}
 use Rattle.pgn_game.specs.declared.replayer.Lines.TheVariants.{Main}
-use Rattle.pgn_criteria.specs.Meeting.{Tags, Meets}
+use Rattle.pgn_criteria.specs.Meeting.{heading_of, Meets}
 use Rattle.pgn_criteria.specs.declared.condition.Condition.{Condition}
 use Rattle.pgn_extract.specs.Aims.{Aim, IsMet, IsWanted, IsEntry}
 use Rattle.pgn_extract.specs.Exports.{HasEntry}
@@ -24,18 +24,18 @@ use Rattle.pgn_extract.specs.declared.settings.Fields.{Fields}
 abbrev pub named_mark : Option (List ℕ) → ℕ → ℕ → List ℕ
 named_mark name number offset = titled (codes ":") name ++ mark number offset
 
--- for a name, the contents of the string of the game's first tag with it
-abbrev pub tags_of : GameText → Tags
-tags_of game name = tag_in name game.tags
-
 -- it is a replay of the game: of its main line or of all its lines
 abbrev pub IsOfGame : GameText → Replay → Type 0
 IsOfGame game replay = IsSomeReplay (tag_in fen_tag game.tags) game.elements replay
 
+-- it is a replay of some game
+abbrev pub IsOfSomeGame : Replay → Type 0
+IsOfSomeGame replay = (game : GameText) × IsOfGame game replay
+
 -- a game is asked in place of the criteria: the same plies of its main line are met
 abbrev pub AsksFor : Aim → GameText → List (List (Condition (List ℕ))) → Type 0
 AsksFor aim game asked =
-    (replay : Replay) → IsOfGame game replay → (ply : ℕ) → ply < length replay.positions → Meets (tags_of game) replay ply asked ↔ IsMet aim.criteria (tags_of game) replay ply
+    (replay : Replay) → IsOfGame game replay → (ply : ℕ) → ply < length replay.positions → Meets (heading_of game) replay ply asked ↔ IsMet aim.criteria (heading_of game) replay ply
 
 -- what is asked where criteria may be missing: then every position is met, by one alternative without conditions
 abbrev pub asked_of : Option (List (List (Condition (List ℕ)))) → List (List (Condition (List ℕ)))
@@ -64,7 +64,7 @@ StopsInLine line old new fault = IsMoveFault line.position line.plies line.words
 abbrev pub AddsEntries : Aim → ℕ → ℕ → GameText → List ℕ → List ℕ → Type 0
 AddsEntries aim number offset game old new =
     (replay : Replay) × IsReplay Main (tag_in fen_tag game.tags) game.elements replay
-    × (entries : List Entry) × AreListed aim number offset (tags_of game) replay entries × (new ≡ old ++ listing aim.name entries)
+    × (entries : List Entry) × AreListed aim number offset (heading_of game) replay entries × (new ≡ old ++ listing aim.name entries)
 
 -- the game has the fault, and something may be added already
 abbrev pub StopsAtFault : GameText → List ℕ → List ℕ → Fault → Type 0
@@ -92,12 +92,12 @@ pub record Finds (aim : Aim) (number offset : ℕ) (game : GameText) (asked : Li
   pub found : List Entry
   pub written : new ≡ old ++ listing aim.name found
   pub completes : (replay : Replay) → IsOfGame game replay → (rest : List State) → replay.positions ≡ asked ++ rest → (later : List Entry)
-      → AreChosen number offset (IsEntry aim (tags_of game) replay) (AreFields aim.fields replay) (plies_of (length asked) rest) later
-      → AreListed aim number offset (tags_of game) replay (found ++ later)
+      → AreChosen number offset (IsEntry aim (heading_of game) replay) (AreFields aim.fields replay) (plies_of (length asked) rest) later
+      → AreListed aim number offset (heading_of game) replay (found ++ later)
   pub quiet : on ≡ true → aim.first ≡ true → (replay : Replay) → IsOfGame game replay → (rest : List State) → replay.positions ≡ asked ++ rest
-      → (n : ℕ) → n < length asked → IsWanted aim (tags_of game) replay n → ⊥
+      → (n : ℕ) → n < length asked → IsWanted aim (heading_of game) replay n → ⊥
   pub shut : on ≡ false → (replay : Replay) → IsOfGame game replay → (rest : List State) → replay.positions ≡ asked ++ rest
-      → (n : ℕ) → length asked ≤ n → n < length replay.positions → IsEntry aim (tags_of game) replay n → ⊥
+      → (n : ℕ) → length asked ≤ n → n < length replay.positions → IsEntry aim (heading_of game) replay n → ⊥
 
 -- at the next position no entry is left out
 abbrev pub GoesOn : Aim → ℕ → ℕ → List (List (Condition (List ℕ))) → PlayedLine → List ℕ → List ℕ → Bool → Bool → Type 0
@@ -106,24 +106,31 @@ GoesOn aim number offset asked line old new on still =
     → IsPlayedTo (tag_in fen_tag game.tags) game.elements line before played
     → Finds aim number offset game before text old on → Finds aim number offset game (before ++ line.position ∷ []) text new still
 
+-- the main line of the game is kept, and after so many plies, of which it is said whether they are met, no entry is left out
+abbrev pub GoesOnAt : Aim → ℕ → ℕ → Replay → ℕ → Bool → List ℕ → List ℕ → Bool → Bool → Type 0
+GoesOnAt aim number offset kept ply met old new on still =
+    (game : GameText) → IsOfGame game kept → (IsTrue met ↔ IsMet aim.criteria (heading_of game) kept ply)
+    → (before : List State) (P : State) (rest : List State) → kept.positions ≡ before ++ P ∷ rest → length before ≡ ply
+    → (text : List ℕ) → Finds aim number offset game before text old on → Finds aim number offset game (before ++ P ∷ []) text new still
+
 -- the main line of the game is sound, and has an entry or has none
 abbrev pub IsChosen : Aim → GameText → Bool → Type 0
 IsChosen aim game has =
     IsSoundGame Main (tag_in fen_tag game.tags) game.elements
-    × ((replay : Replay) → IsOfGame game replay → IsTrue has ↔ HasEntry aim (tags_of game) replay)
+    × ((replay : Replay) → IsOfGame game replay → IsTrue has ↔ HasEntry aim (heading_of game) replay)
 
 -- the position that is reached is wanted or not
 abbrev pub WantsHere : Aim → List (List (Condition (List ℕ))) → PlayedLine → Bool → Type 0
 WantsHere aim asked line wanted =
     (game : GameText) → AsksFor aim game asked → (before : List State) → length before ≡ line.plies
-    → (replay : Replay) → IsOfGame game replay → (rest : List State) → replay.positions ≡ before ++ line.position ∷ rest → IsTrue wanted ↔ IsWanted aim (tags_of game) replay (length before)
+    → (replay : Replay) → IsOfGame game replay → (rest : List State) → replay.positions ≡ before ++ line.position ∷ rest → IsTrue wanted ↔ IsWanted aim (heading_of game) replay (length before)
 
 -- of these positions this is the first that is wanted
 abbrev pub IsFirstWanted : Aim → GameText → List State → Option ℕ → Type 0
 IsFirstWanted aim game asked found =
     (replay : Replay) → IsOfGame game replay → (rest : List State) → replay.positions ≡ asked ++ rest → MatchOption found
-    ((n : ℕ) → n < length asked → IsWanted aim (tags_of game) replay n → ⊥)
-    (λ n. (n < length asked) × IsWanted aim (tags_of game) replay n × ((m : ℕ) → m < n → IsWanted aim (tags_of game) replay m → ⊥))
+    ((n : ℕ) → n < length asked → IsWanted aim (heading_of game) replay n → ⊥)
+    (λ n. (n < length asked) × IsWanted aim (heading_of game) replay n × ((m : ℕ) → m < n → IsWanted aim (heading_of game) replay m → ⊥))
 
 abbrev pub SeeksOn : Aim → List (List (Condition (List ℕ))) → PlayedLine → Option ℕ → Option ℕ → Type 0
 SeeksOn aim asked line found next =

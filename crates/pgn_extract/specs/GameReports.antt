@@ -7,7 +7,7 @@ use Rattle.pgn_game.specs.Faults.{Fault, BadStart, IllegalMove, AmbiguousMove, I
 use Rattle.pgn_game.specs.Replays.{Replay, IsReplay}
 use Rattle.pgn_game.specs.declared.replayer.Lines.{Lines}
 use Rattle.pgn_game.specs.Starts.{fen_tag}
-use Rattle.pgn_criteria.specs.Meeting.{Tags}
+use Rattle.pgn_criteria.specs.Meeting.{Heading}
 use Rattle.pgn_extract.specs.Aims.{Aim, IsEntry}
 use Rattle.pgn_extract.specs.Listing.{Entry, AreFields}
 
@@ -39,6 +39,6 @@ pub data AreChosen (number offset : ℕ) (P : ℕ → Type 0) (S : ℕ → List 
       → AreChosen number offset P S (ply ∷ all) chosen
 
 -- the entries that a sound game with these tags lists, of its positions from ply 0 on
-abbrev pub AreListed : Aim → ℕ → ℕ → Tags → Replay → List Entry → Type 0
+abbrev pub AreListed : Aim → ℕ → ℕ → Heading → Replay → List Entry → Type 0
 AreListed aim number offset tags replay entries =
     AreChosen number offset (IsEntry aim tags replay) (AreFields aim.fields replay) (plies_of 0 replay.positions) entries

@@ -5,12 +5,12 @@ use Rattle.chess.specs.Fen.{IsFen}
 use Rattle.chess.specs.Positions.{State}
 use Rattle.chess.specs.San.{IsSan}
 use Rattle.chess.specs.declared.moves.Move.{Move}
-use Rattle.pgn_text.specs.Games.{items_of, first_tag}
+use Rattle.pgn_text.specs.Games.{items_of, first_tag, result_of}
 use Rattle.pgn_text.specs.Marks.{ReadableGame, MarkedPiece}
 use Rattle.pgn_text.specs.Parts.{Part}
 use Rattle.pgn_game.specs.Replays.{Replay, IsMainReplay}
 use Rattle.pgn_game.specs.Starts.{fen_tag}
-use Rattle.pgn_criteria.specs.Meeting.{Tags}
+use Rattle.pgn_criteria.specs.Meeting.{Heading}
 use Rattle.pgn_extract.specs.Aims.{Aim, IsEntry}
 use Rattle.pgn_extract.specs.Index.{mark, titled}
 use Rattle.pgn_extract.specs.declared.settings.Fields.{Fields}
@@ -56,9 +56,9 @@ abbrev pub AreFields : Fields → Replay → ℕ → List ℕ → Type 0
 AreFields fields replay ply shown =
     (fen : List ℕ) × (next : List ℕ) × IsFenField fields.fen replay ply fen × IsNextField fields.next replay ply next × (shown ≡ fen ++ next)
 
--- for a name, the contents of the first tag with it among the parts of a game
-abbrev pub tags_in : List Part → Tags
-tags_in parts = λ name. first_tag name parts
+-- the heading of the game that parts make: for a name, the contents of the first tag with it; and the result that they end with
+abbrev pub heading_in : List Part → Heading
+heading_in parts = record { named = λ name. first_tag name parts; result = result_of parts }
 
 -- the main line of the game that these parts make is sound, and this is its replay
 abbrev pub IsMainReplayOf : List Part → Replay → Type 0
@@ -74,7 +74,7 @@ pub record IsPlyOfGame (aim : Aim) (number : ℕ) (pieces : List MarkedPiece) (e
   pub numbered : entry.number ≡ number + place
   pub is_replay : IsMainReplayOf parts replay
   pub within : entry.ply < length replay.positions
-  pub listed : IsEntry aim (tags_in parts) replay entry.ply
+  pub listed : IsEntry aim (heading_in parts) replay entry.ply
   pub shows : AreFields aim.fields replay entry.ply entry.shown
 
 -- the first entry is of an earlier game, or of the same and at a lower ply

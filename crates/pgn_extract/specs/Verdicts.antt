@@ -6,7 +6,7 @@ use Rattle.pgn_game.specs.Faults.{Fault}
 use Rattle.pgn_game.specs.Replays.{Replay}
 use Rattle.pgn_game.specs.declared.replayer.Lines.TheVariants.{Main}
 use Rattle.pgn_extract.specs.Index.{fault_text, mark_line}
-use Rattle.pgn_extract.specs.Listing.{Entry, listing, tags_in}
+use Rattle.pgn_extract.specs.Listing.{Entry, listing, heading_in}
 use Rattle.pgn_extract.specs.GameReports.{AreListed, IsReplayOf, IsFaultOf, cause_text}
 use Rattle.pgn_extract.specs.Aims.{Aim}
 use Rattle.pgn_extract.specs.Exports.{written_lines, IsWritten, faulty_text}
@@ -54,7 +54,7 @@ fault_lines (verdict ∷ more) = fault_line_of verdict ++ fault_lines more
 -- the game is reported in the listing: where it is sound, by the lines of the entries that it lists, else by the line of its fault
 abbrev pub IsListed : Aim → Verdict → ℕ → ℕ → List Part → Type 0
 IsListed aim (SoundGame text) number offset parts =
-    (replay : Replay) × (entries : List Entry) × IsReplayOf Main parts replay × AreListed aim number offset (tags_in parts) replay entries × (text ≡ listing aim.name entries)
+    (replay : Replay) × (entries : List Entry) × IsReplayOf Main parts replay × AreListed aim number offset (heading_in parts) replay entries × (text ≡ listing aim.name entries)
 IsListed aim (FaultyGame text line note) number offset parts =
     (fault : Fault) × IsFaultOf Main parts fault × (line ≡ fault_text aim.name number offset (cause_text fault)) × IsNote aim.explain note × (text ≡ [])
 

@@ -8,6 +8,7 @@ ghost use Rattle.pgn_game.specs.declared.replayer.Lines.TheVariants.{Main};
 ghost use Rattle.pgn_extract.specs.Aims.{aim_of};
 ghost use Rattle.pgn_extract.specs.Finding.{AsksFor, IsChosen, WantsHere, SeeksOn};
 
+use crate::kept::has_kept;
 use crate::settings::Settings;
 use pgn_criteria::Search;
 use pgn_game::{GameFault, MainLine, count_plies};
@@ -87,7 +88,9 @@ pub fn has_entry<'a>(
 {
     match &settings.criteria {
         Some(criteria) => {
-            let search = criteria.watch(alloc, game)?;
+            let Some(search) = criteria.watch(alloc, game)? else {
+                return has_kept(alloc, settings, criteria, game);
+            };
             Seeker { settings, search }.play(alloc, game)
         }
         None => Ok(is_within(settings, count_plies(alloc, game)?)),

@@ -77,11 +77,11 @@ const AFTER_HELP: &str =
     tag White|Black = \"Tal\"    the value of a tag; also <> < <= > >= has begins\n  \
     fen */*/*/*/*/*/*PPP/*RK1  men as in FEN; ? a square, ! a man, * any squares\n  \
     material KRP* v KRP*       each side's men: P* any number, R2+ two or more\n  \
-    moves e4 c5 * d6           how the main line begins; * is any one move\n  \
-    plies <= 50                how many the main line has; also = <> < > >=\n  \
-    turn black, not check      not denies a condition; also mate and stalemate\n  \
-    or                         between two alternatives: one is enough\n  \
-    # a comment                nothing\n\
+    moves e4 c5 *, next *x*    the first moves; the next, * any bytes; also played\n  \
+    plies <= 50, result 1-0    how many plies, also = <> < > >=; how the game ends\n  \
+    turn black, not check      also mate, stalemate; not, either, flip in front\n  \
+    for 20, count >= 40        the others at 20 plies in a row, at 40 in all\n  \
+    # a comment, or            nothing; between alternatives: one is enough\n\
     \n\
     Examples:\n  \
     pgn-extract games.pgn > clean.pgn                 # the sound games, cleaned\n  \

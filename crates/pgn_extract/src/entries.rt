@@ -5,6 +5,7 @@ ghost use Rattle.pgn_extract.specs.Aims.{aim_of};
 ghost use Rattle.pgn_extract.specs.Finding.{named_mark, AsksFor, AddsEntries, StopsAtFault, GoesOn};
 ghost use Rattle.pgn_extract.specs.Listing.{is_plain};
 
+use crate::kept::push_kept;
 use crate::listing::MARK_ROOM;
 use crate::settings::Settings;
 use crate::texts::{push_entry, push_named_mark};
@@ -94,7 +95,9 @@ pub fn push_found<'a>(
         (λ _. AddsEntries (aim_of settings.now) own.number own.offset game.now text.old.items text.new.items)
         (λ fault. IfSome (fault_of fault) (StopsAtFault game.now text.old.items text.new.items)) }
 {
-    let search = criteria.watch(alloc, game)?;
+    let Some(search) = criteria.watch(alloc, game)? else {
+        return push_kept(alloc, text, settings, criteria, own, game);
+    };
     let mut mark = Vec::with_capacity(alloc, MARK_ROOM)?;
     push_named_mark(&mut mark, &settings.name, own.number, own.offset)?;
     let finder = Finder {

@@ -10,7 +10,8 @@ ghost use Rattle.pgn_game.specs.declared.replayer.Lines.TheVariants.{Main};
 ghost use Rattle.pgn_extract.specs.Aims.{aim_of};
 ghost use Rattle.pgn_extract.specs.Blockwise.{AddsText, IsGameSelected, LeavesText, PutsText, TakesAll};
 ghost use Rattle.pgn_extract.specs.Exports.{HasEntry, as_it_stands, faulty_text, line_with, written_lines};
-ghost use Rattle.pgn_extract.specs.Finding.{IsChosen, StopsAtFault, tags_of};
+ghost use Rattle.pgn_extract.specs.Finding.{IsChosen, StopsAtFault};
+ghost use Rattle.pgn_criteria.specs.Meeting.{heading_of};
 ghost use Rattle.pgn_extract.specs.declared.settings.Form.TheVariants.{AsItStands, Line};
 
 use crate::choosing::has_entry;
@@ -72,7 +73,7 @@ pub fn push_faulty(
 
 /// Whether a sound game is selected that has an entry or has none.
 fn is_selected(settings: &Settings, has: bool) -> bool
-    ensures { (game : GameText) (replay : Replay) → (IsTrue has ↔ HasEntry (aim_of settings.now) (tags_of game) replay)
+    ensures { (game : GameText) (replay : Replay) → (IsTrue has ↔ HasEntry (aim_of settings.now) (heading_of game) replay)
         → IsTrue result ↔ IsGameSelected (aim_of settings.now) game replay }
 {
     match settings.select {

@@ -23,6 +23,7 @@ mod extract;
 mod file_name;
 mod files;
 mod front;
+mod kept;
 pub mod laws;
 mod listing;
 mod mark;

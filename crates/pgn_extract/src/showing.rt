@@ -1,15 +1,12 @@
 //! The entries of a game whose lines show more than the ply, found while its main line is played.
 ghost use Rattle.std.specs.Prelude.{◌≡◌, ◌↔◌, ◌∷◌, ◌++◌, [], List, ℕ, MatchResult, IfErr, IfSome, IsTrue, OnOk, false, length, decimal};
-ghost use Rattle.pgn_text.specs.GameTexts.{tag_in};
-ghost use Rattle.pgn_criteria.specs.Meeting.{Tags, SomeHold};
+ghost use Rattle.pgn_criteria.specs.Meeting.{Heading, SomeHold};
 ghost use Rattle.pgn_game.specs.Replays.{Replay, fault_of};
-ghost use Rattle.pgn_game.specs.Faults.{IsFault};
-ghost use Rattle.pgn_game.specs.Starts.{fen_tag};
-ghost use Rattle.pgn_game.specs.declared.replayer.Lines.TheVariants.{Main};
 ghost use Rattle.pgn_extract.specs.Aims.{aim_of};
 ghost use Rattle.pgn_extract.specs.Finding.{named_mark, AsksFor, AddsEntries, StopsAtFault, StopsInLine, GoesOn, asked_of, ShowsPosition, ShowsNext, ShowsHere};
 
 use crate::entries::GameMark;
+use crate::kept::push_kept;
 use crate::listing::MARK_ROOM;
 use crate::settings::{Fields, Settings};
 use crate::texts::{push_named_mark, push_ply};
@@ -19,7 +16,11 @@ use pgn_text::RawGame;
 use std::alloc::{AllocError, Global};
 
 /// Appends what a line shows of the position that is reached: its text in FEN after a blank, where that is asked for.
-fn push_fen(text: &mut Vec<u8>, is_asked: bool, position: &GamePosition) -> Result<(), AllocError>
+pub(crate) fn push_fen(
+    text: &mut Vec<u8>,
+    is_asked: bool,
+    position: &GamePosition,
+) -> Result<(), AllocError>
     ensures { OnOk result ((shown : List ℕ) × ShowsPosition is_asked position.now shown × (text.new.items ≡ text.old.items ++ shown)) }
 {
     if is_asked {
@@ -86,7 +87,7 @@ impl<'s, 'a> Shower<'s, 'a> {
 
     /// Whether the position meets what is asked.
     fn is_met(&self, position: &GamePosition) -> bool
-        ensures { (tags : Tags) (replay : Replay) → IsTrue result ↔ SomeHold tags replay position.now (asked_of self.now.search) }
+        ensures { (heading : Heading) (replay : Replay) (ply : ℕ) → IsTrue result ↔ SomeHold heading replay ply position.now (asked_of self.now.search) }
     {
         match &self.search {
             Some(search) => search.is_met(position),
@@ -140,23 +141,8 @@ impl<'s, 'a> Shower<'s, 'a> {
     }
 }
 
-/// What is asked of the positions of a game: nothing, where no criteria are given.
-fn watched<'a>(
-    alloc: Global,
-    settings: &'a Settings,
-    game: &RawGame<'a>,
-) -> Result<Option<Search<'a>>, GameFault<'a>>
-    ensures { MatchResult result
-        (λ search. AsksFor (aim_of settings.now) game.now (asked_of search))
-        (λ fault. IfSome (fault_of fault) (IsFault Main (tag_in fen_tag game.now.tags) game.now.elements)) }
-{
-    match &settings.criteria {
-        Some(criteria) => Ok(Some(criteria.watch(alloc, game)?)),
-        None => Ok(None),
-    }
-}
-
-/// Adds the lines of the entries of a game, with what they show after the ply, or answers its fault. No position is kept.
+/// Adds the lines of the entries of a game, with what they show after the ply, or answers its fault. No position is kept, unless
+/// the criteria speak of the moves at each ply.
 pub fn push_shown<'a>(
     alloc: Global,
     text: &mut Vec<u8>,
@@ -168,7 +154,15 @@ pub fn push_shown<'a>(
         (λ _. AddsEntries (aim_of settings.now) own.number own.offset game.now text.old.items text.new.items)
         (λ fault. IfSome (fault_of fault) (StopsAtFault game.now text.old.items text.new.items)) }
 {
-    let search = watched(alloc, settings, game)?;
+    let search = match &settings.criteria {
+        Some(criteria) => {
+            let Some(search) = criteria.watch(alloc, game)? else {
+                return push_kept(alloc, text, settings, criteria, own, game);
+            };
+            Some(search)
+        }
+        None => None,
+    };
     let mut mark = Vec::with_capacity(alloc, MARK_ROOM)?;
     push_named_mark(&mut mark, &settings.name, own.number, own.offset)?;
     let shower = Shower {

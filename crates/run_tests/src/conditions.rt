@@ -259,10 +259,28 @@ const OPERATOR: &str = "tag: an operator, one of = <> < <= > >= has begins";
 
 const MIRRORED: &str = "either: fen, flip fen, material or turn, with or without not before it";
 
+const NEXT: &str =
+    "next: a move without its check mark, such as Nf3, in which * stands for any bytes; at most 7 bytes";
+
+const PLAYED: &str =
+    "played: a move without its check mark, such as Nf3, in which * stands for any bytes; at most 7 bytes";
+
+const RESULT: &str = "result: 1-0, 0-1, 1/2-1/2 or *";
+
+const RUN: &str = "for: a number of plies, one to four digits and not 0";
+
+const MOVE_ALONE: &str = "nothing after the move; turn and or stand on lines of their own";
+
+const RESULT_ALONE: &str = "nothing after the result; or stands on a line of its own";
+
+const BLANK: &str = "a blank before this";
+
+const NOT_DENIED: &str = "not: a condition, but neither for nor count";
+
 const DENIED_ALONE: &str = "a condition after not, and no second not";
 
 /// Where lines stop being of the language, and what is expected there.
-const EXPLAINED: [Complaint; 41] = [
+const EXPLAINED: [Complaint; 80] = [
     ("chek", 0, "did you mean check?"),
     ("  stlaemate", 2, "did you mean stalemate?"),
     ("Turn white", 0, "did you mean turn?"),
@@ -328,6 +346,45 @@ const EXPLAINED: [Complaint; 41] = [
     ),
     ("plise < 50", 0, "did you mean plies?"),
     ("either plies < 50", 7, MIRRORED),
+    ("next", 4, NEXT),
+    ("next Nf3+", 5, NEXT),
+    ("next  abcdefgh", 6, NEXT),
+    ("next N f3", 7, MOVE_ALONE),
+    ("next white Bxh7", 11, MOVE_ALONE),
+    ("played e4 or d4", 10, MOVE_ALONE),
+    ("not next Qxf7#", 9, NEXT),
+    ("nxet e4", 0, "did you mean next?"),
+    ("either next e4", 7, MIRRORED),
+    ("played", 6, PLAYED),
+    ("played e8=Q+", 7, PLAYED),
+    ("palyed e4", 0, "did you mean played?"),
+    ("either not played e4", 11, MIRRORED),
+    ("result", 6, RESULT),
+    ("result 1/2", 7, RESULT),
+    ("result 1-0 or 0-1", 11, RESULT_ALONE),
+    ("resutl 1-0", 0, "did you mean result?"),
+    ("flip next e4", 5, "flip: fen and a pattern"),
+    ("for", 3, RUN),
+    ("for 0", 4, RUN),
+    ("for  10000", 5, RUN),
+    ("for = 3", 4, RUN),
+    ("for 20 plies", 7, "nothing after this word"),
+    ("for20", 3, BLANK),
+    ("fro 3", 0, "did you mean for?"),
+    ("not for 3", 4, NOT_DENIED),
+    ("either for 3", 7, MIRRORED),
+    ("flip for 3", 5, "flip: fen and a pattern"),
+    ("count", 5, "count: a comparison, one of = <> < <= > >="),
+    ("count 3", 6, "count: a comparison, one of = <> < <= > >="),
+    ("count >= 10000", 9, "count: a number of one to four digits"),
+    ("count >=20", 8, BLANK),
+    ("count>= 20", 5, BLANK),
+    ("not plies<50", 9, BLANK),
+    ("plies <= 50 moves", 12, "nothing after this word"),
+    ("fore 20", 0, "did you mean for?"),
+    ("cuont = 3", 0, "did you mean count?"),
+    ("not count = 3", 4, NOT_DENIED),
+    ("either not count = 3", 11, MIRRORED),
 ];
 
 /// What denied lines find.

@@ -1,8 +1,9 @@
 //! Why a line is refused: where it stops being of the language, and what is expected there.
 use super::core_of;
 use super::limits::limits_of;
-use super::move_words::is_move_word;
-use super::plies::comparison_of;
+use super::move_words::{is_move_like, is_move_word};
+use super::plies::{comparison_of, count_of};
+use super::result::is_result;
 use super::tag::{are_names, contents_of, relation_of};
 use crate::cut::next_part;
 use crate::rank::next_item;
@@ -60,14 +61,36 @@ const COMPARISON: &str = "plies: a comparison, one of = <> < <= > >=";
 
 const COUNT: &str = "plies: a number of one to four digits";
 
+const COUNT_COMPARISON: &str = "count: a comparison, one of = <> < <= > >=";
+
+const COUNT_PLIES: &str = "count: a number of one to four digits";
+
+const RUN: &str = "for: a number of plies, one to four digits and not 0";
+
+const RESULT: &str = "result: 1-0, 0-1, 1/2-1/2 or *";
+
+const NEXT: &str =
+    "next: a move without its check mark, such as Nf3, in which * stands for any bytes; at most 7 bytes";
+
+const PLAYED: &str =
+    "played: a move without its check mark, such as Nf3, in which * stands for any bytes; at most 7 bytes";
+
 const SIDE: &str = "turn: white or black";
 
 const NOTHING: &str = "nothing after this word";
 
+const MOVE_ALONE: &str = "nothing after the move; turn and or stand on lines of their own";
+
+const RESULT_ALONE: &str = "nothing after the result; or stands on a line of its own";
+
+const BLANK: &str = "a blank before this";
+
 const CONDITION: &str =
-    "a condition, which begins with fen, flip, material, moves, plies, tag, turn, check, mate or stalemate, or the words not, either and or";
+    "a condition, which begins with fen, flip, material, moves, next, played, plies, result, tag, turn, check, mate, stalemate, for or count, or the words not, either and or";
 
 const DENIED: &str = "a condition after not, and no second not";
+
+const NOT_DENIED: &str = "not: a condition, but neither for nor count";
 
 const FLIPPED: &str = "flip: fen and a pattern";
 
@@ -76,16 +99,21 @@ const TURNED: &str = "either: fen, flip fen, material or turn, with or without n
 const OTHER_WAY: &str = "not: a condition; either stands in front of not";
 
 /// The key words, each with the question whether it was meant.
-const QUESTIONS: [(&[u8], &str); 13] = [
+const QUESTIONS: [(&[u8], &str); 18] = [
     (b"fen", "did you mean fen?"),
     (b"tag", "did you mean tag?"),
     (b"turn", "did you mean turn?"),
     (b"moves", "did you mean moves?"),
     (b"plies", "did you mean plies?"),
+    (b"result", "did you mean result?"),
+    (b"next", "did you mean next?"),
+    (b"played", "did you mean played?"),
     (b"material", "did you mean material?"),
     (b"check", "did you mean check?"),
     (b"mate", "did you mean mate?"),
     (b"stalemate", "did you mean stalemate?"),
+    (b"for", "did you mean for?"),
+    (b"count", "did you mean count?"),
     (b"or", "did you mean or?"),
     (b"not", "did you mean not?"),
     (b"flip", "did you mean flip?"),
@@ -129,6 +157,17 @@ fn is_near(word: &[u8], key: &[u8]) -> bool {
         ([a, b], [c, d]) => a == d && b == c,
         _ => false,
     }
+}
+
+/// What stands right after a key word that a text begins with, if it is a digit or a comparison: a blank is missing.
+fn glued_to_key(text: &[u8]) -> Option<&[u8]> {
+    for &(key, _) in &QUESTIONS {
+        let (rest, missing) = behind_common(text, key);
+        if missing.is_empty() && (has_digit(rest) || behind_signs(rest).len() < rest.len()) {
+            return Some(rest);
+        }
+    }
+    None
 }
 
 /// What is expected in place of a word that is no key word.
@@ -223,13 +262,58 @@ fn tag_stop(text: &[u8]) -> Stop {
     Stop::before(string, CONTENTS)
 }
 
-/// Where a condition on the plies that is refused stops.
-fn plies_stop(text: &[u8]) -> Stop {
-    let (operator, digits) = split_first(text);
-    if comparison_of(operator).is_none() {
-        return Stop::before(text, COMPARISON);
+/// A text without the signs of comparisons that it begins with.
+fn behind_signs(text: &[u8]) -> &[u8] {
+    let mut rest = text;
+    while let [b'<' | b'=' | b'>', more @ ..] = rest {
+        rest = more;
     }
-    Stop::before(digits, COUNT)
+    rest
+}
+
+/// Whether a text begins with a digit.
+fn has_digit(text: &[u8]) -> bool {
+    matches!(text, [b'0'..=b'9', ..])
+}
+
+/// Where a number that is refused stops, with what is expected in its place.
+fn count_stop(text: &[u8], expected: &'static str) -> Stop {
+    let (digits, more) = split_first(text);
+    if count_of(digits).is_some() && !more.is_empty() {
+        return Stop::before(more, NOTHING);
+    }
+    Stop::before(text, expected)
+}
+
+/// Where a condition on a number of plies that is refused stops, with what is expected in place of its comparison and of its number.
+fn plies_stop(text: &[u8], comparison: &'static str, count: &'static str) -> Stop {
+    let (operator, digits) = split_first(text);
+    if comparison_of(operator).is_some() {
+        return count_stop(digits, count);
+    }
+    let rest = behind_signs(text);
+    if rest.len() < text.len() && has_digit(rest) {
+        return Stop::before(rest, BLANK);
+    }
+    Stop::before(text, comparison)
+}
+
+/// Where a condition on the result that is refused stops.
+fn result_stop(text: &[u8]) -> Stop {
+    let (result, more) = split_first(text);
+    if !is_result(result) {
+        return Stop::before(text, RESULT);
+    }
+    Stop::before(more, RESULT_ALONE)
+}
+
+/// Where a condition on one move that is refused stops, with what is expected in place of its word.
+fn like_stop(text: &[u8], expected: &'static str) -> Stop {
+    let (word, more) = split_first(text);
+    if !is_move_like(word) {
+        return Stop::before(text, expected);
+    }
+    Stop::before(more, MOVE_ALONE)
 }
 
 /// Where a text that is no condition stops being one.
@@ -281,6 +365,8 @@ fn denied_stop(text: &[u8]) -> Stop {
         b"or" => Stop::before(text, DENIED),
         b"not" => Stop::before(text, DENIED),
         b"either" => Stop::before(text, OTHER_WAY),
+        b"for" => Stop::before(text, NOT_DENIED),
+        b"count" => Stop::before(text, NOT_DENIED),
         _ => claim_stop(text),
     }
 }
@@ -293,13 +379,21 @@ fn claim_stop(text: &[u8]) -> Stop {
         b"flip" => flip_stop(rest),
         b"moves" => moves_stop(rest),
         b"material" => material_stop(rest),
-        b"plies" => plies_stop(rest),
+        b"plies" => plies_stop(rest, COMPARISON, COUNT),
+        b"count" => plies_stop(rest, COUNT_COMPARISON, COUNT_PLIES),
+        b"for" => count_stop(rest, RUN),
+        b"result" => result_stop(rest),
+        b"next" => like_stop(rest, NEXT),
+        b"played" => like_stop(rest, PLAYED),
         b"tag" => tag_stop(rest),
         b"turn" => Stop::before(rest, SIDE),
         b"check" => Stop::before(rest, NOTHING),
         b"mate" => Stop::before(rest, NOTHING),
         b"stalemate" => Stop::before(rest, NOTHING),
-        _ => Stop::before(text, expected_for(key)),
+        _ => match glued_to_key(text) {
+            Some(rest) => Stop::before(rest, BLANK),
+            None => Stop::before(text, expected_for(key)),
+        },
     }
 }
 

@@ -1,8 +1,8 @@
 //! Conditions on the first moves.
-ghost use Rattle.std.specs.Prelude.{◌≡◌, ◌↔◌, ℕ, List, IsTrue, MatchOption};
+ghost use Rattle.std.specs.Prelude.{◌≡◌, ◌↔◌, ◌||◌, ◌==◌, ℕ, List, IsTrue, MatchOption};
 ghost use Rattle.std.specs.List.{list_all};
-ghost use Rattle.pgn_criteria.specs.Lines.{SpellsClaim, is_move_byte, IsMoveWord, AreMoveWords};
-ghost use Rattle.pgn_criteria.specs.declared.condition.Claim.TheVariants.{Moves};
+ghost use Rattle.pgn_criteria.specs.Lines.{SpellsClaim, is_move_byte, IsMoveWord, IsMoveLike, AreMoveWords};
+ghost use Rattle.pgn_criteria.specs.declared.condition.Claim.TheVariants.{Moves, Next, Played};
 
 use crate::words::{behind_blanks, behind_key, split_word};
 
@@ -60,4 +60,44 @@ pub(super) fn moves_of(text: &[u8]) -> Option<&[u8]>
     } else {
         None
     }
+}
+
+/// Whether the byte may stand in a word for moves that are alike.
+fn is_like_byte(byte: u8) -> bool
+    ensures { result ≡ is_move_byte byte || byte == 42 }
+{
+    is_move_byte(byte) || byte == b'*'
+}
+
+/// Whether each byte may stand in a word for moves that are alike.
+fn are_like_bytes(word: &[u8]) -> bool
+    ensures { result ≡ list_all (λ b. is_move_byte b || b == 42) word.now }
+{
+    word.iter().all(|byte| is_like_byte(*byte))
+}
+
+/// Whether the word is one for moves that are alike: 1 to 7 letters, digits, `=`, `-` and stars.
+pub(super) fn is_move_like(word: &[u8]) -> bool
+    ensures { IsTrue result ↔ IsMoveLike word.now }
+{
+    if word.is_empty() || 7 < word.len() {
+        return false;
+    }
+    are_like_bytes(word)
+}
+
+/// The word of a condition on the move that follows, if the text is one.
+pub(super) fn next_of(text: &[u8]) -> Option<&[u8]>
+    ensures { MatchOption result ((word : List ℕ) → SpellsClaim text.now (Next word) → ⊥) (λ word. SpellsClaim text.now (Next word.now)) }
+{
+    let word = behind_key(text, b"next")?;
+    if is_move_like(word) { Some(word) } else { None }
+}
+
+/// The word of a condition on the move that was played, if the text is one.
+pub(super) fn played_of(text: &[u8]) -> Option<&[u8]>
+    ensures { MatchOption result ((word : List ℕ) → SpellsClaim text.now (Played word) → ⊥) (λ word. SpellsClaim text.now (Played word.now)) }
+{
+    let word = behind_key(text, b"played")?;
+    if is_move_like(word) { Some(word) } else { None }
 }

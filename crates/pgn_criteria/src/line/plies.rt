@@ -1,10 +1,10 @@
-//! Conditions on the number of plies.
-ghost use Rattle.std.specs.Prelude.{◌≡◌, ◌≤◌, ℕ, length, IsTrue, MatchOption};
+//! Conditions on numbers of plies.
+ghost use Rattle.std.specs.Prelude.{◌≡◌, ◌≤◌, ℕ, length, nat_le, IsTrue, MatchOption};
 ghost use Rattle.std.specs.List.{list_all};
 ghost use Rattle.chess.specs.Fen.{is_digit, number_from};
-ghost use Rattle.pgn_criteria.specs.Lines.{SpellsClaim, SpellsCount, comparison_text};
+ghost use Rattle.pgn_criteria.specs.Lines.{SpellsClaim, SpellsCompared, SpellsCount, comparison_text};
 ghost use Rattle.pgn_criteria.specs.declared.compare.Comparison.{Comparison};
-ghost use Rattle.pgn_criteria.specs.declared.condition.Claim.TheVariants.{Plies};
+ghost use Rattle.pgn_criteria.specs.declared.condition.Claim.TheVariants.{Plies, For, Count};
 
 use crate::compare::Comparison;
 use crate::words::{behind_key, split_first};
@@ -25,7 +25,7 @@ pub(super) fn comparison_of(text: &[u8]) -> Option<Comparison>
 }
 
 /// The number of plies that the text is, if it is 1 to 4 digits.
-fn count_of(text: &[u8]) -> Option<u32>
+pub(super) fn count_of(text: &[u8]) -> Option<u32>
     ensures { MatchOption result ((count : ℕ) → SpellsCount text.now count → ⊥) (λ count. SpellsCount text.now count) }
 {
     if text.is_empty() || text.len() > 4 {
@@ -43,13 +43,37 @@ fn count_of(text: &[u8]) -> Option<u32>
     Some(count)
 }
 
-/// The comparison and the number of a claim on the plies, if the text is one.
-pub(super) fn plies_of(text: &[u8]) -> Option<(Comparison, u32)>
-    ensures { MatchOption result ((comparison : Comparison) (count : ℕ) → SpellsClaim text.now (Plies comparison count) → ⊥) (λ found. SpellsClaim text.now (Plies found.0 found.1)) }
+/// The comparison and the number that stand after a key word, if the text is that word with them.
+fn compared_of(text: &[u8], key: &[u8]) -> Option<(Comparison, u32)>
+    requires { IsTrue (list_all (λ b. nat_le 33 b) key.now) }
+    ensures { MatchOption result ((comparison : Comparison) (count : ℕ) → SpellsCompared key.now text.now comparison count → ⊥) (λ found. SpellsCompared key.now text.now found.0 found.1) }
 {
-    let rest = behind_key(text, b"plies")?;
+    let rest = behind_key(text, key)?;
     let (operator, digits) = split_first(rest);
     let comparison = comparison_of(operator)?;
     let count = count_of(digits)?;
     Some((comparison, count))
+}
+
+/// The comparison and the number of a claim on the plies, if the text is one.
+pub(super) fn plies_of(text: &[u8]) -> Option<(Comparison, u32)>
+    ensures { MatchOption result ((comparison : Comparison) (count : ℕ) → SpellsClaim text.now (Plies comparison count) → ⊥) (λ found. SpellsClaim text.now (Plies found.0 found.1)) }
+{
+    compared_of(text, b"plies")
+}
+
+/// The comparison and the number of a claim on how many plies the other conditions hold at, if the text is one.
+pub(super) fn counted_of(text: &[u8]) -> Option<(Comparison, u32)>
+    ensures { MatchOption result ((comparison : Comparison) (count : ℕ) → SpellsClaim text.now (Count comparison count) → ⊥) (λ found. SpellsClaim text.now (Count found.0 found.1)) }
+{
+    compared_of(text, b"count")
+}
+
+/// The number of a claim that the other conditions hold at so many plies one after the other, if the text is one.
+pub(super) fn for_of(text: &[u8]) -> Option<u32>
+    ensures { MatchOption result ((count : ℕ) → SpellsClaim text.now (For count) → ⊥) (λ count. SpellsClaim text.now (For count)) }
+{
+    let digits = behind_key(text, b"for")?;
+    let count = count_of(digits)?;
+    if count == 0 { None } else { Some(count) }
 }

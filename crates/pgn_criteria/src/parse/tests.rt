@@ -163,6 +163,137 @@ fn lines_on_plies_need_a_comparison_and_a_number(rt: HostRuntime) -> Result<(), 
     Ok(())
 }
 
+/// A line on a move or on the result that is not of the language.
+const BAD_WORDS: [&[u8]; 38] = [
+    b"next",
+    b"next ",
+    b"next N f3",
+    b"next Nf3 Nf6",
+    b"next Nf3+",
+    b"next Qh7#",
+    b"next Nf3!",
+    b"next N?3",
+    b"next abcdefgh",
+    b"next ********",
+    b"nextNf3",
+    b"Next Nf3",
+    b"next \"Nf3\"",
+    b"next not Nf3",
+    b"next = Nf3",
+    b"played",
+    b"played N f3",
+    b"played Nf3+",
+    b"played abcdefgh",
+    b"playedNf3",
+    b"Played Nf3",
+    b"play Nf3",
+    b"result",
+    b"result 1/2",
+    b"result 1-1",
+    b"result 0-0",
+    b"result 1-0 0-1",
+    b"result = 1-0",
+    b"result \"1-0\"",
+    b"result1-0",
+    b"Result 1-0",
+    b"result **",
+    b"either next e4",
+    b"either not played e4",
+    b"either result 1-0",
+    b"flip next e4",
+    b"not not next e4",
+    b"not result",
+];
+
+#[test]
+fn lines_on_a_move_need_its_word_and_those_on_the_result_one(rt: HostRuntime) -> Result<(), Fail> {
+    let alloc = rt.alloc();
+    for line in &BAD_WORDS {
+        let mut text = b"next *x*\n".to_vec(alloc)?;
+        text.extend_from_slice(line)?;
+        assert!(rt; is_refused(alloc, &text, 2), "{line:?}");
+    }
+    Ok(())
+}
+
+/// Lines with `for` and `count`, with the number of the alternatives that they spell and of the conditions of the last.
+const SPANS: [(&[u8], usize, usize); 8] = [
+    (b"for 1", 1, 1),
+    (b" \tfor\t9999 \r\n", 1, 1),
+    (b"for 007\nfor 2", 1, 2),
+    (b"count = 0\ncount <> 3", 1, 2),
+    (b"count  >= \t9999\nor\ncount < 0001", 2, 1),
+    (b"check\nfor 3\ncount <= 4\ncount > 1", 1, 4),
+    (b"tag for = \"count\"\nfor 1", 1, 2),
+    (b"either turn white\nnot check\nfor 5", 1, 3),
+];
+
+#[test]
+fn lines_on_spans_are_accepted(rt: HostRuntime) -> Result<(), Fail> {
+    let alloc = rt.alloc();
+    for &(text, alternatives, conditions) in &SPANS {
+        assert!(rt; spells(alloc, text, alternatives, conditions), "{text:?}");
+    }
+    Ok(())
+}
+
+/// A line with `for` or `count` that is not of the language.
+const BAD_SPANS: [&[u8]; 42] = [
+    b"for",
+    b"for ",
+    b"for 0",
+    b"for 0000",
+    b"for 10000",
+    b"for 00001",
+    b"for -1",
+    b"for x",
+    b"for 3x",
+    b"for = 3",
+    b"for >= 3",
+    b"for 3 4",
+    b"for3",
+    b"For 3",
+    b"for \"3\"",
+    b"for # 3",
+    b"not for 3",
+    b"either for 3",
+    b"either not for 3",
+    b"flip for 3",
+    b"not not for 3",
+    b"not either for 3",
+    b"count",
+    b"count 3",
+    b"count =",
+    b"count=3",
+    b"count =3",
+    b"count == 3",
+    b"count => 3",
+    b"count has 3",
+    b"count = 10000",
+    b"count < -1",
+    b"count = 3 4",
+    b"count = \"3\"",
+    b"Count = 3",
+    b"counts = 3",
+    b"not count = 3",
+    b"not count >= 0",
+    b"either count = 3",
+    b"flip count = 3",
+    b"not for",
+    b"not count",
+];
+
+#[test]
+fn lines_on_spans_need_their_number_and_stand_alone(rt: HostRuntime) -> Result<(), Fail> {
+    let alloc = rt.alloc();
+    for line in &BAD_SPANS {
+        let mut text = b"for 3\n".to_vec(alloc)?;
+        text.extend_from_slice(line)?;
+        assert!(rt; is_refused(alloc, &text, 2), "{line:?}");
+    }
+    Ok(())
+}
+
 /// A pattern's first rank with brackets that are no set.
 const BAD_SETS: [&[u8]; 14] = [
     b"[]7", b"[^]7", b"[", b"[P", b"[^P", b"[P]]", b"P]7", b"[[P]]", b"[x]7", b"[^x]7", b"[P^]7",
@@ -213,7 +344,7 @@ fn what_denies_no_claim_is_refused(rt: HostRuntime) -> Result<(), Fail> {
 }
 
 /// A text, how many alternatives it spells, and how many conditions the last of them has.
-const ACCEPTED: [(&[u8], usize, usize); 35] = [
+const ACCEPTED: [(&[u8], usize, usize); 43] = [
     (b"", 1, 0),
     (b"# x", 1, 0),
     (b"  # x", 1, 0),
@@ -239,6 +370,14 @@ const ACCEPTED: [(&[u8], usize, usize); 35] = [
     (b"plies = 0\nplies  <>\t007 \nplies < 9999", 1, 3),
     (b"plies <= 5\nor\nnot plies > 5\nplies >= 5", 2, 2),
     (b"moves 0-0 zz --", 1, 1),
+    (b"next Bxh7", 1, 1),
+    (b" \tnext \t *x*  \r\n", 1, 1),
+    (b"next e\nnext *******\nnext O-O*", 1, 3),
+    (b"next *=N\nor\nnext abcdefg", 2, 1),
+    (b"played 0-0\nplayed\t*=Q", 1, 2),
+    (b"result 1-0\nor\nresult 0-1\nor\nresult  1/2-1/2 ", 3, 1),
+    (b"result *\nplayed *\nnext *", 1, 3),
+    (b"tag next = \"next\"\ntag result begins \"1\"", 1, 2),
     (b"moves * e8=Q \t Nb1xd2", 1, 1),
     (b"fen 1PPP1*/*/*/*/*/*/*/*", 1, 1),
     (b"fen ?!Aa1234/KQRBNP/kqrbnp/****/8/*/88/*", 1, 1),
@@ -261,7 +400,7 @@ fn lines_of_the_language_are_accepted(rt: HostRuntime) -> Result<(), Fail> {
 }
 
 /// Conditions that are denied, in the same form.
-const DENIED: [(&[u8], usize, usize); 9] = [
+const DENIED: [(&[u8], usize, usize); 11] = [
     (b"not check", 1, 1),
     (b" \tnot \t mate \r\n", 1, 1),
     (b"not\tstalemate", 1, 1),
@@ -269,6 +408,8 @@ const DENIED: [(&[u8], usize, usize); 9] = [
     (b"not tag A = \"not\"", 1, 1),
     (b"not tag not <> \"\"\ntag not = \"x\"", 1, 2),
     (b"not moves e4  *", 1, 1),
+    (b"not next *x*\nnot\tplayed  K*", 1, 2),
+    (b"not result 1/2-1/2\nor\nnot  result *", 2, 1),
     (b"not material KQ v K\nnot fen */*/*/*/*/*/*/*", 1, 2),
     (b"not check\nor\nmate\nnot turn black\nnot moves d4", 2, 3),
 ];

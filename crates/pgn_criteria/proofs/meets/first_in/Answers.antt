@@ -1,7 +1,6 @@
 use Rattle.std.proofs.Common.{◌≡◌, length, take, subst, sym, ap, ◌∙◌, arith}
 use Rattle.std.proofs.Math.Seq.{take-length}
-use Rattle.pgn_text.specs.GameTexts.{tag_in}
-use Rattle.pgn_criteria.specs.Meeting.{Tags, Meets, IsFirst}
+use Rattle.pgn_criteria.specs.Meeting.{heading_of, Heading, Meets, IsFirst}
 use Rattle.pgn_criteria.proofs.MeetFacts.{good_from, alternatives_to}
 use Rattle.pgn_criteria.proofs.meets.first_in.Goals as goal
 
@@ -12,23 +11,23 @@ sooner-best-requires-clause-good c =
 
 pub loop-alternative-preserved : goal.loop-alternative-preserved
 loop-alternative-preserved c =
-    let tags : Tags = λ name. tag_in name c.args.game.now.tags in
+    let heading : Heading = heading_of c.args.game.now in
     let all = c.args.alternatives.now in
     let i = c.loop-alternative.alternative-index in
     let own = c.alternative-item.result in
     record {
       good = (good_from all i own c.loop-alternative-test.true c.alternative-item.is c.loop-alternative.invariant.good).1;
       first =
-          subst (λ x. IsFirst (λ plies. Meets tags c.args.replayed.now plies x) c.args.min c.args.max c.sooner-best.result)
+          subst (λ x. IsFirst (λ plies. Meets heading c.args.replayed.now plies x) c.args.min c.args.max c.sooner-best.result)
           (sym (alternatives_to all i own c.loop-alternative-test.true c.alternative-item.is))
           (c.sooner-best.ensures (take i all) c.loop-alternative.invariant.first);
     }
 
 pub returns : goal.returns
 returns c =
-    let tags : Tags = λ name. tag_in name c.args.game.now.tags in
+    let heading : Heading = heading_of c.args.game.now in
     let all = c.args.alternatives.now in
     let i = c.loop-alternative.alternative-index in
     let end : i ≡ length all = omega arith in
-    subst (λ x. IsFirst (λ plies. Meets tags c.args.replayed.now plies x) c.args.min c.args.max c.loop-alternative.best) (ap (λ n. take n all) end ∙ take-length all)
+    subst (λ x. IsFirst (λ plies. Meets heading c.args.replayed.now plies x) c.args.min c.args.max c.loop-alternative.best) (ap (λ n. take n all) end ∙ take-length all)
     c.loop-alternative.invariant.first

@@ -1,37 +1,18 @@
-use Rattle.std.proofs.Common.{◌≡◌, IsTrue, subst, inl, inr, arith}
-use Rattle.std.proofs.lemmas.Bool.{cases_lt}
-use Rattle.std.proofs.lemmas.Option.{slice_get_within}
-use Rattle.pgn_criteria.specs.Stages.{FitsAt, AllOfPosition}
+use Rattle.std.proofs.Common.{ℕ, List, Option, Some, None}
+use Rattle.pgn_game.specs.Replays.{Replay}
+use Rattle.pgn_criteria.specs.Stages.{FitsAt, FitsAbout, IsFirstBefore, AreNoSpans}
+use Rattle.pgn_criteria.specs.declared.condition.Condition.{Condition}
+use Rattle.pgn_criteria.proofs.SpanFacts.{no_spans_hold}
 use Rattle.pgn_criteria.proofs.meets.first_of.Goals as goal
 
-pub returns-then-is_met : goal.returns-then-is_met
-returns-then-is_met c = (
-  c.loop-plies.invariant.from,
-  c.loop-plies-test.true,
-  (c.position.result.now, c.position.ensures, c.is_met.ensures.0 c.if-is_met.true),
-  c.loop-plies.invariant.none,
-)
+-- without `for` and `count` nothing more is asked
+first_fits : (replay : Replay) (conditions : List (Condition (List ℕ))) (from end : ℕ) (found : Option ℕ) → AreNoSpans conditions
+    → IsFirstBefore (FitsAt replay conditions) from end found → IsFirstBefore (FitsAbout replay conditions) from end found
+first_fits replay conditions from end None none first = λ n low less fits. first n low less fits.0
+first_fits replay conditions from end (Some n) none first =
+    (first.0, first.1, (first.2, no_spans_hold (FitsAt replay conditions) n conditions none), λ m low less fits. first.3 m low less fits.0)
 
-pub loop-plies-preserved : goal.loop-plies-preserved
-loop-plies-preserved c = record {
-  from = let low = c.loop-plies.invariant.from in omega arith;
-  none = λ n low less fits. elim (cases_lt n c.loop-plies.plies) [
-    | inl before ↦ c.loop-plies.invariant.none n low before fits
-    | inr here ↦
-        let same : n ≡ c.loop-plies.plies = omega arith in
-        let now = subst (FitsAt c.args.replayed.now c.args.alternative.now) same fits in
-        let one : now.0 ≡ c.position.result.now = cc (now.1, c.position.ensures) in
-        let met : IsTrue c.is_met.result = c.is_met.ensures.1 (subst (λ p. AllOfPosition p c.args.alternative.now) one now.2) in
-        absurd (cc (met, c.if-is_met.false))
-  ];
-}
-
-pub returns-else-plies : goal.returns-else-plies
-returns-else-plies c n low high fits =
-    elim (cases_lt n c.loop-plies.plies) [
-      | inl before ↦ c.loop-plies.invariant.none n low before fits
-      | inr behind ↦ let within = slice_get_within c.args.replayed.now.positions n fits.0 fits.1 in absurd (omega (arith, c.plies.ensures.positions))
-    ]
-
-pub returns-after-loop-plies : goal.returns-after-loop-plies
-returns-after-loop-plies c n low high fits = c.loop-plies.invariant.none n low (omega arith) fits
+pub returns-then-is_free_of_spans : goal.returns-then-is_free_of_spans
+returns-then-is_free_of_spans c =
+    first_fits c.args.replayed.now c.args.alternative.now c.args.from c.args.end c.first_fit.result (c.is_free_of_spans.ensures.0 c.if-is_free_of_spans.true)
+    c.first_fit.ensures

@@ -1,13 +1,12 @@
 use Rattle.std.proofs.Common.{◌↔◌, length}
 use Rattle.chess.specs.Fen.{parted_at}
-use Rattle.pgn_text.specs.GameTexts.{tag_in}
-use Rattle.pgn_criteria.specs.Meeting.{HasOneOf}
+use Rattle.pgn_criteria.specs.Meeting.{heading_of, HasOneOf}
 use Rattle.pgn_criteria.proofs.meets.has_one_of.Given as goal
 
 abbrev pub invariant-loop-behind : goal.invariant-loop-behind
 invariant-loop-behind l =
-    HasOneOf (λ name. tag_in name l.game.tags) l.relation l.contents (parted_at 124 l.rest)
-    ↔ HasOneOf (λ name. tag_in name l.game.tags) l.relation l.contents (parted_at 124 l.names)
+    HasOneOf (heading_of l.game) l.relation l.contents (parted_at 124 l.rest)
+    ↔ HasOneOf (heading_of l.game) l.relation l.contents (parted_at 124 l.names)
 
 abbrev pub decreases-loop-behind : goal.decreases-loop-behind
 decreases-loop-behind l = length (parted_at 124 l.rest)

@@ -12,4 +12,4 @@ loop-condition-preserved c n above rest =
     let front = alternatives_from all i own c.loop-condition-test.true c.condition-item.is in
     c.loop-condition.invariant n (omega (arith, above, c.larger-most.ensures))
     (subst (λ cs. AllAskWithin n (map (seen (λ text. text.items)) cs)) (sym front)
-    (asks_more c.opening_of.result n (omega (arith, above, c.larger-most.ensures)) (claim_seen (λ text. text.items) own.claim) c.opening_of.ensures, rest))
+    (asks_more c.in_ok-own.own n (omega (arith, above, c.larger-most.ensures)) (claim_seen (λ text. text.items) own.claim) c.in_ok-own.ensures, rest))

@@ -1,29 +1,28 @@
 use Rattle.std.proofs.Common.{◌∷◌, ◌+◌, [], None, Some, subst}
 use Rattle.std.specs.Option.{unwrap_or}
-use Rattle.pgn_text.specs.GameTexts.{tag_in}
-use Rattle.pgn_criteria.specs.Meeting.{Tags, Meets}
+use Rattle.pgn_criteria.specs.Meeting.{heading_of, Heading, Meets}
 use Rattle.pgn_criteria.specs.Stages.{IsFirstBefore}
 use Rattle.pgn_criteria.proofs.StageFacts.{next_best, fits_first, no_first}
 use Rattle.pgn_criteria.proofs.meets.sooner.Goals as goal
 
 pub returns-then-not-is_of_game : goal.returns-then-not-is_of_game
 returns-then-not-is_of_game c before first =
-    let tags : Tags = λ name. tag_in name c.args.game.now.tags in
-    next_best tags c.args.replayed.now before (c.args.alternative.now ∷ []) c.args.min c.args.max c.args.best None first
-    (no_first tags c.args.replayed.now c.args.alternative.now c.args.min (unwrap_or c.args.best (c.args.max + 1)) c.is_of_game.result c.if-not-is_of_game.true c.is_of_game.ensures)
+    let heading : Heading = heading_of c.args.game.now in
+    next_best heading c.args.replayed.now before (c.args.alternative.now ∷ []) c.args.min c.args.max c.args.best None first
+    (no_first heading c.args.replayed.now c.args.alternative.now c.args.min (unwrap_or c.args.best (c.args.max + 1)) c.is_of_game.result c.if-not-is_of_game.true c.is_of_game.ensures)
 
 pub returns-in-Some : goal.returns-in-Some
 returns-in-Some c before first =
-    let tags : Tags = λ name. tag_in name c.args.game.now.tags in
+    let heading : Heading = heading_of c.args.game.now in
     let own = c.args.alternative.now ∷ [] in
-    next_best tags c.args.replayed.now before own c.args.min c.args.max c.args.best (Some c.in-Some.plies) first
-    (subst (λ end. IsFirstBefore (λ plies. Meets tags c.args.replayed.now plies own) c.args.min end (Some c.in-Some.plies)) c.unwrap_or-end.ensures
-    (fits_first tags c.args.replayed.now c.args.alternative.now c.args.min c.unwrap_or-end.result (Some c.in-Some.plies) (c.is_of_game.ensures.0 c.if-not-is_of_game.false) c.in-Some.ensures))
+    next_best heading c.args.replayed.now before own c.args.min c.args.max c.args.best (Some c.in-Some.plies) first
+    (subst (λ end. IsFirstBefore (λ plies. Meets heading c.args.replayed.now plies own) c.args.min end (Some c.in-Some.plies)) c.unwrap_or-end.ensures
+    (fits_first heading c.args.replayed.now c.args.alternative.now c.args.min c.unwrap_or-end.result (Some c.in-Some.plies) (c.is_of_game.ensures.0 c.if-not-is_of_game.false) c.in-Some.ensures))
 
 pub returns-in-None : goal.returns-in-None
 returns-in-None c before first =
-    let tags : Tags = λ name. tag_in name c.args.game.now.tags in
+    let heading : Heading = heading_of c.args.game.now in
     let own = c.args.alternative.now ∷ [] in
-    next_best tags c.args.replayed.now before own c.args.min c.args.max c.args.best None first
-    (subst (λ end. IsFirstBefore (λ plies. Meets tags c.args.replayed.now plies own) c.args.min end None) c.unwrap_or-end.ensures
-    (fits_first tags c.args.replayed.now c.args.alternative.now c.args.min c.unwrap_or-end.result None (c.is_of_game.ensures.0 c.if-not-is_of_game.false) c.in-None.ensures))
+    next_best heading c.args.replayed.now before own c.args.min c.args.max c.args.best None first
+    (subst (λ end. IsFirstBefore (λ plies. Meets heading c.args.replayed.now plies own) c.args.min end None) c.unwrap_or-end.ensures
+    (fits_first heading c.args.replayed.now c.args.alternative.now c.args.min c.unwrap_or-end.result None (c.is_of_game.ensures.0 c.if-not-is_of_game.false) c.in-None.ensures))

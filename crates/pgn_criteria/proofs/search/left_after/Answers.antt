@@ -1,11 +1,10 @@
-use Rattle.std.proofs.Common.{◌≡◌, ◌↔◌, ◌++◌, ◌∷◌, ◌+◌, length, drop, map, subst, sym, ap, ◌∙◌, arith}
+use Rattle.std.proofs.Common.{◌≡◌, ◌↔◌, ◌++◌, ◌∷◌, ◌+◌, ℕ, length, drop, map, subst, sym, ap, ◌∙◌, arith}
 use Rattle.std.proofs.lemmas.List.{append-nil, map-append}
 use Rattle.std.proofs.Math.Seq.{drop-length}
 use Rattle.chess.specs.Positions.{State}
-use Rattle.pgn_text.specs.GameTexts.{tag_in}
-use Rattle.pgn_criteria.specs.Meeting.{Tags, SomeHold}
+use Rattle.pgn_criteria.specs.Meeting.{heading_of, Heading, SomeHold}
 use Rattle.pgn_criteria.specs.Stages.{on_positions}
-use Rattle.pgn_criteria.proofs.MeetFacts.{good_from, alternatives_from}
+use Rattle.pgn_criteria.proofs.MeetFacts.{good_from, within_from, alternatives_from}
 use Rattle.pgn_criteria.proofs.OpeningFacts.{none_of_none}
 use Rattle.pgn_criteria.proofs.StageFacts.{kept_one, dropped_one}
 use Rattle.pgn_criteria.proofs.search.left_after.Goals as goal
@@ -13,7 +12,7 @@ use Rattle.pgn_criteria.proofs.search.left_after.Goals.{then-is_of_game+in_ok-pu
 
 pub loop-alternative-preserved : goal.loop-alternative-preserved
 loop-alternative-preserved c =
-    let tags : Tags = λ name. tag_in name c.args.game.now.tags in
+    let heading : Heading = heading_of c.args.game.now in
     let replay = c.args.opening.now in
     let all = c.args.alternatives.now in
     let i = c.loop-alternative.alternative-index in
@@ -21,33 +20,36 @@ loop-alternative-preserved c =
     let before = map (λ a. on_positions a.now) c.loop-alternative.left.items in
     let rest = drop (i + 1) all in
     let front = alternatives_from all i own c.loop-alternative-test.true c.alternative-item.is in
-    let so_far : (P : State) → SomeHold tags replay P (before ++ own ∷ rest) ↔ SomeHold tags replay P c.args.alternatives.now =
-    λ P. subst (λ x. SomeHold tags replay P (before ++ x) ↔ SomeHold tags replay P c.args.alternatives.now) front (c.loop-alternative.invariant.kept P) in
+    let most = c.loop-alternative.invariant.still.0 in
+    let asked = within_from most all i own c.loop-alternative-test.true c.alternative-item.is c.loop-alternative.invariant.still.1 in
+    let so_far : (ply : ℕ) (P : State) → SomeHold heading replay ply P (before ++ own ∷ rest) ↔ SomeHold heading replay ply P c.args.alternatives.now =
+    λ ply P. subst (λ x. SomeHold heading replay ply P (before ++ x) ↔ SomeHold heading replay ply P c.args.alternatives.now) front (c.loop-alternative.invariant.kept ply P) in
     record {
       good = (good_from all i own c.loop-alternative-test.true c.alternative-item.is c.loop-alternative.invariant.good).1;
-      kept = λ P.
+      still = (most, asked.1);
+      kept = λ ply P.
           elim c.if-is_of_game.branch [
             | then-is_of_game+in_ok-push w ↦
-                let one = kept_one tags replay P before rest own (c.is_of_game.ensures.0 w.if-is_of_game.true) in
+                let one = kept_one heading replay ply P before rest own most (c.is_of_game.ensures.0 w.if-is_of_game.true) asked.0 in
                 let items = ap (map (λ a. on_positions a.now)) (ap (λ v. v.items) w.left-is ∙ w.in_ok-push.ensures.items) ∙ map-append (λ a. on_positions a.now) c.loop-alternative.left.items _ in
-                subst (λ x. SomeHold tags replay P (x ++ rest) ↔ SomeHold tags replay P c.args.alternatives.now) (sym items)
-                (λ s. (so_far P).0 (one.0 s), λ s. one.1 ((so_far P).1 s))
+                subst (λ x. SomeHold heading replay ply P (x ++ rest) ↔ SomeHold heading replay ply P c.args.alternatives.now) (sym items)
+                (λ s. (so_far ply P).0 (one.0 s), λ s. one.1 ((so_far ply P).1 s))
             | else-is_of_game w ↦
-                let one = dropped_one tags replay P before rest own c.is_of_game.result w.if-is_of_game.false c.is_of_game.ensures in
-                subst (λ v. SomeHold tags replay P (map (λ a. on_positions a.now) v.items ++ rest) ↔ SomeHold tags replay P c.args.alternatives.now) (sym w.left-is)
-                (λ s. (so_far P).0 (one.0 s), λ s. one.1 ((so_far P).1 s))
+                let one = dropped_one heading replay ply P before rest own c.is_of_game.result w.if-is_of_game.false c.is_of_game.ensures in
+                subst (λ v. SomeHold heading replay ply P (map (λ a. on_positions a.now) v.items ++ rest) ↔ SomeHold heading replay ply P c.args.alternatives.now) (sym w.left-is)
+                (λ s. (so_far ply P).0 (one.0 s), λ s. one.1 ((so_far ply P).1 s))
           ];
     }
 
 pub returns-clause-kept : goal.returns-clause-kept
-returns-clause-kept c P =
-    let tags : Tags = λ name. tag_in name c.args.game.now.tags in
+returns-clause-kept c ply P =
+    let heading : Heading = heading_of c.args.game.now in
     let replay = c.args.opening.now in
     let all = c.args.alternatives.now in
     let left = map (λ a. on_positions a.now) c.loop-alternative.left.items in
     let end : c.loop-alternative.alternative-index ≡ length all = omega arith in
     let none : left ++ drop c.loop-alternative.alternative-index all ≡ left = ap (λ n. left ++ drop n all) end ∙ ap (λ x. left ++ x) (drop-length all) ∙ append-nil left in
-    subst (λ x. SomeHold tags replay P x ↔ SomeHold tags replay P all) none (c.loop-alternative.invariant.kept P)
+    subst (λ x. SomeHold heading replay ply P x ↔ SomeHold heading replay ply P all) none (c.loop-alternative.invariant.kept ply P)
 
 pub returns-clause-free : goal.returns-clause-free
 returns-clause-free c = none_of_none (λ a. a.now) c.loop-alternative.left.items

@@ -1,13 +1,13 @@
-use Rattle.std.proofs.Common.{◌↔◌, ◌++◌, drop, map}
+use Rattle.std.proofs.Common.{◌↔◌, ◌++◌, ℕ, drop, map}
 use Rattle.chess.specs.Positions.{State}
-use Rattle.pgn_text.specs.GameTexts.{tag_in}
-use Rattle.pgn_criteria.specs.Meeting.{SomeHold}
-use Rattle.pgn_criteria.specs.Stages.{AllGood, on_positions}
+use Rattle.pgn_criteria.specs.Meeting.{heading_of, SomeHold}
+use Rattle.pgn_criteria.specs.Stages.{AllGood, EachAsksWithin, on_positions}
 use Rattle.pgn_criteria.proofs.search.left_after.Given as goal
 
 abbrev pub invariant-loop-alternative : goal.invariant-loop-alternative
 invariant-loop-alternative l = record {
   good : AllGood (drop l.alternative-index l.alternatives);
-  kept : (P : State) → SomeHold (λ name. tag_in name l.game.tags) l.opening P (map (λ a. on_positions a.now) l.left.items ++ drop l.alternative-index l.alternatives)
-      ↔ SomeHold (λ name. tag_in name l.game.tags) l.opening P l.alternatives;
+  still : (most : ℕ) × EachAsksWithin most (drop l.alternative-index l.alternatives);
+  kept : (ply : ℕ) (P : State) → SomeHold (heading_of l.game) l.opening ply P (map (λ a. on_positions a.now) l.left.items ++ drop l.alternative-index l.alternatives)
+      ↔ SomeHold (heading_of l.game) l.opening ply P l.alternatives;
 }

@@ -1,12 +1,11 @@
 use Rattle.pgn_extract.specs.Aims.{aim_of}
-use Rattle.pgn_extract.specs.Finding.{tags_of}
-use Rattle.pgn_extract.proofs.Picks.{same_met}
+use Rattle.pgn_extract.proofs.Picks.{asks_given}
 use Rattle.pgn_extract.proofs.Sought.{within_entry}
 use Rattle.pgn_extract.proofs.choosing.has_entry.Goals as goal
 
 pub play-requires : goal.play-requires
-play-requires c replay own ply within =
-    same_met (tags_of c.args.game.now) replay c.args.settings.now.criteria _ c.in_ok-search-in-Some.search ply c.in-Some.is (c.in_ok-search-in-Some.ensures replay own ply)
+play-requires c =
+    asks_given (aim_of c.args.settings.now) c.args.game.now c.in-Some.criteria c.in_ok-search-in-Some.field-0 c.in-Some-2.search c.in-Some.is c.in-Some-2.is c.in_ok-search-in-Some.ensures
 
 pub returns-in_ok-count_plies-in-None : goal.returns-in_ok-count_plies-in-None
 returns-in_ok-count_plies-in-None c =

@@ -8,7 +8,7 @@ use Rattle.pgn_game.specs.Starts.{fen_tag}
 use Rattle.pgn_extract.specs.Aims.{aim_of}
 use Rattle.pgn_extract.specs.Blockwise.{LeavesText}
 use Rattle.pgn_extract.specs.Exports.{HasEntry, IsSelected, written_lines}
-use Rattle.pgn_extract.specs.Finding.{tags_of}
+use Rattle.pgn_criteria.specs.Meeting.{heading_of}
 use Rattle.pgn_extract.proofs.AllTaken.{all_written}
 use Rattle.pgn_extract.proofs.exporting.put_selected.Goals as goal
 
@@ -29,5 +29,5 @@ returns-in-Faulty c =
     let none : (P : Type 0) → IsSelected c.args.settings.now.select P → ⊥ = λ P. subst (λ s. IsSelected s P → ⊥) (sym c.in-Faulty.is) (λ never. never) in
     let checked = rw c.written_lines.ensures at c.check_lines.ensures in
     MatchResult-weaker c.check_lines.result checked
-    (λ _ sound. (sound.0, sound.1, [], inr (none (HasEntry aim (tags_of game) sound.0), refl), sym (append-nil old)))
+    (λ _ sound. (sound.0, sound.1, [], inr (none (HasEntry aim (heading_of game) sound.0), refl), sym (append-nil old)))
     (λ fault told. IfSome_then (fault_of fault) told leaves)

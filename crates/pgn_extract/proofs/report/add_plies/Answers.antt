@@ -9,6 +9,7 @@ use Rattle.pgn_game.specs.Starts.{fen_tag}
 use Rattle.pgn_game.proofs.OneReplay.{line_length}
 use Rattle.pgn_extract.specs.Aims.{aim_of}
 use Rattle.pgn_extract.proofs.GameVerdict.{listed_replay, listed_fault}
+use Rattle.pgn_criteria.specs.Meeting.{heading_of}
 use Rattle.pgn_extract.proofs.report.add_plies.Goals as goal
 
 pub returns-in-Ok : goal.returns-in-Ok
@@ -18,7 +19,7 @@ returns-in-Ok c =
     let size = line_length is.start (main_words c.args.game.now.elements 0) replay.positions replay.played is.line ∙ ap (λ n. n + 1) c.in-Ok.ensures.2 in
     on_ok_weaker c.push_plies.result
     (λ adds.
-    let lines = adds (λ name. tag_in name c.args.game.now.tags) replay size in
+    let lines = adds (heading_of c.args.game.now) replay size in
     listed_replay (aim_of c.args.settings.now) replay lines.0 is lines.1 (record { output = lines.2; faults = refl; games = refl; faulty = refl }))
     c.push_plies.ensures
 

@@ -1,11 +1,7 @@
-use Rattle.std.proofs.Common.{◌≡◌, ◌∷◌, ◌++◌, [], List, ℕ, append_assoc, decimal, refl, ap, subst, ◌∙◌}
+use Rattle.std.proofs.Common.{◌∷◌, ◌++◌, [], decimal, refl, ap, subst, ◌∙◌}
 use Rattle.pgn_extract.specs.Finding.{ShowsPosition}
+use Rattle.pgn_extract.proofs.FieldTexts.{whole_line}
 use Rattle.pgn_extract.proofs.showing.push_entry_line.Goals as goal
-
--- the parts of a line make it
-whole_line : (text mark digits fen next : List ℕ)
-    → (((text ++ (mark ++ 32 ∷ digits)) ++ fen) ++ next) ++ 10 ∷ [] ≡ text ++ (mark ++ 32 ∷ digits ++ ((fen ++ next) ++ 10 ∷ []))
-whole_line text mark digits fen next = simp append_assoc refl
 
 pub returns-clause-shown : goal.returns-clause-shown
 returns-clause-shown c =

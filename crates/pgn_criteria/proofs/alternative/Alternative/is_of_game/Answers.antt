@@ -1,7 +1,6 @@
 use Rattle.std.proofs.Common.{◌↔◌, ℕ, List, map, IsTrue, ap, ◌∙◌, subst, Vec, Global}
-use Rattle.pgn_text.specs.GameTexts.{tag_in}
 use Rattle.pgn_criteria.specs.declared.condition.Condition.{Condition}
-use Rattle.pgn_criteria.specs.Meeting.{Tags}
+use Rattle.pgn_criteria.specs.Meeting.{heading_of, Heading}
 use Rattle.pgn_criteria.specs.Stages.{AllOfGame, seen}
 use Rattle.pgn_criteria.proofs.alternative.Alternative.is_of_game.Goals as goal
 
@@ -10,6 +9,6 @@ view conditions = map (seen (λ text. text.items)) conditions
 
 pub returns : goal.returns
 returns c =
-    let tags : Tags = λ name. tag_in name c.args.game.now.tags in
-    subst (λ x. IsTrue c.are_of_game.result ↔ AllOfGame tags c.args.replayed.now x) (ap (λ s. s.plain) c.self-inside.view_is ∙ c.self.view_is)
-    (subst (λ x. IsTrue c.are_of_game.result ↔ AllOfGame tags c.args.replayed.now (view x)) c.deref.ensures.value c.are_of_game.ensures)
+    let heading : Heading = heading_of c.args.game.now in
+    subst (λ x. IsTrue c.are_of_game.result ↔ AllOfGame heading c.args.replayed.now x) (ap (λ s. s.plain) c.self-inside.view_is ∙ c.self.view_is)
+    (subst (λ x. IsTrue c.are_of_game.result ↔ AllOfGame heading c.args.replayed.now (view x)) c.deref.ensures.value c.are_of_game.ensures)

@@ -1,18 +1,24 @@
-use Rattle.std.proofs.Common.{ℕ, List, Vec, Global, map, subst}
-use Rattle.pgn_criteria.specs.Layouts.{Lays}
-use Rattle.pgn_criteria.specs.Stages.{AllSaid, seen}
+use Rattle.std.proofs.Common.{List, ℕ, Vec, Global, map}
+use Rattle.pgn_criteria.specs.Planning.{Plans}
+use Rattle.pgn_criteria.specs.Stages.{AllOfStage, seen}
 use Rattle.pgn_criteria.specs.declared.condition.Condition.{Condition}
+use Rattle.pgn_criteria.specs.declared.meets.Stage.TheVariants.{Squares}
 use Rattle.pgn_criteria.proofs.alternative.Form.new.Goals as goal
 
+view : List (Condition (Vec ℕ Global)) → List (Condition (List ℕ))
+view conditions = map (seen (λ text. text.items)) conditions
+
 pub invariant_of-result : goal.invariant_of-result
+unfolding view
 invariant_of-result c =
-    let lays : Lays (λ P. AllSaid P (map (seen (λ text. text.items)) c.args.conditions.items)) (λ P. Unit {0}) c.new-layout.result c.lay_out_all.new.layout c.in_ok-is_laid_out.is_laid_out =
-    subst (λ (x : List (Condition (Vec ℕ Global))). Lays (λ P. AllSaid P (map (seen (λ text. text.items)) x)) (λ P. Unit {0}) c.new-layout.result c.lay_out_all.new.layout
-    c.in_ok-is_laid_out.is_laid_out) c.deref.ensures.value c.in_ok-is_laid_out.ensures in
+    let plans : Plans (λ P. AllOfStage Squares P (view c.args.conditions.items)) (λ P. Unit {0}) c.new-plan.result c.plan_all.new.plan c.in_ok-is_planned.is_planned =
+    rw c.deref.ensures.value at c.in_ok-is_planned.ensures in
     record {
+      sound = plans.sound c.new-plan.ensures.sound;
       rest = c.free-free.ensures;
-      laid = (
-        λ P all. (lays.needed P (c.new-layout.ensures P.men) all).0,
-        λ so P laid. (lays.enough so P laid tt).1,
+      planned = (
+        λ P all. (plans.needed P (c.new-plan.ensures.nothing P.men) all).0,
+        λ so P planned. (plans.enough so P planned tt).1,
       );
+      bare = (rw c.deref-2.ensures.value at c.are_patterns-is_bare.ensures).0;
     }

@@ -1,14 +1,14 @@
 use Rattle.std.proofs.Common.{refl, subst}
 use Rattle.std.proofs.lemmas.Result.{err_from_is_err_and}
 use Rattle.pgn_criteria.specs.Lines.{alternatives_of}
-use Rattle.pgn_criteria.specs.Stages.{EachAsksWithin}
+use Rattle.pgn_criteria.specs.Stages.{AllWithin}
 use Rattle.pgn_criteria.proofs.ParseFacts.{spelled_good}
 use Rattle.pgn_criteria.proofs.meets.Criteria.parse.Goals as goal
 
 pub invariant_of-result : goal.invariant_of-result
 invariant_of-result c = record {
   good = spelled_good c.args.text.now c.in_ok-alternatives.alternatives.items c.in_ok-alternatives.ensures;
-  within = subst (EachAsksWithin c.longest-opening.result) c.deref.ensures.value c.longest-opening.ensures;
+  within = subst (AllWithin c.longest-opening.result) c.deref.ensures.value c.longest-opening.ensures;
 }
 
 pub returns-in_err-alternatives-clause-refused : goal.returns-in_err-alternatives-clause-refused

@@ -1,38 +1,48 @@
-use Rattle.std.proofs.Common.{◌↔◌, ◌∙◌, ℕ, subst, arith}
+use Rattle.std.proofs.Common.{◌↔◌, ◌∙◌, ℕ, sym, subst, arith}
 use Rattle.std.specs.Prelude.{IfSome}
 use Rattle.pgn_text.specs.GameTexts.{tag_in}
 use Rattle.pgn_game.specs.Replays.{Replay}
 use Rattle.pgn_game.specs.Starts.{fen_tag}
 use Rattle.pgn_game.proofs.Openings.{opening_legal}
-use Rattle.pgn_criteria.specs.Meeting.{Tags, SomeHold, Meets}
-use Rattle.pgn_criteria.specs.Stages.{EachAsksWithin}
-use Rattle.pgn_criteria.proofs.OpeningFacts.{opening_fits, some_hold_there}
+use Rattle.pgn_criteria.specs.Meeting.{heading_of, SomeHold, Meets}
+use Rattle.pgn_criteria.specs.Stages.{EachAsksWithin, AllWithin}
+use Rattle.pgn_criteria.proofs.OpeningFacts.{opening_fits, within_hold_there}
 use Rattle.pgn_criteria.proofs.StageFacts.{same_plies}
 use Rattle.pgn_criteria.proofs.meets.Criteria.watch.Goals as goal
 
 pub returns-in-Some : goal.returns-in-Some
 returns-in-Some c replay own ply =
-    let tags : Tags = λ name. tag_in name c.args.game.now.tags in
-    let watched = subst (λ o. IfSome o (λ search. (replay : Replay) (ply : ℕ) → Meets tags replay ply search ↔ Meets tags replay ply c.args.self.now)) c.in-Some.is c.in_ok-search.ensures in
+    let heading = heading_of c.args.game.now in
+    let watched = subst (λ o. IfSome o (λ search. (replay : Replay) (ply : ℕ) → Meets heading replay ply search ↔ Meets heading replay ply c.args.self.now)) c.in-Some.is c.in_ok-search.ensures in
     watched replay ply
 
 pub left_after-requires-clause-legal : goal.left_after-requires-clause-legal
 left_after-requires-clause-legal c =
     opening_legal (tag_in fen_tag c.args.game.now.tags) c.args.game.now.elements _ c.in_ok-opening.opening c.in_ok-opening.ensures
 
+pub left_after-requires-clause-still : goal.left_after-requires-clause-still
+left_after-requires-clause-still c =
+    let most = c.in-Some-opening.most in
+    let within : EachAsksWithin most c.self.inside.alternatives.items = subst (λ o. AllWithin o c.self.inside.alternatives.items) c.in-Some-opening.is c.self.invariant.within in
+    (most, subst (EachAsksWithin most) (sym c.deref.ensures.value) within)
+
 pub returns : goal.returns
 returns c replay own ply =
-    let tags : Tags = λ name. tag_in name c.args.game.now.tags in
+    let heading = heading_of c.args.game.now in
+    let most = c.in-Some-opening.most in
     let opening = c.in_ok-opening.opening in
     let search = c.in_ok-left_after.field-0 in
     let all = c.deref.ensures.value ∙ c.self.view_is in
-    let fits = opening_fits (tag_in fen_tag c.args.game.now.tags) c.args.game.now.elements c.self.inside.opening opening replay c.in_ok-opening.ensures own in
-    let within = subst (EachAsksWithin c.self.inside.opening) c.self.view_is c.self.invariant.within in
-    same_plies tags replay search c.args.self.now
-    (λ P.
-    let kept = subst (λ x. SomeHold tags opening P search ↔ SomeHold tags opening P x) all (c.in_ok-left_after.ensures.kept P) in
-    let there = some_hold_there tags c.self.inside.opening opening replay fits P c.args.self.now within in
-    let here = some_hold_there tags 0 opening replay (record { words = λ words few. fits.words words (omega (arith, few)); counts = λ comparison count none. absurd (omega (arith, none)) }) P search c.in_ok-left_after.ensures.free in (
+    let fits = opening_fits (tag_in fen_tag c.args.game.now.tags) c.args.game.now.elements most opening replay c.in_ok-opening.ensures own in
+    let inside : EachAsksWithin most c.self.inside.alternatives.items = subst (λ o. AllWithin o c.self.inside.alternatives.items) c.in-Some-opening.is c.self.invariant.within in
+    let within = subst (EachAsksWithin most) c.self.view_is inside in
+    same_plies heading replay search c.args.self.now
+    (λ at P.
+    let kept = subst (λ x. SomeHold heading opening at P search ↔ SomeHold heading opening at P x) all (c.in_ok-left_after.ensures.kept at P) in
+    let there = within_hold_there heading most opening replay fits at P c.args.self.now within in
+    let here = within_hold_there heading 0 opening replay
+    (record { words = λ words few. fits.words words (omega (arith, few)); counts = λ comparison count none. absurd (omega (arith, none)) })
+    at P search c.in_ok-left_after.ensures.free in (
       λ hold. there.0 (kept.0 (here.1 hold)),
       λ hold. here.0 (kept.1 (there.1 hold)),
     ))

@@ -9,9 +9,10 @@ use Rattle.pgn_game.specs.PlayedLines.{PlaysWord, HasEnded, HasAdvanced}
 use Rattle.pgn_game.specs.Replays.{Replay}
 use Rattle.pgn_extract.specs.Aims.{aim_of}
 use Rattle.pgn_extract.specs.Exports.{HasEntry}
-use Rattle.pgn_extract.specs.Finding.{IsFirstWanted, tags_of}
+use Rattle.pgn_extract.specs.Finding.{IsFirstWanted}
+use Rattle.pgn_criteria.specs.Meeting.{heading_of}
 use Rattle.pgn_extract.proofs.Found.{played_none, played_on, played_all}
-use Rattle.pgn_extract.proofs.Sought.{sought_none, sought_all, same_positions}
+use Rattle.pgn_extract.proofs.Sought.{sought_none, sought_all, one_main}
 use Rattle.pgn_extract.proofs.choosing.Seeker.play.Goals as goal
 
 pub loop-line-init : goal.loop-line-init
@@ -50,6 +51,6 @@ returns c =
     let game = c.args.game.now in (
       (replay, is),
       λ other own.
-          let found = subst (λ ps. IsFirstWanted aim game ps c.loop-line.found) (same_positions game replay other is own) at.3 in
-          subst (λ b. IsTrue b ↔ HasEntry aim (tags_of game) other) (sym c.is_some.ensures) (sought_all aim game other c.loop-line.found own found),
+          let found = subst (λ ps. IsFirstWanted aim game ps c.loop-line.found) (one_main game replay other (Main, is) own).0 at.3 in
+          subst (λ b. IsTrue b ↔ HasEntry aim (heading_of game) other) (sym c.is_some.ensures) (sought_all aim game other c.loop-line.found own found),
     )

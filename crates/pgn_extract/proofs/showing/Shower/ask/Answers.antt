@@ -1,6 +1,6 @@
-use Rattle.std.proofs.Common.{◌≡◌, ◌↔◌, ◌∷◌, ◌++◌, [], length, decimal, IsTrue, sym, ap, subst, ◌∙◌, arith}
+use Rattle.std.proofs.Common.{◌≡◌, ◌↔◌, ℕ, ◌∷◌, ◌++◌, [], length, decimal, IsTrue, sym, ap, subst, ◌∙◌, arith}
 use Rattle.pgn_game.specs.Replays.{Replay}
-use Rattle.pgn_criteria.specs.Meeting.{Tags, SomeHold}
+use Rattle.pgn_criteria.specs.Meeting.{Heading, SomeHold}
 use Rattle.pgn_extract.specs.Aims.{aim_of}
 use Rattle.pgn_extract.specs.Finding.{named_mark, asked_of}
 use Rattle.pgn_extract.proofs.Found.{leaves_shut, leaves_past, leaves_unwanted, keeps_one, shows_there, is_wanted, not_wanted}
@@ -22,8 +22,8 @@ returns-then-ply-self-2 c game asks before played text to so_far =
       | then-ply-self-2-via-then-ply-self-2 w ↦ λ replay own rest is wanted.
           let low = wanted.0 in let count = to.count in omega (arith, count, c.plies-ply.ensures, w.if-ply-self-2.true, low)
       | then-ply-self-2-via-else-ply-self-2+then-not-is_met w ↦
-          let told : (tags : Tags) (replay : Replay) → IsTrue w.is_met.result ↔ SomeHold tags replay P (asked_of c.args.self.now.search) =
-          λ tags replay. subst (λ p. IsTrue w.is_met.result ↔ SomeHold tags replay p (asked_of c.args.self.now.search)) w.position.ensures (w.is_met.ensures tags replay) in
+          let told : (tags : Heading) (replay : Replay) (ply : ℕ) → IsTrue w.is_met.result ↔ SomeHold tags replay ply P (asked_of c.args.self.now.search) =
+          λ tags replay ply. subst (λ p. IsTrue w.is_met.result ↔ SomeHold tags replay ply p (asked_of c.args.self.now.search)) w.position.ensures (w.is_met.ensures tags replay ply) in
           not_wanted (aim_of c.args.self.now.settings.now) game (asked_of c.args.self.now.search) asks before P w.is_met.result told w.if-not-is_met.true
     ])
 
@@ -35,8 +35,8 @@ returns c game asks before played text to so_far =
     let settings = c.args.self.now.settings.now in
     let named = named_mark settings.name own.number own.offset in
     let start = c.args.text.now.items in
-    let met : (tags : Tags) (replay : Replay) → IsTrue c.is_met.result ↔ SomeHold tags replay P (asked_of c.args.self.now.search) =
-    λ tags replay. subst (λ p. IsTrue c.is_met.result ↔ SomeHold tags replay p (asked_of c.args.self.now.search)) c.position.ensures (c.is_met.ensures tags replay) in
+    let met : (tags : Heading) (replay : Replay) (ply : ℕ) → IsTrue c.is_met.result ↔ SomeHold tags replay ply P (asked_of c.args.self.now.search) =
+    λ tags replay ply. subst (λ p. IsTrue c.is_met.result ↔ SomeHold tags replay ply p (asked_of c.args.self.now.search)) c.position.ensures (c.is_met.ensures tags replay ply) in
     let ply : c.plies-ply.result ≡ length before = c.plies-ply.ensures ∙ sym to.count in
     let marked : c.deref.result.now ≡ named = c.deref.ensures.value ∙ c.requires.marked in
     let added = c.in_ok-push_entry_line.ensures.shown in

@@ -5,6 +5,6 @@ use Rattle.pgn_extract.specs.Finding.{asked_of}
 use Rattle.pgn_extract.proofs.showing.Shower.is_met.Goals as goal
 
 pub returns-in-Some : goal.returns-in-Some
-returns-in-Some c tags replay =
-    subst (λ (o : Option (List (List (Condition (List ℕ))))). IsTrue c.is_met.result ↔ SomeHold tags replay c.args.position.now (asked_of o)) (sym c.in-Some.is)
-    (c.is_met.ensures tags replay)
+returns-in-Some c heading replay ply =
+    subst (λ (o : Option (List (List (Condition (List ℕ))))). IsTrue c.is_met.result ↔ SomeHold heading replay ply c.args.position.now (asked_of o)) (sym c.in-Some.is)
+    (c.is_met.ensures heading replay ply)

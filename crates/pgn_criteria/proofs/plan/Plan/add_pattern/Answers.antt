@@ -1,0 +1,12 @@
+use Rattle.std.proofs.Common.{refl}
+use Rattle.std.proofs.lemmas.Result.{IfOk-weaker}
+use Rattle.pgn_criteria.specs.Patterns.{FitsPattern}
+use Rattle.pgn_criteria.proofs.PlanFacts.{plans_laid}
+use Rattle.pgn_criteria.proofs.plan.Plan.add_pattern.Goals as goal
+
+pub returns : goal.returns
+returns c =
+    let old = c.args.self.now in
+    IfOk-weaker c.add_pattern.result _ _
+    (λ all lays. plans_laid (λ P. FitsPattern P.men c.args.pattern.now) old (record { layout = c.add_pattern.new.self; ways = old.ways; others = old.others }) all refl refl lays)
+    c.add_pattern.ensures

@@ -1,0 +1,10 @@
+use Rattle.std.proofs.Common.{subst}
+use Rattle.pgn_criteria.specs.Layouts.{Lays}
+use Rattle.pgn_criteria.specs.Patterns.{FitsPattern}
+use Rattle.pgn_criteria.proofs.PlanFacts.{laid_whole}
+use Rattle.pgn_criteria.proofs.plan.layout_of.Goals as goal
+
+pub returns : goal.returns
+returns c =
+    laid_whole c.new-layout.result c.add_pattern.new.self c.args.pattern.now c.new-layout.ensures
+    (subst (Lays (λ P. FitsPattern P.men c.args.pattern.now) (λ P. Unit {0}) c.new-layout.result c.add_pattern.new.self) c.if-not-branch.false c.in_ok-add_pattern.ensures)

@@ -1,0 +1,67 @@
+//! What the text of a move may begin and end with, known from the move before its text is written.
+ghost use Rattle.std.specs.Prelude.{◌≡◌};
+ghost use Rattle.chess.specs.Letters.{kind_letter};
+ghost use Rattle.chess.specs.Positions.{State};
+ghost use Rattle.pgn_criteria.specs.MoveEnds.{BeginsWith, EndsWith, RulesOut};
+ghost use Rattle.pgn_criteria.specs.MoveTexts.{IsLike};
+
+use chess::{Kind, Move};
+use pgn_game::GamePosition;
+
+/// The letter of a kind of man (PGN 8.2.3.2).
+fn kind_letter(kind: Kind) -> u8
+    ensures { result ≡ kind_letter kind }
+{
+    match kind {
+        Kind::King => b'K',
+        Kind::Queen => b'Q',
+        Kind::Rook => b'R',
+        Kind::Bishop => b'B',
+        Kind::Knight => b'N',
+        Kind::Pawn => b'P',
+    }
+}
+
+/// Whether the text of the move may begin with the byte: the letter of the man that moves, or the file of a pawn.
+fn may_begin_with(position: &GamePosition, m: &Move, byte: u8) -> bool
+    ensures { RulesOut result position.now m.now (BeginsWith byte) }
+{
+    if m.castle.is_some() {
+        return byte == b'O';
+    }
+    let Some(man) = position.at(m.from) else {
+        return false;
+    };
+    match man.kind {
+        Kind::Pawn => byte == 96 + m.from.file() || byte == 96 + m.to.file(),
+        kind => byte == kind_letter(kind),
+    }
+}
+
+/// Whether the text of the move may end with the byte: the rank that it goes to, or the letter of the man that a pawn becomes.
+fn may_end_with(m: &Move, byte: u8) -> bool
+    ensures { (P : State) → RulesOut result P m.now (EndsWith byte) }
+{
+    if m.castle.is_some() {
+        return byte == b'O';
+    }
+    match m.promote {
+        Some(kind) => byte == kind_letter(kind) || byte == 48 + m.to.rank(),
+        None => byte == 48 + m.to.rank(),
+    }
+}
+
+/// Whether the text of the move may be like the word, by its first and its last byte.
+pub(crate) fn may_be_like(position: &GamePosition, m: &Move, word: &[u8]) -> bool
+    ensures { RulesOut result position.now m.now (IsLike word.now) }
+{
+    if let [.., last] = word {
+        if *last != b'*' && !may_end_with(m, *last) {
+            return false;
+        }
+    }
+    match word {
+        [first, ..] => *first == b'*' || may_begin_with(position, m, *first),
+        [] => true,
+    }
+}

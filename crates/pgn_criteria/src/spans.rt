@@ -1,0 +1,204 @@
+//! What `for` and `count` say of the plies at which the other conditions of an alternative fit.
+ghost use Rattle.std.specs.Prelude.{◌≡◌, ◌↔◌, ◌⊎◌, ◌+◌, ◌≤◌, ◌<◌, if◌then◌else◌, ℕ, map, length, get_or, false, IsTrue, IfSome};
+ghost use Rattle.pgn_criteria.specs.Stages.{AreLegal, FitsAt, FitsAbout, IsRun, AreSoMany, IsNoSpan, AreNoSpans, IsNoCount, AreNoCounts, SpanStands, SpansStand, IsFirstBefore, seen, claim_seen};
+
+use crate::alternative::Alternative;
+use crate::compare::compares;
+use crate::condition::{Claim, Condition};
+use crate::meets::fits_at;
+use pgn_game::Replayed;
+
+/// Whether the claim is neither `for` nor `count`.
+fn is_no_span(claim: &Claim<Vec<u8>>) -> bool
+    ensures { IsTrue result ↔ IsNoSpan (claim_seen (λ text. text.items) claim.now) }
+{
+    match claim {
+        Claim::For(_) => false,
+        Claim::Count { .. } => false,
+        _ => true,
+    }
+}
+
+/// Whether none of the conditions has `for` or `count`.
+pub(crate) fn are_no_spans(conditions: &[Condition<Vec<u8>>]) -> bool
+    ensures { IsTrue result ↔ AreNoSpans (map (seen (λ text. text.items)) conditions.now) }
+{
+    for condition in conditions {
+        if !is_no_span(&condition.claim) {
+            return false;
+        }
+    }
+    true
+}
+
+/// Whether the claim is not `count`.
+fn is_no_count(claim: &Claim<Vec<u8>>) -> bool
+    ensures { IsTrue result ↔ IsNoCount (claim_seen (λ text. text.items) claim.now) }
+{
+    match claim {
+        Claim::Count { .. } => false,
+        _ => true,
+    }
+}
+
+/// Whether none of the conditions has `count`.
+pub(crate) fn are_no_counts(conditions: &[Condition<Vec<u8>>]) -> bool
+    ensures { IsTrue result ↔ AreNoCounts (map (seen (λ text. text.items)) conditions.now) }
+{
+    for condition in conditions {
+        if !is_no_count(&condition.claim) {
+            return false;
+        }
+    }
+    true
+}
+
+/// Whether what the claim says is so of a ply that begins a run of so many plies that fit, where so many fit in all.
+fn span_stands(claim: &Claim<Vec<u8>>, run: u128, many: u128) -> bool
+    ensures { IsTrue result ↔ SpanStands run many (claim_seen (λ text. text.items) claim.now) }
+{
+    match claim {
+        Claim::For(count) => *count as u128 <= run,
+        Claim::Count { comparison, count } => compares(*comparison, many, *count as u128),
+        _ => true,
+    }
+}
+
+/// Whether what `for` and `count` say is so of a ply that begins a run of so many plies that fit, where so many fit in all.
+pub(crate) fn spans_stand(conditions: &[Condition<Vec<u8>>], run: u128, many: u128) -> bool
+    ensures { IsTrue result ↔ SpansStand run many (map (seen (λ text. text.items)) conditions.now) }
+{
+    for condition in conditions {
+        if !span_stands(&condition.claim, run, many) {
+            return false;
+        }
+    }
+    true
+}
+
+/// How many plies one after the other fit, from this one on.
+fn run_from(alternative: &Alternative, replayed: &Replayed, plies: usize) -> u128
+    requires { AreLegal replayed.now }
+    ensures { IsRun (FitsAt replayed.now alternative.now) plies result }
+{
+    if plies > replayed.plies() {
+        return 0;
+    }
+    let mut run = 0u128;
+    let mut at = plies;
+    while fits_at(alternative, replayed, at) {
+        run += 1;
+        if at == replayed.plies() {
+            return run;
+        }
+        at += 1;
+    }
+    run
+}
+
+/// 1 for what is so, and 0 for what is not.
+fn one_if(is: bool) -> u128
+    ensures { result ≡ (if is then 1 else 0) }
+{
+    if is { 1 } else { 0 }
+}
+
+/// How many plies of the game fit.
+fn count_fitting(alternative: &Alternative, replayed: &Replayed) -> u128
+    requires { AreLegal replayed.now }
+    ensures { AreSoMany (FitsAt replayed.now alternative.now) result }
+{
+    let mut many = 0u128;
+    let mut plies = replayed.plies();
+    loop {
+        many += one_if(fits_at(alternative, replayed, plies));
+        if plies == 0 {
+            return many;
+        }
+        plies -= 1;
+    }
+}
+
+/// How many plies of the game fit, where that is asked for.
+fn many_of(alternative: &Alternative, replayed: &Replayed) -> u128
+    requires { AreLegal replayed.now }
+    ensures { AreNoCounts alternative.now ⊎ AreSoMany (FitsAt replayed.now alternative.now) result }
+{
+    if alternative.is_free_of_counts() {
+        return 0;
+    }
+    count_fitting(alternative, replayed)
+}
+
+/// How many plies one after the other fit, from this one on: so many, if that is known already.
+fn run_on(alternative: &Alternative, replayed: &Replayed, plies: usize, known: Option<u128>) -> u128
+    requires legal { AreLegal replayed.now }
+    requires known { IfSome known (IsRun (FitsAt replayed.now alternative.now) plies) }
+    ensures { IsRun (FitsAt replayed.now alternative.now) plies result }
+{
+    match known {
+        Some(run) => run,
+        None => run_from(alternative, replayed, plies),
+    }
+}
+
+/// Whether all that the conditions say is so of a ply that begins a run of so many plies that fit, where so many fit in all.
+fn stands_about(alternative: &Alternative, run: u128, many: u128) -> bool
+    ensures { IsTrue result ↔ ((0 < run) × SpansStand run many alternative.now) }
+{
+    run > 0 && alternative.spans_stand(run, many)
+}
+
+/// Whether all that the conditions say of plies is so of this one.
+pub(crate) fn fits_about(alternative: &Alternative, replayed: &Replayed, plies: usize) -> bool
+    requires legal { AreLegal replayed.now }
+    requires within { plies ≤ length replayed.now.played }
+    ensures { IsTrue result ↔ FitsAbout replayed.now alternative.now plies }
+{
+    if alternative.is_free_of_spans() {
+        return fits_at(alternative, replayed, plies);
+    }
+    let run = run_from(alternative, replayed, plies);
+    let many = many_of(alternative, replayed);
+    stands_about(alternative, run, many)
+}
+
+/// The least ply from one on and before another at which all that the conditions say of plies is so. Each ply is tried at most twice.
+pub(crate) fn first_about(
+    alternative: &Alternative,
+    replayed: &Replayed,
+    from: usize,
+    end: usize,
+) -> Option<usize>
+    requires { AreLegal replayed.now }
+    ensures { IsFirstBefore (FitsAbout replayed.now alternative.now) from end result }
+{
+    let many = many_of(alternative, replayed);
+    let mut known = None;
+    let mut plies = from;
+    while plies < end && plies <= replayed.plies() {
+        let run = run_on(alternative, replayed, plies, known);
+        if stands_about(alternative, run, many) {
+            return Some(plies);
+        }
+        known = run.checked_sub(1);
+        plies += 1;
+    }
+    None
+}
+
+/// Adds the plies at which all that the conditions say of plies is so. Each ply is tried at most twice, however long the runs
+/// are.
+pub(crate) fn add_plies(met: &mut [bool], alternative: &Alternative, replayed: &Replayed)
+    requires { AreLegal replayed.now }
+    ensures { (ply : ℕ) → ply < length met.old → IsTrue (get_or met.new ply false)
+        ↔ (IsTrue (get_or met.old ply false) ⊎ FitsAbout replayed.now alternative.now ply) }
+{
+    let many = many_of(alternative, replayed);
+    let mut known = None;
+    for ply in 0..met.len() {
+        let run = run_on(alternative, replayed, ply, known);
+        met[ply] = met[ply] || stands_about(alternative, run, many);
+        known = run.checked_sub(1);
+    }
+}
