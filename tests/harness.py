@@ -20,6 +20,8 @@ A script is a docstring and a function over a Setup that counts its cases:
 """
 
 import argparse
+import array
+import fcntl
 import functools
 import os
 import random
@@ -29,6 +31,8 @@ import signal
 import subprocess
 import sys
 import tempfile
+import termios
+import time
 import traceback
 from dataclasses import dataclass
 from pathlib import Path
@@ -90,6 +94,52 @@ def run(command, text=b"", seconds=60, **more):
     return Ended(running.returncode, out or b"", err or b"")
 
 
+# A run that comes to a state is waited for no longer than this (seconds).
+PATIENCE = 20
+
+
+def state_of(process):
+    """The letter of a process's state: R, S or D where it goes on, T where it is stopped, Z where it has ended."""
+    try:
+        return Path(f"/proc/{process}/stat").read_text(encoding="ascii").rpartition(")")[2].split()[0]
+    except (FileNotFoundError, ProcessLookupError):
+        return "Z"
+
+
+def wait_for(condition, seconds=PATIENCE):
+    """Whether a condition comes true in time."""
+    end = time.monotonic() + seconds
+    while not condition():
+        if time.monotonic() > end:
+            return False
+        time.sleep(0.02)
+    return True
+
+
+def run_stopped(command, env):
+    """Runs a command that is stopped, and goes on, where it waits since nobody reads its output: a write is cut short there. How it ended, and OVERDUE where it never waits."""
+    readable, writable = os.pipe()
+    size = fcntl.fcntl(readable, fcntl.F_SETPIPE_SZ, os.sysconf("SC_PAGE_SIZE") * 4)
+    streams = {"stdin": subprocess.DEVNULL, "stdout": writable, "stderr": subprocess.PIPE}
+    with open(readable, "rb") as pipe, subprocess.Popen([os.fspath(it) for it in command], env=env, **streams) as running:
+        os.close(writable)
+        held, waits = array.array("i", [0]), 0
+
+        def is_full():
+            nonlocal waits
+            before = held[0]
+            fcntl.ioctl(pipe, termios.FIONREAD, held)
+            waits = waits + 1 if size // 2 < held[0] == before else 0
+            return waits > 10 or running.poll() is not None
+
+        is_waiting = wait_for(is_full) and waits > 0
+        for number, states in ((signal.SIGSTOP, "TZ"), (signal.SIGCONT, "RSDZ")):
+            running.send_signal(number)
+            is_waiting &= wait_for(lambda states=states: state_of(running.pid) in states)
+        out, err = pipe.read(), running.stderr.read()
+        return Ended(running.wait(PATIENCE) if is_waiting else OVERDUE, out, err)
+
+
 class Measured(NamedTuple):
     """What a run took: its status, its processor seconds and the most MiB that it held."""
 
@@ -126,6 +176,7 @@ def difference(found, wanted):
     """What a message says of two things that should be equal, from just before where they differ; None where they are."""
     if found == wanted:
         return None
+    found = tuple(found) if isinstance(found, Ended) else found
     same = len(os.path.commonprefix([repr(found), repr(wanted)]))
     begin = same - SHOWN // 4 if same > SHOWN // 2 else 0
     return f"{shown(found, begin)} in place of {shown(wanted, begin)}"
