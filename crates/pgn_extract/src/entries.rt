@@ -23,6 +23,17 @@ pub struct GameMark {
     pub offset: u64,
 }
 
+/// What is asked of a game, and which one it is.
+#[derive(Clone, Copy)]
+pub struct GameContext<'a> {
+    /// The memory that it takes.
+    pub alloc: Global,
+    /// What is asked.
+    pub settings: &'a Settings,
+    /// Which game it is.
+    pub own: GameMark,
+}
+
 /// What is asked of the positions of a game, and what the lines of its entries begin with.
 #[derive(Drop)]
 struct Finder<'s, 'a> {
@@ -82,21 +93,24 @@ impl<'s, 'a> Finder<'s, 'a> {
 
 /// Adds the lines of the entries of a game by criteria, which show no more than the ply, or answers its fault. Each position is asked as it is reached, and none is kept.
 pub fn push_found<'a>(
-    alloc: Global,
     text: &mut Vec<u8>,
-    settings: &'a Settings,
+    context: GameContext<'a>,
     criteria: &'a Criteria,
-    own: GameMark,
     game: &RawGame<'a>,
 ) -> Result<(), GameFault<'a>>
-    requires plain { is_plain settings.now.fields ≡ true }
-    requires criteria { settings.now.criteria ≡ Some criteria.now }
+    requires plain { is_plain context.settings.now.fields ≡ true }
+    requires criteria { context.settings.now.criteria ≡ Some criteria.now }
     ensures { MatchResult result
-        (λ _. AddsEntries (aim_of settings.now) own.number own.offset game.now text.old.items text.new.items)
+        (λ _. AddsEntries (aim_of context.entry.settings.now) context.entry.own.number context.entry.own.offset game.now text.old.items text.new.items)
         (λ fault. IfSome (fault_of fault) (StopsAtFault game.now text.old.items text.new.items)) }
 {
+    let GameContext {
+        alloc,
+        settings,
+        own,
+    } = context;
     let Some(search) = criteria.watch(alloc, game)? else {
-        return push_kept(alloc, text, settings, criteria, own, game);
+        return push_kept(text, context, criteria, game);
     };
     let mut mark = Vec::with_capacity(alloc, MARK_ROOM)?;
     push_named_mark(&mut mark, &settings.name, own.number, own.offset)?;

@@ -15,7 +15,7 @@ ghost use Rattle.pgn_criteria.specs.Meeting.{heading_of};
 ghost use Rattle.pgn_extract.specs.declared.settings.Form.TheVariants.{AsItStands, Line};
 
 use crate::choosing::has_entry;
-use crate::entries::GameMark;
+use crate::entries::GameContext;
 use crate::settings::{Form, Mode, Select, Settings};
 use crate::texts::push_named_mark;
 use pgn_game::{
@@ -128,17 +128,20 @@ fn check_written<'a>(
 
 /// Appends the line of a game, with its moves in this notation; where its main line is faulty or memory is refused, some bytes of it.
 fn push_game_line<'a>(
-    alloc: Global,
     text: &mut Vec<u8>,
-    settings: &Settings,
-    own: GameMark,
+    context: GameContext<'_>,
     notation: Notation,
     game: &RawGame<'a>,
 ) -> Result<(), GameFault<'a>>
     ensures text { OnOk result ((line : List ℕ) × IsGameLine notation (tag_in fen_tag game.now.tags) game.now.elements line
-        × (text.new.items ≡ text.old.items ++ line_with settings.now.name own.number own.offset line)) }
+        × (text.new.items ≡ text.old.items ++ line_with context.entry.settings.now.name context.entry.own.number context.entry.own.offset line)) }
     ensures fault { IfErr result (λ fault. IfSome (fault_of fault) (StopsAtFault game.now text.old.items text.new.items)) }
 {
+    let GameContext {
+        alloc,
+        settings,
+        own,
+    } = context;
     push_named_mark(text, &settings.name, own.number, own.offset)?;
     text.extend_from_slice(b" ")?;
     push_line(alloc, game, notation, text)?;
@@ -148,20 +151,18 @@ fn push_game_line<'a>(
 
 /// Appends the line of a game, with its moves in this notation; or answers the fault of its main line, and nothing is appended.
 fn put_game_line<'a>(
-    alloc: Global,
     text: &mut Vec<u8>,
-    settings: &Settings,
-    own: GameMark,
+    context: GameContext<'_>,
     notation: Notation,
     game: &RawGame<'a>,
 ) -> Result<(), GameFault<'a>>
-    requires { settings.now.form ≡ Line notation }
+    requires { context.settings.now.form ≡ Line notation }
     ensures { MatchResult result
-        (λ _. PutsText (aim_of settings.now) own.number own.offset game.now text.old.items text.new.items)
-        (λ fault. IfSome (fault_of fault) (LeavesText (aim_of settings.now) game.now text.old.items text.new.items)) }
+        (λ _. PutsText (aim_of context.entry.settings.now) context.entry.own.number context.entry.own.offset game.now text.old.items text.new.items)
+        (λ fault. IfSome (fault_of fault) (LeavesText (aim_of context.entry.settings.now) game.now text.old.items text.new.items)) }
 {
     let length = text.len();
-    match push_game_line(alloc, text, settings, own, notation, game) {
+    match push_game_line(text, context, notation, game) {
         Ok(()) => Ok(()),
         Err(fault) => {
             text.truncate(length);
@@ -194,20 +195,23 @@ fn put_as_is<'a>(
 /// Appends the text of a game, played while it is written: its export, its line, or the game as it stands. Where one of the lines that are
 /// written is faulty, the first fault is answered, and nothing is appended.
 fn put_text<'a>(
-    alloc: Global,
     text: &mut Vec<u8>,
-    settings: &Settings,
-    own: GameMark,
+    context: GameContext<'_>,
     game: &RawGame<'a>,
 ) -> Result<(), GameFault<'a>>
     ensures { MatchResult result
-        (λ _. PutsText (aim_of settings.now) own.number own.offset game.now text.old.items text.new.items)
-        (λ fault. IfSome (fault_of fault) (LeavesText (aim_of settings.now) game.now text.old.items text.new.items)) }
+        (λ _. PutsText (aim_of context.entry.settings.now) context.entry.own.number context.entry.own.offset game.now text.old.items text.new.items)
+        (λ fault. IfSome (fault_of fault) (LeavesText (aim_of context.entry.settings.now) game.now text.old.items text.new.items)) }
 {
+    let GameContext {
+        alloc,
+        settings,
+        ..
+    } = context;
     match settings.form {
         Form::Standard => export_played(alloc, game, &settings.style, text),
         Form::AsItStands => put_as_is(alloc, text, settings, game),
-        Form::Line(notation) => put_game_line(alloc, text, settings, own, notation, game),
+        Form::Line(notation) => put_game_line(text, context, notation, game),
     }
 }
 
@@ -224,18 +228,21 @@ fn is_as_it_stands(settings: &Settings) -> bool
 /// Appends the text of a game whose main line is sound and has an entry or none, if it is selected; or answers the first fault of the
 /// lines that are written.
 fn put_chosen<'a>(
-    alloc: Global,
     text: &mut Vec<u8>,
-    settings: &Settings,
-    own: GameMark,
+    context: GameContext<'_>,
     game: &RawGame<'a>,
     has: bool,
 ) -> Result<(), GameFault<'a>>
-    requires { IsChosen (aim_of settings.now) game.now has }
+    requires { IsChosen (aim_of context.settings.now) game.now has }
     ensures { MatchResult result
-        (λ _. AddsText (aim_of settings.now) own.number own.offset game.now text.old.items text.new.items)
-        (λ fault. IfSome (fault_of fault) (LeavesText (aim_of settings.now) game.now text.old.items text.new.items)) }
+        (λ _. AddsText (aim_of context.entry.settings.now) context.entry.own.number context.entry.own.offset game.now text.old.items text.new.items)
+        (λ fault. IfSome (fault_of fault) (LeavesText (aim_of context.entry.settings.now) game.now text.old.items text.new.items)) }
 {
+    let GameContext {
+        alloc,
+        settings,
+        ..
+    } = context;
     if !is_selected(settings, has) {
         return check_written(alloc, settings, game);
     }
@@ -244,23 +251,26 @@ fn put_chosen<'a>(
         push_as_is(text, game.text())?;
         return Ok(());
     }
-    put_text(alloc, text, settings, own, game)
+    put_text(text, context, game)
 }
 
 /// Appends the text of a game, if the lines that are written are sound and it is selected by its entries; or answers their first fault.
 fn put_by_entry<'a>(
-    alloc: Global,
     text: &mut Vec<u8>,
-    settings: &'a Settings,
-    own: GameMark,
+    context: GameContext<'a>,
     game: &RawGame<'a>,
 ) -> Result<(), GameFault<'a>>
     ensures { MatchResult result
-        (λ _. AddsText (aim_of settings.now) own.number own.offset game.now text.old.items text.new.items)
-        (λ fault. IfSome (fault_of fault) (LeavesText (aim_of settings.now) game.now text.old.items text.new.items)) }
+        (λ _. AddsText (aim_of context.entry.settings.now) context.entry.own.number context.entry.own.offset game.now text.old.items text.new.items)
+        (λ fault. IfSome (fault_of fault) (LeavesText (aim_of context.entry.settings.now) game.now text.old.items text.new.items)) }
 {
+    let GameContext {
+        alloc,
+        settings,
+        ..
+    } = context;
     match has_entry(alloc, settings, game) {
-        Ok(has) => put_chosen(alloc, text, settings, own, game, has),
+        Ok(has) => put_chosen(text, context, game, has),
         Err(fault) => Err(first_fault(alloc, settings, game, fault)),
     }
 }
@@ -268,21 +278,24 @@ fn put_by_entry<'a>(
 /// Appends the text of a game, if the lines that are written are sound and it is selected: its export, its line, or the game as it stands.
 /// Where one of these lines is faulty, the first fault is answered, and nothing is appended.
 pub fn put_selected<'a>(
-    alloc: Global,
     text: &mut Vec<u8>,
-    settings: &'a Settings,
-    own: GameMark,
+    context: GameContext<'a>,
     game: &RawGame<'a>,
 ) -> Result<(), GameFault<'a>>
     ensures { MatchResult result
-        (λ _. AddsText (aim_of settings.now) own.number own.offset game.now text.old.items text.new.items)
-        (λ fault. IfSome (fault_of fault) (LeavesText (aim_of settings.now) game.now text.old.items text.new.items)) }
+        (λ _. AddsText (aim_of context.entry.settings.now) context.entry.own.number context.entry.own.offset game.now text.old.items text.new.items)
+        (λ fault. IfSome (fault_of fault) (LeavesText (aim_of context.entry.settings.now) game.now text.old.items text.new.items)) }
 {
+    let GameContext {
+        alloc,
+        settings,
+        ..
+    } = context;
     if takes_all(settings) {
-        return put_text(alloc, text, settings, own, game);
+        return put_text(text, context, game);
     }
     match settings.select {
         Select::Faulty => check_lines(alloc, game, written_lines(settings)),
-        Select::Matching | Select::Others => put_by_entry(alloc, text, settings, own, game),
+        Select::Matching | Select::Others => put_by_entry(text, context, game),
     }
 }

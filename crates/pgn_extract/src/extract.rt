@@ -7,7 +7,7 @@ ghost use Rattle.pgn_extract.specs.Runs.{FaultsAre, IsReady, IsRun, io_of, job_o
 
 use crate::notes::first_line;
 use crate::outcome::{RunError, Summary, of_read};
-use crate::piecewise::put_block;
+use crate::piecewise::{Work, put_block};
 use crate::put::finish;
 use crate::report::Report;
 use crate::settings::{Mode, Settings};
@@ -45,27 +45,23 @@ fn run_blocks<R: Read, O: Write, E: Write>(
     ensures stopped { IfErr result (Broken (job_of settings.now) (io_of R.remaining O.contents E.contents input.old input.new out.old out.new err.old err.new)) }
     ensures faults { FaultsAre result (io_of R.remaining O.contents E.contents input.old input.new out.old out.new err.old err.new) }
 {
+    let first = settings.number;
     let mut blocks = Blocks::new(alloc, settings.offset);
     let mut report = Report::new(alloc, first_line(settings));
     let mut games = 0;
     let mut faulty = 0;
     loop {
         match blocks.next(input) {
-            Ok(Some(block)) => match put_block(
-                alloc,
-                out,
-                err,
-                &mut report,
-                settings,
-                settings.number + games,
-                block,
-            ) {
-                Ok(own) => {
-                    games += own.games;
-                    faulty += own.faulty;
+            Ok(Some(block)) => {
+                let work = Work::new(alloc, settings, first + games, block);
+                match put_block(out, err, &mut report, work) {
+                    Ok(own) => {
+                        games += own.games;
+                        faulty += own.faulty;
+                    }
+                    Err(error) => return Err(error),
                 }
-                Err(error) => return Err(error),
-            },
+            }
             Ok(None) => match finish_both(out, err) {
                 Ok(()) => return Ok(Summary { games, faulty }),
                 Err(error) => return Err(error),

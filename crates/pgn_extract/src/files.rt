@@ -42,6 +42,8 @@ pub trait Files {
 /// What is to be done with each file.
 #[derive(Drop)]
 pub struct Task<'a> {
+    /// The memory that it takes.
+    pub alloc: Global,
     /// What a run writes; the name in them is that of the file that is read.
     pub settings: Settings,
     /// The paths of the files; none for standard input.
@@ -95,21 +97,20 @@ impl Total {
 }
 
 /// Gives the lines of the next run the name of a file, where lines have names.
-pub fn name_file(alloc: Global, task: &mut Task<'_>, name: &str) -> Result<(), AllocError>
+pub fn name_file(task: &mut Task<'_>, name: &str) -> Result<(), AllocError>
     ensures number { task.new.settings.number ≡ task.old.settings.number }
     ensures offset { task.new.settings.offset ≡ task.old.settings.offset }
     ensures named { OnOk result (order_of task.new ≡ order_at task.old name.now) }
     ensures kept { (path : List ℕ) → order_at task.new path ≡ order_at task.old path }
 {
     if task.with_names {
-        task.settings.name = Some(FileName::of_path(alloc, name)?);
+        task.settings.name = Some(FileName::of_path(task.alloc, name)?);
     }
     Ok(())
 }
 
 /// Ends the lines of a run with its summary, where that is asked for and lines have names.
 fn put_own_summary<E: Write>(
-    alloc: Global,
     err: &mut Tally<E>,
     task: &Task<'_>,
     own: &Summary,
@@ -119,14 +120,13 @@ fn put_own_summary<E: Write>(
     ensures fault { IsErrOf result RunError.Write ↔ (err.new.faulted ≡ true) }
 {
     if task.summary && task.settings.name.is_some() {
-        return put_summary(alloc, err, &task.settings.name, own);
+        return put_summary(task.alloc, err, &task.settings.name, own);
     }
     Ok(())
 }
 
 /// Runs over one input; where lines have its name, its summary has a line of its own.
 pub fn run_input<I: Skip, O: Write, E: Write>(
-    alloc: Global,
     task: &Task<'_>,
     input: I,
     out: &mut Tally<O>,
@@ -142,8 +142,8 @@ where
     ensures faults { IsErrOf result RunError.Write ↔ ((out.new.faulted ≡ true) ⊎ (err.new.faulted ≡ true)) }
 {
     let mut input = Tally::new(input.take(task.end));
-    let own = run_skipping(alloc, &mut input, out, err, &task.settings)?;
-    put_own_summary(alloc, err, task, &own)?;
+    let own = run_skipping(task.alloc, &mut input, out, err, &task.settings)?;
+    put_own_summary(err, task, &own)?;
     Ok(own)
 }
 
@@ -182,7 +182,6 @@ fn unopened_line(alloc: Global, path: &str, error: &io::Error) -> Result<Vec<u8>
 
 /// Runs over the file at the path. One that cannot be opened is named: it has no summary.
 fn run_path<F: Files, O: Write, E: Write>(
-    alloc: Global,
     task: &mut Task<'_>,
     files: &mut F,
     path: &str,
@@ -203,13 +202,13 @@ where
     ensures offset { task.new.settings.offset ≡ task.old.settings.offset }
     ensures faults { IsErrOf result RunError.Write ↔ ((out.new.faulted ≡ true) ⊎ (err.new.faulted ≡ true)) }
 {
-    name_file(alloc, task, path)?;
+    name_file(task, path)?;
     match files.open(path) {
-        Ok(input) => match run_input(alloc, task, input, out, err) {
+        Ok(input) => match run_input(task, input, out, err) {
             Ok(own) => Ok(Some(own)),
             Err(error) => Err(error),
         },
-        Err(error) => match put_unopened(alloc, err, path, &error) {
+        Err(error) => match put_unopened(task.alloc, err, path, &error) {
             Ok(()) => Ok(None),
             Err(error) => Err(error),
         },
@@ -218,7 +217,6 @@ where
 
 /// Runs over the files in their order, each by itself. One that cannot be opened is named, and the others are read.
 pub fn run_files<F: Files, O: Write, E: Write>(
-    alloc: Global,
     task: &mut Task<'_>,
     files: &mut F,
     out: &mut Tally<O>,
@@ -238,7 +236,7 @@ where
     let mut total = Total::NONE;
     let paths = task.paths;
     for path in paths {
-        total.add(run_path(alloc, task, files, path, out, err)?);
+        total.add(run_path(task, files, path, out, err)?);
     }
     Ok(total)
 }

@@ -9,7 +9,7 @@ ghost use Rattle.pgn_extract.specs.Aims.{aim_of};
 ghost use Rattle.pgn_extract.specs.Finding.{named_mark, AddsEntries, StopsAtFault, IsChosen, IsOfSomeGame, GoesOnAt};
 ghost use Rattle.pgn_extract.specs.Listing.{IsNextField, AreFields};
 
-use crate::entries::GameMark;
+use crate::entries::{GameContext, GameMark};
 use crate::listing::MARK_ROOM;
 use crate::settings::Settings;
 use crate::showing::push_fen;
@@ -118,18 +118,21 @@ impl<'s> Kept<'s> {
 /// Adds the lines of the entries of a game by criteria, with what they show after the ply, or answers its fault. The positions of its main
 /// line are kept meanwhile.
 pub fn push_kept<'a>(
-    alloc: Global,
     text: &mut Vec<u8>,
-    settings: &'a Settings,
+    context: GameContext<'a>,
     criteria: &'a Criteria,
-    own: GameMark,
     game: &RawGame<'a>,
 ) -> Result<(), GameFault<'a>>
-    requires criteria { settings.now.criteria ≡ Some criteria.now }
+    requires criteria { context.settings.now.criteria ≡ Some criteria.now }
     ensures { MatchResult result
-        (λ _. AddsEntries (aim_of settings.now) own.number own.offset game.now text.old.items text.new.items)
+        (λ _. AddsEntries (aim_of context.entry.settings.now) context.entry.own.number context.entry.own.offset game.now text.old.items text.new.items)
         (λ fault. IfSome (fault_of fault) (StopsAtFault game.now text.old.items text.new.items)) }
 {
+    let GameContext {
+        alloc,
+        settings,
+        own,
+    } = context;
     let replayed = replay(alloc, game, Lines::Main)?;
     let mut mark = Vec::with_capacity(alloc, MARK_ROOM)?;
     push_named_mark(&mut mark, &settings.name, own.number, own.offset)?;

@@ -4,9 +4,10 @@ ghost use Rattle.pgn_extract.specs.Aims.{aim_of};
 ghost use Rattle.pgn_extract.specs.Blockwise.{IsPlainEntry, AddsPlies};
 ghost use Rattle.pgn_extract.specs.Listing.{is_plain};
 
+use crate::entries::GameContext;
 use crate::settings::Settings;
 use crate::texts::{count_up, push_entry, push_named_mark};
-use std::alloc::{AllocError, Global};
+use std::alloc::AllocError;
 
 /// The most bytes that a mark without a name has: two numbers of at most 20 digits, and `@`.
 pub const MARK_ROOM: usize = 41;
@@ -28,19 +29,21 @@ fn end_ply(settings: &Settings, plies: usize) -> usize
 
 /// Appends the lines of the entries of a game whose main line has so many plies, where there are no criteria.
 pub fn push_plies(
-    alloc: Global,
     text: &mut Vec<u8>,
-    settings: &Settings,
-    number: u64,
-    offset: u64,
+    context: GameContext<'_>,
     plies: usize,
 ) -> Result<(), AllocError>
-    requires criteria { settings.now.criteria ≡ None }
-    requires plain { is_plain settings.now.fields ≡ true }
-    ensures { OnOk result (AddsPlies (aim_of settings.now) number offset plies text.old.items text.new.items) }
+    requires criteria { context.settings.now.criteria ≡ None }
+    requires plain { is_plain context.settings.now.fields ≡ true }
+    ensures { OnOk result (AddsPlies (aim_of context.entry.settings.now) context.entry.own.number context.entry.own.offset plies text.old.items text.new.items) }
 {
+    let GameContext {
+        alloc,
+        settings,
+        own,
+    } = context;
     let mut mark = Vec::with_capacity(alloc, MARK_ROOM)?;
-    push_named_mark(&mut mark, &settings.name, number, offset)?;
+    push_named_mark(&mut mark, &settings.name, own.number, own.offset)?;
     let least = settings.min_ply as usize;
     let mut line = Vec::with_capacity(alloc, LINE_ROOM)?;
     push_entry(&mut line, &mark, least)?;

@@ -216,13 +216,14 @@ pub fn report_files(
     let mut out = Tally::new(Vec::new(alloc));
     let mut err = Tally::new(Vec::new(alloc));
     let mut task = Task {
+        alloc,
         settings,
         paths: &["first.pgn", "none.pgn", "second.pgn"],
         with_names: false,
         summary: false,
         end,
     };
-    match run_files(alloc, &mut task, files, &mut out, &mut err) {
+    match run_files(&mut task, files, &mut out, &mut err) {
         Ok(_) => Ok(Written {
             out: out.into_inner(),
             err: err.into_inner(),

@@ -10,7 +10,7 @@ ghost use Rattle.pgn_extract.specs.declared.settings.Mode.TheVariants.{Index};
 use crate::notes::line_behind;
 use crate::outcome::{RunError, Summary};
 use crate::put::put;
-use crate::report::{Report, add_mark, add_piece, report_too_long};
+use crate::report::{BlockContext, Report, add_mark, report_too_long};
 use crate::settings::{Mode, Settings};
 use pgn_text::{Block, Body, Tally, games, marks};
 use std::alloc::Global;
@@ -18,13 +18,31 @@ use std::io::Write;
 
 /// A block whose pieces are to be reported.
 #[derive(Clone, Copy)]
-struct Work<'a> {
+pub struct Work<'a> {
+    /// The memory that they take.
+    pub alloc: Global,
     /// What is to be reported of them.
-    settings: &'a Settings,
+    pub settings: &'a Settings,
     /// The number of the first one.
-    number: u64,
+    pub number: u64,
     /// The block.
-    block: Block<'a>,
+    pub block: Block<'a>,
+}
+
+impl<'a> Work<'a> {
+    /// A block whose first piece has the number.
+    pub fn new(alloc: Global, settings: &'a Settings, number: u64, block: Block<'a>) -> Self
+        ensures settings { result.settings ≡ settings.entry }
+        ensures number { result.number ≡ number }
+        ensures block { result.block ≡ block.entry }
+    {
+        Work {
+            alloc,
+            settings,
+            number,
+            block,
+        }
+    }
 }
 
 /// Writes a report, its output first.
@@ -109,8 +127,14 @@ fn report_marks<'a, O: Write, E: Write>(
     let offset = work.block.offset;
     report.clear();
     for mark in marks(bytes, offset == 0) {
-        let here = work.number + report.games;
-        add_mark(report, work.settings, here, offset, bytes, mark)?;
+        let context = BlockContext {
+            alloc: work.alloc,
+            settings: work.settings,
+            number: work.number + report.games,
+            offset,
+            bytes,
+        };
+        add_mark(report, context, mark)?;
         put_large(out, err, report)?;
     }
     Ok(())
@@ -118,7 +142,6 @@ fn report_marks<'a, O: Write, E: Write>(
 
 /// Reports on the games among the bytes of a block.
 fn report_games<'a, O: Write, E: Write>(
-    alloc: Global,
     out: &mut Tally<O>,
     err: &mut Tally<E>,
     report: &mut Report,
@@ -138,10 +161,16 @@ fn report_games<'a, O: Write, E: Write>(
 {
     let offset = work.block.offset;
     report.clear();
-    for piece in games(alloc, bytes, offset == 0) {
+    for piece in games(work.alloc, bytes, offset == 0) {
         let piece = piece?;
-        let here = work.number + report.games;
-        add_piece(alloc, report, work.settings, here, offset, bytes, &piece)?;
+        let context = BlockContext {
+            alloc: work.alloc,
+            settings: work.settings,
+            number: work.number + report.games,
+            offset,
+            bytes,
+        };
+        report.add_piece(context, &piece)?;
         put_large(out, err, report)?;
     }
     Ok(())
@@ -149,7 +178,6 @@ fn report_games<'a, O: Write, E: Write>(
 
 /// Reports on a block: the report has what is not yet written of it, and nothing else.
 fn report_block<'a, O: Write, E: Write>(
-    alloc: Global,
     out: &mut Tally<O>,
     err: &mut Tally<E>,
     report: &mut Report,
@@ -170,7 +198,7 @@ fn report_block<'a, O: Write, E: Write>(
     match body {
         Body::Bytes(bytes) => match work.settings.mode {
             Mode::Index => report_marks(out, err, report, work, bytes),
-            Mode::List | Mode::Export => report_games(alloc, out, err, report, work, bytes),
+            Mode::List | Mode::Export => report_games(out, err, report, work, bytes),
         },
         Body::TooLong(size) => Ok(report_too_long(
             report,
@@ -184,33 +212,25 @@ fn report_block<'a, O: Write, E: Write>(
 
 /// Writes what is reported of the pieces of one block, which is gathered in the report.
 pub fn put_block<'a, O: Write, E: Write>(
-    alloc: Global,
     out: &mut Tally<O>,
     err: &mut Tally<E>,
     report: &mut Report,
-    settings: &'a Settings,
-    number: u64,
-    block: Block<'a>,
+    work: Work<'a>,
 ) -> Result<Summary, RunError>
     requires sound { (out.old.faulted ≡ false) × (err.old.faulted ≡ false) }
-    requires number { number ≤ 2 ^ 63 }
-    requires offset { block.offset ≤ largest_offset }
-    requires size { IsShown block_limit block.body }
-    ensures done { IfOk result (λ summary. (bytes : List ℕ) → Shows block_limit block.entry.body bytes
-        → WritesPieces (job_at settings.now number block.entry.offset) (passage O.contents out.old out.new) (passage E.contents err.old err.new) bytes summary) }
-    ensures stopped { OnErr result ((bytes : List ℕ) → Shows block_limit block.entry.body bytes
-        → BeginsPieces (job_at settings.now number block.entry.offset) (passage O.contents out.old out.new) (passage E.contents err.old err.new) bytes) }
+    requires number { work.number ≤ 2 ^ 63 }
+    requires offset { work.block.offset ≤ largest_offset }
+    requires size { IsShown block_limit work.block.body }
+    ensures done { IfOk result (λ summary. (bytes : List ℕ) → Shows block_limit work.entry.block.body bytes
+        → WritesPieces (job_at work.entry.settings.now work.entry.number work.entry.block.offset) (passage O.contents out.old out.new) (passage E.contents err.old err.new) bytes summary) }
+    ensures stopped { OnErr result ((bytes : List ℕ) → Shows block_limit work.entry.block.body bytes
+        → BeginsPieces (job_at work.entry.settings.now work.entry.number work.entry.block.offset) (passage O.contents out.old out.new) (passage E.contents err.old err.new) bytes) }
     ensures only { IfErr result (λ error. (error ≡ RunError.Write) ⊎ (error ≡ RunError.OutOfMemory)) }
     ensures faults { WriteFaultsAre result (passage O.contents out.old out.new) (passage E.contents err.old err.new) }
 {
-    let work = Work {
-        settings,
-        number,
-        block,
-    };
-    report_block(alloc, out, err, report, work)?;
+    report_block(out, err, report, work)?;
     put_report(out, err, report)?;
-    report.line = line_behind(report.line, block);
+    report.line = line_behind(report.line, work.block);
     Ok(Summary {
         games: report.games,
         faulty: report.faulty,

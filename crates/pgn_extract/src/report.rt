@@ -13,7 +13,7 @@ ghost use Rattle.pgn_extract.specs.Verdicts.{Verdict, FaultyGame};
 ghost use Rattle.pgn_game.specs.Faults.{Fault};
 ghost use Rattle.pgn_game.specs.Replays.{fault_of};
 
-use crate::entries::{GameMark, push_found};
+use crate::entries::{GameContext, GameMark, push_found};
 use crate::exporting::{push_faulty, put_selected, written_lines};
 use crate::listing::push_plies;
 use crate::move_notes::{Site, push_game_note};
@@ -99,210 +99,263 @@ fn replayed_lines(settings: &Settings) -> Lines {
     }
 }
 
-/// Adds the line of a game that can't be replayed.
-fn add_fault<'a>(
-    alloc: Global,
-    report: &mut Report,
-    settings: &Settings,
-    number: u64,
-    offset: u64,
-    site: Site<'a>,
-    game: &RawGame<'a>,
-    fault: GameFault<'_>,
-) -> Result<(), AllocError>
-    requires faulty { report.old.faulty + 1 < 2 ^ 64 }
-    requires room { site.origin.offset + length site.block.now < 2 ^ 64 }
-    ensures { OnOk result ((own : Fault) × (note : List ℕ) × (fault_of fault.entry ≡ Some own) × IsNote settings.now.explain note
-        × AddsVerdict report.old report.new (FaultyGame [] (fault_text settings.now.name number offset (cause_text own)) note) 0) }
-{
-    push_game_fault(&mut report.faults, &settings.name, number, offset, fault)?;
-    report.faulty += 1;
-    if !settings.explain {
-        return Ok(());
-    }
-    report.spot = report
-        .spot
-        .go_on(site.block, game.at().min(site.block.len()));
-    let site = Site {
-        spot: report.spot,
-        ..site
-    };
-    let lines = replayed_lines(settings);
-    push_game_note(alloc, &mut report.faults, site, game, lines)
-}
-
 /// Adds the lines of the entries of a game, or answers its fault.
 fn push_entries<'a>(
-    alloc: Global,
     text: &mut Vec<u8>,
-    settings: &'a Settings,
-    own: GameMark,
+    context: GameContext<'a>,
     game: &RawGame<'a>,
 ) -> Result<(), GameFault<'a>>
     ensures { MatchResult result
-        (λ _. AddsEntries (aim_of settings.now) own.number own.offset game.now text.old.items text.new.items)
+        (λ _. AddsEntries (aim_of context.entry.settings.now) context.entry.own.number context.entry.own.offset game.now text.old.items text.new.items)
         (λ fault. IfSome (fault_of fault) (StopsAtFault game.now text.old.items text.new.items)) }
 {
-    if settings.fields.is_empty()
-        && let Some(criteria) = &settings.criteria
+    if context.settings.fields.is_empty()
+        && let Some(criteria) = &context.settings.criteria
     {
-        return push_found(alloc, text, settings, criteria, own, game);
+        return push_found(text, context, criteria, game);
     }
-    push_shown(alloc, text, settings, own, game)
+    push_shown(text, context, game)
 }
 
-/// Adds what the listing reports of a game whose positions are asked: the lines of its entries, or of its fault.
-fn add_entries<'a>(
-    alloc: Global,
-    report: &mut Report,
-    settings: &'a Settings,
-    number: u64,
-    offset: u64,
-    site: Site<'a>,
-    game: &RawGame<'a>,
-) -> Result<(), AllocError>
-    requires faulty { report.old.faulty + 1 < 2 ^ 64 }
-    requires room { site.origin.offset + length site.block.now < 2 ^ 64 }
-    ensures { OnOk result (AddsListed (aim_of settings.now) report.old report.new number offset game.now) }
-{
-    let length = report.output.len();
-    let own = GameMark { number, offset };
-    match push_entries(alloc, &mut report.output, settings, own, game) {
-        Ok(()) => Ok(()),
-        Err(fault) => {
-            report.output.truncate(length);
-            add_fault(alloc, report, settings, number, offset, site, game, fault)
+/// The bytes of a block, and what is to be reported of a piece of it.
+#[derive(Clone, Copy)]
+pub struct BlockContext<'a> {
+    /// The memory that it takes.
+    pub alloc: Global,
+    /// What is asked.
+    pub settings: &'a Settings,
+    /// The number of the piece.
+    pub number: u64,
+    /// The offset of the first of the bytes.
+    pub offset: u64,
+    pub bytes: &'a [u8],
+}
+
+impl Report {
+    /// Adds the line of a game that can't be replayed.
+    fn add_fault<'a>(
+        &mut self,
+        context: GameContext<'a>,
+        site: Site<'a>,
+        game: &RawGame<'a>,
+        fault: GameFault<'_>,
+    ) -> Result<(), AllocError>
+        requires faulty { self.old.faulty + 1 < 2 ^ 64 }
+        requires room { site.origin.offset + length site.block.now < 2 ^ 64 }
+        ensures { OnOk result ((own : Fault) × (note : List ℕ) × (fault_of fault.entry ≡ Some own) × IsNote context.entry.settings.now.explain note
+            × AddsVerdict self.old self.new (FaultyGame [] (fault_text context.entry.settings.now.name context.entry.own.number context.entry.own.offset (cause_text own)) note) 0) }
+    {
+        let GameContext {
+            alloc,
+            settings,
+            own,
+        } = context;
+        push_game_fault(
+            &mut self.faults,
+            &settings.name,
+            own.number,
+            own.offset,
+            fault,
+        )?;
+        self.faulty += 1;
+        if !settings.explain {
+            return Ok(());
+        }
+        self.spot = self.spot.go_on(site.block, game.at().min(site.block.len()));
+        let site = Site {
+            spot: self.spot,
+            ..site
+        };
+        let lines = replayed_lines(settings);
+        push_game_note(alloc, &mut self.faults, site, game, lines)
+    }
+
+    /// Adds what the listing reports of a game whose positions are asked: the lines of its entries, or of its fault.
+    fn add_entries<'a>(
+        &mut self,
+        context: GameContext<'a>,
+        site: Site<'a>,
+        game: &RawGame<'a>,
+    ) -> Result<(), AllocError>
+        requires faulty { self.old.faulty + 1 < 2 ^ 64 }
+        requires room { site.origin.offset + length site.block.now < 2 ^ 64 }
+        ensures { OnOk result (AddsListed (aim_of context.entry.settings.now) self.old self.new context.entry.own.number context.entry.own.offset game.now) }
+    {
+        let length = self.output.len();
+        match push_entries(&mut self.output, context, game) {
+            Ok(()) => Ok(()),
+            Err(fault) => {
+                self.output.truncate(length);
+                self.add_fault(context, site, game, fault)
+            }
         }
     }
-}
 
-/// Adds what the listing reports of a game where neither criteria nor fields are given: the lines of its plies within the bounds, or of its fault.
-fn add_plies<'a>(
-    alloc: Global,
-    report: &mut Report,
-    settings: &'a Settings,
-    number: u64,
-    offset: u64,
-    site: Site<'a>,
-    game: &RawGame<'a>,
-) -> Result<(), AllocError>
-    requires faulty { report.old.faulty + 1 < 2 ^ 64 }
-    requires room { site.origin.offset + length site.block.now < 2 ^ 64 }
-    requires criteria { settings.now.criteria ≡ None }
-    requires plain { is_plain settings.now.fields ≡ true }
-    ensures { OnOk result (AddsListed (aim_of settings.now) report.old report.new number offset game.now) }
-{
-    match count_plies(alloc, game) {
-        Ok(plies) => push_plies(alloc, &mut report.output, settings, number, offset, plies),
-        Err(fault) => add_fault(alloc, report, settings, number, offset, site, game, fault),
-    }
-}
-
-/// Adds what the listing reports of a game: the lines of its entries, or of its fault.
-fn add_listed<'a>(
-    alloc: Global,
-    report: &mut Report,
-    settings: &'a Settings,
-    number: u64,
-    offset: u64,
-    site: Site<'a>,
-    game: &RawGame<'a>,
-) -> Result<(), AllocError>
-    requires faulty { report.old.faulty + 1 < 2 ^ 64 }
-    requires room { site.origin.offset + length site.block.now < 2 ^ 64 }
-    ensures { OnOk result (AddsListed (aim_of settings.now) report.old report.new number offset game.now) }
-{
-    if settings.fields.is_empty() && settings.criteria.is_none() {
-        return add_plies(alloc, report, settings, number, offset, site, game);
-    }
-    add_entries(alloc, report, settings, number, offset, site, game)
-}
-
-/// Adds what the export reports of a game: its text where it is selected, or the line of its fault.
-fn add_exported<'a>(
-    alloc: Global,
-    report: &mut Report,
-    settings: &'a Settings,
-    number: u64,
-    offset: u64,
-    site: Site<'a>,
-    game: &RawGame<'a>,
-) -> Result<(), AllocError>
-    requires faulty { report.old.faulty + 1 < 2 ^ 64 }
-    requires room { site.origin.offset + length site.block.now < 2 ^ 64 }
-    ensures { OnOk result (AddsExported (aim_of settings.now) report.old report.new number offset game.now) }
-{
-    game.known();
-    let own = GameMark { number, offset };
-    match put_selected(alloc, &mut report.output, settings, own, game) {
-        Ok(()) => Ok(()),
-        Err(fault) => {
-            let text = game.text();
-            push_faulty(&mut report.output, Mode::Export, settings.select, text)?;
-            add_fault(alloc, report, settings, number, offset, site, game, fault)
+    /// Adds what the listing reports of a game where neither criteria nor fields are given: the lines of its plies within the bounds, or of its fault.
+    fn add_plies<'a>(
+        &mut self,
+        context: GameContext<'a>,
+        site: Site<'a>,
+        game: &RawGame<'a>,
+    ) -> Result<(), AllocError>
+        requires faulty { self.old.faulty + 1 < 2 ^ 64 }
+        requires room { site.origin.offset + length site.block.now < 2 ^ 64 }
+        requires criteria { context.settings.now.criteria ≡ None }
+        requires plain { is_plain context.settings.now.fields ≡ true }
+        ensures { OnOk result (AddsListed (aim_of context.entry.settings.now) self.old self.new context.entry.own.number context.entry.own.offset game.now) }
+    {
+        match count_plies(context.alloc, game) {
+            Ok(plies) => push_plies(&mut self.output, context, plies),
+            Err(fault) => self.add_fault(context, site, game, fault),
         }
     }
-}
 
-/// Adds what is reported of a game.
-fn add_game<'a>(
-    alloc: Global,
-    report: &mut Report,
-    settings: &'a Settings,
-    number: u64,
-    offset: u64,
-    site: Site<'a>,
-    game: &RawGame<'a>,
-) -> Result<(), AllocError>
-    requires faulty { report.old.faulty + 1 < 2 ^ 64 }
-    requires room { site.origin.offset + length site.block.now < 2 ^ 64 }
-    ensures { OnOk result (AddsGame (aim_of settings.now) report.old report.new number offset game.now) }
-{
-    match settings.mode {
-        Mode::Index => push_mark_line(&mut report.output, &settings.name, number, offset),
-        Mode::List => add_listed(alloc, report, settings, number, offset, site, game),
-        Mode::Export => add_exported(alloc, report, settings, number, offset, site, game),
+    /// Adds what the listing reports of a game: the lines of its entries, or of its fault.
+    fn add_listed<'a>(
+        &mut self,
+        context: GameContext<'a>,
+        site: Site<'a>,
+        game: &RawGame<'a>,
+    ) -> Result<(), AllocError>
+        requires faulty { self.old.faulty + 1 < 2 ^ 64 }
+        requires room { site.origin.offset + length site.block.now < 2 ^ 64 }
+        ensures { OnOk result (AddsListed (aim_of context.entry.settings.now) self.old self.new context.entry.own.number context.entry.own.offset game.now) }
+    {
+        if context.settings.fields.is_empty() && context.settings.criteria.is_none() {
+            return self.add_plies(context, site, game);
+        }
+        self.add_entries(context, site, game)
     }
-}
 
-/// Adds the line of bytes at the place of the block that are no game, and the bytes themselves where they are selected.
-#[cold]
-fn add_unreadable(
-    report: &mut Report,
-    settings: &Settings,
-    number: u64,
-    offset: u64,
-    block: &[u8],
-    at: usize,
-) -> Result<(), AllocError>
-    requires place { at ≤ length block.now }
-    requires room { offset + length block.now < 2 ^ 64 }
-    requires faulty { report.old.faulty + 1 < 2 ^ 64 }
-    ensures { OnOk result ((verdict : Verdict) × IsBlockVerdict (aim_of settings.now) number offset block.now at verdict
-        × AddsVerdict report.old report.new verdict 0) }
-{
-    push_faulty(
-        &mut report.output,
-        settings.mode,
-        settings.select,
-        &block[at..],
-    )?;
-    push_fault_line(
-        &mut report.faults,
-        &settings.name,
-        number,
-        offset + at as u64,
-        b"unreadable",
-    )?;
-    report.faulty += 1;
-    if !settings.explain {
-        return Ok(());
+    /// Adds what the export reports of a game: its text where it is selected, or the line of its fault.
+    fn add_exported<'a>(
+        &mut self,
+        context: GameContext<'a>,
+        site: Site<'a>,
+        game: &RawGame<'a>,
+    ) -> Result<(), AllocError>
+        requires faulty { self.old.faulty + 1 < 2 ^ 64 }
+        requires room { site.origin.offset + length site.block.now < 2 ^ 64 }
+        ensures { OnOk result (AddsExported (aim_of context.entry.settings.now) self.old self.new context.entry.own.number context.entry.own.offset game.now) }
+    {
+        game.known();
+        match put_selected(&mut self.output, context, game) {
+            Ok(()) => Ok(()),
+            Err(fault) => {
+                let text = game.text();
+                let select = context.settings.select;
+                push_faulty(&mut self.output, Mode::Export, select, text)?;
+                self.add_fault(context, site, game, fault)
+            }
+        }
     }
-    let origin = Origin {
-        offset,
-        line: report.line,
-    };
-    push_stop_note(&mut report.faults, origin, block, at)
+
+    /// Adds what is reported of a game.
+    fn add_game<'a>(
+        &mut self,
+        context: GameContext<'a>,
+        site: Site<'a>,
+        game: &RawGame<'a>,
+    ) -> Result<(), AllocError>
+        requires faulty { self.old.faulty + 1 < 2 ^ 64 }
+        requires room { site.origin.offset + length site.block.now < 2 ^ 64 }
+        ensures { OnOk result (AddsGame (aim_of context.entry.settings.now) self.old self.new context.entry.own.number context.entry.own.offset game.now) }
+    {
+        let GameContext { settings, own, .. } = context;
+        match settings.mode {
+            Mode::Index => {
+                push_mark_line(&mut self.output, &settings.name, own.number, own.offset)
+            }
+            Mode::List => self.add_listed(context, site, game),
+            Mode::Export => self.add_exported(context, site, game),
+        }
+    }
+
+    /// Adds the line of bytes at the place of the block that are no game, and the bytes themselves where they are selected.
+    #[cold]
+    fn add_unreadable(&mut self, context: BlockContext<'_>, at: usize) -> Result<(), AllocError>
+        requires place { at ≤ length context.bytes.now }
+        requires room { context.offset + length context.bytes.now < 2 ^ 64 }
+        requires faulty { self.old.faulty + 1 < 2 ^ 64 }
+        ensures { OnOk result ((verdict : Verdict) × IsBlockVerdict (aim_of context.entry.settings.now) context.entry.number context.entry.offset context.entry.bytes.now at verdict
+            × AddsVerdict self.old self.new verdict 0) }
+    {
+        let BlockContext {
+            settings,
+            number,
+            offset,
+            bytes,
+            ..
+        } = context;
+        push_faulty(
+            &mut self.output,
+            settings.mode,
+            settings.select,
+            &bytes[at..],
+        )?;
+        push_fault_line(
+            &mut self.faults,
+            &settings.name,
+            number,
+            offset + at as u64,
+            b"unreadable",
+        )?;
+        self.faulty += 1;
+        if !settings.explain {
+            return Ok(());
+        }
+        let origin = Origin {
+            offset,
+            line: self.line,
+        };
+        push_stop_note(&mut self.faults, origin, bytes, at)
+    }
+
+    /// Adds what is reported of one piece of the block.
+    pub fn add_piece<'a>(
+        &mut self,
+        context: BlockContext<'a>,
+        piece: &Piece<'a>,
+    ) -> Result<(), AllocError>
+        requires place { piece_place piece.now ≤ length context.bytes.now }
+        requires room { context.offset + length context.bytes.now < 2 ^ 64 }
+        requires counts { (self.old.games + 1 < 2 ^ 64) × (self.old.faulty + 1 < 2 ^ 64) }
+        ensures { OnOk result (AddsPiece (aim_of context.entry.settings.now) self.old self.new context.entry.number context.entry.offset context.entry.bytes.now piece.now) }
+    {
+        self.games += 1;
+        let BlockContext {
+            alloc,
+            settings,
+            number,
+            offset,
+            bytes,
+        } = context;
+        match piece {
+            Piece::Game(game) => {
+                let offset_of_game = offset + game.at() as u64;
+                let own = GameMark {
+                    number,
+                    offset: offset_of_game,
+                };
+                let origin = Origin {
+                    offset,
+                    line: self.line,
+                };
+                let site = Site {
+                    origin,
+                    block: bytes,
+                    spot: self.spot,
+                };
+                let context = GameContext {
+                    alloc,
+                    settings,
+                    own,
+                };
+                self.add_game(context, site, game)
+            }
+            Piece::Unreadable { at } => self.add_unreadable(context, *at),
+        }
+    }
 }
 
 /// Reports on a block of this size, over the limit.
@@ -331,63 +384,22 @@ pub fn report_too_long(
     push_too_long_note(&mut report.faults, size)
 }
 
-/// Adds what is reported of one piece of the block that begins at the offset.
-pub fn add_piece<'a>(
-    alloc: Global,
-    report: &mut Report,
-    settings: &'a Settings,
-    number: u64,
-    offset: u64,
-    block: &'a [u8],
-    piece: &Piece<'a>,
-) -> Result<(), AllocError>
-    requires place { piece_place piece.now ≤ length block.now }
-    requires room { offset + length block.now < 2 ^ 64 }
-    requires counts { (report.old.games + 1 < 2 ^ 64) × (report.old.faulty + 1 < 2 ^ 64) }
-    ensures { OnOk result (AddsPiece (aim_of settings.now) report.old report.new number offset block.now piece.now) }
-{
-    report.games += 1;
-    match piece {
-        Piece::Game(game) => {
-            let here = offset + game.at() as u64;
-            let origin = Origin {
-                offset,
-                line: report.line,
-            };
-            let site = Site {
-                origin,
-                block,
-                spot: report.spot,
-            };
-            add_game(alloc, report, settings, number, here, site, game)
-        }
-        Piece::Unreadable { at } => add_unreadable(report, settings, number, offset, block, *at),
-    }
-}
-
-/// Adds what the index has of one piece of the block that begins at the offset.
-pub fn add_mark(
-    index: &mut Report,
-    settings: &Settings,
-    number: u64,
-    offset: u64,
-    block: &[u8],
-    mark: Mark,
-) -> Result<(), AllocError>
-    requires place { mark_place mark ≤ length block.now }
-    requires room { offset + length block.now < 2 ^ 64 }
+/// Adds what the index has of one piece of the block.
+pub fn add_mark(index: &mut Report, context: BlockContext<'_>, mark: Mark) -> Result<(), AllocError>
+    requires place { mark_place mark ≤ length context.bytes.now }
+    requires room { context.offset + length context.bytes.now < 2 ^ 64 }
     requires counts { (index.old.games + 1 < 2 ^ 64) × (index.old.faulty + 1 < 2 ^ 64) }
-    ensures { OnOk result ((verdict : Verdict) × IsMarkVerdict (aim_of settings.now) number offset block.now mark verdict
+    ensures { OnOk result ((verdict : Verdict) × IsMarkVerdict (aim_of context.entry.settings.now) context.entry.number context.entry.offset context.entry.bytes.now mark verdict
         × AddsVerdict index.old index.new verdict 1) }
 {
     index.games += 1;
     match mark {
         Mark::Game(at) => push_mark_line(
             &mut index.output,
-            &settings.name,
-            number,
-            offset + at as u64,
+            &context.settings.name,
+            context.number,
+            context.offset + at as u64,
         ),
-        Mark::Unreadable(at) => add_unreadable(index, settings, number, offset, block, at),
+        Mark::Unreadable(at) => index.add_unreadable(context, at),
     }
 }

@@ -5,7 +5,7 @@ ghost use Rattle.pgn_game.specs.Replays.{Replay, fault_of};
 ghost use Rattle.pgn_extract.specs.Aims.{aim_of};
 ghost use Rattle.pgn_extract.specs.Finding.{named_mark, AsksFor, AddsEntries, StopsAtFault, StopsInLine, GoesOn, asked_of, ShowsPosition, ShowsNext, ShowsHere};
 
-use crate::entries::GameMark;
+use crate::entries::{GameContext, GameMark};
 use crate::kept::push_kept;
 use crate::listing::MARK_ROOM;
 use crate::settings::{Fields, Settings};
@@ -144,20 +144,23 @@ impl<'s, 'a> Shower<'s, 'a> {
 /// Adds the lines of the entries of a game, with what they show after the ply, or answers its fault. No position is kept, unless
 /// the criteria speak of the moves at each ply.
 pub fn push_shown<'a>(
-    alloc: Global,
     text: &mut Vec<u8>,
-    settings: &'a Settings,
-    own: GameMark,
+    context: GameContext<'a>,
     game: &RawGame<'a>,
 ) -> Result<(), GameFault<'a>>
     ensures { MatchResult result
-        (λ _. AddsEntries (aim_of settings.now) own.number own.offset game.now text.old.items text.new.items)
+        (λ _. AddsEntries (aim_of context.entry.settings.now) context.entry.own.number context.entry.own.offset game.now text.old.items text.new.items)
         (λ fault. IfSome (fault_of fault) (StopsAtFault game.now text.old.items text.new.items)) }
 {
+    let GameContext {
+        alloc,
+        settings,
+        own,
+    } = context;
     let search = match &settings.criteria {
         Some(criteria) => {
             let Some(search) = criteria.watch(alloc, game)? else {
-                return push_kept(alloc, text, settings, criteria, own, game);
+                return push_kept(text, context, criteria, game);
             };
             Some(search)
         }

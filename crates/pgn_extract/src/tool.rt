@@ -364,6 +364,7 @@ where
         files.show_progress();
     }
     let mut task = Task {
+        alloc,
         settings: settings_of(&order, criteria),
         paths: &request.files,
         with_names: has_names(request),
@@ -372,10 +373,10 @@ where
     };
     let ended = if request.files.len() < 2 {
         let (name, input) = open_input(alloc, files, request)?;
-        name_file(alloc, &mut task, name)?;
-        run_input(alloc, &task, input, out, err).map(Total::of)
+        name_file(&mut task, name)?;
+        run_input(&task, input, out, err).map(Total::of)
     } else {
-        run_files(alloc, &mut task, files, out, err)
+        run_files(&mut task, files, out, err)
     };
     Ok(match ended {
         Ok(total) => end_runs(alloc, err, request.summary, &total),

@@ -11,7 +11,7 @@ use Rattle.pgn_extract.proofs.exporting.put_by_entry.Goals as goal
 
 pub returns-in-Err : goal.returns-in-Err
 returns-in-Err c =
-    let aim = aim_of c.args.settings.now in
+    let aim = aim_of c.args.context.settings.now in
     let game = c.args.game.now in
     let old = c.args.text.now.items in
     let leaves : (own : Fault) → IsFault (written_lines aim) (tag_in fen_tag game.tags) game.elements own → LeavesText aim game old old own = λ own met. (met, refl) in

@@ -18,7 +18,7 @@ check_written-requires c = c.requires.0
 
 pub returns-then-not-is_selected : goal.returns-then-not-is_selected
 returns-then-not-is_selected c =
-    let aim = aim_of c.args.settings.now in
+    let aim = aim_of c.args.context.settings.now in
     let game = c.args.game.now in
     let lines = written_lines aim in
     let old = c.args.text.now.items in
@@ -34,18 +34,18 @@ check_written-requires-then-is_as_it_stands c = c.requires.0
 
 pub returns-then-is_as_it_stands : goal.returns-then-is_as_it_stands
 returns-then-is_as_it_stands c =
-    let aim = aim_of c.args.settings.now in
+    let aim = aim_of c.args.context.settings.now in
     let game = c.args.game.now in
     let old = c.args.text.now.items in
     let text = c.in_ok-push_as_is.ensures ∙ ap (λ bytes. old ++ as_it_stands bytes) c.text.ensures in
-    let put = game_put aim c.args.own.number c.args.own.offset game old c.push_as_is.new.text.items (c.is_as_it_stands.ensures.0 c.if-is_as_it_stands.true)
+    let put = game_put aim c.args.context.own.number c.args.context.own.offset game old c.push_as_is.new.text.items (c.is_as_it_stands.ensures.0 c.if-is_as_it_stands.true)
     c.in_ok-check_written.ensures text in
     let told = c.is_selected.ensures game put.0 (c.requires.1 put.0 (written_lines aim, put.1)) in
     (put.0, put.1, put.2, inl (told.0 c.if-not-is_selected.false, put.3), put.4)
 
 pub returns : goal.returns
 returns c =
-    let aim = aim_of c.args.settings.now in
+    let aim = aim_of c.args.context.settings.now in
     let game = c.args.game.now in
     MatchResult-weaker c.put_text.result c.put_text.ensures
     (λ _ put.

@@ -15,8 +15,10 @@ loop-block-smaller g c =
 
 pub loop-block-preserved : goal.loop-block-preserved
 loop-block-preserved g c =
-    let gives = rw (c.in-Ok-Some.is, c.in-Ok-Some.field-0-is) at c.next.follows.holds-at-none in (
-      progress_more c.loop-block.invariant.0 gives.2.1 gives.1 gives.2.2.1 (c.in-Ok.ensures.done gives.2.0 gives.2.2.0),
+    let gives = rw (c.in-Ok-Some.is, c.in-Ok-Some.field-0-is) at c.next.follows.holds-at-none in
+    let work = c.new-work.ensures in
+    let done = rw (work.settings, work.number, work.block) at c.in-Ok.ensures.done in (
+      progress_more c.loop-block.invariant.0 gives.2.1 gives.1 gives.2.2.1 (done gives.2.0 gives.2.2.0),
       false_from_ne_true _ (λ is. let k = c.in-Ok-Some.ensures.fault.1 (c.loop-block.invariant.1, is) in cc),
       false_from_ne_true _ (λ is. let k = c.in-Ok.ensures.faults.write.1 (inl is) in cc),
       false_from_ne_true _ (λ is. let k = c.in-Ok.ensures.faults.write.1 (inr is) in cc),
@@ -25,7 +27,9 @@ loop-block-preserved g c =
 pub returns-in-Err-put_block-clause-stopped : goal.returns-in-Err-put_block-clause-stopped
 returns-in-Err-put_block-clause-stopped g c =
     let gives = rw (c.in-Ok-Some.is, c.in-Ok-Some.field-0-is) at c.next.follows.holds-at-none in
-    block_breaks c.loop-block.invariant.0 _ gives.2.1 gives.1 gives.2.2.1 (c.in-Err-put_block.ensures.stopped gives.2.0 gives.2.2.0) c.in-Err-put_block.ensures.only
+    let work = c.new-work.ensures in
+    let stopped = rw (work.settings, work.number, work.block) at c.in-Err-put_block.ensures.stopped in
+    block_breaks c.loop-block.invariant.0 _ gives.2.1 gives.1 gives.2.2.1 (stopped gives.2.0 gives.2.2.0) c.in-Err-put_block.ensures.only
 
 pub returns-in-Ok-finish_both-clause-done : goal.returns-in-Ok-finish_both-clause-done
 returns-in-Ok-finish_both-clause-done g c =

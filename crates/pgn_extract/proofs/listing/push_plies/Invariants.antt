@@ -7,8 +7,8 @@ use Rattle.pgn_extract.proofs.listing.push_plies.Given as goal
 abbrev pub invariant-loop-ply : goal.invariant-loop-ply
 invariant-loop-ply l =
     record {
-      above : l.settings.min_ply ≤ l.ply;
-      within : l.ply - l.settings.min_ply ≤ l.ply-end - l.settings.min_ply;
-      line : l.line.items ≡ entry_line l.settings.name (entry_at l.number l.offset l.ply []);
-      written : l.text.items ≡ l.initial.text.items ++ listing l.settings.name (plies_from l.number l.offset l.settings.min_ply (l.ply - l.settings.min_ply));
+      above : l.context.settings.now.min_ply ≤ l.ply;
+      within : l.ply - l.context.settings.now.min_ply ≤ l.ply-end - l.context.settings.now.min_ply;
+      line : l.line.items ≡ entry_line l.context.settings.now.name (entry_at l.context.own.number l.context.own.offset l.ply []);
+      written : l.text.items ≡ l.initial.text.items ++ listing l.context.settings.now.name (plies_from l.context.own.number l.context.own.offset l.context.settings.now.min_ply (l.ply - l.context.settings.now.min_ply));
     }

@@ -8,8 +8,8 @@ use Rattle.pgn_extract.proofs.showing.push_shown.Goals.{in-Some+in_ok-search-in-
 pub play-requires-clause-asks : goal.play-requires-clause-asks
 play-requires-clause-asks c = elim c.match-settings.branch [
   | in-Some+in_ok-search-in-Some+in-Some-2 w ↦
-      subst (λ o. AsksFor (aim_of c.args.settings.now) c.args.game.now (asked_of o)) (sym w.search-is)
-      (asks_given (aim_of c.args.settings.now) c.args.game.now w.in-Some.criteria w.in_ok-search-in-Some.field-0 w.in-Some-2.search w.in-Some.is w.in-Some-2.is w.in_ok-search-in-Some.ensures)
+      subst (λ o. AsksFor (aim_of c.args.context.settings.now) c.args.game.now (asked_of o)) (sym w.search-is)
+      (asks_given (aim_of c.args.context.settings.now) c.args.game.now w.in-Some.criteria w.in_ok-search-in-Some.field-0 w.in-Some-2.search w.in-Some.is w.in-Some-2.is w.in_ok-search-in-Some.ensures)
   | in-None w ↦
-      subst (λ o. AsksFor (aim_of c.args.settings.now) c.args.game.now (asked_of o)) (sym w.search-is) (none_given (aim_of c.args.settings.now) c.args.game.now w.in-None.is)
+      subst (λ o. AsksFor (aim_of c.args.context.settings.now) c.args.game.now (asked_of o)) (sym w.search-is) (none_given (aim_of c.args.context.settings.now) c.args.game.now w.in-None.is)
 ]

@@ -5,19 +5,19 @@ use Rattle.pgn_extract.specs.Index.{fault_text}
 use Rattle.pgn_extract.specs.GameReports.{cause_text}
 use Rattle.pgn_extract.specs.Notes.{IsNote}
 use Rattle.pgn_extract.proofs.NoteLines.{empty_note}
-use Rattle.pgn_extract.proofs.report.add_fault.Goals as goal
+use Rattle.pgn_extract.proofs.report.Report.add_fault.Goals as goal
 
 pub returns-then-not-settings : goal.returns-then-not-settings
 returns-then-not-settings c =
     let of = c.in_ok-push_game_fault.ensures in
-    let line = fault_text c.args.settings.now.name c.args.number c.args.offset (cause_text of.0) in (
+    let line = fault_text c.args.context.settings.now.name c.args.context.own.number c.args.context.own.offset (cause_text of.0) in (
       of.0,
       [],
       of.1,
-      empty_note c.args.settings.now.explain,
+      empty_note c.args.context.settings.now.explain,
       record {
-        output = sym (append-nil c.args.report.now.output.items);
-        faults = of.2 ∙ ap (λ t. c.args.report.now.faults.items ++ t) (sym (append-nil line));
+        output = sym (append-nil c.args.self.now.output.items);
+        faults = of.2 ∙ ap (λ t. c.args.self.now.faults.items ++ t) (sym (append-nil line));
         games = omega arith;
         faulty = refl;
       },
@@ -26,7 +26,7 @@ returns-then-not-settings c =
 pub returns : goal.returns
 returns c =
     let of = c.in_ok-push_game_fault.ensures in
-    let line = fault_text c.args.settings.now.name c.args.number c.args.offset (cause_text of.0) in
+    let line = fault_text c.args.context.settings.now.name c.args.context.own.number c.args.context.own.offset (cause_text of.0) in
     on_ok_weaker c.push_game_note.result
     (λ note. (
       of.0,
@@ -34,8 +34,8 @@ returns c =
       of.1,
       subst (λ b. IsNote b note.0) (sym c.if-not-settings.false) note.1,
       record {
-        output = sym (append-nil c.args.report.now.output.items);
-        faults = note.2 ∙ ap (λ t. t ++ note.0) of.2 ∙ append_assoc c.args.report.now.faults.items line note.0;
+        output = sym (append-nil c.args.self.now.output.items);
+        faults = note.2 ∙ ap (λ t. t ++ note.0) of.2 ∙ append_assoc c.args.self.now.faults.items line note.0;
         games = omega arith;
         faulty = refl;
       },

@@ -10,7 +10,7 @@ use Rattle.pgn_game.proofs.OneReplay.{line_length}
 use Rattle.pgn_extract.specs.Aims.{aim_of}
 use Rattle.pgn_extract.proofs.GameVerdict.{listed_replay, listed_fault}
 use Rattle.pgn_criteria.specs.Meeting.{heading_of}
-use Rattle.pgn_extract.proofs.report.add_plies.Goals as goal
+use Rattle.pgn_extract.proofs.report.Report.add_plies.Goals as goal
 
 pub returns-in-Ok : goal.returns-in-Ok
 returns-in-Ok c =
@@ -20,12 +20,12 @@ returns-in-Ok c =
     on_ok_weaker c.push_plies.result
     (λ adds.
     let lines = adds (heading_of c.args.game.now) replay size in
-    listed_replay (aim_of c.args.settings.now) replay lines.0 is lines.1 (record { output = lines.2; faults = refl; games = refl; faulty = refl }))
+    listed_replay (aim_of c.args.context.settings.now) replay lines.0 is lines.1 (record { output = lines.2; faults = refl; games = refl; faulty = refl }))
     c.push_plies.ensures
 
 pub returns-in-Err : goal.returns-in-Err
 returns-in-Err c =
     on_ok_weaker c.add_fault.result
-    (λ of. listed_fault (aim_of c.args.settings.now) of.0 of.1
+    (λ of. listed_fault (aim_of c.args.context.settings.now) of.0 of.1
     (subst (λ o. IfSome o (IsFault Main (tag_in fen_tag c.args.game.now.tags) c.args.game.now.elements)) of.2 c.in-Err.ensures) of.3 of.4)
     c.add_fault.ensures
