@@ -171,6 +171,3 @@ pub(crate) fn are_fixed(conditions: &[Condition<Vec<u8>>]) -> bool
     }
     true
 }
-
-#[cfg(test)]
-mod tests;

@@ -4,7 +4,7 @@ ghost use Rattle.pgn_text.specs.GameTexts.{tag_in};
 ghost use Rattle.pgn_game.specs.Replays.{IsSomeReplay};
 ghost use Rattle.pgn_game.specs.Starts.{fen_tag};
 
-use crate::Criteria;
+use pgn_criteria::Criteria;
 use pgn_game::{Lines, Replayed, replay};
 use pgn_text::{Piece, RawGame, games};
 use std::alloc::Global;
@@ -38,7 +38,7 @@ fn replayed(alloc: Global, game: &RawGame) -> Result<Replayed, Fail>
 
 /// Whether these plies of the game, and no others, meet the criteria. Each is asked alone, by the criteria, by what they ask of the
 /// positions of this game, and at once. Then they are looked for one after the other.
-pub(crate) fn are_met(
+pub fn are_met(
     alloc: Global,
     criteria: &[u8],
     block: &[u8],

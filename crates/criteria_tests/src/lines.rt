@@ -1,7 +1,6 @@
-//! Texts with the line that they must be refused for, or the alternatives that they must spell.
+//! Texts that are of the language, or the line that they must be refused for.
 
-use crate::meets::Criteria;
-use crate::parse::CriteriaError;
+use pgn_criteria::{Criteria, CriteriaError};
 use std::alloc::{AllocError, Global};
 use std::test::Fail;
 
@@ -21,16 +20,9 @@ fn is_too_long(alloc: Global, text: &[u8]) -> bool {
     }
 }
 
-/// Whether the text spells so many alternatives, of which the last has so many conditions.
-fn spells(alloc: Global, text: &[u8], alternatives: usize, conditions: usize) -> bool {
-    match Criteria::parse(alloc, text) {
-        Ok(criteria) => match criteria.alternatives.last() {
-            Some(last) => criteria.alternatives.len() == alternatives
-                && last.plain.conditions.len() == conditions,
-            None => false,
-        },
-        Err(_) => false,
-    }
+/// Whether the text is of the language.
+fn is_accepted(alloc: Global, text: &[u8]) -> bool {
+    Criteria::parse(alloc, text).is_ok()
 }
 
 /// A text, and the number of the line that it is refused for.
@@ -216,23 +208,23 @@ fn lines_on_a_move_need_its_word_and_those_on_the_result_one(rt: HostRuntime) ->
     Ok(())
 }
 
-/// Lines with `for` and `count`, with the number of the alternatives that they spell and of the conditions of the last.
-const SPANS: [(&[u8], usize, usize); 8] = [
-    (b"for 1", 1, 1),
-    (b" \tfor\t9999 \r\n", 1, 1),
-    (b"for 007\nfor 2", 1, 2),
-    (b"count = 0\ncount <> 3", 1, 2),
-    (b"count  >= \t9999\nor\ncount < 0001", 2, 1),
-    (b"check\nfor 3\ncount <= 4\ncount > 1", 1, 4),
-    (b"tag for = \"count\"\nfor 1", 1, 2),
-    (b"either turn white\nnot check\nfor 5", 1, 3),
+/// Texts with `for` and `count`.
+const SPANS: [&[u8]; 8] = [
+    b"for 1",
+    b" \tfor\t9999 \r\n",
+    b"for 007\nfor 2",
+    b"count = 0\ncount <> 3",
+    b"count  >= \t9999\nor\ncount < 0001",
+    b"check\nfor 3\ncount <= 4\ncount > 1",
+    b"tag for = \"count\"\nfor 1",
+    b"either turn white\nnot check\nfor 5",
 ];
 
 #[test]
 fn lines_on_spans_are_accepted(rt: HostRuntime) -> Result<(), Fail> {
     let alloc = rt.alloc();
-    for &(text, alternatives, conditions) in &SPANS {
-        assert!(rt; spells(alloc, text, alternatives, conditions), "{text:?}");
+    for text in &SPANS {
+        assert!(rt; is_accepted(alloc, text), "{text:?}");
     }
     Ok(())
 }
@@ -343,106 +335,106 @@ fn what_denies_no_claim_is_refused(rt: HostRuntime) -> Result<(), Fail> {
     Ok(())
 }
 
-/// A text, how many alternatives it spells, and how many conditions the last of them has.
-const ACCEPTED: [(&[u8], usize, usize); 43] = [
-    (b"", 1, 0),
-    (b"# x", 1, 0),
-    (b"  # x", 1, 0),
-    (b"#\r\r\n \t\n", 1, 0),
-    (b"or", 2, 0),
-    (b"or\nor", 3, 0),
-    (b"check\r\n", 1, 1),
-    (b" \tcheck \t", 1, 1),
-    (b"check \r", 1, 1),
-    (b"check\nmate\nor\n or \r\nstalemate\n\nturn white", 3, 2),
-    (b"tag  A\t>=  \"10\"", 1, 1),
-    (b"tag A_1 <> \"\"", 1, 1),
-    (b"tag A = \"a\\\\x\\\"\"", 1, 1),
-    (b"tag A < \"x y\tz\" ", 1, 1),
-    (b"tag A <= \"\xFF\"", 1, 1),
-    (b"tag A > \"#\"", 1, 1),
-    (b"tag A has \"x y\"", 1, 1),
-    (b"tag\tA  begins\t\"\\\"\" ", 1, 1),
-    (b"tag has begins \"\"", 1, 1),
-    (b"tag A|B_2|A  has \t\"|\"", 1, 1),
-    (b"not tag White|Black < \"x\"", 1, 1),
-    (b"turn\tblack", 1, 1),
-    (b"plies = 0\nplies  <>\t007 \nplies < 9999", 1, 3),
-    (b"plies <= 5\nor\nnot plies > 5\nplies >= 5", 2, 2),
-    (b"moves 0-0 zz --", 1, 1),
-    (b"next Bxh7", 1, 1),
-    (b" \tnext \t *x*  \r\n", 1, 1),
-    (b"next e\nnext *******\nnext O-O*", 1, 3),
-    (b"next *=N\nor\nnext abcdefg", 2, 1),
-    (b"played 0-0\nplayed\t*=Q", 1, 2),
-    (b"result 1-0\nor\nresult 0-1\nor\nresult  1/2-1/2 ", 3, 1),
-    (b"result *\nplayed *\nnext *", 1, 3),
-    (b"tag next = \"next\"\ntag result begins \"1\"", 1, 2),
-    (b"moves * e8=Q \t Nb1xd2", 1, 1),
-    (b"fen 1PPP1*/*/*/*/*/*/*/*", 1, 1),
-    (b"fen ?!Aa1234/KQRBNP/kqrbnp/****/8/*/88/*", 1, 1),
-    (b"fen [KQp]*/*[^Pp]/[P]8*/*[kk]*/*/*/*/*", 1, 1),
-    (b"fen [^KQRBNPkqrbnp]7/*/*/*/*/*/*/*", 1, 1),
-    (b"material K v K", 1, 1),
-    (b"material KQ0 v K", 1, 1),
-    (b"material KQ1R2B3N4P9+ v P0-N*K1", 1, 1),
-    (b"material  KP8\tv  KP*", 1, 1),
-    (b"material K v K\nor\nmoves e4 *\nturn black\ncheck", 2, 3),
+/// Texts with conditions of each kind.
+const ACCEPTED: [&[u8]; 43] = [
+    b"",
+    b"# x",
+    b"  # x",
+    b"#\r\r\n \t\n",
+    b"or",
+    b"or\nor",
+    b"check\r\n",
+    b" \tcheck \t",
+    b"check \r",
+    b"check\nmate\nor\n or \r\nstalemate\n\nturn white",
+    b"tag  A\t>=  \"10\"",
+    b"tag A_1 <> \"\"",
+    b"tag A = \"a\\\\x\\\"\"",
+    b"tag A < \"x y\tz\" ",
+    b"tag A <= \"\xFF\"",
+    b"tag A > \"#\"",
+    b"tag A has \"x y\"",
+    b"tag\tA  begins\t\"\\\"\" ",
+    b"tag has begins \"\"",
+    b"tag A|B_2|A  has \t\"|\"",
+    b"not tag White|Black < \"x\"",
+    b"turn\tblack",
+    b"plies = 0\nplies  <>\t007 \nplies < 9999",
+    b"plies <= 5\nor\nnot plies > 5\nplies >= 5",
+    b"moves 0-0 zz --",
+    b"next Bxh7",
+    b" \tnext \t *x*  \r\n",
+    b"next e\nnext *******\nnext O-O*",
+    b"next *=N\nor\nnext abcdefg",
+    b"played 0-0\nplayed\t*=Q",
+    b"result 1-0\nor\nresult 0-1\nor\nresult  1/2-1/2 ",
+    b"result *\nplayed *\nnext *",
+    b"tag next = \"next\"\ntag result begins \"1\"",
+    b"moves * e8=Q \t Nb1xd2",
+    b"fen 1PPP1*/*/*/*/*/*/*/*",
+    b"fen ?!Aa1234/KQRBNP/kqrbnp/****/8/*/88/*",
+    b"fen [KQp]*/*[^Pp]/[P]8*/*[kk]*/*/*/*/*",
+    b"fen [^KQRBNPkqrbnp]7/*/*/*/*/*/*/*",
+    b"material K v K",
+    b"material KQ0 v K",
+    b"material KQ1R2B3N4P9+ v P0-N*K1",
+    b"material  KP8\tv  KP*",
+    b"material K v K\nor\nmoves e4 *\nturn black\ncheck",
 ];
 
 #[test]
 fn lines_of_the_language_are_accepted(rt: HostRuntime) -> Result<(), Fail> {
     let alloc = rt.alloc();
-    for &(text, alternatives, conditions) in &ACCEPTED {
-        assert!(rt; spells(alloc, text, alternatives, conditions), "{text:?}");
+    for text in &ACCEPTED {
+        assert!(rt; is_accepted(alloc, text), "{text:?}");
     }
     Ok(())
 }
 
-/// Conditions that are denied, in the same form.
-const DENIED: [(&[u8], usize, usize); 11] = [
-    (b"not check", 1, 1),
-    (b" \tnot \t mate \r\n", 1, 1),
-    (b"not\tstalemate", 1, 1),
-    (b"not turn\twhite", 1, 1),
-    (b"not tag A = \"not\"", 1, 1),
-    (b"not tag not <> \"\"\ntag not = \"x\"", 1, 2),
-    (b"not moves e4  *", 1, 1),
-    (b"not next *x*\nnot\tplayed  K*", 1, 2),
-    (b"not result 1/2-1/2\nor\nnot  result *", 2, 1),
-    (b"not material KQ v K\nnot fen */*/*/*/*/*/*/*", 1, 2),
-    (b"not check\nor\nmate\nnot turn black\nnot moves d4", 2, 3),
+/// Texts with conditions that are denied.
+const DENIED: [&[u8]; 11] = [
+    b"not check",
+    b" \tnot \t mate \r\n",
+    b"not\tstalemate",
+    b"not turn\twhite",
+    b"not tag A = \"not\"",
+    b"not tag not <> \"\"\ntag not = \"x\"",
+    b"not moves e4  *",
+    b"not next *x*\nnot\tplayed  K*",
+    b"not result 1/2-1/2\nor\nnot  result *",
+    b"not material KQ v K\nnot fen */*/*/*/*/*/*/*",
+    b"not check\nor\nmate\nnot turn black\nnot moves d4",
 ];
 
 #[test]
 fn denied_conditions_are_accepted(rt: HostRuntime) -> Result<(), Fail> {
     let alloc = rt.alloc();
-    for &(text, alternatives, conditions) in &DENIED {
-        assert!(rt; spells(alloc, text, alternatives, conditions), "{text:?}");
+    for text in &DENIED {
+        assert!(rt; is_accepted(alloc, text), "{text:?}");
     }
     Ok(())
 }
 
-/// Conditions with `either` and `flip`, in the same form.
-const TURNED: [(&[u8], usize, usize); 11] = [
-    (b"either turn white", 1, 1),
-    (b" \teither \tnot\tturn  black \r", 1, 1),
-    (b"either fen */*/*/*/*/*/*/*", 1, 1),
-    (b"either not fen */*/*/*/*/*/*/*", 1, 1),
-    (b"flip fen */*/*/*/*/*/*/*", 1, 1),
-    (b"flip \t fen\t [KQp]*/*/*/*/*/*/*/*", 1, 1),
-    (b"not  flip fen */*/*/*/*/*/*/*", 1, 1),
-    (b"either flip fen */*/*/*/*/*/*/*", 1, 1),
-    (b"either not flip fen */*/*/*/*/*/*/*", 1, 1),
-    (b"either material K v K\neither not material KQ v K", 1, 2),
-    (b"tag either = \"flip\"\nor\neither turn black", 2, 1),
+/// Texts with `either` and `flip`.
+const TURNED: [&[u8]; 11] = [
+    b"either turn white",
+    b" \teither \tnot\tturn  black \r",
+    b"either fen */*/*/*/*/*/*/*",
+    b"either not fen */*/*/*/*/*/*/*",
+    b"flip fen */*/*/*/*/*/*/*",
+    b"flip \t fen\t [KQp]*/*/*/*/*/*/*/*",
+    b"not  flip fen */*/*/*/*/*/*/*",
+    b"either flip fen */*/*/*/*/*/*/*",
+    b"either not flip fen */*/*/*/*/*/*/*",
+    b"either material K v K\neither not material KQ v K",
+    b"tag either = \"flip\"\nor\neither turn black",
 ];
 
 #[test]
 fn turned_conditions_are_accepted(rt: HostRuntime) -> Result<(), Fail> {
     let alloc = rt.alloc();
-    for &(text, alternatives, conditions) in &TURNED {
-        assert!(rt; spells(alloc, text, alternatives, conditions), "{text:?}");
+    for text in &TURNED {
+        assert!(rt; is_accepted(alloc, text), "{text:?}");
     }
     Ok(())
 }
@@ -493,7 +485,7 @@ fn texts_have_a_limit(rt: HostRuntime) -> Result<(), Fail> {
     let word = vec![in alloc; b'x'; 65_537]?;
     assert!(rt; is_too_long(alloc, &comment));
     assert!(rt; is_too_long(alloc, &word));
-    assert!(rt; spells(alloc, &comment[1..], 1, 0));
+    assert!(rt; is_accepted(alloc, &comment[1..]));
     assert!(rt; is_refused(alloc, &word[1..], 1));
     Ok(())
 }
@@ -508,7 +500,7 @@ fn takes(alloc: Global, relation: &[u8], bytes: usize, is_so: bool) -> Result<bo
     }
     line.push(b'"')?;
     Ok(if is_so {
-        spells(alloc, &line, 1, 1)
+        is_accepted(alloc, &line)
     } else {
         is_refused(alloc, &line, 1)
     })
