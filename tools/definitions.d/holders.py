@@ -1,5 +1,6 @@
 """What holds each definition: the laws, worked rows, must-fail edits and proved callers that name it, and what docs/held-by.txt says."""
 import re
+import sys
 from dataclasses import dataclass, field
 from functools import cache
 
@@ -14,8 +15,8 @@ CALLED = "# called by"
 ROW_FILES = re.compile(r"(Examples|Rows)$")
 # A part of a note that only names laws or worked rows.
 PLAIN = re.compile(r"(laws?|worked rows?) `\w+`(?:(?:,| and) `\w+`)*$")
-# So many names of a kind are listed.
-MOST = 5
+# So many names of a kind are listed on the page.
+MOST = 2
 
 
 @dataclass
@@ -33,8 +34,8 @@ class Held:
         """Something holds it by its name."""
         return bool(self.laws or self.rows or self.edits or self.callers or self.hand)
 
-    def text(self):
-        """The cell of the table."""
+    def text(self, most=MOST):
+        """The cell of the table, with so many names of a kind."""
         laws, rows, notes = list(self.laws), list(self.rows), []
         for part in (it for note in self.hand for it in note.split("; ")):
             plain = PLAIN.match(part)
@@ -44,16 +45,24 @@ class Held:
             elif part not in notes:
                 notes.append(part)
         kinds = [("law", laws), ("worked row", rows), ("edit", self.edits), ("proved callers of", self.callers)]
-        parts = notes + [listed(kind, names) for kind, names in kinds if names]
-        return "; ".join(parts) or "in " + ", ".join(f"`{it}`" for it in self.users[:MOST]) if parts or self.users else "nothing"
+        parts = notes + [listed(kind, names, most) for kind, names in kinds if names]
+        return "; ".join(parts) or "in " + ", ".join(f"`{it}`" for it in self.users[:most]) if parts or self.users else "nothing"
 
 
-def listed(kind, names):
-    """Some names of a kind."""
+def listed(kind, names, most):
+    """So many names of a kind."""
     names = list(dict.fromkeys(names))
     plural = kind if kind.endswith("of") or len(names) == 1 else kind + "s"
-    more = f" and {len(names) - MOST} more" if len(names) > MOST else ""
-    return f"{plural} " + ", ".join(f"`{it}`" for it in names[:MOST]) + more
+    more = f" and {len(names) - most} more" if len(names) > most else ""
+    return f"{plural} " + ", ".join(f"`{it}`" for it in names[:most]) + more
+
+
+def print_all(tree, name):
+    """Prints all that holds the definitions of a name; fails where there is none."""
+    found = {key: it for key, it in holders_of(tree).items() if key[1] == name}
+    for key, it in found.items():
+        print(f"{key[0]} {name}: {it.text(sys.maxsize)}")
+    return 0 if found else 1
 
 
 @dataclass

@@ -6,7 +6,7 @@ import holders
 DOCUMENT = "docs/DEFINITIONS.md"
 MARK = "<!-- What follows is written by `tools/definitions --write`, from the tree and from docs/held-by.txt. -->\n"
 # So many callers are listed.
-MOST = 4
+MOST = 2
 
 
 def page(tree):
