@@ -109,86 +109,86 @@ const CASTLED_LONG: &[u8] = b"1. d4 d5 2. Nc3 Nf6 3. Bf4 Bf5 4. Qd2 e6 5. O-O-O 
 
 const PASSED: &[u8] = b"1. e4 a6 2. e5 d5 3. exd6 cxd6 *";
 
+/// Criteria on single moves, a game, and its plies that meet them.
+const ON_MOVES: [(&[u8], &[u8], &[usize]); 42] = [
+    (b"next e4", CASTLED, &[0]),
+    (b"played e4", CASTLED, &[1]),
+    (b"next *", CASTLED, &[0, 1, 2, 3, 4, 5, 6, 7, 8, 9]),
+    (b"played *", CASTLED, &[1, 2, 3, 4, 5, 6, 7, 8, 9, 10]),
+    (b"not next *", CASTLED, &[10]),
+    (b"not played *", CASTLED, &[0]),
+    (b"next *x*", CASTLED, &[8, 9]),
+    (b"next *xc6", CASTLED, &[8, 9]),
+    (b"next Bxc6", CASTLED, &[8]),
+    (b"next B*", CASTLED, &[4, 8]),
+    (b"next *6", CASTLED, &[3, 5, 7, 8, 9]),
+    (b"next O-O", CASTLED, &[6]),
+    (b"next O-O*", CASTLED, &[6]),
+    (b"next O", CASTLED, &[]),
+    (b"next O-O-O", CASTLED, &[]),
+    (b"next *******", CASTLED, &[0, 1, 2, 3, 4, 5, 6, 7, 8, 9]),
+    (b"next N*\nturn black", CASTLED, &[3, 7]),
+    (b"next Nf3\nplayed e5", CASTLED, &[2]),
+    (b"next Nf3\nplayed e4", CASTLED, &[]),
+    (b"next O-O\nor\nplayed dxc6", CASTLED, &[6, 10]),
+    (b"moves e4\nnext Bb5", CASTLED, &[4]),
+    (b"moves d4\nnext Bb5", CASTLED, &[]),
+    (b"result 1/2-1/2\nnext Bb5", CASTLED, &[4]),
+    (b"result 1-0\nnext Bb5", CASTLED, &[]),
+    (b"next O-O-O", CASTLED_LONG, &[8]),
+    (b"next O-O*", CASTLED_LONG, &[8]),
+    (b"next O-O", CASTLED_LONG, &[]),
+    (b"played *O", CASTLED_LONG, &[9]),
+    (b"next Q*2", CASTLED_LONG, &[6]),
+    (b"next *4", CASTLED_LONG, &[0, 4]),
+    (b"next d*", CASTLED_LONG, &[0, 1]),
+    (b"next e*", CASTLED_LONG, &[7]),
+    (b"next exd6", PASSED, &[4]),
+    (b"next *x*", PASSED, &[4, 5]),
+    (b"played e*", PASSED, &[1, 3, 5]),
+    (b"next *=N", UNDERPROMOTED, &[0]),
+    (b"next *=*", UNDERPROMOTED, &[0]),
+    (b"next *=Q", UNDERPROMOTED, &[]),
+    (b"next axb8=N", UNDERPROMOTED, &[0]),
+    (b"played Nc6", UNDERPROMOTED, &[3]),
+    (b"played Nc6\ncheck", UNDERPROMOTED, &[3]),
+    (b"either material KP v KN\nnext a*", UNDERPROMOTED, &[0]),
+];
+
 #[test]
 fn moves_hold_at_the_plies_about_them(rt: HostRuntime) -> Result<(), Fail> {
     let alloc = rt.alloc();
-    let rows: [(&[u8], &[u8], &[usize]); 42] = [
-        (b"next e4", CASTLED, &[0]),
-        (b"played e4", CASTLED, &[1]),
-        (b"next *", CASTLED, &[0, 1, 2, 3, 4, 5, 6, 7, 8, 9]),
-        (b"played *", CASTLED, &[1, 2, 3, 4, 5, 6, 7, 8, 9, 10]),
-        (b"not next *", CASTLED, &[10]),
-        (b"not played *", CASTLED, &[0]),
-        (b"next *x*", CASTLED, &[8, 9]),
-        (b"next *xc6", CASTLED, &[8, 9]),
-        (b"next Bxc6", CASTLED, &[8]),
-        (b"next B*", CASTLED, &[4, 8]),
-        (b"next *6", CASTLED, &[3, 5, 7, 8, 9]),
-        (b"next O-O", CASTLED, &[6]),
-        (b"next O-O*", CASTLED, &[6]),
-        (b"next O", CASTLED, &[]),
-        (b"next O-O-O", CASTLED, &[]),
-        (b"next *******", CASTLED, &[0, 1, 2, 3, 4, 5, 6, 7, 8, 9]),
-        (b"next N*\nturn black", CASTLED, &[3, 7]),
-        (b"next Nf3\nplayed e5", CASTLED, &[2]),
-        (b"next Nf3\nplayed e4", CASTLED, &[]),
-        (b"next O-O\nor\nplayed dxc6", CASTLED, &[6, 10]),
-        (b"moves e4\nnext Bb5", CASTLED, &[4]),
-        (b"moves d4\nnext Bb5", CASTLED, &[]),
-        (b"result 1/2-1/2\nnext Bb5", CASTLED, &[4]),
-        (b"result 1-0\nnext Bb5", CASTLED, &[]),
-        (b"next O-O-O", CASTLED_LONG, &[8]),
-        (b"next O-O*", CASTLED_LONG, &[8]),
-        (b"next O-O", CASTLED_LONG, &[]),
-        (b"played *O", CASTLED_LONG, &[9]),
-        (b"next Q*2", CASTLED_LONG, &[6]),
-        (b"next *4", CASTLED_LONG, &[0, 4]),
-        (b"next d*", CASTLED_LONG, &[0, 1]),
-        (b"next e*", CASTLED_LONG, &[7]),
-        (b"next exd6", PASSED, &[4]),
-        (b"next *x*", PASSED, &[4, 5]),
-        (b"played e*", PASSED, &[1, 3, 5]),
-        (b"next *=N", UNDERPROMOTED, &[0]),
-        (b"next *=*", UNDERPROMOTED, &[0]),
-        (b"next *=Q", UNDERPROMOTED, &[]),
-        (b"next axb8=N", UNDERPROMOTED, &[0]),
-        (b"played Nc6", UNDERPROMOTED, &[3]),
-        (b"played Nc6\ncheck", UNDERPROMOTED, &[3]),
-        (b"either material KP v KN\nnext a*", UNDERPROMOTED, &[0]),
-    ];
-    for (criteria, block, plies) in rows {
-        if !are_met(alloc, criteria, block, plies)? {
-            Err("other plies meet the criteria")?;
-        }
+    for &(criteria, block, plies) in &ON_MOVES {
+        assert!(rt; are_met(alloc, criteria, block, plies)?, "{criteria:?}");
     }
     Ok(())
 }
 
+/// Criteria on results, a game, and its plies that meet them.
+const ON_RESULTS: [(&[u8], &[u8], &[usize]); 8] = [
+    (b"result *", SHORT, &[0, 1, 2]),
+    (b"result 1-0", SHORT, &[]),
+    (b"not result 1-0", SHORT, &[0, 1, 2]),
+    (b"not result *", SHORT, &[]),
+    (b"result 1-0\nmate", MATE, &[7]),
+    (b"result 0-1\nmate", MATE, &[]),
+    (
+        b"result 0-1\nor\nresult 1-0\nturn black",
+        b"[Result \"0-1\"]\n\n1. e4 e5 1-0",
+        &[1],
+    ),
+    (
+        b"tag Result = \"0-1\"\nresult 1-0",
+        b"[Result \"0-1\"]\n\n1. e4 e5 1-0",
+        &[0, 1, 2],
+    ),
+];
+
 #[test]
 fn results_hold_of_a_whole_game(rt: HostRuntime) -> Result<(), Fail> {
     let alloc = rt.alloc();
-    let rows: [(&[u8], &[u8], &[usize]); 8] = [
-        (b"result *", SHORT, &[0, 1, 2]),
-        (b"result 1-0", SHORT, &[]),
-        (b"not result 1-0", SHORT, &[0, 1, 2]),
-        (b"not result *", SHORT, &[]),
-        (b"result 1-0\nmate", MATE, &[7]),
-        (b"result 0-1\nmate", MATE, &[]),
-        (
-            b"result 0-1\nor\nresult 1-0\nturn black",
-            b"[Result \"0-1\"]\n\n1. e4 e5 1-0",
-            &[1],
-        ),
-        (
-            b"tag Result = \"0-1\"\nresult 1-0",
-            b"[Result \"0-1\"]\n\n1. e4 e5 1-0",
-            &[0, 1, 2],
-        ),
-    ];
-    for (criteria, block, plies) in rows {
-        if !are_met(alloc, criteria, block, plies)? {
-            Err("other plies meet the criteria")?;
-        }
+    for &(criteria, block, plies) in &ON_RESULTS {
+        assert!(rt; are_met(alloc, criteria, block, plies)?, "{criteria:?}");
     }
     Ok(())
 }
@@ -203,58 +203,63 @@ fn are_watched(alloc: Global, criteria: &[u8], block: &[u8]) -> Result<bool, Fai
     }
 }
 
+/// Criteria, and whether a game is asked ply by ply, with no position kept.
+const WATCHED: [(&[u8], bool); 15] = [
+    (b"", true),
+    (b"turn white", true),
+    (b"either fen */*/*/*/*/*/*/*", true),
+    (b"mate\nor\ncheck", true),
+    (b"moves e4 *", true),
+    (b"not plies < 9\nturn black", true),
+    (b"result *", true),
+    (b"tag White = \"x\"", true),
+    (b"next e4", false),
+    (b"not played e4", false),
+    (b"turn white\nfor 2", false),
+    (b"count > 1", false),
+    (b"turn white\nor\nnext e4", false),
+    (b"result 1-0\nnext e4", true),
+    (b"tag White = \"x\"\ncount > 1", true),
+];
+
 #[test]
 fn a_game_is_kept_only_for_single_moves_and_several_plies(rt: HostRuntime) -> Result<(), Fail> {
     let alloc = rt.alloc();
-    let rows: [(&[u8], bool); 15] = [
-        (b"", true),
-        (b"turn white", true),
-        (b"either fen */*/*/*/*/*/*/*", true),
-        (b"mate\nor\ncheck", true),
-        (b"moves e4 *", true),
-        (b"not plies < 9\nturn black", true),
-        (b"result *", true),
-        (b"tag White = \"x\"", true),
-        (b"next e4", false),
-        (b"not played e4", false),
-        (b"turn white\nfor 2", false),
-        (b"count > 1", false),
-        (b"turn white\nor\nnext e4", false),
-        (b"result 1-0\nnext e4", true),
-        (b"tag White = \"x\"\ncount > 1", true),
-    ];
-    for (criteria, expected) in rows {
-        if are_watched(alloc, criteria, SHORT)? != expected {
-            Err("a game is kept that need not be, or is not kept that has to be")?;
-        }
+    for &(criteria, expected) in &WATCHED {
+        assert!(rt;
+            are_watched(alloc, criteria, SHORT)? == expected,
+            "{criteria:?}"
+        );
     }
     Ok(())
 }
+
+/// Criteria on turns, checks and material, a game, and its plies that meet them.
+const ON_POSITIONS: [(&[u8], &[u8], &[usize]); 18] = [
+    (b"", SHORT, &[0, 1, 2]),
+    (b"# x", SHORT, &[0, 1, 2]),
+    (b"turn white", SHORT, &[0, 2]),
+    (b"turn black", SHORT, &[1]),
+    (b"check", MATE, &[7]),
+    (b"mate", MATE, &[7]),
+    (b"stalemate", MATE, &[]),
+    (b"stalemate", STALEMATE, &[0]),
+    (b"mate", STALEMATE, &[]),
+    (b"check", STALEMATE, &[]),
+    (b"turn black\nturn white", SHORT, &[]),
+    (b"material KQR2B2N2P8 v KQR2B2N2P7+", SHORT, &[0, 1, 2]),
+    (b"material KP8 v KP*", SHORT, &[]),
+    (b"material KP v KP*", ENDING, &[0, 1]),
+    (b"material KP2- v KP0", ENDING, &[]),
+    (b"material KQ*P2- v KP1", ENDING, &[0, 1]),
+    (b"material K2+ v K", SHORT, &[]),
+    (b"material P v P", ENDING, &[]),
+];
 
 #[test]
 fn turns_checks_and_material_hold_at_their_plies(rt: HostRuntime) -> Result<(), Fail> {
     let alloc = rt.alloc();
-    let rows: [(&[u8], &[u8], &[usize]); 18] = [
-        (b"", SHORT, &[0, 1, 2]),
-        (b"# x", SHORT, &[0, 1, 2]),
-        (b"turn white", SHORT, &[0, 2]),
-        (b"turn black", SHORT, &[1]),
-        (b"check", MATE, &[7]),
-        (b"mate", MATE, &[7]),
-        (b"stalemate", MATE, &[]),
-        (b"stalemate", STALEMATE, &[0]),
-        (b"mate", STALEMATE, &[]),
-        (b"check", STALEMATE, &[]),
-        (b"turn black\nturn white", SHORT, &[]),
-        (b"material KQR2B2N2P8 v KQR2B2N2P7+", SHORT, &[0, 1, 2]),
-        (b"material KP8 v KP*", SHORT, &[]),
-        (b"material KP v KP*", ENDING, &[0, 1]),
-        (b"material KP2- v KP0", ENDING, &[]),
-        (b"material KQ*P2- v KP1", ENDING, &[0, 1]),
-        (b"material K2+ v K", SHORT, &[]),
-        (b"material P v P", ENDING, &[]),
-    ];
-    for (criteria, block, plies) in rows {
+    for &(criteria, block, plies) in &ON_POSITIONS {
         assert!(rt;
             are_met(alloc, criteria, block, plies)?,
             "{criteria:?} in {block:?}"
@@ -262,32 +267,34 @@ fn turns_checks_and_material_hold_at_their_plies(rt: HostRuntime) -> Result<(), 
     }
     Ok(())
 }
+
+/// Criteria of several alternatives, a game, and its plies that meet them.
+const ALTERNATIVES: [(&[u8], &[u8], &[usize]); 15] = [
+    (b"or", SHORT, &[0, 1, 2]),
+    (b"turn white\nor\nturn white", SHORT, &[0, 2]),
+    (b"turn black\nor\nturn white", SHORT, &[0, 1, 2]),
+    (b"or\nturn black", SHORT, &[0, 1, 2]),
+    (b"turn black\nor", SHORT, &[0, 1, 2]),
+    (b"mate\nor\nturn black\ncheck", MATE, &[7]),
+    (b"mate\nor\nturn white", MATE, &[0, 2, 4, 6, 7]),
+    (b"turn white\nor\nmate", MATE, &[0, 2, 4, 6, 7]),
+    (b"stalemate\nor\nmoves d4\nor\nturn black", SHORT, &[1]),
+    (b"turn black\nor\nmoves e4\nturn white", SHORT, &[0, 1, 2]),
+    (b"moves d4\nor\ntag White = \"x\"", SHORT, &[]),
+    (b"turn white\nmoves d4\nor\nturn black", SHORT, &[1]),
+    (b"moves e4 e5\nor\nturn black", SHORT, &[0, 1, 2]),
+    (b"tag Round = \"9\"\nturn black\nor\nmate", ENDING, &[1]),
+    (
+        b"fen rnbqkbnr/pppppppp/8/8/8/8/PPPPPPPP/RNBQKBNR\nor\nmate",
+        SHORT,
+        &[0],
+    ),
+];
 
 #[test]
 fn one_alternative_is_enough(rt: HostRuntime) -> Result<(), Fail> {
     let alloc = rt.alloc();
-    let rows: [(&[u8], &[u8], &[usize]); 15] = [
-        (b"or", SHORT, &[0, 1, 2]),
-        (b"turn white\nor\nturn white", SHORT, &[0, 2]),
-        (b"turn black\nor\nturn white", SHORT, &[0, 1, 2]),
-        (b"or\nturn black", SHORT, &[0, 1, 2]),
-        (b"turn black\nor", SHORT, &[0, 1, 2]),
-        (b"mate\nor\nturn black\ncheck", MATE, &[7]),
-        (b"mate\nor\nturn white", MATE, &[0, 2, 4, 6, 7]),
-        (b"turn white\nor\nmate", MATE, &[0, 2, 4, 6, 7]),
-        (b"stalemate\nor\nmoves d4\nor\nturn black", SHORT, &[1]),
-        (b"turn black\nor\nmoves e4\nturn white", SHORT, &[0, 1, 2]),
-        (b"moves d4\nor\ntag White = \"x\"", SHORT, &[]),
-        (b"turn white\nmoves d4\nor\nturn black", SHORT, &[1]),
-        (b"moves e4 e5\nor\nturn black", SHORT, &[0, 1, 2]),
-        (b"tag Round = \"9\"\nturn black\nor\nmate", ENDING, &[1]),
-        (
-            b"fen rnbqkbnr/pppppppp/8/8/8/8/PPPPPPPP/RNBQKBNR\nor\nmate",
-            SHORT,
-            &[0],
-        ),
-    ];
-    for (criteria, block, plies) in rows {
+    for &(criteria, block, plies) in &ALTERNATIVES {
         assert!(rt;
             are_met(alloc, criteria, block, plies)?,
             "{criteria:?} in {block:?}"
@@ -296,40 +303,42 @@ fn one_alternative_is_enough(rt: HostRuntime) -> Result<(), Fail> {
     Ok(())
 }
 
+/// Criteria on tags and first moves, a game, and its plies that meet them.
+const ON_GAMES: [(&[u8], &[u8], &[usize]); 24] = [
+    (b"tag Round < \"10\"", ENDING, &[0, 1]),
+    (b"tag Round < \"9\"", ENDING, &[]),
+    (b"tag White = \"O\\\"Neil\"", ENDING, &[0, 1]),
+    (b"tag Black <> \"X\"", ENDING, &[]),
+    (b"tag Black = \"\"", ENDING, &[]),
+    (b"tag White begins \"O\\\"\"", ENDING, &[0, 1]),
+    (b"tag White begins \"Neil\"", ENDING, &[]),
+    (b"tag White has \"Neil\"", ENDING, &[0, 1]),
+    (b"tag White has \"neil\"", ENDING, &[]),
+    (b"tag White has \"\\\\\"", ENDING, &[]),
+    (b"tag Round has \"\"", ENDING, &[0, 1]),
+    (b"tag Round begins \"09\"", ENDING, &[]),
+    (b"tag Black has \"\"", ENDING, &[]),
+    (b"tag Black begins \"\"", ENDING, &[]),
+    (b"moves e4", SHORT, &[0, 1, 2]),
+    (b"moves e4 e5", SHORT, &[0, 1, 2]),
+    (b"moves * e5", SHORT, &[0, 1, 2]),
+    (b"moves d4", SHORT, &[]),
+    (b"moves e4 e5 *", SHORT, &[]),
+    (b"moves e4 *", b"1. e4 *", &[]),
+    (
+        b"moves e4 e5 Qh5 Nc6 Bc4 Nf6 Qxf7\nturn black",
+        MATE,
+        &[1, 3, 5, 7],
+    ),
+    (b"moves Nge2", PINNED, &[]),
+    (b"moves Ne2", PINNED, &[0, 1]),
+    (b"moves zz", SHORT, &[]),
+];
+
 #[test]
 fn tags_and_moves_hold_of_a_whole_game(rt: HostRuntime) -> Result<(), Fail> {
     let alloc = rt.alloc();
-    let rows: [(&[u8], &[u8], &[usize]); 24] = [
-        (b"tag Round < \"10\"", ENDING, &[0, 1]),
-        (b"tag Round < \"9\"", ENDING, &[]),
-        (b"tag White = \"O\\\"Neil\"", ENDING, &[0, 1]),
-        (b"tag Black <> \"X\"", ENDING, &[]),
-        (b"tag Black = \"\"", ENDING, &[]),
-        (b"tag White begins \"O\\\"\"", ENDING, &[0, 1]),
-        (b"tag White begins \"Neil\"", ENDING, &[]),
-        (b"tag White has \"Neil\"", ENDING, &[0, 1]),
-        (b"tag White has \"neil\"", ENDING, &[]),
-        (b"tag White has \"\\\\\"", ENDING, &[]),
-        (b"tag Round has \"\"", ENDING, &[0, 1]),
-        (b"tag Round begins \"09\"", ENDING, &[]),
-        (b"tag Black has \"\"", ENDING, &[]),
-        (b"tag Black begins \"\"", ENDING, &[]),
-        (b"moves e4", SHORT, &[0, 1, 2]),
-        (b"moves e4 e5", SHORT, &[0, 1, 2]),
-        (b"moves * e5", SHORT, &[0, 1, 2]),
-        (b"moves d4", SHORT, &[]),
-        (b"moves e4 e5 *", SHORT, &[]),
-        (b"moves e4 *", b"1. e4 *", &[]),
-        (
-            b"moves e4 e5 Qh5 Nc6 Bc4 Nf6 Qxf7\nturn black",
-            MATE,
-            &[1, 3, 5, 7],
-        ),
-        (b"moves Nge2", PINNED, &[]),
-        (b"moves Ne2", PINNED, &[0, 1]),
-        (b"moves zz", SHORT, &[]),
-    ];
-    for (criteria, block, plies) in rows {
+    for &(criteria, block, plies) in &ON_GAMES {
         assert!(rt;
             are_met(alloc, criteria, block, plies)?,
             "{criteria:?} in {block:?}"
@@ -374,30 +383,32 @@ fn one_of_several_tags_is_enough(rt: HostRuntime) -> Result<(), Fail> {
     Ok(())
 }
 
+/// Patterns, a game, and its plies that meet them.
+const ON_PATTERNS: [(&[u8], &[u8], &[usize]); 14] = [
+    (
+        b"fen rnbqkbnr/pppppppp/8/8/8/8/PPPPPPPP/RNBQKBNR",
+        SHORT,
+        &[0],
+    ),
+    (b"fen */*/*/*/*/*/*/*", SHORT, &[0, 1, 2]),
+    (b"fen */*/*/*/4P*/*/*/*", SHORT, &[1, 2]),
+    (b"fen */*/*/*/*/*/*1PPP/*", SHORT, &[1, 2]),
+    (b"fen */*/*/*p*/*/*/*/*\nturn white", SHORT, &[2]),
+    (b"fen */*/*/*p3/4P*/*/PPPP*PPP/*R", SHORT, &[2]),
+    (b"fen r*r/p*p/*/*/*/*/*/R*KBNR", SHORT, &[0, 1, 2]),
+    (b"fen */*/*/*/*/*/P*P/*Q*K*", SHORT, &[0, 1, 2]),
+    (b"fen */*/*/*/*/*/*/4K3", SHORT, &[]),
+    (b"fen */*/*/*/????P???/*/*/*", SHORT, &[1, 2]),
+    (b"fen */*/*/*/4!3/*/*/*", SHORT, &[1, 2]),
+    (b"fen */*/*/*/4A*/*/*/*", SHORT, &[1, 2]),
+    (b"fen */*/*/*/4a*/*/*/*", SHORT, &[]),
+    (b"fen */aaaaaaaa/*/*/*/*/*/*", SHORT, &[0, 1]),
+];
+
 #[test]
 fn patterns_hold_at_their_plies(rt: HostRuntime) -> Result<(), Fail> {
     let alloc = rt.alloc();
-    let rows: [(&[u8], &[u8], &[usize]); 14] = [
-        (
-            b"fen rnbqkbnr/pppppppp/8/8/8/8/PPPPPPPP/RNBQKBNR",
-            SHORT,
-            &[0],
-        ),
-        (b"fen */*/*/*/*/*/*/*", SHORT, &[0, 1, 2]),
-        (b"fen */*/*/*/4P*/*/*/*", SHORT, &[1, 2]),
-        (b"fen */*/*/*/*/*/*1PPP/*", SHORT, &[1, 2]),
-        (b"fen */*/*/*p*/*/*/*/*\nturn white", SHORT, &[2]),
-        (b"fen */*/*/*p3/4P*/*/PPPP*PPP/*R", SHORT, &[2]),
-        (b"fen r*r/p*p/*/*/*/*/*/R*KBNR", SHORT, &[0, 1, 2]),
-        (b"fen */*/*/*/*/*/P*P/*Q*K*", SHORT, &[0, 1, 2]),
-        (b"fen */*/*/*/*/*/*/4K3", SHORT, &[]),
-        (b"fen */*/*/*/????P???/*/*/*", SHORT, &[1, 2]),
-        (b"fen */*/*/*/4!3/*/*/*", SHORT, &[1, 2]),
-        (b"fen */*/*/*/4A*/*/*/*", SHORT, &[1, 2]),
-        (b"fen */*/*/*/4a*/*/*/*", SHORT, &[]),
-        (b"fen */aaaaaaaa/*/*/*/*/*/*", SHORT, &[0, 1]),
-    ];
-    for (criteria, block, plies) in rows {
+    for &(criteria, block, plies) in &ON_PATTERNS {
         assert!(rt;
             are_met(alloc, criteria, block, plies)?,
             "{criteria:?} in {block:?}"
@@ -406,29 +417,31 @@ fn patterns_hold_at_their_plies(rt: HostRuntime) -> Result<(), Fail> {
     Ok(())
 }
 
+/// Patterns of single ranks, a game, and its plies that meet them.
+const ON_RANKS: [(&[u8], &[u8], &[usize]); 13] = [
+    (b"fen */*/*/*/*/*/PPPP1PPP/*", SHORT, &[1, 2]),
+    (b"fen */*/*/*/*/*/PPPP1PPP/*\nturn white", SHORT, &[2]),
+    (
+        b"fen */*/*/*/*/*/PPPP1PPP/*\nfen */*/*/4p3/*/*/*/*",
+        SHORT,
+        &[2],
+    ),
+    (b"fen */*/*/*/*/*/PPPPPPPPP*/*", SHORT, &[]),
+    (b"fen */*/*/*/*/*/PPPP*PPPPP/*", SHORT, &[]),
+    (b"fen */*/*/*/*/*/PPPP*PPPP/*", SHORT, &[0]),
+    (b"fen */*/*/*/8*/*/*/*", SHORT, &[0]),
+    (b"fen */*/*/*/4*3/*/*/*", SHORT, &[0, 1, 2]),
+    (b"fen */*/*/*/5*3/*/*/*", SHORT, &[0]),
+    (b"fen ?*/*?/*/*/*/*/*/*", SHORT, &[0, 1, 2]),
+    (b"fen 7/*/*/*/*/*/*/*", SHORT, &[]),
+    (b"fen */*/*/*/*P*/*/*/*", SHORT, &[1, 2]),
+    (b"tag White = \"x\"\nfen */*/*/*/*/*/*/*", SHORT, &[]),
+];
+
 #[test]
 fn ranks_hold_at_their_plies(rt: HostRuntime) -> Result<(), Fail> {
     let alloc = rt.alloc();
-    let rows: [(&[u8], &[u8], &[usize]); 13] = [
-        (b"fen */*/*/*/*/*/PPPP1PPP/*", SHORT, &[1, 2]),
-        (b"fen */*/*/*/*/*/PPPP1PPP/*\nturn white", SHORT, &[2]),
-        (
-            b"fen */*/*/*/*/*/PPPP1PPP/*\nfen */*/*/4p3/*/*/*/*",
-            SHORT,
-            &[2],
-        ),
-        (b"fen */*/*/*/*/*/PPPPPPPPP*/*", SHORT, &[]),
-        (b"fen */*/*/*/*/*/PPPP*PPPPP/*", SHORT, &[]),
-        (b"fen */*/*/*/*/*/PPPP*PPPP/*", SHORT, &[0]),
-        (b"fen */*/*/*/8*/*/*/*", SHORT, &[0]),
-        (b"fen */*/*/*/4*3/*/*/*", SHORT, &[0, 1, 2]),
-        (b"fen */*/*/*/5*3/*/*/*", SHORT, &[0]),
-        (b"fen ?*/*?/*/*/*/*/*/*", SHORT, &[0, 1, 2]),
-        (b"fen 7/*/*/*/*/*/*/*", SHORT, &[]),
-        (b"fen */*/*/*/*P*/*/*/*", SHORT, &[1, 2]),
-        (b"tag White = \"x\"\nfen */*/*/*/*/*/*/*", SHORT, &[]),
-    ];
-    for (criteria, block, plies) in rows {
+    for &(criteria, block, plies) in &ON_RANKS {
         assert!(rt;
             are_met(alloc, criteria, block, plies)?,
             "{criteria:?} in {block:?}"
@@ -613,31 +626,33 @@ fn spans_hold_of_the_plies_about_them(rt: HostRuntime) -> Result<(), Fail> {
     Ok(())
 }
 
+/// Criteria, the least and the largest ply, and the first within them that meets the criteria.
+const FIRSTS: [(&[u8], u32, u32, Option<usize>); 19] = [
+    (b"", 0, 9, Some(0)),
+    (b"", 1, 9, Some(1)),
+    (b"", 2, 1, None),
+    (b"", 2, 2, Some(2)),
+    (b"", 3, 9, None),
+    (b"", u32::MAX, u32::MAX, None),
+    (b"turn white", 1, u32::MAX, Some(2)),
+    (b"turn white", 1, 1, None),
+    (b"turn black\nor\nturn white", 0, 9, Some(0)),
+    (b"mate\nor\nturn black", 0, 9, Some(1)),
+    (b"mate\nor\nturn black", 2, 9, None),
+    (b"turn black\nor\nturn white", 1, 1, Some(1)),
+    (b"moves d4\nor\nturn white", 1, 2, Some(2)),
+    (b"for 2", 0, 0, Some(0)),
+    (b"for 2", 1, 1, Some(1)),
+    (b"for 2", 2, 9, None),
+    (b"turn white\ncount = 2", 1, 9, Some(2)),
+    (b"turn white\ncount = 1", 1, 9, None),
+    (b"for 3\nor\nturn black", 1, 9, Some(1)),
+];
+
 #[test]
 fn the_first_stands_within_its_bounds(rt: HostRuntime) -> Result<(), Fail> {
     let alloc = rt.alloc();
-    let rows: [(&[u8], u32, u32, Option<usize>); 19] = [
-        (b"", 0, 9, Some(0)),
-        (b"", 1, 9, Some(1)),
-        (b"", 2, 1, None),
-        (b"", 2, 2, Some(2)),
-        (b"", 3, 9, None),
-        (b"", u32::MAX, u32::MAX, None),
-        (b"turn white", 1, u32::MAX, Some(2)),
-        (b"turn white", 1, 1, None),
-        (b"turn black\nor\nturn white", 0, 9, Some(0)),
-        (b"mate\nor\nturn black", 0, 9, Some(1)),
-        (b"mate\nor\nturn black", 2, 9, None),
-        (b"turn black\nor\nturn white", 1, 1, Some(1)),
-        (b"moves d4\nor\nturn white", 1, 2, Some(2)),
-        (b"for 2", 0, 0, Some(0)),
-        (b"for 2", 1, 1, Some(1)),
-        (b"for 2", 2, 9, None),
-        (b"turn white\ncount = 2", 1, 9, Some(2)),
-        (b"turn white\ncount = 1", 1, 9, None),
-        (b"for 3\nor\nturn black", 1, 9, Some(1)),
-    ];
-    for (criteria, min, max, expected) in rows {
+    for &(criteria, min, max, expected) in &FIRSTS {
         assert_eq!(rt;
             first_within(alloc, criteria, SHORT, min, max)?,
             expected,
