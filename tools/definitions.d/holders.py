@@ -44,7 +44,9 @@ class Held:
                 names[:0] = [it for it in re.findall(r"`(\w+)`", part) if it not in names]
             elif part not in notes:
                 notes.append(part)
+        said = set(re.findall(r"`(\w+)`", " ".join(notes)))
         kinds = [("law", laws), ("worked row", rows), ("edit", self.edits), ("proved callers of", self.callers)]
+        kinds = [(kind, [it for it in names if it not in said]) for kind, names in kinds]
         parts = notes + [listed(kind, names, most) for kind, names in kinds if names]
         return "; ".join(parts) or "in " + ", ".join(f"`{it}`" for it in self.users[:most]) if parts or self.users else "nothing"
 
