@@ -128,6 +128,7 @@ pub struct BlockContext<'a> {
     pub number: u64,
     /// The offset of the first of the bytes.
     pub offset: u64,
+    /// The bytes.
     pub bytes: &'a [u8],
 }
 
