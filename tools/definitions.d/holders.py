@@ -60,10 +60,12 @@ def listed(kind, names, most):
 
 
 def print_all(tree, name):
-    """Prints all that holds the definitions of a name; fails where there is none."""
+    """Prints all that holds the definitions of a name; says so and fails where there is none."""
     found = {key: it for key, it in holders_of(tree).items() if key[1] == name}
     for key, it in found.items():
-        print(f"{key[0]} {name}: {it.text(sys.maxsize)}")
+        print(f"{tree.definitions[key].where}: {it.text(sys.maxsize)}")
+    if not found:
+        sys.stderr.write(f"tools/definitions: no definition that is to be believed is called {name}\n")
     return 0 if found else 1
 
 
