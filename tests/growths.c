@@ -13,7 +13,7 @@ static long seen, refused_at = -1, refused;
 static int onward;
 
 /* The function of the C library with this name. */
-static void *behind(const char *name) {
+static void *next_of(const char *name) {
     return dlsym(RTLD_NEXT, name);
 }
 
@@ -34,25 +34,25 @@ static int is_refused(void) {
 
 void *malloc(size_t size) {
     static void *(*call)(size_t);
-    if (!call) call = (void *(*)(size_t))behind("malloc");
+    if (!call) call = (void *(*)(size_t))next_of("malloc");
     return is_refused() ? NULL : call(size);
 }
 
 void *realloc(void *old, size_t size) {
     static void *(*call)(void *, size_t);
-    if (!call) call = (void *(*)(void *, size_t))behind("realloc");
+    if (!call) call = (void *(*)(void *, size_t))next_of("realloc");
     return is_refused() ? NULL : call(old, size);
 }
 
 void *aligned_alloc(size_t alignment, size_t size) {
     static void *(*call)(size_t, size_t);
-    if (!call) call = (void *(*)(size_t, size_t))behind("aligned_alloc");
+    if (!call) call = (void *(*)(size_t, size_t))next_of("aligned_alloc");
     return is_refused() ? NULL : call(alignment, size);
 }
 
 int posix_memalign(void **out, size_t alignment, size_t size) {
     static int (*call)(void **, size_t, size_t);
-    if (!call) call = (int (*)(void **, size_t, size_t))behind("posix_memalign");
+    if (!call) call = (int (*)(void **, size_t, size_t))next_of("posix_memalign");
     return is_refused() ? ENOMEM : call(out, alignment, size);
 }
 

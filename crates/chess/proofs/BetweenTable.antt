@@ -8,11 +8,11 @@ use Rattle.chess.specs.Squares.{Place, IsOnBoard, IsAhead, square_at, index_of}
 use Rattle.chess.specs.SetFacts.{square_at-index_of, index_of-below}
 use Rattle.chess.specs.SetWords.{has_bit}
 use Rattle.chess.specs.BitWords.{IsWordOf}
-use Rattle.chess.specs.Sights.{StandsBetween}
-use Rattle.chess.specs.declared.board.sights.lines_table.TheConstants.{LINES}
+use Rattle.chess.specs.PseudoAttacks.{StandsBetween}
+use Rattle.chess.specs.declared.board.attack_tables.lines_table.TheConstants.{LINES}
 use Rattle.chess.specs.declared.board.direction.Direction.{Direction}
 use Rattle.chess.specs.declared.board.direction.Direction.TheVariants.{North, South, East, West, NorthEast, NorthWest, SouthEast, SouthWest}
-use Rattle.chess.proofs.SightFacts.{any_line, straight, diagonal}
+use Rattle.chess.proofs.PseudoAttackFacts.{any_line, straight, diagonal}
 
 -- the squares of one of the four lines through a square
 abbrev line_of : ℕ → ℕ → ℕ

@@ -275,7 +275,7 @@ put_some old mid new at man cleared set k i less on =
 pub record IsClearedTo (old new : List ℕ) (n squares : ℕ) : Type 0 where
   pub size : length new ≡ 12
   pub before : (k i : ℕ) → k < n → i < 64 → has_bit (word_at new k) i ≡ (has_bit (word_at old k) i && not (has_bit squares i))
-  pub behind : (k : ℕ) → n ≤ k → word_at new k ≡ word_at old k
+  pub after : (k : ℕ) → n ≤ k → word_at new k ≡ word_at old k
 
 pub cleared_bit : (word squares i : ℕ) → squares < 2 ^ 64 → i < 64
     → has_bit (bit_and word (bit_not w64 squares)) i ≡ (has_bit word i && not (has_bit squares i))
@@ -291,11 +291,11 @@ cleared_more old new n squares fits on so_far =
         | inl same ↦
             ap (λ j. has_bit (word_at (slice_set new n word) j) i) same ∙ ap (λ w. has_bit w i) (get_or-set_same new n word 0 (omega arith))
             ∙ cleared_bit (word_at new n) squares i fits in_word
-            ∙ ap (λ w. has_bit w i && not (has_bit squares i)) (so_far.behind n (omega arith))
+            ∙ ap (λ w. has_bit w i && not (has_bit squares i)) (so_far.after n (omega arith))
             ∙ ap (λ j. has_bit (word_at old j) i && not (has_bit squares i)) (sym same)
         | inr other ↦ ap (λ w. has_bit w i) (get_or-set_other new n k word 0 other) ∙ so_far.before k i (omega arith) in_word
       ];
-      behind = λ k more. get_or-set_other new n k word 0 (λ e. omega arith) ∙ so_far.behind k (omega arith);
+      after = λ k more. get_or-set_other new n k word 0 (λ e. omega arith) ∙ so_far.after k (omega arith);
     }
 
 pub set_one : (old : List ℕ) (row at : ℕ) → length old ≡ 12 → row < 12 → IsBitSet old (slice_set old row (bit_or (word_at old row) (2 ^ at))) row at

@@ -4,8 +4,8 @@ use Rattle.std.specs.FinMap.{get-empty}
 use Rattle.chess.specs.CellFacts.{man_at-same, man_at-other}
 use Rattle.chess.specs.SetFacts.{is_in-empty}
 use Rattle.chess.specs.Squares.{Place, IsOnBoard, IsStraight, IsAhead, gap, square_at, index_of, same_square, place_cmp}
-use Rattle.chess.specs.Placements.{Placement, no_men, man_at, with_man, opposite, IsHeld, IsEmpty}
-use Rattle.chess.specs.Attacks.{Reaches, IsOnRay, IsForward, IsNear, IsJump, IsPawnHit, IsInReach, IsAttacked}
+use Rattle.chess.specs.Placements.{Placement, no_men, man_at, with_man, opposite, IsOccupiedBy, IsEmpty}
+use Rattle.chess.specs.Attacks.{Reaches, IsOnRay, IsForward, IsNear, IsJump, IsPawnHit, IsAttackedFrom, IsAttacked}
 use Rattle.chess.specs.Positions.{State, king_of, pawn_of, home_rank, pawn_rank, passed_rank, has_right, king_from, king_to, rook_from, rook_to, FitsEnPassant, IsSound}
 use Rattle.chess.specs.Moves.{IsPromotion, Promotes, IsBetween, one_more, fullmove_number_after, keeps_right}
 use Rattle.chess.specs.Sets.{Places, no_places, is_in, HoldsExactly}
@@ -108,7 +108,7 @@ gone_from_e4 : man_at (with_man king_e4 (at 5 4) None) (at 5 4) ≡ None
 unfolding king_e4
 gone_from_e4 = man_at-same king_e4 (at 5 4) None
 
-held_e4 : IsHeld king_e4 White (at 5 4)
+held_e4 : IsOccupiedBy king_e4 White (at 5 4)
 held_e4 = (king_of White, on_e4.0, refl)
 
 -- ---- attacks
@@ -130,15 +130,15 @@ king_not_two_ranks h = let e : 2 ≤ 1 = h.1 in omega arith
 knight_jumps : IsJump (at 7 1) (at 6 3) × IsJump (at 7 1) (at 5 2)
 knight_jumps = (inl (refl, refl), inr (refl, refl))
 
--- pawns go up the board for White and down for Black, and attack no square ahead, beside or behind
+-- pawns go up the board for White and down for Black, and attack no square ahead, beside or back
 forward : IsForward White 2 3 × IsForward Black 7 6
 forward = (refl, refl)
 
 pawn_not_ahead : IsPawnHit White (at 4 4) (at 4 5) → ⊥
 pawn_not_ahead h = let e : 0 ≡ 1 = h.0 in omega arith
 
-pawn_not_behind : IsPawnHit White (at 4 4) (at 5 3) → ⊥
-pawn_not_behind h = let e : 3 ≡ 5 = h.1 in omega arith
+pawn_not_at_rear : IsPawnHit White (at 4 4) (at 5 3) → ⊥
+pawn_not_at_rear h = let e : 3 ≡ 5 = h.1 in omega arith
 
 pawn_not_beside : IsPawnHit Black (at 4 4) (at 5 4) → ⊥
 pawn_not_beside h = let e : 4 ≡ 5 = h.1 in omega arith
@@ -158,7 +158,7 @@ no_steps : (p : Placement) → IsOnRay p North (at 1 1) (at 1 1) → ⊥
 no_steps p ray = let far = ray.far in let e : 1 ≡ 1 + ray.steps = ray.ahead.1 in omega arith
 
 -- the king on e4 attacks e5, and White attacks it
-e4_e5 : IsInReach king_e4 (at 5 4) (at 5 5)
+e4_e5 : IsAttackedFrom king_e4 (at 5 4) (at 5 5)
 e4_e5 = record { man = king_of White; here = on_e4.0; reaches = (omega arith, omega arith, omega arith) }
 
 white_attacks_e5 : IsAttacked king_e4 White (at 5 5)
@@ -247,7 +247,7 @@ not_between = (
   (λ h. let e : 5 ≤ 4 = h.1 in omega arith),
 )
 
--- counts: one more, and none beyond the largest number; the number goes up behind Black's move
+-- counts: one more, and none beyond the largest number; the number goes up after Black's move
 counts : (one_more 5 ≡ 6) × (one_more 9999999 ≡ 10000000) × (one_more 4294967294 ≡ 4294967295) × (one_more 4294967295 ≡ 4294967295)
 counts = (refl, refl, refl, refl)
 

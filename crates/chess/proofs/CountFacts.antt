@@ -26,20 +26,20 @@ pub count_small : (n : ℕ) (rest text : List ℕ) → IsCounted n rest text →
 count_small n rest text c some =
     let bound = c.bound in let small = ten_small (7 - length rest) (omega arith) in omega arith
 
-digit_next : (b : ℕ) (behind : List ℕ) → is_digit b ≡ true → list_all is_digit behind ≡ list_all is_digit (b ∷ behind)
-digit_next b behind e = sym (ap (λ t. t && list_all is_digit behind) e)
+digit_next : (b : ℕ) (after : List ℕ) → is_digit b ≡ true → list_all is_digit after ≡ list_all is_digit (b ∷ after)
+digit_next b after e = sym (ap (λ t. t && list_all is_digit after) e)
 
-pub count_more : (n : ℕ) (rest text : List ℕ) (b : ℕ) (behind : List ℕ) → IsCounted n rest text → rest ≡ b ∷ behind → is_digit b ≡ true → b ≤ 57
-    → IsCounted (10 * n + (b - 48)) behind text
-count_more n rest text b behind c e digit high =
-    let before : IsCounted n (b ∷ behind) text = subst (λ x. IsCounted n x text) e c in
+pub count_more : (n : ℕ) (rest text : List ℕ) (b : ℕ) (after : List ℕ) → IsCounted n rest text → rest ≡ b ∷ after → is_digit b ≡ true → b ≤ 57
+    → IsCounted (10 * n + (b - 48)) after text
+count_more n rest text b after c e digit high =
+    let before : IsCounted n (b ∷ after) text = subst (λ x. IsCounted n x text) e c in
     let short = before.short in
     let bound = before.bound in
-    let left : 7 - length behind ≡ suc (7 - length (b ∷ behind)) = omega arith in
-    let room : ten_to (7 - length behind) ≡ 10 * ten_to (7 - length (b ∷ behind)) = ap ten_to left in
+    let left : 7 - length after ≡ suc (7 - length (b ∷ after)) = omega arith in
+    let room : ten_to (7 - length after) ≡ 10 * ten_to (7 - length (b ∷ after)) = ap ten_to left in
     record {
       short = omega arith;
       bound = omega arith;
       value = before.value;
-      digits = digit_next b behind digit ∙ before.digits;
+      digits = digit_next b after digit ∙ before.digits;
     }

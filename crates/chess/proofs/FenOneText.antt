@@ -12,7 +12,7 @@ use Rattle.chess.specs.FenTextWords.{spelled_from, rank_texts}
 use Rattle.chess.proofs.FenTextFacts.{spell_ranks, shortest_ranks}
 use Rattle.chess.specs.declared.board.man.Man.{Man}
 
--- a run of empty squares behind others is a longer run
+-- a run of empty squares after others is a longer run
 longer_run : (k n : ℕ) (more : List (Option Man)) → spelled_from k (replicate n None ++ more) ≡ spelled_from (k + n) more
 longer_run k zero more = let same : k ≡ k + 0 = omega arith in ap (λ m. spelled_from m more) same
 longer_run k (suc n) more =
@@ -29,7 +29,7 @@ both_second false b e = let clash : false ≡ true = e in absurd (cc)
 not_both : (a b : Bool) → not (a && b) ≡ true → a ≡ true → b ≡ true → ⊥
 not_both a b e f g = let both : not (true && true) ≡ true = sym (ap (λ t. not (t && b)) f ∙ ap (λ t. not (true && t)) g) ∙ e in let clash : false ≡ true = both in cc
 
--- the squares behind a digit begin with a man, or there are none
+-- the squares after a digit begin with a man, or there are none
 abbrev BeginsWithMan : List (Option Man) → Type 0
 BeginsWithMan [] = Unit {0}
 BeginsWithMan (None ∷ more) = ⊥
@@ -38,16 +38,16 @@ BeginsWithMan (Some man ∷ more) = Unit {0}
 digit_byte : (n : ℕ) → 1 ≤ n → n ≤ 8 → is_step (48 + n) ≡ true
 digit_byte n low high = grind (arith, nat_tests)
 
-behind_digit : (n c : ℕ) (own : List (Option Man)) (x : List ℕ) (more rest : List (Option Man)) → 1 ≤ n → n ≤ 8 → is_shortest ((48 + n) ∷ c ∷ x) ≡ true
+after_digit : (n c : ℕ) (own : List (Option Man)) (x : List ℕ) (more rest : List (Option Man)) → 1 ≤ n → n ≤ 8 → is_shortest ((48 + n) ∷ c ∷ x) ≡ true
     → IsSquares c own → more ≡ own ++ rest → BeginsWithMan more
-behind_digit n _ _ x more rest low high short (letter man) e = subst BeginsWithMan (sym e) tt
-behind_digit n _ _ x more rest low high short (step k some few) e =
+after_digit n _ _ x more rest low high short (letter man) e = subst BeginsWithMan (sym e) tt
+after_digit n _ _ x more rest low high short (step k some few) e =
     absurd (not_both (is_step (48 + n)) (is_step (48 + k)) (both_first (not (is_step (48 + n) && is_step (48 + k))) (is_shortest ((48 + k) ∷ x)) short)
     (digit_byte n low high) (digit_byte k some few))
 
-squares_behind : (n : ℕ) (x : List ℕ) (more : List (Option Man)) → 1 ≤ n → n ≤ 8 → is_shortest ((48 + n) ∷ x) ≡ true → SpellsRank x more → BeginsWithMan more
-squares_behind n [] more low high short none = subst BeginsWithMan (sym none) tt
-squares_behind n (c ∷ x) more low high short (own, rest, joined_by, byte, spelled) = behind_digit n c own x more rest low high short byte joined_by
+squares_after : (n : ℕ) (x : List ℕ) (more : List (Option Man)) → 1 ≤ n → n ≤ 8 → is_shortest ((48 + n) ∷ x) ≡ true → SpellsRank x more → BeginsWithMan more
+squares_after n [] more low high short none = subst BeginsWithMan (sym none) tt
+squares_after n (c ∷ x) more low high short (own, rest, joined_by, byte, spelled) = after_digit n c own x more rest low high short byte joined_by
 
 -- the digit of a run stands before the text of what follows it
 run_text : (n : ℕ) (more : List (Option Man)) → 1 ≤ n → BeginsWithMan more → spelled_from n more ≡ (48 + n) ∷ spelled_from 0 more
@@ -68,7 +68,7 @@ shortest_by _ x squares _ more short joined_by (letter man) rest text =
     ap (λ y. man_letter man ∷ y) text ∙ sym (ap (spelled_from 0) joined_by)
 shortest_by _ x squares _ more short joined_by (step n low high) rest text =
     let none_before : 0 + n ≡ n = omega arith in
-    ap (λ y. (48 + n) ∷ y) text ∙ sym (run_text n more low (squares_behind n x more low high short rest))
+    ap (λ y. (48 + n) ∷ y) text ∙ sym (run_text n more low (squares_after n x more low high short rest))
     ∙ sym (ap (spelled_from 0) joined_by ∙ longer_run 0 n more ∙ ap (λ m. spelled_from m more) none_before)
 
 shortest_is : (x : List ℕ) (squares : List (Option Man)) → SpellsRank x squares → is_shortest x ≡ true → x ≡ spelled_from 0 squares

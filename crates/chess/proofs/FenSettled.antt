@@ -23,7 +23,7 @@ use Rattle.chess.proofs.Searches.{search_square, search_side}
 use Rattle.chess.proofs.LegalSettled.{settled_man_at, settled_forward, forward_low, settled_check}
 use Rattle.chess.proofs.RanksSettled.{settled_men}
 
--- ---- the fields behind the men
+-- ---- the fields after the men
 
 given : List ℕ → CastlingRights
 given x = record {

@@ -186,10 +186,10 @@ one_more_rank p k high =
 pub no_more_ranks : (p : Placement) (k : ℕ) → 8 ≤ k → each_after 47 (rank_texts p (8 - k)) ≡ []
 no_more_ranks p k high = let none : 8 - k ≡ 0 = omega arith in ap (λ n. each_after 47 (rank_texts p n)) none
 
--- a rank is written behind a slash
-pub rank_is_written : (before behind after rank rest all_rest whole : List ℕ) → behind ≡ before ++ 47 ∷ [] → after ≡ behind ++ rank
+-- a rank is written after a slash
+pub rank_is_written : (before slashed after rank rest all_rest whole : List ℕ) → slashed ≡ before ++ 47 ∷ [] → after ≡ slashed ++ rank
     → all_rest ≡ 47 ∷ rank ++ rest → before ++ all_rest ≡ whole → after ++ rest ≡ whole
-rank_is_written before behind after rank rest all_rest whole slash written split text =
+rank_is_written before slashed after rank rest all_rest whole slash written split text =
     ap (λ x. x ++ rest) (written ∙ ap (λ x. x ++ rank) slash)
     ∙ append_assoc (before ++ 47 ∷ []) rank rest ∙ append_assoc before (47 ∷ []) (rank ++ rest)
     ∙ ap (λ x. before ++ x) (sym split) ∙ text
@@ -211,7 +211,7 @@ all_is_written before rest whole none text = sym (append-nil before) ∙ ap (λ 
 pub written_of : {A : Type 0} (text : A → List ℕ) (before after : List ℕ) (a b : A) → after ≡ before ++ text a → a ≡ b → after ≡ before ++ text b
 written_of text before after a b written same = written ∙ ap (λ x. before ++ text x) same
 
--- six fields, each but the first behind a space
+-- six fields, each but the first after a space
 pub six_fields : (men side rights en_passant clock number x0 x1 x2 x3 x4 x5 x6 x7 x8 x9 x10 x11 : List ℕ)
     → x0 ≡ [] → x1 ≡ x0 ++ men → x2 ≡ x1 ++ 32 ∷ [] → x3 ≡ x2 ++ side → x4 ≡ x3 ++ 32 ∷ [] → x5 ≡ x4 ++ rights → x6 ≡ x5 ++ 32 ∷ []
     → x7 ≡ x6 ++ en_passant → x8 ≡ x7 ++ 32 ∷ [] → x9 ≡ x8 ++ clock → x10 ≡ x9 ++ 32 ∷ [] → x11 ≡ x10 ++ number

@@ -1,4 +1,4 @@
--- The men that are left where a man is carried from a square to another, by the words of those squares.
+-- The men that are left where a man is moved from a square to another, by the words of those squares.
 use Rattle.std.proofs.Common.{◌≡◌, ◌↔◌, ◌⊎◌, ◌∙◌, ◌<◌, ◌^◌, w64, ℕ, Bool, true, false, not, inl, inr, ap, refl, sym, subst, bit_and, bit_or, Some, None, IsTrue}
 use Rattle.std.specs.Int.{bit_not}
 use Rattle.std.proofs.lemmas.Bool.{and_parts, and_from}
@@ -7,7 +7,7 @@ use Rattle.chess.specs.SetWords.{has_bit}
 use Rattle.chess.specs.SetFacts.{index_of-below}
 use Rattle.chess.specs.Sets.{Places, is_in, HoldsExactly}
 use Rattle.chess.specs.Placements.{Placement, man_at, with_man, opposite, AreOnBoard, IsEmpty}
-use Rattle.chess.specs.Sights.{IsInSight}
+use Rattle.chess.specs.PseudoAttacks.{IsPseudoAttack}
 use Rattle.chess.specs.CellFacts.{man_at-same, man_at-other}
 use Rattle.chess.specs.BitWords.{IsWordOf, IsMan, IsRunner, AreLeft, IsHitBy, square_word}
 use Rattle.chess.specs.declared.board.man.Man.{Man}
@@ -18,7 +18,7 @@ use Rattle.chess.specs.declared.board.man.Kind.TheVariants.{King, Queen, Knight,
 use Rattle.chess.proofs.PlaceFacts.{cases_place, same_side, some_not_none}
 use Rattle.chess.proofs.FillFacts.{bit_of_square, has_own_bit, bit_of_both, either_word}
 use Rattle.chess.proofs.BitFacts.{bit_of_rest}
-use Rattle.chess.proofs.HitterFacts.{runners_seen}
+use Rattle.chess.proofs.AttackerFacts.{runners_seen}
 
 -- ---- words of squares
 
@@ -70,7 +70,7 @@ runners_left old new side left h other mine are s on =
 
 -- a man of a kind sees the square
 abbrev pub IsSeer : Placement → Side → Kind → Place → Place → Type 0
-IsSeer p side other t s = IsMan p side other s × IsInSight side other s t
+IsSeer p side other t s = IsMan p side other s × IsPseudoAttack side other s t
 
 -- a square of the words of knights, kings and pawns that see the square is an attack
 pub hit_nearby : (p : Placement) (side : Side) (t : Place) (word : ℕ) (set : Places) (r : Bool)
@@ -104,10 +104,10 @@ all_left p side left on all = record {
   same = λ other s there. ((λ here. (all s there, here)), (λ h. h.1));
 }
 
--- ---- where a man is carried
+-- ---- where a man is moved
 
-abbrev pub carried_so : Placement → Man → Place → Place → Place → Placement
-carried_so p man from taken to = with_man (with_man (with_man p taken None) from None) to (Some man)
+abbrev pub moved_so : Placement → Man → Place → Place → Place → Placement
+moved_so p man from taken to = with_man (with_man (with_man p taken None) from None) to (Some man)
 
 abbrev pub IsGone : Place → Place → Place → Place → Type 0
 IsGone from taken to s = ((s ≡ taken) ⊎ (s ≡ from)) ⊎ (s ≡ to)
@@ -115,16 +115,16 @@ IsGone from taken to s = ((s ≡ taken) ⊎ (s ≡ from)) ⊎ (s ≡ to)
 -- who stands on a square then
 abbrev StandsThen : Placement → Man → Place → Place → Place → Place → Type 0
 StandsThen p man from taken to s =
-    ((s ≡ to) × (man_at (carried_so p man from taken to) s ≡ Some man))
-    ⊎ (((s ≡ to → ⊥) × IsGone from taken to s × IsEmpty (carried_so p man from taken to) s)
-    ⊎ ((IsGone from taken to s → ⊥) × (man_at (carried_so p man from taken to) s ≡ man_at p s)))
+    ((s ≡ to) × (man_at (moved_so p man from taken to) s ≡ Some man))
+    ⊎ (((s ≡ to → ⊥) × IsGone from taken to s × IsEmpty (moved_so p man from taken to) s)
+    ⊎ ((IsGone from taken to s → ⊥) × (man_at (moved_so p man from taken to) s ≡ man_at p s)))
 
 stands_then : (p : Placement) (man : Man) (from taken to s : Place) → StandsThen p man from taken to s
 stands_then p man from taken to s =
     let first = with_man p taken None in
     let mid = with_man first from None in elim (cases_place s to) [
       | inl at_to ↦
-          inl (at_to, ap (man_at (carried_so p man from taken to)) at_to ∙ man_at-same mid to (Some man))
+          inl (at_to, ap (man_at (moved_so p man from taken to)) at_to ∙ man_at-same mid to (Some man))
       | inr off_to ↦
           let now = man_at-other mid to s (Some man) off_to in
           elim (cases_place s from) [
@@ -148,7 +148,7 @@ not_own : (side : Side) → side ≡ opposite side → ⊥
 not_own White e = let f : White ≡ Black = e in cc
 not_own Black e = let f : Black ≡ White = e in cc
 
-on_board_then : (p : Placement) (man : Man) (from taken to : Place) → AreOnBoard p → IsOnBoard to → AreOnBoard (carried_so p man from taken to)
+on_board_then : (p : Placement) (man : Man) (from taken to : Place) → AreOnBoard p → IsOnBoard to → AreOnBoard (moved_so p man from taken to)
 on_board_then p man from taken to on on_to s other here = elim (stands_then p man from taken to s) [
   | inl at_to ↦ subst IsOnBoard (sym at_to.0) on_to
   | inr more ↦ elim more [
@@ -158,7 +158,7 @@ on_board_then p man from taken to on on_to s other here = elim (stands_then p ma
 ]
 
 pub left_then : (p : Placement) (man : Man) (from taken to : Place) (left : ℕ) → AreOnBoard p → IsOnBoard to
-    → IsWordOf (λ s. IsGone from taken to s → ⊥) left → AreLeft p (carried_so p man from taken to) (opposite man.side) left
+    → IsWordOf (λ s. IsGone from taken to s → ⊥) left → AreLeft p (moved_so p man from taken to) (opposite man.side) left
 left_then p man from taken to left on on_to are = record {
   on_board = on_board_then p man from taken to on on_to;
   same = λ other s there. (
@@ -180,7 +180,7 @@ left_then p man from taken to left on on_to are = record {
 }
 
 pub men_then : (p : Placement) (man : Man) (from taken to : Place) (left all : ℕ) → IsOnBoard to → IsWordOf (λ s. IsGone from taken to s → ⊥) left
-    → IsWordOf (λ s. ¬ IsEmpty p s) all → IsWordOf (λ s. ¬ IsEmpty (carried_so p man from taken to) s) (bit_or (bit_and all left) (square_word to))
+    → IsWordOf (λ s. ¬ IsEmpty p s) all → IsWordOf (λ s. ¬ IsEmpty (moved_so p man from taken to) s) (bit_or (bit_and all left) (square_word to))
 men_then p man from taken to left all on_to are men s there =
     let word = either_word _ (λ t. t ≡ to) (bit_and all left) (square_word to) (runners_seen _ _ all left men are) (own_word to on_to) s there in (
       (λ e none. elim (stands_then p man from taken to s) [

@@ -2,7 +2,7 @@
 use Rattle.std.proofs.Common.{◌≡◌, ℕ, suc, ◌+◌, ◌<◌, ◌≤◌, Option, Some, None, refl, sym, subst, inl, inr, arith}
 use Rattle.std.proofs.lemmas.Bool.{cases_eq}
 use Rattle.chess.specs.Squares.{Place, IsStraight, IsAhead}
-use Rattle.chess.specs.Placements.{Placement, man_at, AreOnBoard, opposite, IsHeld, IsEmpty}
+use Rattle.chess.specs.Placements.{Placement, man_at, AreOnBoard, opposite, IsOccupiedBy, IsEmpty}
 use Rattle.chess.specs.Attacks.{IsClearFor, IsOnRay, IsForward, Reaches, IsAttacked}
 use Rattle.chess.specs.Positions.{State, king_of, home_rank, pawn_rank, has_right, king_from, king_to, rook_to, IsCheck}
 use Rattle.chess.specs.Moves.{IsDoubleStep, IsPawnMove, IsPromotionKind, IsPromotion, Promotes, IsBetween, Castles, IsKingMove, Goes, IsPseudoLegal, men_after, IsUnbarred, IsLegal}
@@ -28,8 +28,8 @@ settled_man_at p s o = cases_option cases_man (man_at p s) o
 settled_empty : (p : Placement) (s : Place) → Settled (IsEmpty p s)
 settled_empty p s = settled_man_at p s None
 
-settled_held_by : (p : Placement) (side : Side) (s : Place) → Settled (IsHeld p side s)
-settled_held_by p side s = settled_held (man_at p s) (λ man. man.side ≡ side) (λ man. cases_side man.side side)
+settled_occupied_by : (p : Placement) (side : Side) (s : Place) → Settled (IsOccupiedBy p side s)
+settled_occupied_by p side s = settled_held (man_at p s) (λ man. man.side ≡ side) (λ man. cases_side man.side side)
 
 -- ---- attacks
 
@@ -189,7 +189,7 @@ settled_pawn_move P s t =
     settled_either (settled_three (cases_eq t.file s.file) (settled_forward P.turn s.rank t.rank) (settled_empty P.men t))
     (settled_either (settled_double P s t)
     (settled_both (settled_reaches P.men P.turn Pawn s t)
-    (settled_either (settled_held_by P.men (opposite P.turn) t) (cases_option cases_place P.en_passant (Some t)))))
+    (settled_either (settled_occupied_by P.men (opposite P.turn) t) (cases_option cases_place P.en_passant (Some t)))))
 
 settled_between : (wing : Wing) (file : ℕ) → Settled (IsBetween wing file)
 settled_between KingSide file = settled_both (settled_le 6 file) (settled_le file 7)
@@ -254,7 +254,7 @@ settled_pseudo_legal P m =
     settled_like
     (λ h. record { from = h.0.0; to = h.0.1; man = h.1.0; here = h.1.1; own = h.1.2.0; free = h.0.2; goes = h.1.2.1 })
     (λ r. ((r.from, r.to, r.free), (r.man, r.here, (r.own, r.goes))))
-    (settled_both (settled_three (on_board_or_not m.from) (on_board_or_not m.to) (settled_not (settled_held_by P.men P.turn m.to)))
+    (settled_both (settled_three (on_board_or_not m.from) (on_board_or_not m.to) (settled_not (settled_occupied_by P.men P.turn m.to)))
     (settled_held (man_at P.men m.from) (λ man. (man.side ≡ P.turn) × Goes P m man.kind)
     (λ man. settled_both (cases_side man.side P.turn) (settled_goes P m man.kind))))
 

@@ -33,7 +33,7 @@ man_back Black Pawn = refl
 pub one_man : (a b : Man) → man_letter a ≡ man_letter b → a ≡ b
 one_man a b e = sym (man_back a.side a.kind) ∙ ap man_by e ∙ man_back b.side b.kind
 
--- letters stand behind the digits
+-- letters stand after the digits
 kind_high : (other : Kind) → 57 ≤ kind_letter other
 kind_high King = omega arith
 kind_high Queen = omega arith

@@ -6,7 +6,7 @@ use Rattle.chess.specs.Positions.{State}
 use Rattle.chess.specs.Moves.{IsPseudoLegal, IsLegal, Goes, Castles, after}
 use Rattle.chess.specs.San.{Said, Spells, IsCastlingText, Agrees, IsNamed, IsOnlyNamed, letter_text, file_text, rank_text, IsFileOrRank}
 use Rattle.chess.specs.Letters.{kind_letter, is_sign, square_text}
-use Rattle.chess.specs.SanWords.{said_by, IsReadSaid, IsAble, CanGoSaid, IsNext, HasNone, IsMoveSaid, IsCastlingOn, move_from, castling_on, man_said}
+use Rattle.chess.specs.SanWords.{said_by, IsReadSaid, IsCandidate, CanGoSaid, IsNext, HasNone, IsMoveSaid, IsCastlingOn, move_from, castling_on, man_said}
 use Rattle.chess.specs.SanAnswers.{IsAnswer, IsPlayed}
 use Rattle.chess.specs.Refusals.{IsSpokenOf}
 use Rattle.chess.specs.Sets.{Places, is_in, HoldsExactly}
@@ -18,7 +18,7 @@ use Rattle.chess.specs.declared.board.man.Kind.TheVariants.{King, Queen, Rook, B
 use Rattle.chess.specs.declared.board.man.Wing.{Wing}
 use Rattle.chess.specs.declared.moves.Move.{Move}
 use Rattle.chess.specs.declared.move_text.SanError.{SanError}
-use Rattle.chess.specs.declared.move_text.read.said.SaidMove.{SaidMove}
+use Rattle.chess.specs.declared.move_text.read.parse.ParsedSan.{ParsedSan}
 use Rattle.chess.specs.declared.move_text.SanError.TheVariants as errors
 use Rattle.chess.proofs.PlaceFacts.{cases_place, same_square-same, true_not_false, same_side, man_of}
 use Rattle.chess.proofs.LoopFacts.{left_more}
@@ -69,8 +69,8 @@ agreed_man P said m rules agrees =
     let side : agrees.man.side ≡ P.turn = same_side agrees.man rules.man (sym agrees.here ∙ rules.here) ∙ rules.own in
     agrees.here ∙ ap (λ (man : Man). Some man) (man_of agrees.man (man_said P said) side agrees.kind)
 
-pub agreed_able : (P : State) (said : Said) (m : Move) → IsPseudoLegal P m → Agrees P said m → IsAble P said m.from
-agreed_able P said m rules agrees = record {
+pub agreed_candidate : (P : State) (said : Said) (m : Move) → IsPseudoLegal P m → Agrees P said m → IsCandidate P said m.from
+agreed_candidate P said m rules agrees = record {
   here = agreed_man P said m rules agrees;
   asked = (agrees.file, agrees.rank);
   stays = λ pawn none. agrees.stays (agrees.kind ∙ pawn) none ∙ ap (λ (s : Place). s.file) agrees.target;
@@ -80,53 +80,53 @@ agreed_able P said m rules agrees = record {
 pub said_man : (P : State) (said : Said) (m : Move) → IsMoveSaid P said m → man_at P.men m.from ≡ Some (man_said P said)
 said_man P said m named = agreed_man P said m named.0.pseudo_legal named.1
 
-pub said_able : (P : State) (said : Said) (m : Move) → IsMoveSaid P said m → IsAble P said m.from
-said_able P said m named = agreed_able P said m named.0.pseudo_legal named.1
+pub said_candidate : (P : State) (said : Said) (m : Move) → IsMoveSaid P said m → IsCandidate P said m.from
+said_candidate P said m named = agreed_candidate P said m named.0.pseudo_legal named.1
 
-pub agrees_able : (P : State) (said : Said) (s : Place) → IsAble P said s → Agrees P said (move_from said s)
-agrees_able P said s able = record {
+pub agrees_candidate : (P : State) (said : Said) (s : Place) → IsCandidate P said s → Agrees P said (move_from said s)
+agrees_candidate P said s candidates = record {
   not_castling = refl;
   man = man_said P said;
-  here = able.here;
+  here = candidates.here;
   kind = refl;
   target = refl;
-  file = able.asked.0;
-  rank = able.asked.1;
+  file = candidates.asked.0;
+  rank = candidates.asked.1;
   promote = refl;
-  stays = able.stays;
+  stays = candidates.stays;
 }
 
-pub able_said : (P : State) (said : Said) (s : Place) → IsAble P said s → CanGoSaid P said s → IsMoveSaid P said (move_from said s)
-able_said P said s able legal = (legal, agrees_able P said s able)
+pub candidate_said : (P : State) (said : Said) (s : Place) → IsCandidate P said s → CanGoSaid P said s → IsMoveSaid P said (move_from said s)
+candidate_said P said s candidates legal = (legal, agrees_candidate P said s candidates)
 
-pub said_only : (P : State) (said : Said) (squares rest : Places) (s : Place) → HoldsExactly (IsAble P said) squares
+pub said_only : (P : State) (said : Said) (squares rest : Places) (s : Place) → HoldsExactly (IsCandidate P said) squares
     → IsNext (CanGoSaid P said) squares rest s → HasNone (CanGoSaid P said) rest
     → IsMoveSaid P said (move_from said s) × ((n : Move) → IsMoveSaid P said n → n ≡ move_from said s)
 said_only P said squares rest s are next none = (
-  able_said P said s ((are s).0 next.here).1 next.fits,
+  candidate_said P said s ((are s).0 next.here).1 next.fits,
   (λ n named. elim (cases_place n.from s) [
     | inl same ↦ sym (said_move P said n named.1) ∙ ap (move_from said) same
     | inr other ↦
         let legal = said_legal P said n named in
         let on = said_on P said n named in
-        absurd (none n.from on (next.each n.from on ((are n.from).1 (on, said_able P said n named)) legal other) legal)
+        absurd (none n.from on (next.each n.from on ((are n.from).1 (on, said_candidate P said n named)) legal other) legal)
   ]),
 )
 
-pub said_none : (P : State) (said : Said) (squares : Places) → HoldsExactly (IsAble P said) squares → HasNone (CanGoSaid P said) squares
+pub said_none : (P : State) (said : Said) (squares : Places) → HoldsExactly (IsCandidate P said) squares → HasNone (CanGoSaid P said) squares
     → (n : Move) → IsMoveSaid P said n → ⊥
 said_none P said squares are none n named =
-    let on = said_on P said n named in none n.from on ((are n.from).1 (on, said_able P said n named)) (said_legal P said n named)
+    let on = said_on P said n named in none n.from on ((are n.from).1 (on, said_candidate P said n named)) (said_legal P said n named)
 
-pub said_several : (P : State) (said : Said) (squares rest more : Places) (s t : Place) → HoldsExactly (IsAble P said) squares
+pub said_several : (P : State) (said : Said) (squares rest more : Places) (s t : Place) → HoldsExactly (IsCandidate P said) squares
     → IsNext (CanGoSaid P said) squares rest s → IsNext (CanGoSaid P said) rest more t
     → (m n : Move) × IsMoveSaid P said m × IsMoveSaid P said n × (m ≢ n)
 said_several P said squares rest more s t are next second =
     let before = next.within t second.on_board second.here in (
       move_from said s,
       move_from said t,
-      able_said P said s ((are s).0 next.here).1 next.fits,
-      able_said P said t ((are t).0 before.0).1 second.fits,
+      candidate_said P said s ((are s).0 next.here).1 next.fits,
+      candidate_said P said t ((are t).0 before.0).1 second.fits,
       (λ e. before.1 (sym (ap (λ (m : Move). m.from) e))),
     )
 
@@ -279,7 +279,7 @@ pub named_none : (P : State) (x : List ℕ) (read : Option Wing) (said : Option 
 named_none P x read said texts is spelled none m named = by_none P x read said m texts is spelled none named.by
 
 -- a text that says a move is not that of castling
-pub read_no_castling : (x : List ℕ) (r : SaidMove) → IsReadSaid x (Some r) → AreCastling x None
+pub read_no_castling : (x : List ℕ) (r : ParsedSan) → IsReadSaid x (Some r) → AreCastling x None
 read_no_castling x r read wing = (
   (λ text. absurd (not_both x wing (said_by r) text ((read (said_by r)).1 refl))),
   (λ e. absurd (cc)),
@@ -291,7 +291,7 @@ pub named_said : (P : State) (x : List ℕ) (read : Option Wing) (said : Option 
 named_said P x read said own result texts is spelled found answer =
     let same = said_named P x read said own texts is spelled found in same_answer (IsMoveSaid P own) (IsNamed P x) result same.0 same.1 answer
 
-pub said_answer : (P : State) (x : List ℕ) (r : SaidMove) (result : Result Move SanError) → IsReadSaid x (Some r)
+pub said_answer : (P : State) (x : List ℕ) (r : ParsedSan) (result : Result Move SanError) → IsReadSaid x (Some r)
     → IsAnswer (IsMoveSaid P (said_by r)) result → IsAnswer (IsNamed P x) result
 said_answer P x r result read answer = named_said P x None (Some (said_by r)) (said_by r) result (read_no_castling x r read) refl read refl answer
 

@@ -4,14 +4,14 @@ use Rattle.chess.specs.Squares.{Place, IsAhead, gap}
 use Rattle.chess.specs.Attacks.{IsJump, IsForward, IsOnRay, Reaches}
 use Rattle.chess.specs.Placements.{Placement}
 use Rattle.chess.proofs.BoardFacts.{one_count}
-use Rattle.chess.specs.Sights.{IsInLine, IsInSight, IsUnblocked}
+use Rattle.chess.specs.PseudoAttacks.{IsInLine, IsPseudoAttack, IsUnblocked}
 use Rattle.chess.specs.declared.board.direction.Direction.{Direction}
 use Rattle.chess.specs.declared.board.direction.Direction.TheVariants.{North, South, East, West, NorthEast, NorthWest, SouthEast, SouthWest}
 use Rattle.chess.specs.declared.board.man.Side.{Side}
 use Rattle.chess.specs.declared.board.man.Side.TheVariants.{White, Black}
 use Rattle.chess.specs.declared.board.man.Kind.{Kind}
 use Rattle.chess.specs.declared.board.man.Kind.TheVariants.{King, Queen, Rook, Bishop, Knight, Pawn}
-use Rattle.chess.proofs.SightFacts.{one_way}
+use Rattle.chess.proofs.PseudoAttackFacts.{one_way}
 
 far_near : (way : Direction) (k : ℕ) (s t : Place) → 2 ≤ k → IsAhead way k s t → gap s.file t.file ≤ 1 → gap s.rank t.rank ≤ 1 → ⊥
 far_near North k s t far a f r = let x = a.0 in let y = a.1 in omega arith
@@ -72,7 +72,7 @@ open_ray p way s t line clear_way =
 line_of : (p : Placement) (way : Direction) (s t : Place) → IsOnRay p way s t → IsInLine way s t
 line_of p way s t ray = (ray.steps, ray.far, ray.ahead)
 
-pub reaches_is : (p : Placement) (side : Side) (kind : Kind) (s t : Place) → Reaches p side kind s t ↔ (IsInSight side kind s t × IsUnblocked p s t)
+pub reaches_is : (p : Placement) (side : Side) (kind : Kind) (s t : Place) → Reaches p side kind s t ↔ (IsPseudoAttack side kind s t × IsUnblocked p s t)
 reaches_is p side King s t = ((λ h. (h, near_open p s t h.0 h.1)), (λ h. h.0))
 reaches_is p side Queen s t = ((λ h. ((h.0, line_of p h.0 s t h.1), ray_open p h.0 s t h.1)), (λ h. (h.0.0, open_ray p h.0.0 s t h.0.1 h.1)))
 reaches_is p side Rook s t = ((λ h. ((h.0, h.1, line_of p h.0 s t h.2), ray_open p h.0 s t h.2)), (λ h. (h.0.0, h.0.1, open_ray p h.0.0 s t h.0.2 h.1)))

@@ -4,7 +4,7 @@ use Rattle.std.specs.Prelude.{◌==◌, if◌then◌else◌}
 use Rattle.std.proofs.lemmas.Bool.{cases_eq}
 use Rattle.std.proofs.lemmas.Bool.Decides.{nat_tests}
 use Rattle.chess.specs.Squares.{Place, gap}
-use Rattle.chess.specs.Placements.{man_at, opposite, IsHeld, IsEmpty}
+use Rattle.chess.specs.Placements.{man_at, opposite, IsOccupiedBy, IsEmpty}
 use Rattle.chess.specs.Attacks.{IsForward}
 use Rattle.chess.specs.Positions.{State, pawn_of}
 use Rattle.chess.specs.Moves.{IsPawnMove, IsSingleStep, IsDoubleStep, is_pawn, is_square, is_en_passant}
@@ -57,7 +57,7 @@ some_is : (o : Option Man) (man : Man) → o ≡ Some man → is_some o ≡ true
 some_is o man e = ap is_some e
 
 passes : (P : State) (m : Move) → man_at P.men m.from ≡ Some (pawn_of P.turn) → IsPawnMove P m.from m.to → (m.from.file ≡ m.to.file → ⊥)
-    → is_en_passant P m ≡ false → IsHeld P.men (opposite P.turn) m.to
+    → is_en_passant P m ≡ false → IsOccupiedBy P.men (opposite P.turn) m.to
 passes P m here (inl single) other e = absurd (other (sym single.0))
 passes P m here (inr (inl double)) other e = absurd (other (sym double.file))
 passes P m here (inr (inr (hit, inl held))) other e = held

@@ -17,7 +17,7 @@ use Rattle.chess.specs.declared.moves.Move.{Move}
 use Rattle.chess.proofs.PlaceFacts.{cases_place, same_kind}
 use Rattle.chess.proofs.GoesFacts.{goes_promote}
 use Rattle.chess.proofs.NamedFacts.{said_man}
-use Rattle.chess.proofs.OriginFacts.{IsTold, told, told_on_board}
+use Rattle.chess.proofs.OriginFacts.{IsSaid, reports, said_on_board}
 use Rattle.chess.proofs.SaidNamesFacts.{said_named}
 
 -- ---- x before the target
@@ -35,11 +35,11 @@ abbrev pub piece_said : Move → Kind → Option ℕ → Option ℕ → Said
 piece_said m piece file rank = record { letter = Some piece; file = file; rank = rank; target = m.to; promote = None }
 
 piece_spelled : (P : State) (m : Move) (piece : Kind) (file rank : Option ℕ) (mark : List ℕ) → IsOnBoard m.from → IsOnBoard m.to
-    → IsTold P m file rank → list_all is_check_mark mark ≡ true
+    → IsSaid P m file rank → list_all is_check_mark mark ≡ true
     → Spells ((kind_letter piece ∷ ((file_text file ++ rank_text rank) ++ (capture_text P m ++ square_text m.to))) ++ mark) (piece_said m piece file rank)
 piece_spelled P m piece file rank mark on there own marks = record {
-  file = (told_on_board P m file rank own on).0;
-  rank = (told_on_board P m file rank own on).1;
+  file = (said_on_board P m file rank own on).0;
+  rank = (said_on_board P m file rank own on).1;
   target = there;
   promote = tt;
   sign = capture_text P m;
@@ -51,7 +51,7 @@ piece_spelled P m piece file rank mark on there own marks = record {
 }
 
 -- a rival that agrees with what is said has the file and the rank that are given
-piece_only : (P : State) (m n : Move) (piece : Kind) (file rank : Option ℕ) → IsTold P m file rank → IsMoveSaid P (piece_said m piece file rank) m
+piece_only : (P : State) (m n : Move) (piece : Kind) (file rank : Option ℕ) → IsSaid P m file rank → IsMoveSaid P (piece_said m piece file rank) m
     → IsMoveSaid P (piece_said m piece file rank) n → n.from ≡ m.from
 piece_only P m n piece file rank own says others = elim (cases_place n.from m.from) [
   | inl same ↦ same
@@ -80,7 +80,7 @@ plain_piece P m man legal here no_pawn =
 pub piece_named : (P : State) (m : Move) (man : Man) (body mark : List ℕ) → IsLegal P m → m.castle ≡ None → man_at P.men m.from ≡ Some man
     → (man.kind ≡ Pawn → ⊥) → IsPieceText P m man.kind body → list_all is_check_mark mark ≡ true → IsOnlyNamed P (body ++ mark) m
 piece_named P m man body mark legal castle here no_pawn text marks =
-    let own = told P m text.0 text.1 in
+    let own = reports P m text.0 text.1 in
     let said = piece_said m man.kind own.0 own.1 in
     let agrees : Agrees P said m = record {
       not_castling = castle;

@@ -75,7 +75,7 @@ shown_here squares done file count man size full some small one shown k from = e
       ])
 ]
 
--- what stands in a row behind a byte more
+-- what stands in a row after a byte more
 shown_more : (squares done : List (Option Man)) (file count : ℕ) (man : Option Man) → length done ≡ file → length squares ≡ 8 → 1 ≤ count → file + count ≤ 8
     → ((man ≡ None) ⊎ (count ≡ 1)) → ((k : ℕ) → get_or squares k None ≡ get_or done k None)
     → (k : ℕ) → get_or (slice_set squares file man) k None ≡ get_or (done ++ replicate count man) k None
@@ -93,15 +93,15 @@ more_length done file count man size =
     let sum = length-append done (replicate count man) in let long = length-replicate count man in omega arith
 
 -- what the rest spells, with the byte's squares before it
-spelled_more : (rest text : List ℕ) (b : ℕ) (behind : List ℕ) (own more : List (Option Man)) → rest ≡ b ∷ behind → IsSquares b own → SpellsRank behind more
+spelled_more : (rest text : List ℕ) (b : ℕ) (after : List ℕ) (own more : List (Option Man)) → rest ≡ b ∷ after → IsSquares b own → SpellsRank after more
     → SpellsRank rest (own ++ more)
-spelled_more rest text b behind own more e byte spelled = subst (λ x. SpellsRank x (own ++ more)) (sym e) (own, more, refl, byte, spelled)
+spelled_more rest text b after own more e byte spelled = subst (λ x. SpellsRank x (own ++ more)) (sym e) (own, more, refl, byte, spelled)
 
-back_more : (text : List ℕ) (b : ℕ) (behind : List ℕ) (done : List (Option Man)) (man : Option Man) (count : ℕ)
-    → ((all : List (Option Man)) → SpellsRank text all → (more : List (Option Man)) × SpellsRank (b ∷ behind) more × (all ≡ done ++ more))
+back_more : (text : List ℕ) (b : ℕ) (after : List ℕ) (done : List (Option Man)) (man : Option Man) (count : ℕ)
+    → ((all : List (Option Man)) → SpellsRank text all → (more : List (Option Man)) × SpellsRank (b ∷ after) more × (all ≡ done ++ more))
     → IsByteOf b man count → (all : List (Option Man)) → SpellsRank text all
-    → (more : List (Option Man)) × SpellsRank behind more × (all ≡ (done ++ replicate count man) ++ more)
-back_more text b behind done man count back byte all spelled =
+    → (more : List (Option Man)) × SpellsRank after more × (all ≡ (done ++ replicate count man) ++ more)
+back_more text b after done man count back byte all spelled =
     let before = back all spelled in
     let found = before.1 in (
       found.1,
@@ -109,10 +109,10 @@ back_more text b behind done man count back byte all spelled =
       before.2 ∙ ap (λ x. done ++ x) (found.2 ∙ ap (λ x. x ++ found.1) (byte.only found.0 found.3)) ∙ sym (append_assoc done (replicate count man) found.1),
     )
 
-pub row_more : (squares : List (Option Man)) (file : ℕ) (rest text : List ℕ) (man : Option Man) (count b : ℕ) (behind : List ℕ)
-    → IsRow squares file rest text → rest ≡ b ∷ behind → IsByteOf b man count → file + count ≤ 8 → length (slice_set squares file man) ≡ 8
-    → IsRow (slice_set squares file man) (file + count) behind text
-row_more squares file rest text man count b behind r e byte small full = record {
+pub row_more : (squares : List (Option Man)) (file : ℕ) (rest text : List ℕ) (man : Option Man) (count b : ℕ) (after : List ℕ)
+    → IsRow squares file rest text → rest ≡ b ∷ after → IsByteOf b man count → file + count ≤ 8 → length (slice_set squares file man) ≡ 8
+    → IsRow (slice_set squares file man) (file + count) after text
+row_more squares file rest text man count b after r e byte small full = record {
   done = r.done ++ replicate count man;
   size = more_length r.done file count man r.size;
   small = small;
@@ -120,8 +120,8 @@ row_more squares file rest text man count b behind r e byte small full = record 
   shown = shown_more squares r.done file count man r.size r.full byte.some small byte.one r.shown;
   onward = λ more spelled.
       subst (SpellsRank text) (sym (append_assoc r.done (replicate count man) more))
-      (r.onward (replicate count man ++ more) (spelled_more rest text b behind (replicate count man) more e byte.spelled spelled));
-  back = back_more text b behind r.done man count
+      (r.onward (replicate count man ++ more) (spelled_more rest text b after (replicate count man) more e byte.spelled spelled));
+  back = back_more text b after r.done man count
       (subst (λ x. (all : List (Option Man)) → SpellsRank text all → (more : List (Option Man)) × SpellsRank x more × (all ≡ r.done ++ more)) e r.back) byte;
 }
 

@@ -2,7 +2,7 @@
 use Rattle.std.proofs.Common.{◌≡◌, ℕ, true, false, ap, refl, Option, Some, None, IfSome, List, [], ◌∷◌, ◌++◌}
 use Rattle.std.specs.Prelude.{if◌then◌else◌}
 use Rattle.chess.specs.SanWords.{is_of, last_of, before_last}
-use Rattle.chess.specs.declared.move_text.read.said.ByteClass.{ByteClass}
+use Rattle.chess.specs.declared.move_text.read.parse.ByteClass.{ByteClass}
 
 -- the text from its end does not begin with a byte of the class
 abbrev pub BeginsOtherwise : ByteClass → List ℕ → Type 0

@@ -6,8 +6,8 @@ use Rattle.chess.specs.Positions.{State, IsCheck}
 use Rattle.chess.specs.Moves.{Goes, IsPseudoLegal, IsLegal, IsUnbarred, Promotes, men_after}
 use Rattle.chess.specs.San.{Said, IsNamed, kind_said}
 use Rattle.chess.specs.Refusals.{IsRefusal, IsFrom, CanGoAs, becoming}
-use Rattle.chess.specs.RefusalWords.{IsCastlingRefusal, IsSaidRefusal, IsFitting, NoneAble}
-use Rattle.chess.specs.SanWords.{IsAble, CanGoSaid, IsMoveSaid, IsCastlingOn, man_said, move_from, castling_on}
+use Rattle.chess.specs.RefusalWords.{IsCastlingRefusal, IsSaidRefusal, IsFitting, NoCandidates}
+use Rattle.chess.specs.SanWords.{IsCandidate, CanGoSaid, IsMoveSaid, IsCastlingOn, man_said, move_from, castling_on}
 use Rattle.chess.specs.Sets.{Places, is_in, no_places, HoldsExactly}
 use Rattle.chess.specs.declared.board.man.Kind.{Kind}
 use Rattle.chess.specs.declared.board.man.Kind.TheVariants.{King, Queen, Rook, Bishop, Knight, Pawn}
@@ -18,7 +18,7 @@ use Rattle.chess.specs.declared.move_text.refusal.Refusal.TheVariants.{NoMoveTex
 use Rattle.chess.proofs.AfterFacts.{after_on_board}
 use Rattle.chess.proofs.LegalSettled.{settled_check}
 use Rattle.chess.proofs.LoopFacts.{not_in}
-use Rattle.chess.proofs.NamedFacts.{AreCastling, AreSaid, agreed_able, agrees_able, able_said, said_move, castling_is, castling_only, no_wing, by_castling, by_said}
+use Rattle.chess.proofs.NamedFacts.{AreCastling, AreSaid, agreed_candidate, agrees_candidate, candidate_said, said_move, castling_is, castling_only, no_wing, by_castling, by_said}
 use Rattle.chess.proofs.PlaceFacts.{same_kind, true_not_false}
 
 -- ---- why none is legal
@@ -44,38 +44,38 @@ nothing_said P x read said texts is spelled none = (
   (λ s spells. let e : None ≡ Some s = sym none ∙ (spelled s).0 spells in cc),
 )
 
--- a move of a man that is able, which no text names legally, leaves its king attacked
+-- a move of a man that is a candidate, which no text names legally, leaves its king attacked
 unsafe : (P : State) (m : Move) → AreOnBoard P.men → IsPseudoLegal P m → m.castle ≡ None → (IsLegal P m → ⊥) → IsCheck (men_after P m) P.turn
 unsafe P m on_board rules plain fails = elim (settled_check (men_after P m) P.turn (after_on_board P m on_board rules.to)) [
   | inl check ↦ check
   | inr safe ↦ absurd (fails (record { pseudo_legal = rules; safe = safe; unbarred = subst (IsUnbarred P) (sym plain) tt }))
 ]
 
--- where no man is able none goes so by its own rules, and where one is it does
-none_goes : (P : State) (said : Said) → NoneAble P said → CanGoAs P said → ⊥
-none_goes P said able goes = able goes.0.from goes.1.from (agreed_able P said goes.0 goes.1 goes.2)
+-- where no man is a candidate none goes so by its own rules, and where one is it does
+none_goes : (P : State) (said : Said) → NoCandidates P said → CanGoAs P said → ⊥
+none_goes P said candidates goes = candidates goes.0.from goes.1.from (agreed_candidate P said goes.0 goes.1 goes.2)
 
-some_goes : (P : State) (said : Said) (s : Place) → IsAble P said s → CanGoAs P said
-some_goes P said s able = (move_from said s, able.rules, agrees_able P said s able)
+some_goes : (P : State) (said : Said) (s : Place) → IsCandidate P said s → CanGoAs P said
+some_goes P said s candidates = (move_from said s, candidates.rules, agrees_candidate P said s candidates)
 
 -- a text that says something else
 pub said_refused : (P : State) (x : List ℕ) (read : Option Wing) (said : Option Said) (own : Said) (found : Refusal) → AreOnBoard P.men
     → AreCastling x read → read ≡ None → AreSaid x said → said ≡ Some own → ((m : Move) → IsNamed P x m → ⊥) → IsSaidRefusal P own found → IsRefusal P x found
-said_refused P x read said own WrongPromotion on_board texts is spelled some none (none_able, other) = (
+said_refused P x read said own WrongPromotion on_board texts is spelled some none (no_candidates, other) = (
   own,
   (spelled own).1 some,
-  none_goes P own none_able,
+  none_goes P own no_candidates,
   (other.0, some_goes P (becoming other.0 own) other.1 other.2),
 )
-said_refused P x read said own NoneCan on_board texts is spelled some none able = (
+said_refused P x read said own NoneCan on_board texts is spelled some none candidates = (
   own,
   (spelled own).1 some,
-  (λ promote. none_goes P (becoming promote own) (able promote)),
+  (λ promote. none_goes P (becoming promote own) (candidates promote)),
 )
-said_refused P x read said own LeavesKingAttacked on_board texts is spelled some none (s, able) = (
+said_refused P x read said own LeavesKingAttacked on_board texts is spelled some none (s, candidates) = (
   own,
   (spelled own).1 some,
-  (move_from own s, (able.rules, inr (own, (spelled own).1 some, agrees_able P own s able))),
+  (move_from own s, (candidates.rules, inr (own, (spelled own).1 some, agrees_candidate P own s candidates))),
   (λ m meant.
       let agrees = by_said P x read said own m texts is spelled some meant.1 in
       unsafe P m on_board meant.0 agrees.not_castling (λ legal. none m (record { legal = legal; by = meant.1 }))),
@@ -95,35 +95,35 @@ goes_fitting P said s fit Rook fits goes = (goes.0, fits.1 (λ e. cc), goes.2)
 goes_fitting P said s fit Bishop fits goes = (goes.0, fits.1 (λ e. cc), goes.2)
 goes_fitting P said s fit Knight fits goes = (goes.0, fits.1 (λ e. cc), goes.2)
 
--- a man that is able with some promotion is able with one that fits
-pub fitting_able : (P : State) (said : Said) (fit promote : Option Kind) (s : Place) → IsFitting P said fit → IsAble P (becoming promote said) s
-    → IsAble P (becoming fit said) s
-fitting_able P said fit promote s fits able =
+-- a man that is a candidate with some promotion is a candidate with one that fits
+pub fitting_candidate : (P : State) (said : Said) (fit promote : Option Kind) (s : Place) → IsFitting P said fit → IsCandidate P (becoming promote said) s
+    → IsCandidate P (becoming fit said) s
+fitting_candidate P said fit promote s fits candidates =
     let other = becoming promote said in
     let goes : Goes P (move_from other s) (kind_said said.letter) =
-    subst (Goes P (move_from other s)) (same_kind able.rules.man (man_said P other) (sym able.rules.here ∙ able.here)) able.rules.goes in
+    subst (Goes P (move_from other s)) (same_kind candidates.rules.man (man_said P other) (sym candidates.rules.here ∙ candidates.here)) candidates.rules.goes in
     record {
-      here = able.here;
-      asked = able.asked;
-      stays = able.stays;
+      here = candidates.here;
+      asked = candidates.asked;
+      stays = candidates.stays;
       rules = record {
-        from = able.rules.from;
-        to = able.rules.to;
+        from = candidates.rules.from;
+        to = candidates.rules.to;
         man = man_said P said;
-        here = able.here;
+        here = candidates.here;
         own = refl;
-        free = able.rules.free;
+        free = candidates.rules.free;
         goes = goes_fitting P other s fit (kind_said said.letter) fits goes;
       };
     }
 
--- no man is able where the set of those that are is empty; else some man is
-pub none_fitting : (P : State) (said : Said) (fit : Option Kind) → IsFitting P said fit → NoneAble P (becoming fit said)
-    → (promote : Option Kind) → NoneAble P (becoming promote said)
-none_fitting P said fit fits none promote s on able = none s on (fitting_able P said fit promote s fits able)
+-- no man is a candidate where the set of those that are is empty; else some man is
+pub none_fitting : (P : State) (said : Said) (fit : Option Kind) → IsFitting P said fit → NoCandidates P (becoming fit said)
+    → (promote : Option Kind) → NoCandidates P (becoming promote said)
+none_fitting P said fit fits none promote s on candidates = none s on (fitting_candidate P said fit promote s fits candidates)
 
-pub none_able : (P : State) (said : Said) (able : Places) → HoldsExactly (IsAble P said) able → able ≡ no_places → (s : Place) → IsOnBoard s → IsAble P said s → ⊥
-none_able P said able are none s on here = true_not_false (is_in able s) ((are s).1 (on, here)) (not_in able s none)
+pub no_candidates : (P : State) (said : Said) (candidates : Places) → HoldsExactly (IsCandidate P said) candidates → candidates ≡ no_places → (s : Place) → IsOnBoard s → IsCandidate P said s → ⊥
+no_candidates P said candidates are none s on here = true_not_false (is_in candidates s) ((are s).1 (on, here)) (not_in candidates s none)
 
 -- ---- the move from a square
 
@@ -136,9 +136,9 @@ pub castled_here : (P : State) (wing : Wing) (s : Place) → (castling_on P.turn
     → IsFrom (IsCastlingOn P wing) s (Some (castling_on P.turn wing))
 castled_here P wing s here legal = (here, (legal, refl), (λ n there castles. castling_only P wing n castles))
 
-pub said_here : (P : State) (said : Said) (s : Place) → IsAble P said s → CanGoSaid P said s → IsFrom (IsMoveSaid P said) s (Some (move_from said s))
-said_here P said s able legal = (
+pub said_here : (P : State) (said : Said) (s : Place) → IsCandidate P said s → CanGoSaid P said s → IsFrom (IsMoveSaid P said) s (Some (move_from said s))
+said_here P said s candidates legal = (
   refl,
-  able_said P said s able legal,
+  candidate_said P said s candidates legal,
   (λ n there holds. sym (said_move P said n holds.1) ∙ ap (move_from said) there),
 )

@@ -44,8 +44,8 @@ one_mark P _ _ (quiet calm) (quiet also) = refl
 one_piece : (P : State) (m : Move) (letter : ℕ) (x y : List ℕ)
     → ((origin : List ℕ) × IsDisambiguation P m origin × (x ≡ letter ∷ (origin ++ (capture_text P m ++ square_text m.to))))
     → ((origin : List ℕ) × IsDisambiguation P m origin × (y ≡ letter ∷ (origin ++ (capture_text P m ++ square_text m.to)))) → x ≡ y
-one_piece P m letter x y (origin, told, is) (other, also, too) =
-    is ∙ ap (λ o. letter ∷ (o ++ (capture_text P m ++ square_text m.to))) (one_origin P m origin other told also) ∙ sym too
+one_piece P m letter x y (origin, reports, is) (other, also, too) =
+    is ∙ ap (λ o. letter ∷ (o ++ (capture_text P m ++ square_text m.to))) (one_origin P m origin other reports also) ∙ sym too
 
 one_body : (P : State) (m : Move) (castle : Option Wing) (kind : Kind) (x y : List ℕ) → IsBody P m castle kind x → IsBody P m castle kind y → x ≡ y
 one_body P m (Some wing) mover x y is also = is ∙ sym also

@@ -9,7 +9,7 @@ use Rattle.chess.specs.Moves.{Goes, IsPseudoLegal}
 use Rattle.chess.specs.Letters.{file_letter, rank_digit, square_text}
 use Rattle.chess.specs.San.{IsRival, HasRival, IsDisambiguation}
 use Rattle.chess.specs.San.IsDisambiguation.{alone, by_file, by_rank, by_both}
-use Rattle.chess.specs.Sets.{Places, is_in, no_places, HoldsExactly, IsHitter}
+use Rattle.chess.specs.Sets.{Places, is_in, no_places, HoldsExactly, IsAttacker}
 use Rattle.chess.specs.SetWords.{IsTakenFirst}
 use Rattle.chess.specs.MoveWords.{HasEach}
 use Rattle.chess.specs.SanTextWords.{Appends, AreOf, HasSquare, AreRivalsSifted}
@@ -62,9 +62,9 @@ rival_reaches P m man s sound here no_pawn rival =
     subst (λ (a : Man). Reaches P.men a.side a.kind s m.to) same (subst (λ (side : Side). Reaches P.men side rules.man.kind s m.to) (sym rules.own) goes)
 
 pub pieces_alike : (P : State) (m : Move) (man : Man) (others set : Places) → IsSound P → man_at P.men m.from ≡ Some man → (man.kind ≡ Pawn → ⊥)
-    → ((s : Place) → IsOnBoard s → s ≢ m.from → is_in others s ≡ true) → HoldsExactly (IsHitter P.men man m.to others) set → HasEach (IsRival P m) set
-pieces_alike P m man others set sound here no_pawn each hitters s on rival =
-    (hitters s).1 (on, (each s on rival.other, rival.alike ∙ here, rival_reaches P m man s sound here no_pawn rival))
+    → ((s : Place) → IsOnBoard s → s ≢ m.from → is_in others s ≡ true) → HoldsExactly (IsAttacker P.men man m.to others) set → HasEach (IsRival P m) set
+pieces_alike P m man others set sound here no_pawn each attackers_from s on rival =
+    (attackers_from s).1 (on, (each s on rival.other, rival.alike ∙ here, rival_reaches P m man s sound here no_pawn rival))
 
 -- a man who moves and is none of these is the king
 pub mover_is_king : (P : State) (m : Move) → IsPseudoLegal P m → (man_at P.men m.from ≡ Some (record { side = P.turn; kind = Pawn }) → ⊥)
@@ -108,34 +108,34 @@ rivals_more P m man old new found more t test so_far taken tested put = record {
 
 -- ---- what distinguishes a man from its rivals
 
-pub alone_is_told : (P : State) (m : Move) (set : Places) (old : List ℕ) → HoldsExactly (IsRival P m) set
+pub alone_distinguishes : (P : State) (m : Move) (set : Places) (old : List ℕ) → HoldsExactly (IsRival P m) set
     → (((s : Place) × IsOnBoard s × (is_in set s ≡ true)) → ⊥) → Appends (IsDisambiguation P m) old old
-alone_is_told P m set old rivals none =
+alone_distinguishes P m set old rivals none =
     ([], alone (λ rival. let on = rival_on P m rival.0 rival.1 in none (rival.0, on, (rivals rival.0).1 (on, rival.1))), sym (append-nil old))
 
-pub file_is_told : (P : State) (m : Move) (set : Places) (old new : List ℕ) (file : ℕ) → HoldsExactly (IsRival P m) set
+pub file_distinguishes : (P : State) (m : Move) (set : Places) (old new : List ℕ) (file : ℕ) → HoldsExactly (IsRival P m) set
     → ((s : Place) × IsOnBoard s × (is_in set s ≡ true)) → (HasSquare set (λ s. s.file ≡ m.from.file) → ⊥) → file ≡ m.from.file
     → new ≡ old ++ file_letter file ∷ [] → Appends (IsDisambiguation P m) old new
-file_is_told P m set old new file rivals some none is_file written = (
+file_distinguishes P m set old new file rivals some none is_file written = (
   file_letter m.from.file ∷ [],
   by_file (some.0, ((rivals some.0).0 some.2).1, tt) (λ rival. none (square_of_rival P m set (λ s. s.file ≡ m.from.file) rivals rival)),
   written ∙ ap (λ n. old ++ file_letter n ∷ []) is_file,
 )
 
-pub rank_is_told : (P : State) (m : Move) (set : Places) (old new : List ℕ) (rank : ℕ) → HoldsExactly (IsRival P m) set
+pub rank_distinguishes : (P : State) (m : Move) (set : Places) (old new : List ℕ) (rank : ℕ) → HoldsExactly (IsRival P m) set
     → HasSquare set (λ s. s.file ≡ m.from.file) → (HasSquare set (λ s. s.rank ≡ m.from.rank) → ⊥) → rank ≡ m.from.rank
     → new ≡ old ++ rank_digit rank ∷ [] → Appends (IsDisambiguation P m) old new
-rank_is_told P m set old new rank rivals some none is_rank written = (
+rank_distinguishes P m set old new rank rivals some none is_rank written = (
   rank_digit m.from.rank ∷ [],
   by_rank (rival_of_square P m set (λ s. s.file ≡ m.from.file) rivals some)
       (λ rival. none (square_of_rival P m set (λ s. s.rank ≡ m.from.rank) rivals rival)),
   written ∙ ap (λ n. old ++ rank_digit n ∷ []) is_rank,
 )
 
-pub both_are_told : (P : State) (m : Move) (set : Places) (old new : List ℕ) → HoldsExactly (IsRival P m) set
+pub both_distinguish : (P : State) (m : Move) (set : Places) (old new : List ℕ) → HoldsExactly (IsRival P m) set
     → HasSquare set (λ s. s.file ≡ m.from.file) → HasSquare set (λ s. s.rank ≡ m.from.rank)
     → new ≡ old ++ square_text m.from → Appends (IsDisambiguation P m) old new
-both_are_told P m set old new rivals file rank written = (
+both_distinguish P m set old new rivals file rank written = (
   square_text m.from,
   by_both (rival_of_square P m set (λ s. s.file ≡ m.from.file) rivals file) (rival_of_square P m set (λ s. s.rank ≡ m.from.rank) rivals rank),
   written,

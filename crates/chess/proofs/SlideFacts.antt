@@ -14,7 +14,7 @@ use Rattle.chess.proofs.PlaceFacts.{some_not_none}
 use Rattle.chess.proofs.FillFacts.{bit_of_either, has_own_bit}
 use Rattle.chess.proofs.HitFacts.{no_common_square}
 use Rattle.chess.proofs.BitFacts.{IsPut, has_man, man_at-words, word_of_man, row_of-below, no_man_or, square_bit}
-use Rattle.chess.proofs.CarryFacts.{without, is_without}
+use Rattle.chess.proofs.MovePieceFacts.{without, is_without}
 
 -- ---- two squares of a word are turned over
 

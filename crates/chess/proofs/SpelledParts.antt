@@ -7,11 +7,11 @@ use Rattle.std.proofs.lemmas.Bool.Decides.{nat_tests}
 use Rattle.chess.specs.Letters.{is_check_mark, is_sign, kind_letter, file_letter, rank_digit}
 use Rattle.chess.specs.San.{Said, Spells, letter_text, file_text, rank_text, promotion_text, IsFileOrRank}
 use Rattle.chess.specs.Moves.{IsPromotionKind}
-use Rattle.chess.specs.SanWords.{is_of, kind_of, kind_given, number_given, last_of, before_last, unmarked, before_equals, stem, behind_target_rank, behind_target, behind_sign, behind_rank, behind_file, behind_letter}
+use Rattle.chess.specs.SanWords.{is_of, kind_of, kind_given, number_given, last_of, before_last, unmarked, before_equals, stem, after_target_rank, after_target, after_sign, after_rank, after_file, after_letter}
 use Rattle.chess.specs.declared.board.man.Kind.{Kind}
 use Rattle.chess.specs.declared.board.man.Kind.TheVariants.{King, Queen, Rook, Bishop, Knight, Pawn}
-use Rattle.chess.specs.declared.move_text.read.said.ByteClass.{ByteClass}
-use Rattle.chess.specs.declared.move_text.read.said.ByteClass.TheVariants.{Sign, Digit, FileLetter, KindLetter, Equals, PromotionLetter}
+use Rattle.chess.specs.declared.move_text.read.parse.ByteClass.{ByteClass}
+use Rattle.chess.specs.declared.move_text.read.parse.ByteClass.TheVariants.{Sign, Digit, FileLetter, KindLetter, Equals, PromotionLetter}
 use Rattle.chess.proofs.ReadingFacts.{given, taken_whole}
 use Rattle.chess.proofs.CastlingTextFacts.{marks_of}
 use Rattle.chess.proofs.TextParts.{Bytes, AreBytes, IsGivenOf, stem_text, turned_text, turned}
@@ -24,10 +24,10 @@ equals_of (Some b) y = last_of Equals y
 
 abbrev pub found_bytes : List ℕ → ℕ → ℕ → Bytes
 found_bytes y file rank = record {
-  letter = last_of KindLetter (behind_file y);
-  file = last_of FileLetter (behind_rank y);
-  rank = last_of Digit (behind_sign y);
-  sign = last_of Sign (behind_target y);
+  letter = last_of KindLetter (after_file y);
+  file = last_of FileLetter (after_rank y);
+  rank = last_of Digit (after_sign y);
+  sign = last_of Sign (after_target y);
   target_file = file;
   target_rank = rank;
   equals = equals_of (last_of PromotionLetter (unmarked y)) (before_last PromotionLetter (unmarked y));
@@ -44,34 +44,34 @@ one_whole class y b e = (
   subst (λ o. IsGivenOf class o) e (taken_whole class y).1,
 )
 
-pub found_are : (y : List ℕ) (file rank : ℕ) → last_of Digit (stem y) ≡ Some rank → last_of FileLetter (behind_target_rank y) ≡ Some file → AreBytes (found_bytes y file rank)
+pub found_are : (y : List ℕ) (file rank : ℕ) → last_of Digit (stem y) ≡ Some rank → last_of FileLetter (after_target_rank y) ≡ Some file → AreBytes (found_bytes y file rank)
 found_are y file rank has_rank has_file = record {
-  letter = (taken_whole KindLetter (behind_file y)).1;
-  file = (taken_whole FileLetter (behind_rank y)).1;
-  rank = (taken_whole Digit (behind_sign y)).1;
-  sign = (taken_whole Sign (behind_target y)).1;
-  target_file = (one_whole FileLetter (behind_target_rank y) file has_file).1;
+  letter = (taken_whole KindLetter (after_file y)).1;
+  file = (taken_whole FileLetter (after_rank y)).1;
+  rank = (taken_whole Digit (after_sign y)).1;
+  sign = (taken_whole Sign (after_target y)).1;
+  target_file = (one_whole FileLetter (after_target_rank y) file has_file).1;
   target_rank = (one_whole Digit (stem y) rank has_rank).1;
   equals = (equals_whole (last_of PromotionLetter (unmarked y)) (before_last PromotionLetter (unmarked y))).1;
   promotion = (taken_whole PromotionLetter (unmarked y)).1;
   plain = (equals_whole (last_of PromotionLetter (unmarked y)) (before_last PromotionLetter (unmarked y))).2;
 }
 
-found_whole : (y : List ℕ) (file rank : ℕ) → last_of Digit (stem y) ≡ Some rank → last_of FileLetter (behind_target_rank y) ≡ Some file
-    → behind_letter y ≡ [] → unmarked y ≡ turned_text (found_bytes y file rank)
+found_whole : (y : List ℕ) (file rank : ℕ) → last_of Digit (stem y) ≡ Some rank → last_of FileLetter (after_target_rank y) ≡ Some file
+    → after_letter y ≡ [] → unmarked y ≡ turned_text (found_bytes y file rank)
 found_whole y file rank has_rank has_file rest =
     let b = found_bytes y file rank in
-    let letter : behind_file y ≡ given b.letter = (taken_whole KindLetter (behind_file y)).0 ∙ ap (λ z. given b.letter ++ z) rest ∙ append-nil (given b.letter) in
-    let own_file : behind_rank y ≡ given b.file ++ given b.letter = (taken_whole FileLetter (behind_rank y)).0 ∙ ap (λ z. given b.file ++ z) letter in
-    let own_rank = (taken_whole Digit (behind_sign y)).0 ∙ ap (λ z. given b.rank ++ z) own_file in
-    let sign = (taken_whole Sign (behind_target y)).0 ∙ ap (λ z. given b.sign ++ z) own_rank in
-    let at_file = (one_whole FileLetter (behind_target_rank y) file has_file).0 ∙ ap (λ z. file ∷ z) sign in
+    let letter : after_file y ≡ given b.letter = (taken_whole KindLetter (after_file y)).0 ∙ ap (λ z. given b.letter ++ z) rest ∙ append-nil (given b.letter) in
+    let own_file : after_rank y ≡ given b.file ++ given b.letter = (taken_whole FileLetter (after_rank y)).0 ∙ ap (λ z. given b.file ++ z) letter in
+    let own_rank = (taken_whole Digit (after_sign y)).0 ∙ ap (λ z. given b.rank ++ z) own_file in
+    let sign = (taken_whole Sign (after_target y)).0 ∙ ap (λ z. given b.sign ++ z) own_rank in
+    let at_file = (one_whole FileLetter (after_target_rank y) file has_file).0 ∙ ap (λ z. file ∷ z) sign in
     let at_rank = (one_whole Digit (stem y) rank has_rank).0 ∙ ap (λ z. rank ∷ z) at_file in
     let equals = (equals_whole (last_of PromotionLetter (unmarked y)) (before_last PromotionLetter (unmarked y))).0 ∙ ap (λ z. given b.equals ++ z) at_rank in
     (taken_whole PromotionLetter (unmarked y)).0 ∙ ap (λ z. given b.promotion ++ z) equals
 
-pub found_text : (x : List ℕ) (file rank : ℕ) → last_of Digit (stem (reverse x)) ≡ Some rank → last_of FileLetter (behind_target_rank (reverse x)) ≡ Some file
-    → behind_letter (reverse x) ≡ [] → (marks : List ℕ) × IsTrue (list_all is_check_mark marks) × (x ≡ stem_text (found_bytes (reverse x) file rank) ++ marks)
+pub found_text : (x : List ℕ) (file rank : ℕ) → last_of Digit (stem (reverse x)) ≡ Some rank → last_of FileLetter (after_target_rank (reverse x)) ≡ Some file
+    → after_letter (reverse x) ≡ [] → (marks : List ℕ) × IsTrue (list_all is_check_mark marks) × (x ≡ stem_text (found_bytes (reverse x) file rank) ++ marks)
 found_text x file rank has_rank has_file rest =
     let b = found_bytes (reverse x) file rank in
     let parted = marks_of (reverse x) in
@@ -106,7 +106,7 @@ letter_shown b is = elim (kind_byte b is) [
   | inr (inr (inr (inr (inr e)))) ↦ subst (λ n. letter_text (kind_of n) ≡ n ∷ []) (sym e) refl
 ]
 
--- a byte of a promotion, behind a sign = or without one
+-- a byte of a promotion, after a sign = or without one
 promotion_of_byte : (b : ℕ) (p : Kind) (equals : Option ℕ) → IsPromotionKind p → kind_of b ≡ Some p → kind_letter p ≡ b → IsGivenOf Equals equals
     → IfSome (kind_of b) IsPromotionKind × (promotion_text (is_some equals) (kind_of b) ≡ given equals ++ b ∷ [])
 promotion_of_byte b p None is e letter none = (subst (λ o. IfSome o IsPromotionKind) (sym e) is, ap (promotion_text false) e ∙ ap (λ n. n ∷ []) letter)

@@ -1,4 +1,4 @@
--- The pawn that steps to a square: it comes from the next square back, or over that one from the square behind it.
+-- The pawn that steps to a square: it comes from the next square back, or over that one from the square before it.
 use Rattle.std.proofs.Common.{◌≡◌, ◌⊎◌, ◌≤◌, ◌||◌, ℕ, Bool, true, false, inl, inr, ap, refl, sym, subst, ◌∙◌, arith, None}
 use Rattle.chess.specs.Squares.{Place, IsOnBoard, same_square, gap}
 use Rattle.chess.specs.Placements.{man_at, opposite, IsEmpty}
@@ -27,28 +27,28 @@ same_back : (side : Side) (a b n : ℕ) → IsForward side a n → IsForward sid
 same_back White a b n e f = omega arith
 same_back Black a b n e f = omega arith
 
--- the square behind another for a side
-abbrev pub IsBehind : Side → Place → Place → Type 0
-IsBehind side t s = (s.file ≡ t.file) × IsForward side s.rank t.rank
+-- the square back from another for a side
+abbrev pub IsAtRear : Side → Place → Place → Type 0
+IsAtRear side t s = (s.file ≡ t.file) × IsForward side s.rank t.rank
 
-one_behind : (side : Side) (t s u : Place) → IsBehind side t s → IsBehind side t u → s ≡ u
-one_behind side t s u e f = place_of s u (e.0 ∙ sym f.0) (same_back side s.rank u.rank t.rank e.1 f.1)
+one_at_rear : (side : Side) (t s u : Place) → IsAtRear side t s → IsAtRear side t u → s ≡ u
+one_at_rear side t s u e f = place_of s u (e.0 ∙ sym f.0) (same_back side s.rank u.rank t.rank e.1 f.1)
 
--- what is found straight ahead for the other side is the square behind
+-- what is found straight ahead for the other side is the square back
 abbrev pub IsBack : Side → Place → Place → Type 0
 IsBack side t s = IsOnBoard s × (s.file ≡ t.file) × IsForward (opposite side) t.rank s.rank
 
-pub behind_of : (side : Side) (t s : Place) → IsBack side t s → IsBehind side t s
-behind_of side t s found = (found.1, forth side s.rank t.rank found.2)
+pub rear_of : (side : Side) (t s : Place) → IsBack side t s → IsAtRear side t s
+rear_of side t s found = (found.1, forth side s.rank t.rank found.2)
 
-single_behind : (P : State) (s t : Place) → IsSingleStep P s t → IsBehind P.turn t s
-single_behind P s t step = (sym step.0, step.1)
+single_at_rear : (P : State) (s t : Place) → IsSingleStep P s t → IsAtRear P.turn t s
+single_at_rear P s t step = (sym step.0, step.1)
 
-first_behind : (P : State) (s t : Place) (d : IsDoubleStep P s t) → IsBehind P.turn t d.passed
-first_behind P s t d = (d.same_file ∙ sym d.file, d.second)
+first_at_rear : (P : State) (s t : Place) (d : IsDoubleStep P s t) → IsAtRear P.turn t d.passed
+first_at_rear P s t d = (d.same_file ∙ sym d.file, d.second)
 
-second_behind : (P : State) (s t : Place) (d : IsDoubleStep P s t) → IsBehind P.turn d.passed s
-second_behind P s t d = (sym d.same_file, d.first)
+second_after : (P : State) (s t : Place) (d : IsDoubleStep P s t) → IsAtRear P.turn d.passed s
+second_after P s t d = (sym d.same_file, d.first)
 
 passed_on : (P : State) (s t : Place) → IsOnBoard s → IsOnBoard t → (d : IsDoubleStep P s t) → IsOnBoard d.passed
 passed_on P s t on there d = record {
@@ -63,60 +63,60 @@ pub no_step_taken : (P : State) (t s : Place) → (IsEmpty P.men t → ⊥) → 
 no_step_taken P t s held (pawn, inl single) = held single.2
 no_step_taken P t s held (pawn, inr double) = held double.end_empty
 
--- nor to one that has none behind it
+-- nor to one that has none at its rear
 pub no_step_edge : (P : State) (side : Side) (t : Place) → side ≡ opposite P.turn → IsOnBoard t → IsSquareAhead side t None → (s : Place) → IsOnBoard s
     → IsStepper P t s → ⊥
 no_step_edge P side t e there none s on (pawn, inl single) =
     none s on (sym single.0) (subst (λ a. IsForward a t.rank s.rank) (sym e) (back P.turn s.rank t.rank single.1))
 no_step_edge P side t e there none s on (pawn, inr double) =
-    let behind = first_behind P s t double in
-    none double.passed (passed_on P s t on there double) behind.0
-    (subst (λ a. IsForward a t.rank double.passed.rank) (sym e) (back P.turn double.passed.rank t.rank behind.1))
+    let rear = first_at_rear P s t double in
+    none double.passed (passed_on P s t on there double) rear.0
+    (subst (λ a. IsForward a t.rank double.passed.rank) (sym e) (back P.turn double.passed.rank t.rank rear.1))
 
--- the pawn on the square behind
-pub steps_once : (P : State) (t one : Place) → IsEmpty P.men t → IsBehind P.turn t one → IsMover P Pawn one → IsStepper P t one
-steps_once P t one empty behind pawn = (pawn, inl (sym behind.0, behind.1, empty))
+-- the pawn on the square back
+pub steps_once : (P : State) (t one : Place) → IsEmpty P.men t → IsAtRear P.turn t one → IsMover P Pawn one → IsStepper P t one
+steps_once P t one empty rear pawn = (pawn, inl (sym rear.0, rear.1, empty))
 
-pub only_once : (P : State) (t one s : Place) → IsBehind P.turn t one → IsMover P Pawn one → IsStepper P t s → s ≡ one
-only_once P t one s behind pawn (own, inl single) = one_behind P.turn t s one (single_behind P s t single) behind
-only_once P t one s behind pawn (own, inr double) =
-    let same = one_behind P.turn t double.passed one (first_behind P s t double) behind in
+pub only_once : (P : State) (t one s : Place) → IsAtRear P.turn t one → IsMover P Pawn one → IsStepper P t s → s ≡ one
+only_once P t one s rear pawn (own, inl single) = one_at_rear P.turn t s one (single_at_rear P s t single) rear
+only_once P t one s rear pawn (own, inr double) =
+    let same = one_at_rear P.turn t double.passed one (first_at_rear P s t double) rear in
     absurd (some_not_none (man_at P.men one) _ (subst (IsEmpty P.men) same double.empty) pawn)
 
--- else the one behind that
-from_two : (P : State) (t one s : Place) → IsBehind P.turn t one → (IsMover P Pawn one → ⊥) → IsStepper P t s
-    → IsBehind P.turn one s × CanStepOver P one s
-from_two P t one s behind none (own, inl single) =
-    absurd (none (subst (IsMover P Pawn) (one_behind P.turn t s one (single_behind P s t single) behind) own))
-from_two P t one s behind none (own, inr double) =
-    let same = one_behind P.turn t double.passed one (first_behind P s t double) behind in (
-      subst (λ u. IsBehind P.turn u s) same (second_behind P s t double),
+-- else the one back from that
+from_two : (P : State) (t one s : Place) → IsAtRear P.turn t one → (IsMover P Pawn one → ⊥) → IsStepper P t s
+    → IsAtRear P.turn one s × CanStepOver P one s
+from_two P t one s rear none (own, inl single) =
+    absurd (none (subst (IsMover P Pawn) (one_at_rear P.turn t s one (single_at_rear P s t single) rear) own))
+from_two P t one s rear none (own, inr double) =
+    let same = one_at_rear P.turn t double.passed one (first_at_rear P s t double) rear in (
+      subst (λ u. IsAtRear P.turn u s) same (second_after P s t double),
       (double.from_first_rank, subst (IsEmpty P.men) same double.empty, own),
     )
 
-pub no_second : (P : State) (side : Side) (t one s : Place) → side ≡ opposite P.turn → IsBehind P.turn t one → (IsMover P Pawn one → ⊥)
+pub no_second : (P : State) (side : Side) (t one s : Place) → side ≡ opposite P.turn → IsAtRear P.turn t one → (IsMover P Pawn one → ⊥)
     → IsSquareAhead side one None → IsOnBoard s → IsStepper P t s → ⊥
-no_second P side t one s e behind none edge on step =
-    let found = from_two P t one s behind none step in
+no_second P side t one s e rear none edge on step =
+    let found = from_two P t one s rear none step in
     edge s on found.0.0 (subst (λ a. IsForward a one.rank s.rank) (sym e) (back P.turn s.rank one.rank found.0.1))
 
-pub only_two : (P : State) (t one two s : Place) → IsBehind P.turn t one → IsBehind P.turn one two → (IsMover P Pawn one → ⊥) → IsStepper P t s
+pub only_two : (P : State) (t one two s : Place) → IsAtRear P.turn t one → IsAtRear P.turn one two → (IsMover P Pawn one → ⊥) → IsStepper P t s
     → (s ≡ two) × CanStepOver P one two
-only_two P t one two s behind second none step =
-    let found = from_two P t one s behind none step in
-    let same = one_behind P.turn one s two found.0 second in (same, subst (CanStepOver P one) same found.1)
+only_two P t one two s rear second none step =
+    let found = from_two P t one s rear none step in
+    let same = one_at_rear P.turn one s two found.0 second in (same, subst (CanStepOver P one) same found.1)
 
-pub steps_twice : (P : State) (t one two : Place) → IsEmpty P.men t → IsBehind P.turn t one → IsBehind P.turn one two → CanStepOver P one two
+pub steps_twice : (P : State) (t one two : Place) → IsEmpty P.men t → IsAtRear P.turn t one → IsAtRear P.turn one two → CanStepOver P one two
     → IsStepper P t two
-steps_twice P t one two empty behind second can = (
+steps_twice P t one two empty rear second can = (
   can.2,
   inr (record {
-    file = sym behind.0 ∙ sym second.0;
+    file = sym rear.0 ∙ sym second.0;
     from_first_rank = can.0;
     passed = one;
     same_file = sym second.0;
     first = second.1;
-    second = behind.1;
+    second = rear.1;
     empty = can.1;
     end_empty = empty;
   }),

@@ -5,9 +5,9 @@ use Rattle.std.specs.List.{list_all}
 use Rattle.std.proofs.lemmas.List.{append_assoc, reverse-append}
 use Rattle.std.proofs.lemmas.Bool.Decides.{nat_tests}
 use Rattle.chess.specs.Letters.{is_check_mark}
-use Rattle.chess.specs.SanWords.{is_of, last_of, before_last, unmarked, before_equals, stem, behind_target_rank, behind_sign, behind_rank, behind_file, behind_letter}
-use Rattle.chess.specs.declared.move_text.read.said.ByteClass.{ByteClass}
-use Rattle.chess.specs.declared.move_text.read.said.ByteClass.TheVariants.{Sign, Digit, FileLetter, KindLetter, Equals, PromotionLetter}
+use Rattle.chess.specs.SanWords.{is_of, last_of, before_last, unmarked, before_equals, stem, after_target_rank, after_sign, after_rank, after_file, after_letter}
+use Rattle.chess.specs.declared.move_text.read.parse.ByteClass.{ByteClass}
+use Rattle.chess.specs.declared.move_text.read.parse.ByteClass.TheVariants.{Sign, Digit, FileLetter, KindLetter, Equals, PromotionLetter}
 use Rattle.chess.proofs.ReadingFacts.{BeginsOtherwise, given, taken_given, begins_given}
 use Rattle.chess.proofs.CastlingTextFacts.{marks_off}
 
@@ -80,11 +80,11 @@ turned b =
 pub record ReadAs (y : List ℕ) (b : Bytes) : Type 0 where
   pub promotion : last_of PromotionLetter (unmarked y) ≡ b.promotion
   pub target_rank : last_of Digit (stem y) ≡ Some b.target_rank
-  pub target_file : last_of FileLetter (behind_target_rank y) ≡ Some b.target_file
-  pub rank : last_of Digit (behind_sign y) ≡ b.rank
-  pub file : last_of FileLetter (behind_rank y) ≡ b.file
-  pub letter : last_of KindLetter (behind_file y) ≡ b.letter
-  pub rest : behind_letter y ≡ []
+  pub target_file : last_of FileLetter (after_target_rank y) ≡ Some b.target_file
+  pub rank : last_of Digit (after_sign y) ≡ b.rank
+  pub file : last_of FileLetter (after_rank y) ≡ b.file
+  pub letter : last_of KindLetter (after_file y) ≡ b.letter
+  pub rest : after_letter y ≡ []
 
 -- ---- which class a byte is not of
 

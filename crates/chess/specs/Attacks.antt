@@ -48,7 +48,7 @@ Reaches p side Knight s t = IsJump s t
 Reaches p side Pawn s t = IsPawnHit side s t
 
 -- the man on s attacks t
-pub record IsInReach (p : Placement) (s t : Place) : Type 0 where
+pub record IsAttackedFrom (p : Placement) (s t : Place) : Type 0 where
   pub man : Man
   pub here : man_at p s ≡ Some man
   pub reaches : Reaches p man.side man.kind s t

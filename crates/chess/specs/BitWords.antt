@@ -35,14 +35,14 @@ abbrev pub row_of : Man → ℕ
 row_of man = number_of_side man.side + number_of_kind man.kind
 
 -- the number of the table of what a man sees: his kind's number, and one more for Black's pawns
-abbrev pub sight_row_of : Side → Kind → ℕ
-sight_row_of White other = number_of_kind other
-sight_row_of Black King = 0
-sight_row_of Black Queen = 1
-sight_row_of Black Rook = 2
-sight_row_of Black Bishop = 3
-sight_row_of Black Knight = 4
-sight_row_of Black Pawn = 6
+abbrev pub pseudo_attacks_row_of : Side → Kind → ℕ
+pseudo_attacks_row_of White other = number_of_kind other
+pseudo_attacks_row_of Black King = 0
+pseudo_attacks_row_of Black Queen = 1
+pseudo_attacks_row_of Black Rook = 2
+pseudo_attacks_row_of Black Bishop = 3
+pseudo_attacks_row_of Black Knight = 4
+pseudo_attacks_row_of Black Pawn = 6
 
 abbrev pub side_of_row : ℕ → Side
 side_of_row n = if ltb n 6 then White else Black

@@ -29,12 +29,12 @@ pub same_men : (p q : Placement) → ((s : Place) → man_at p s ≡ man_at q s)
 same_men p q each = same_map place_total place_exact p q each
 
 -- the first n squares hold their cells, and no other square holds a man
-pub none_behind : (cell : ℕ → Option Man) (n : ℕ) → n ≤ 64 → (s : Place) → ((k : ℕ) → k < n → s ≡ square_at k → ⊥) → man_at (first_men cell n) s ≡ None
+pub none_further : (cell : ℕ → Option Man) (n : ℕ) → n ≤ 64 → (s : Place) → ((k : ℕ) → k < n → s ≡ square_at k → ⊥) → man_at (first_men cell n) s ≡ None
 unfolding first_men
-none_behind cell zero h s other = get-empty place_cmp s
-none_behind cell (suc n) h s other =
+none_further cell zero h s other = get-empty place_cmp s
+none_further cell (suc n) h s other =
     man_at-other (first_men cell n) (square_at n) s (cell n) (other n (omega arith))
-    ∙ none_behind cell n (omega arith) s (λ k less. other k (omega arith))
+    ∙ none_further cell n (omega arith) s (λ k less. other k (omega arith))
 
 pub man_at-first_men : (cell : ℕ → Option Man) (n : ℕ) → n ≤ 64 → (k : ℕ) → k < n → man_at (first_men cell n) (square_at k) ≡ cell k
 unfolding first_men
@@ -106,7 +106,7 @@ on_board_or_not s = elim (cases_lt 0 s.file) [
 ]
 
 none_off_board : (cell : ℕ → Option Man) (s : Place) → (IsOnBoard s → ⊥) → man_at (men_of cell) s ≡ None
-none_off_board cell s off = none_behind cell 64 (omega arith) s (λ k less e. off (subst IsOnBoard (sym e) (on_board-square_at k less)))
+none_off_board cell s off = none_further cell 64 (omega arith) s (λ k less e. off (subst IsOnBoard (sym e) (on_board-square_at k less)))
 
 same_elsewhere : (old new : ℕ → Option Man) (s t : Place) → ((k : ℕ) → k < 64 → (k ≡ index_of s → ⊥) → new k ≡ old k) → (t ≡ s → ⊥)
     → IsOnBoard s → man_at (men_of new) t ≡ man_at (men_of old) t

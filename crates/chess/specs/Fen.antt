@@ -99,7 +99,7 @@ abbrev pub GivesEnPassant : List ℕ → Option Place → Type 0
 GivesEnPassant x None = x ≡ codes "-"
 GivesEnPassant x (Some s) = IsOnBoard s × (x ≡ square_text s)
 
--- the number that digits write, behind a number already read
+-- the number that digits write, after a number already read
 abbrev pub number_from : ℕ → List ℕ → ℕ
 number_from n [] = n
 number_from n (d ∷ digits) = number_from (10 * n + (d - 48)) digits

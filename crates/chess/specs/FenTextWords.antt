@@ -12,7 +12,7 @@ abbrev pub digit_of : ℕ → List ℕ
 digit_of zero = []
 digit_of (suc n) = (48 + suc n) ∷ []
 
--- the text of squares behind a run of so many empty ones
+-- the text of squares after a run of so many empty ones
 abbrev pub spelled_from : ℕ → List (Option Man) → List ℕ
 spelled_from n [] = digit_of n
 spelled_from n (None ∷ squares) = spelled_from (n + 1) squares

@@ -3,7 +3,7 @@ use Rattle.std.specs.Prelude.{◌≡◌, ◌≢◌, ◌⊎◌, ◌↔◌, ◌≤
 use Rattle.chess.specs.Placements.{AreOnBoard}
 use Rattle.chess.specs.Positions.{State, IsSound}
 use Rattle.chess.specs.Moves.{IsLegal, after}
-use Rattle.chess.specs.Start.{usual, IsUsual}
+use Rattle.chess.specs.Start.{initial, IsInitial}
 use Rattle.chess.specs.San.{IsSan, IsNamed, IsOnlyNamed}
 use Rattle.chess.specs.Fen.{SpellsPosition, ReadsFen, IsRefused, IsFen}
 use Rattle.chess.specs.declared.fen.FenError.{FenError}
@@ -35,13 +35,13 @@ PositionHasOneText = (P : State) (x y : List ℕ) → IsFen P x → IsFen P y �
 abbrev pub EachPositionHasAText : Type 0
 EachPositionHasAText = (P : State) → (x : List ℕ) × IsFen P x
 
--- the position that is made square by square is the usual one, and there is no other
-abbrev pub UsualPositionIsOne : Type 0
-UsualPositionIsOne = IsUsual usual × ((P : State) → IsUsual P → P ≡ usual)
+-- the position that is made square by square is the initial one, and there is no other
+abbrev pub InitialPositionIsOne : Type 0
+InitialPositionIsOne = IsInitial initial × ((P : State) → IsInitial P → P ≡ initial)
 
--- the usual position is sound, and so is each position after a legal move from a sound one
-abbrev pub UsualPositionIsSound : Type 0
-UsualPositionIsSound = IsSound usual
+-- the initial position is sound, and so is each position after a legal move from a sound one
+abbrev pub InitialPositionIsSound : Type 0
+InitialPositionIsSound = IsSound initial
 
 abbrev pub MovesKeepPositionsSound : Type 0
 MovesKeepPositionsSound = (P : State) (m : Move) → IsSound P → IsLegal P m → IsSound (after P m)

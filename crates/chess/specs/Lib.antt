@@ -16,7 +16,7 @@ pub mod Laws
 pub mod PlaceCodes
 pub mod SetWords
 pub mod BitWords
-pub mod Sights
+pub mod PseudoAttacks
 pub mod Cells
 pub mod CellFacts
 pub mod Codes

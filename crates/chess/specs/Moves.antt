@@ -1,7 +1,7 @@
 -- Which moves there are, and the position after one (Laws 3.1 to 3.9; PGN 16.1.3.3 to 16.1.3.6).
 use Rattle.std.specs.Prelude.{◌≡◌, ◌≢◌, ◌⊎◌, ℕ, ◌+◌, ◌/◌, ◌≤◌, Bool, true, false, not, ◌&&◌, ◌||◌, ◌==◌, if◌then◌else◌, min, Option, Some, None, is_some}
 use Rattle.chess.specs.Squares.{Place, IsOnBoard, same_square, gap}
-use Rattle.chess.specs.Placements.{Placement, man_at, with_man, opposite, IsHeld, IsEmpty}
+use Rattle.chess.specs.Placements.{Placement, man_at, with_man, opposite, IsOccupiedBy, IsEmpty}
 use Rattle.chess.specs.Attacks.{Reaches, IsAttacked, IsForward}
 use Rattle.chess.specs.Positions.{State, rook_of, home_rank, pawn_rank, has_right, king_from, king_to, rook_from, rook_to, IsCheck}
 use Rattle.chess.specs.declared.board.man.Man.{Man}
@@ -32,7 +32,7 @@ pub record IsDoubleStep (P : State) (s t : Place) : Type 0 where
 
 -- a pawn takes a man of the other side that it attacks, or moves to the en passant square that it attacks (Laws 3.7.3, 3.7.3.1)
 abbrev pub IsPawnCapture : State → Place → Place → Type 0
-IsPawnCapture P s t = Reaches P.men P.turn Pawn s t × (IsHeld P.men (opposite P.turn) t ⊎ (P.en_passant ≡ Some t))
+IsPawnCapture P s t = Reaches P.men P.turn Pawn s t × (IsOccupiedBy P.men (opposite P.turn) t ⊎ (P.en_passant ≡ Some t))
 
 abbrev pub IsPawnMove : State → Place → Place → Type 0
 IsPawnMove P s t = IsSingleStep P s t ⊎ (IsDoubleStep P s t ⊎ IsPawnCapture P s t)
@@ -83,7 +83,7 @@ pub record IsPseudoLegal (P : State) (m : Move) : Type 0 where
   pub man : Man
   pub here : man_at P.men m.from ≡ Some man
   pub own : man.side ≡ P.turn
-  pub free : IsHeld P.men P.turn m.to → ⊥
+  pub free : IsOccupiedBy P.men P.turn m.to → ⊥
   pub goes : Goes P m man.kind
 
 abbrev pub is_pawn : Option Man → Bool

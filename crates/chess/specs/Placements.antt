@@ -33,8 +33,8 @@ opposite White = Black
 opposite Black = White
 
 -- a man of the side stands on the square
-abbrev pub IsHeld : Placement → Side → Place → Type 0
-IsHeld p side s = (man : Man) × (man_at p s ≡ Some man) × (man.side ≡ side)
+abbrev pub IsOccupiedBy : Placement → Side → Place → Type 0
+IsOccupiedBy p side s = (man : Man) × (man_at p s ≡ Some man) × (man.side ≡ side)
 
 -- no man stands on the square
 abbrev pub IsEmpty : Placement → Place → Type 0

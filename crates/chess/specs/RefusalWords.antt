@@ -4,7 +4,7 @@ use Rattle.chess.specs.Squares.{Place, IsOnBoard}
 use Rattle.chess.specs.Positions.{State}
 use Rattle.chess.specs.Moves.{IsPseudoLegal, Promotes}
 use Rattle.chess.specs.San.{Said, kind_said}
-use Rattle.chess.specs.SanWords.{castling_on, IsAble}
+use Rattle.chess.specs.SanWords.{castling_on, IsCandidate}
 use Rattle.chess.specs.Refusals.{becoming}
 use Rattle.chess.specs.declared.board.man.Kind.{Kind}
 use Rattle.chess.specs.declared.board.man.Kind.TheVariants.{Pawn}
@@ -22,19 +22,19 @@ IsCastlingRefusal P wing NoneCan = ⊥
 IsCastlingRefusal P wing LeavesKingAttacked = ⊥
 
 -- no man is able to go as is said; some man is
-abbrev pub NoneAble : State → Said → Type 0
-NoneAble P said = (s : Place) → IsOnBoard s → IsAble P said s → ⊥
+abbrev pub NoCandidates : State → Said → Type 0
+NoCandidates P said = (s : Place) → IsOnBoard s → IsCandidate P said s → ⊥
 
 -- the promotion, or none, that the rules ask of a man of that kind on the square that it comes to (of a pawn's promotions one)
 abbrev pub IsFitting : State → Said → Option Kind → Type 0
 IsFitting P said fit =
     (kind_said said.letter ≡ Pawn → Promotes P.turn said.target fit) × (kind_said said.letter ≢ Pawn → fit ≡ None)
 
--- why no legal move agrees with what is said: some man is able, or none is but one would be with another promotion, or none would
+-- why no legal move agrees with what is said: some man is a candidate, or none is but one would be with another promotion, or none would
 abbrev pub IsSaidRefusal : State → Said → Refusal → Type 0
-IsSaidRefusal P said WrongPromotion = NoneAble P said × ((promote : Option Kind) × (s : Place) × IsAble P (becoming promote said) s)
-IsSaidRefusal P said NoneCan = (promote : Option Kind) → NoneAble P (becoming promote said)
-IsSaidRefusal P said LeavesKingAttacked = (s : Place) × IsAble P said s
+IsSaidRefusal P said WrongPromotion = NoCandidates P said × ((promote : Option Kind) × (s : Place) × IsCandidate P (becoming promote said) s)
+IsSaidRefusal P said NoneCan = (promote : Option Kind) → NoCandidates P (becoming promote said)
+IsSaidRefusal P said LeavesKingAttacked = (s : Place) × IsCandidate P said s
 IsSaidRefusal P said NoMoveText = ⊥
 IsSaidRefusal P said NoCastling = ⊥
 IsSaidRefusal P said CastlingAttacked = ⊥

@@ -9,7 +9,7 @@ abbrev pub after_run : ℕ → List ℕ → List ℕ
 after_run separator [] = []
 after_run separator (b ∷ x) = if b == separator then b ∷ x else after_run separator x
 
--- the bytes behind the separators that a text begins with
-abbrev pub behind_all : ℕ → List ℕ → List ℕ
-behind_all separator [] = []
-behind_all separator (b ∷ x) = if b == separator then behind_all separator x else b ∷ x
+-- the bytes after the separators that a text begins with
+abbrev pub after_all : ℕ → List ℕ → List ℕ
+after_all separator [] = []
+after_all separator (b ∷ x) = if b == separator then after_all separator x else b ∷ x

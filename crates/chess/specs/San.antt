@@ -146,7 +146,7 @@ IsBody P m None Rook x = IsPieceText P m Rook x
 IsBody P m None Bishop x = IsPieceText P m Bishop x
 IsBody P m None Knight x = IsPieceText P m Knight x
 
--- the mark behind a move, of the position after it: # for mate, + for a check that is no mate, else none, also for stalemate (PGN 8.2.3.5)
+-- the mark after a move, of the position after it: # for mate, + for a check that is no mate, else none, also for stalemate (PGN 8.2.3.5)
 pub data IsCheckMark (P : State) : List ℕ → Type 0 where
   mate : IsMate P → IsCheckMark P (35 ∷ [])
   check : IsCheck P.men P.turn → ¬ IsMate P → IsCheckMark P (43 ∷ [])

@@ -14,9 +14,9 @@ use Rattle.chess.specs.declared.board.man.Kind.TheVariants.{King, Queen, Rook, B
 use Rattle.chess.specs.declared.board.man.Side.{Side}
 use Rattle.chess.specs.declared.board.man.Wing.{Wing}
 use Rattle.chess.specs.declared.moves.Move.{Move}
-use Rattle.chess.specs.declared.move_text.read.said.ByteClass.{ByteClass}
-use Rattle.chess.specs.declared.move_text.read.said.ByteClass.TheVariants.{Sign, Digit, FileLetter, KindLetter, Equals, PromotionLetter}
-use Rattle.chess.specs.declared.move_text.read.said.SaidMove.{SaidMove}
+use Rattle.chess.specs.declared.move_text.read.parse.ByteClass.{ByteClass}
+use Rattle.chess.specs.declared.move_text.read.parse.ByteClass.TheVariants.{Sign, Digit, FileLetter, KindLetter, Equals, PromotionLetter}
+use Rattle.chess.specs.declared.move_text.read.parse.ParsedSan.{ParsedSan}
 
 -- the kind of that letter
 abbrev pub kind_of : ℕ → Option Kind
@@ -55,23 +55,23 @@ before_equals (Some b) y = before_last Equals y
 abbrev pub stem : List ℕ → List ℕ
 stem y = before_equals (last_of PromotionLetter (unmarked y)) (before_last PromotionLetter (unmarked y))
 
-abbrev pub behind_target_rank : List ℕ → List ℕ
-behind_target_rank y = before_last Digit (stem y)
+abbrev pub after_target_rank : List ℕ → List ℕ
+after_target_rank y = before_last Digit (stem y)
 
-abbrev pub behind_target : List ℕ → List ℕ
-behind_target y = before_last FileLetter (behind_target_rank y)
+abbrev pub after_target : List ℕ → List ℕ
+after_target y = before_last FileLetter (after_target_rank y)
 
-abbrev pub behind_sign : List ℕ → List ℕ
-behind_sign y = before_last Sign (behind_target y)
+abbrev pub after_sign : List ℕ → List ℕ
+after_sign y = before_last Sign (after_target y)
 
-abbrev pub behind_rank : List ℕ → List ℕ
-behind_rank y = before_last Digit (behind_sign y)
+abbrev pub after_rank : List ℕ → List ℕ
+after_rank y = before_last Digit (after_sign y)
 
-abbrev pub behind_file : List ℕ → List ℕ
-behind_file y = before_last FileLetter (behind_rank y)
+abbrev pub after_file : List ℕ → List ℕ
+after_file y = before_last FileLetter (after_rank y)
 
-abbrev pub behind_letter : List ℕ → List ℕ
-behind_letter y = before_last KindLetter (behind_file y)
+abbrev pub after_letter : List ℕ → List ℕ
+after_letter y = before_last KindLetter (after_file y)
 
 abbrev pub kind_given : Option ℕ → Option Kind
 kind_given None = None
@@ -87,15 +87,15 @@ IsWholeLetter y result = MatchOption result (before_last KindLetter y ≢ [])
     (λ letter. (before_last KindLetter y ≡ []) × (letter ≡ kind_given (last_of KindLetter y)))
 
 -- what the reader found, as what a text says
-abbrev pub said_by : SaidMove → Said
+abbrev pub said_by : ParsedSan → Said
 said_by r = record { letter = r.letter; file = r.file; rank = r.rank; target = r.target; promote = r.promote }
 
 -- the text says this alone; or it says nothing
-abbrev pub IsReadSaid : List ℕ → Option SaidMove → Type 0
+abbrev pub IsReadSaid : List ℕ → Option ParsedSan → Type 0
 IsReadSaid x result = (said : Said) → Spells x said ↔ (option_map said_by result ≡ Some said)
 
 -- a letter or none, a file and a rank are such bytes, and say this
-abbrev pub SaysPlainly : Option ℕ → ℕ → ℕ → SaidMove → Type 0
+abbrev pub SaysPlainly : Option ℕ → ℕ → ℕ → ParsedSan → Type 0
 SaysPlainly letter file rank r = IfSome letter (λ b. is_of KindLetter b ≡ true) × (is_of FileLetter file ≡ true) × (is_of Digit rank ≡ true)
     × (said_by r ≡ record {
       letter = kind_given letter;
@@ -106,7 +106,7 @@ SaysPlainly letter file rank r = IfSome letter (λ b. is_of KindLetter b ≡ tru
     })
 
 -- a file and a target are such bytes, and say this of a pawn that takes
-abbrev pub SaysPawnTakes : ℕ → ℕ → ℕ → SaidMove → Type 0
+abbrev pub SaysPawnTakes : ℕ → ℕ → ℕ → ParsedSan → Type 0
 SaysPawnTakes from file rank r = (is_of FileLetter from ≡ true) × (is_of FileLetter file ≡ true) × (is_of Digit rank ≡ true)
     × (said_by r ≡ record {
       letter = None;
@@ -116,7 +116,7 @@ SaysPawnTakes from file rank r = (is_of FileLetter from ≡ true) × (is_of File
       promote = None;
     })
 
--- the first text is the second with marks of check and mate behind it
+-- the first text is the second with marks of check and mate after it
 abbrev pub IsBeforeMarks : List ℕ → List ℕ → Type 0
 IsBeforeMarks x y = (marks : List ℕ) × IsTrue (list_all is_check_mark marks) × (x ≡ y ++ marks)
 
@@ -145,7 +145,7 @@ abbrev pub ChangesFile : Said → Type 0
 ChangesFile said = (n : ℕ) × (said.file ≡ Some n) × (n ≢ said.target.file)
 
 -- the man on s is the one that is spoken of, and may go so, whether or not his king is then attacked
-pub record IsAble (P : State) (said : Said) (s : Place) : Type 0 where
+pub record IsCandidate (P : State) (said : Said) (s : Place) : Type 0 where
   pub here : man_at P.men s ≡ Some (man_said P said)
   pub asked : IsAsked said s
   pub stays : kind_said said.letter ≡ Pawn → said.file ≡ None → s.file ≡ said.target.file

@@ -75,7 +75,7 @@ is_in-empty s = contains-empty place_cmp s
 is_in-insert : (set : Places) (t s : Place) → is_in (insert set t) s ≡ (eq_by_cmp place_cmp s t || is_in set s)
 is_in-insert set t s = contains-insert place_total set t s
 
--- none of the first n squares is one behind them, and one of them is in their set as the test says
+-- none of the first n squares is one after them, and one of them is in their set as the test says
 pub none_beyond : (test : ℕ → Bool) (n : ℕ) → n ≤ 64 → (s : Place) → n ≤ index_of s → is_in (first_places test n) s ≡ false
 unfolding first_places
 none_beyond test zero h s far = is_in-empty s

@@ -3,7 +3,7 @@ use Rattle.std.specs.Prelude.{◌≡◌, ◌↔◌, ℕ, Bool, true, Some}
 use Rattle.std.specs.FinSet.{FinSet, empty, contains, len}
 use Rattle.chess.specs.Squares.{Place, IsOnBoard, place_cmp}
 use Rattle.chess.specs.Placements.{Placement, man_at}
-use Rattle.chess.specs.Attacks.{IsInReach, Reaches}
+use Rattle.chess.specs.Attacks.{IsAttackedFrom, Reaches}
 use Rattle.chess.specs.declared.board.man.Man.{Man}
 
 -- a set of squares
@@ -23,15 +23,15 @@ HoldsExactly fact set = (s : Place) → (is_in set s ≡ true) ↔ (IsOnBoard s 
 
 -- the squares that the man on s attacks; the empty set where there is none
 abbrev pub IsReachOf : Placement → Place → Places → Type 0
-IsReachOf p s set = HoldsExactly (IsInReach p s) set
+IsReachOf p s set = HoldsExactly (IsAttackedFrom p s) set
 
 -- the squares on which that man stands
 abbrev pub IsSquaresOf : Placement → Man → Places → Type 0
 IsSquaresOf p man set = HoldsExactly (λ s. man_at p s ≡ Some man) set
 
 -- that man stands on s, one of the squares, and attacks the target
-abbrev pub IsHitter : Placement → Man → Place → Places → Place → Type 0
-IsHitter p man target among s = (is_in among s ≡ true) × (man_at p s ≡ Some man) × Reaches p man.side man.kind s target
+abbrev pub IsAttacker : Placement → Man → Place → Places → Place → Type 0
+IsAttacker p man target among s = (is_in among s ≡ true) × (man_at p s ≡ Some man) × Reaches p man.side man.kind s target
 
 -- how many squares a set has
 abbrev pub size_of : Places → ℕ

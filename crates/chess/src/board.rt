@@ -1,19 +1,19 @@
 //! What a board is: a map from squares to men.
 ghost use Rattle.std.specs.Prelude.{◌≡◌, ◌↔◌, IsTrue, None, Some};
-ghost use Rattle.chess.specs.Placements.{Placement, no_men, man_at, with_man, opposite, AreOnBoard, IsEmpty, IsHeld};
+ghost use Rattle.chess.specs.Placements.{Placement, no_men, man_at, with_man, opposite, AreOnBoard, IsEmpty, IsOccupiedBy};
 ghost use Rattle.chess.specs.Attacks.{IsAttacked};
-ghost use Rattle.chess.specs.Start.{usual_men};
-ghost use Rattle.chess.specs.Sets.{IsReachOf, IsSquaresOf, HoldsExactly, IsHitter};
+ghost use Rattle.chess.specs.Start.{initial_men};
+ghost use Rattle.chess.specs.Sets.{IsReachOf, IsSquaresOf, HoldsExactly, IsAttacker};
 
+mod attack_tables;
 mod bits;
 mod direction;
 mod fills;
+mod initial;
 mod mailbox;
 mod man;
 mod set;
-mod sights;
 mod square;
-mod usual;
 
 pub use bits::Bits;
 pub use direction::Direction;
@@ -32,8 +32,8 @@ pub trait Board: Copy {
         ensures { men result ≡ no_men };
 
     /// The board with all men where they stand as games usually begin (Laws 2.3).
-    fn usual() -> Self
-        ensures { men result ≡ usual_men };
+    fn initial() -> Self
+        ensures { men result ≡ initial_men };
 
     /// The man on a square, or none.
     fn at(&self, square: Square) -> Option<Man>
@@ -44,7 +44,7 @@ pub trait Board: Copy {
         ensures { men self.new ≡ with_man (men self.old) square man };
 
     /// Takes the men off `taken` and `from`, and puts that man, or none, on `to`. No other square changes.
-    fn carry(&mut self, man: Option<Man>, from: Square, taken: Square, to: Square)
+    fn move_piece(&mut self, man: Option<Man>, from: Square, taken: Square, to: Square)
         ensures { men self.new ≡ with_man (with_man (with_man (men self.old) taken None) from None) to man };
 
     /// Whether no man stands on the square.
@@ -52,14 +52,14 @@ pub trait Board: Copy {
         ensures { IsTrue result ↔ IsEmpty (men self.now) square };
 
     /// Whether a man of the side stands on the square.
-    fn is_held(&self, side: Side, square: Square) -> bool
-        ensures { IsTrue result ↔ IsHeld (men self.now) side square };
+    fn is_occupied_by(&self, side: Side, square: Square) -> bool
+        ensures { IsTrue result ↔ IsOccupiedBy (men self.now) side square };
 
     /// Whether some man of the side attacks the square (Laws 3.1.2).
     fn attacked(&self, square: Square, side: Side) -> bool
         ensures { IsTrue result ↔ IsAttacked (men self.now) side square };
 
-    /// Whether some man of the other side attacks the square once that man is carried so, as `carry` does it. The board stays as it is.
+    /// Whether some man of the other side attacks the square once that man is moved so, as `move_piece` does it. The board stays as it is.
     fn attacked_after(
         &self,
         square: Square,
@@ -79,8 +79,8 @@ pub trait Board: Copy {
         ensures { IsSquaresOf (men self.now) man result };
 
     /// Those of the squares on which that man stands and attacks the target.
-    fn hitters(&self, man: Man, target: Square, among: SquareSet) -> SquareSet
-        ensures { HoldsExactly (IsHitter (men self.now) man target among) result };
+    fn attackers_from(&self, man: Man, target: Square, among: SquareSet) -> SquareSet
+        ensures { HoldsExactly (IsAttacker (men self.now) man target among) result };
 
     ghost on_board: { (b : Self) → AreOnBoard (men b) };
 }

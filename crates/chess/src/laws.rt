@@ -1,6 +1,6 @@
 //! What holds of every text and position, whatever reads it. Each law is the contract of a function that does nothing.
 
-ghost use Rattle.chess.specs.Laws.{TextSpellsOnePosition, TextHasOneAnswer, SoundPositionsAreRead, FenIsReadBack, PositionHasOneText, EachPositionHasAText, UsualPositionIsOne, UsualPositionIsSound, MovesKeepPositionsSound, SanNamesItsMove, MoveHasOneText, EachMoveHasAText, EachTextNamesOneNoneOrSeveral, SpelledMenAreOnBoard, MenStayOnBoard, EachTextIsReadOrRefused};
+ghost use Rattle.chess.specs.Laws.{TextSpellsOnePosition, TextHasOneAnswer, SoundPositionsAreRead, FenIsReadBack, PositionHasOneText, EachPositionHasAText, InitialPositionIsOne, InitialPositionIsSound, MovesKeepPositionsSound, SanNamesItsMove, MoveHasOneText, EachMoveHasAText, EachTextNamesOneNoneOrSeveral, SpelledMenAreOnBoard, MenStayOnBoard, EachTextIsReadOrRefused};
 
 /// A text spells at most one position in FEN, and none that is refused.
 pub fn one_position()
@@ -17,14 +17,14 @@ pub fn fen_is_read_back()
     ensures sound { SoundPositionsAreRead }
 {}
 
-/// The usual position has its men where the Laws put them, and no other position is usual.
-pub fn one_usual_position()
-    ensures { UsualPositionIsOne }
+/// The initial position has its men where the Laws put them, and no other position is initial.
+pub fn one_initial_position()
+    ensures { InitialPositionIsOne }
 {}
 
-/// The usual position is sound, and each position after a legal move from a sound one.
+/// The initial position is sound, and each position after a legal move from a sound one.
 pub fn positions_are_sound()
-    ensures usual { UsualPositionIsSound }
+    ensures initial { InitialPositionIsSound }
     ensures after { MovesKeepPositionsSound }
 {}
 

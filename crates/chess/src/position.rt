@@ -1,10 +1,10 @@
 //! Positions, over any board.
 ghost use Rattle.std.specs.Prelude.{◌≡◌, ◌↔◌, IsTrue};
-ghost use Rattle.chess.specs.Placements.{man_at, IsHeld, IsEmpty};
+ghost use Rattle.chess.specs.Placements.{man_at, IsOccupiedBy, IsEmpty};
 ghost use Rattle.chess.specs.Attacks.{IsAttacked};
 ghost use Rattle.chess.specs.Positions.{State, IsSound, IsOnlyKing, IsCheck, has_right};
 ghost use Rattle.chess.specs.Moves.{is_square};
-ghost use Rattle.chess.specs.Sets.{IsReachOf, IsSquaresOf, HoldsExactly, IsHitter};
+ghost use Rattle.chess.specs.Sets.{IsReachOf, IsSquaresOf, HoldsExactly, IsAttacker};
 
 use crate::board::{Board, CastlingRights, Man, Side, Square, SquareSet, Wing};
 use std::marker::Model;
@@ -90,7 +90,7 @@ impl<B: Board> Position<B> {
     }
 
     /// Every position keeps the facts of `IsSound`, however it was come by: a caller that asks knows them. Nothing is done.
-    pub fn known(&self)
+    pub fn invariant(&self)
         ensures { IsSound self.now }
     {
         let _ = &self.board;
@@ -123,7 +123,7 @@ impl<B: Board> Position<B> {
     }
 
     /// The squares that the man on the square attacks; the empty set where there is none.
-    pub(crate) fn reach(&self, square: Square) -> SquareSet
+    pub(crate) fn attacks_from(&self, square: Square) -> SquareSet
         ensures { IsReachOf self.now.men square result }
     {
         self.board.reach(square)
@@ -139,10 +139,10 @@ impl<B: Board> Position<B> {
 
     /// Those of the squares on which that man stands and attacks the target.
     #[inline(always)]
-    pub(crate) fn hitters(&self, man: Man, target: Square, among: SquareSet) -> SquareSet
-        ensures { HoldsExactly (IsHitter self.now.men man target among) result }
+    pub(crate) fn attackers_from(&self, man: Man, target: Square, among: SquareSet) -> SquareSet
+        ensures { HoldsExactly (IsAttacker self.now.men man target among) result }
     {
-        self.board.hitters(man, target, among)
+        self.board.attackers_from(man, target, among)
     }
 
     /// Whether no man stands on the square.
@@ -155,10 +155,10 @@ impl<B: Board> Position<B> {
 
     /// Whether a man of the side stands on the square.
     #[inline(always)]
-    pub(crate) fn is_held(&self, side: Side, square: Square) -> bool
-        ensures { IsTrue result ↔ IsHeld self.now.men side square }
+    pub(crate) fn is_occupied_by(&self, side: Side, square: Square) -> bool
+        ensures { IsTrue result ↔ IsOccupiedBy self.now.men side square }
     {
-        self.board.is_held(side, square)
+        self.board.is_occupied_by(side, square)
     }
 
     /// Whether the side holds the right to castle on the wing.
@@ -169,7 +169,7 @@ impl<B: Board> Position<B> {
     }
 
     /// Whether that is the en passant square.
-    pub(crate) fn passes(&self, square: Square) -> bool
+    pub(crate) fn is_en_passant_target(&self, square: Square) -> bool
         ensures fact { IsTrue result ↔ (self.now.en_passant ≡ Some square) }
         ensures test { result ≡ is_square self.now.en_passant square }
     {

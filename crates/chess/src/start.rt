@@ -1,7 +1,7 @@
 //! The position in which games usually begin (Laws 2.3).
 ghost use Rattle.std.specs.Prelude.{◌≡◌};
 ghost use Rattle.chess.specs.Positions.{IsSound};
-ghost use Rattle.chess.specs.Start.{usual};
+ghost use Rattle.chess.specs.Start.{initial};
 
 use crate::board::{Board, CastlingRights, Side, Square};
 use crate::position::Position;
@@ -9,11 +9,11 @@ use crate::position::Position;
 impl<B: Board> Position<B> {
     /// The position in which games usually begin.
     pub fn start() -> Self
-        ensures position { result ≡ usual }
+        ensures position { result ≡ initial }
         ensures sound { IsSound result }
     {
         Position {
-            board: B::usual(),
+            board: B::initial(),
             turn: Side::White,
             rights: CastlingRights {
                 white_king_side: true,

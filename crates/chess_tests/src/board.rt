@@ -211,7 +211,7 @@ fn both_boards_agree_along_games(rt: HostRuntime) -> Result<(), Fail> {
 #[test]
 fn bits_is_twelve_words(rt: HostRuntime) -> Result<(), Fail> {
     // White's kinds from the king to the pawn, then Black's; a field that is added would be shown too
-    let start = format!(in rt.alloc(); "{:?}", Bits::usual())?;
+    let start = format!(in rt.alloc(); "{:?}", Bits::initial())?;
     let words =
         "[16, 8, 129, 36, 66, 65280, 1152921504606846976, 576460752303423488, 9295429630892703744, 2594073385365405696, 4755801206503243776, 71776119061217280]";
     let shown = format!(in rt.alloc(); "Bits {{ words: {words} }}")?;

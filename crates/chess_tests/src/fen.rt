@@ -99,7 +99,7 @@ const WRITTEN: [(&str, &str); 30] = [
         "4k3/8/3n4/3p4/8/8/8/4K3 w - d6 0 1",
         "4k3/8/3n4/3p4/8/8/8/4K3 w - - 0 1",
     ),
-    // where no pawn of the other side stands behind it
+    // where no pawn of the other side has just passed it
     (
         "4k3/8/8/8/8/8/8/4K3 w - d6 0 1",
         "4k3/8/8/8/8/8/8/4K3 w - - 0 1",

@@ -232,7 +232,7 @@ const STANDINGS: [(&str, bool, bool); 23] = [
     // one legal move alone: a pawn's, a promotion, en passant
     ("7k/8/6Q1/8/8/p7/8/6K1 b - - 0 1", false, true),
     ("7k/8/6Q1/8/8/8/p7/6K1 b - - 0 1", false, true),
-    // check by each man, and not from behind another one, nor by a pawn straight ahead or backward
+    // check by each man, and not through another one, nor by a pawn straight ahead or backward
     ("4k3/8/8/8/8/8/4Q3/6K1 b - - 0 1", true, true),
     ("4k3/8/8/8/8/8/4R3/6K1 b - - 0 1", true, true),
     ("4k3/4p3/8/8/8/8/4R3/6K1 b - - 0 1", false, true),

@@ -13,7 +13,7 @@ const WHOLE: Style = Style {
     width: 80,
 };
 
-/// Whether the block's first game is sound, and its export in the style, behind a byte that stands before it, is the text.
+/// Whether the block's first game is sound, and its export in the style, after a byte that stands before it, is the text.
 fn is_exported(
     alloc: Global,
     block: &[u8],

@@ -1,4 +1,4 @@
-//! What is left behind a refusal of memory, in the process that met it. Where no request is refused the calls go well; `rt try --test
+//! What is left after a refusal of memory, in the process that met it. Where no request is refused the calls go well; `rt try --test
 //! --fail-alloc N` refuses the Nth request of each test, and these hold for each N.
 use pgn_game::{GameFault, Lines, Style, export, replay};
 use pgn_text::{Blocks, ReadError, Tally, games};
@@ -19,7 +19,7 @@ const WHOLE: Style = Style {
     width: 80,
 };
 
-/// Whether `next` fails behind a refusal of memory, and goes well without one.
+/// Whether `next` fails after a refusal of memory, and goes well without one.
 fn next_fails(alloc: Global) -> bool {
     let mut blocks = Blocks::new(alloc, 0);
     let mut input = Tally::new(Pieces::new(TWO_GAMES, 8192));
@@ -32,7 +32,7 @@ fn next_fails(alloc: Global) -> bool {
     matches!(blocks.next(&mut input), Ok(None))
 }
 
-/// Whether the pieces of a block end behind a refusal of memory.
+/// Whether the pieces of a block end after a refusal of memory.
 fn games_end(alloc: Global) -> bool {
     let mut was_refused = false;
     for piece in games(alloc, ELEMENTS, true) {
@@ -44,7 +44,7 @@ fn games_end(alloc: Global) -> bool {
     true
 }
 
-/// Whether an export that is refused memory leaves its vector as it was, and one that is not writes behind it.
+/// Whether an export that is refused memory leaves its vector as it was, and one that is not writes after it.
 fn export_leaves(alloc: Global) -> bool {
     let game = match first_game(alloc, ELEMENTS) {
         Ok(Some(game)) => game,
@@ -66,13 +66,13 @@ fn export_leaves(alloc: Global) -> bool {
 }
 
 #[test]
-fn next_fails_behind_a_refusal(rt: HostRuntime) -> Result<(), Fail> {
+fn next_fails_after_a_refusal(rt: HostRuntime) -> Result<(), Fail> {
     assert!(rt; next_fails(rt.alloc()));
     Ok(())
 }
 
 #[test]
-fn games_end_behind_a_refusal(rt: HostRuntime) -> Result<(), Fail> {
+fn games_end_after_a_refusal(rt: HostRuntime) -> Result<(), Fail> {
     assert!(rt; games_end(rt.alloc()));
     Ok(())
 }

@@ -1,7 +1,7 @@
 //! Games with the main line, or the turns of all lines, that they must be replayed to, or the fault that they must be refused for.
 use chess::{Move, Side, Square};
 use pgn_game::{
-    GameFault, Lines, Replayed, Turn, check_lines, check_variations, count_plies, replay,
+    GameFault, LineMove, Lines, Replayed, check_lines, check_variations, count_plies, replay,
     replay_opening,
 };
 use std::alloc::{AllocError, Global};
@@ -357,10 +357,10 @@ fn the_first_fault_of_all_lines_is_reported(rt: HostRuntime) -> Result<(), Fail>
 type Step = Option<((u8, u8), (u8, u8))>;
 
 /// Whether the turn is this step.
-fn is_step(turn: &Turn, step: Step) -> bool {
+fn is_step(turn: &LineMove, step: Step) -> bool {
     match (turn, step) {
-        (Turn::Played(m), Some((from, to))) => goes(m, from, to),
-        (Turn::Passed, None) => true,
+        (LineMove::Played(m), Some((from, to))) => goes(m, from, to),
+        (LineMove::Passed, None) => true,
         _ => false,
     }
 }

@@ -1,12 +1,12 @@
 -- The text of a claim begins and ends with a solid byte, and its first word is that of its kind, so it is never that of a denied claim.
 use Rattle.std.proofs.Common.{◌≡◌, ℕ, IsTrue, List, [], ◌∷◌, ◌++◌, refl, sym, ap, ◌∙◌, subst, arith}
 use Rattle.std.specs.Prelude.{codes, true, ◌+◌}
-use Rattle.pgn_criteria.specs.Reading.{run_of, behind_word}
+use Rattle.pgn_criteria.specs.Reading.{run_of, after_word}
 use Rattle.pgn_criteria.specs.Lines.{SpellsClaim, SpellsTaken, can_be_denied, side_text, relation_text, comparison_text}
 use Rattle.pgn_criteria.specs.Stages.{claim_seen}
 use Rattle.pgn_criteria.specs.declared.condition.Claim.{Claim}
 use Rattle.pgn_criteria.specs.declared.condition.Claim.TheVariants.{Tag, Fen, Flip, Material, Moves, Plies, Result, Next, Played, For, Count, Turn, Check, Mate, Stalemate}
-use Rattle.pgn_criteria.proofs.SolidFacts.{BeginsSolid, EndsSolid, solid_ends, ends_behind, begins_some, word_read, word_spelled}
+use Rattle.pgn_criteria.proofs.SolidFacts.{BeginsSolid, EndsSolid, solid_ends, ends_after, begins_some, word_read, word_spelled}
 use Rattle.pgn_criteria.proofs.TurnFacts.{side_ends, turn_read}
 use Rattle.pgn_criteria.proofs.FenFacts.{pattern_some, pattern_solid, fen_read, flip_read}
 use Rattle.pgn_criteria.proofs.PliesFacts.{count_ends, plies_read, counted_read, for_read}
@@ -40,42 +40,42 @@ ends_as text whole is (front, b, ends, solid) = (front, b, is ∙ ends, solid)
 pub claim_ends : (text : List ℕ) (claim : Claim (List ℕ)) → SpellsClaim text claim → EndsSolid text
 claim_ends text (Tag name relation contents) (first, second, third, is, g, h, k, are, good, fits) =
     let string = 34 ∷ (contents ++ 34 ∷ []) in
-    ends_as text _ is (ends_behind (codes "tag") (first ++ (name ++ (second ++ (relation_text relation ++ (third ++ string)))))
-    (ends_behind first (name ++ (second ++ (relation_text relation ++ (third ++ string))))
-    (ends_behind name (second ++ (relation_text relation ++ (third ++ string)))
-    (ends_behind second (relation_text relation ++ (third ++ string))
-    (ends_behind (relation_text relation) (third ++ string) (ends_behind third string (34 ∷ contents, 34, refl, refl)))))))
+    ends_as text _ is (ends_after (codes "tag") (first ++ (name ++ (second ++ (relation_text relation ++ (third ++ string)))))
+    (ends_after first (name ++ (second ++ (relation_text relation ++ (third ++ string))))
+    (ends_after name (second ++ (relation_text relation ++ (third ++ string)))
+    (ends_after second (relation_text relation ++ (third ++ string))
+    (ends_after (relation_text relation) (third ++ string) (ends_after third string (34 ∷ contents, 34, refl, refl)))))))
 claim_ends text (Fen pattern) (gap, is, g, good) =
-    ends_as text _ is (ends_behind (codes "fen") (gap ++ pattern) (ends_behind gap pattern (solid_ends pattern (pattern_some pattern good) (pattern_solid pattern good))))
+    ends_as text _ is (ends_after (codes "fen") (gap ++ pattern) (ends_after gap pattern (solid_ends pattern (pattern_some pattern good) (pattern_solid pattern good))))
 claim_ends text (Flip pattern) (first, own, is, g, (gap, own_is, h, good)) =
-    ends_as text _ is (ends_behind (codes "flip") (first ++ own) (ends_behind first own (ends_as own _ own_is
-    (ends_behind (codes "fen") (gap ++ pattern) (ends_behind gap pattern (solid_ends pattern (pattern_some pattern good) (pattern_solid pattern good)))))))
+    ends_as text _ is (ends_after (codes "flip") (first ++ own) (ends_after first own (ends_as own _ own_is
+    (ends_after (codes "fen") (gap ++ pattern) (ends_after gap pattern (solid_ends pattern (pattern_some pattern good) (pattern_solid pattern good)))))))
 claim_ends text (Material white black) (first, second, third, of_white, of_black, is, g, h, k, spells_white, spells_black) =
-    let last = ends_behind third of_black (solid_ends of_black (limits_some of_black black spells_black) (limits_solid of_black black spells_black)) in
-    ends_as text _ is (ends_behind (codes "material") (first ++ (of_white ++ (second ++ (codes "v" ++ (third ++ of_black)))))
-    (ends_behind first (of_white ++ (second ++ (codes "v" ++ (third ++ of_black))))
-    (ends_behind of_white (second ++ (codes "v" ++ (third ++ of_black)))
-    (ends_behind second (codes "v" ++ (third ++ of_black)) (ends_behind (codes "v") (third ++ of_black) last)))))
+    let last = ends_after third of_black (solid_ends of_black (limits_some of_black black spells_black) (limits_solid of_black black spells_black)) in
+    ends_as text _ is (ends_after (codes "material") (first ++ (of_white ++ (second ++ (codes "v" ++ (third ++ of_black)))))
+    (ends_after first (of_white ++ (second ++ (codes "v" ++ (third ++ of_black))))
+    (ends_after of_white (second ++ (codes "v" ++ (third ++ of_black)))
+    (ends_after second (codes "v" ++ (third ++ of_black)) (ends_after (codes "v") (third ++ of_black) last)))))
 claim_ends text (Moves words) (gap, is, g, are) =
-    ends_as text _ is (ends_behind (codes "moves") (gap ++ words) (ends_behind gap words (words_end words are)))
+    ends_as text _ is (ends_after (codes "moves") (gap ++ words) (ends_after gap words (words_end words are)))
 claim_ends text (Plies comparison count) (first, second, digits, is, g, h, counted) =
-    ends_as text _ is (ends_behind (codes "plies") (first ++ (comparison_text comparison ++ (second ++ digits)))
-    (ends_behind first (comparison_text comparison ++ (second ++ digits))
-    (ends_behind (comparison_text comparison) (second ++ digits) (ends_behind second digits (count_ends digits count counted)))))
+    ends_as text _ is (ends_after (codes "plies") (first ++ (comparison_text comparison ++ (second ++ digits)))
+    (ends_after first (comparison_text comparison ++ (second ++ digits))
+    (ends_after (comparison_text comparison) (second ++ digits) (ends_after second digits (count_ends digits count counted)))))
 claim_ends text (Result result) (gap, is, g, good) =
-    ends_as text _ is (ends_behind (codes "result") (gap ++ result) (ends_behind gap result (result_ends result good)))
+    ends_as text _ is (ends_after (codes "result") (gap ++ result) (ends_after gap result (result_ends result good)))
 claim_ends text (Next word) (gap, is, g, like) =
-    ends_as text _ is (ends_behind (codes "next") (gap ++ word) (ends_behind gap word (like_ends word like)))
+    ends_as text _ is (ends_after (codes "next") (gap ++ word) (ends_after gap word (like_ends word like)))
 claim_ends text (Played word) (gap, is, g, like) =
-    ends_as text _ is (ends_behind (codes "played") (gap ++ word) (ends_behind gap word (like_ends word like)))
+    ends_as text _ is (ends_after (codes "played") (gap ++ word) (ends_after gap word (like_ends word like)))
 claim_ends text (For count) (gap, digits, is, g, counted, some) =
-    ends_as text _ is (ends_behind (codes "for") (gap ++ digits) (ends_behind gap digits (count_ends digits count counted)))
+    ends_as text _ is (ends_after (codes "for") (gap ++ digits) (ends_after gap digits (count_ends digits count counted)))
 claim_ends text (Count comparison count) (first, second, digits, is, g, h, counted) =
-    ends_as text _ is (ends_behind (codes "count") (first ++ (comparison_text comparison ++ (second ++ digits)))
-    (ends_behind first (comparison_text comparison ++ (second ++ digits))
-    (ends_behind (comparison_text comparison) (second ++ digits) (ends_behind second digits (count_ends digits count counted)))))
+    ends_as text _ is (ends_after (codes "count") (first ++ (comparison_text comparison ++ (second ++ digits)))
+    (ends_after first (comparison_text comparison ++ (second ++ digits))
+    (ends_after (comparison_text comparison) (second ++ digits) (ends_after second digits (count_ends digits count counted)))))
 claim_ends text (Turn side) (gap, is, g) =
-    ends_as text _ is (ends_behind (codes "turn") (gap ++ side_text side) (ends_behind gap (side_text side) (side_ends side)))
+    ends_as text _ is (ends_after (codes "turn") (gap ++ side_text side) (ends_after gap (side_text side) (side_ends side)))
 claim_ends text Check is = ends_as text _ is (codes "chec", 107, refl, refl)
 claim_ends text Mate is = ends_as text _ is (codes "mat", 101, refl, refl)
 claim_ends text Stalemate is = ends_as text _ is (codes "stalemat", 101, refl, refl)
@@ -178,15 +178,15 @@ denied_seen bytes Check = refl
 denied_seen bytes Mate = refl
 denied_seen bytes Stalemate = refl
 
--- a denied claim is read behind its first word, and the other way round
+-- a denied claim is read after its first word, and the other way round
 pub not_read : (text : List ℕ) (claim : Claim (List ℕ)) → SpellsTaken text true claim
-    → (run_of text ≡ codes "not") × IsTrue (can_be_denied claim) × SpellsClaim (behind_word text) claim
+    → (run_of text ≡ codes "not") × IsTrue (can_be_denied claim) × SpellsClaim (after_word text) claim
 not_read text claim (gap, own, is, g, of, spells) =
     let parts = word_read text (codes "not") gap own is refl g (claim_begins own claim spells) in
     (parts.0, of, subst (λ x. SpellsClaim x claim) (sym parts.1) spells)
 
-pub not_spelled : (text : List ℕ) (claim : Claim (List ℕ)) → run_of text ≡ codes "not" → IsTrue (can_be_denied claim) → SpellsClaim (behind_word text) claim
+pub not_spelled : (text : List ℕ) (claim : Claim (List ℕ)) → run_of text ≡ codes "not" → IsTrue (can_be_denied claim) → SpellsClaim (after_word text) claim
     → SpellsTaken text true claim
 not_spelled text claim run of spells =
-    let two = word_spelled text (codes "not") (behind_word text) run refl (begins_some (behind_word text) (claim_begins (behind_word text) claim spells)) in
-    (two.0, behind_word text, two.1, two.2, of, spells)
+    let two = word_spelled text (codes "not") (after_word text) run refl (begins_some (after_word text) (claim_begins (after_word text) claim spells)) in
+    (two.0, after_word text, two.1, two.2, of, spells)

@@ -2,13 +2,13 @@
 use Rattle.std.proofs.Common.{◌≡◌, ℕ, Bool, true, false, List, ◌++◌, IsTrue, refl, sym, ap, ◌∙◌, subst, inl, inr}
 use Rattle.std.specs.Prelude.{codes, ◌==◌}
 use Rattle.pgn_criteria.specs.Mirrors.{can_be_mirrored}
-use Rattle.pgn_criteria.specs.Reading.{core_of, run_of, behind_word}
+use Rattle.pgn_criteria.specs.Reading.{core_of, run_of, after_word}
 use Rattle.pgn_criteria.specs.Lines.{SpellsTaken, SpellsTurned, SpellsCondition, Spells, IsLine}
 use Rattle.pgn_criteria.specs.declared.condition.Condition.{Condition}
 use Rattle.pgn_criteria.specs.declared.condition.Claim.{Claim}
 use Rattle.pgn_criteria.specs.declared.line.Meaning.{Meaning}
 use Rattle.pgn_criteria.specs.declared.line.Meaning.TheVariants.{Nothing, Or, Asks}
-use Rattle.pgn_criteria.proofs.SolidFacts.{BeginsSolid, EndsSolid, ends_behind, begins_some, word_read, word_spelled}
+use Rattle.pgn_criteria.proofs.SolidFacts.{BeginsSolid, EndsSolid, ends_after, begins_some, word_read, word_spelled}
 use Rattle.pgn_criteria.proofs.ClaimFacts.{claim_begins, claim_ends, ends_as, claim_either, not_read, total}
 use Rattle.pgn_criteria.proofs.CoreFacts.{core_about, solid_core, empty_core, comment_core}
 
@@ -26,7 +26,7 @@ condition_begins text condition spells = begins condition.is_either spells
 taken_ends : (text : List ℕ) (denied : Bool) (claim : Claim (List ℕ)) → SpellsTaken text denied claim → EndsSolid text
 taken_ends text false claim spells = claim_ends text claim spells
 taken_ends text true claim (gap, own, is, g, of, spells) =
-    ends_as text _ is (ends_behind (codes "not") (gap ++ own) (ends_behind gap own (claim_ends own claim spells)))
+    ends_as text _ is (ends_after (codes "not") (gap ++ own) (ends_after gap own (claim_ends own claim spells)))
 
 condition_ends : (text : List ℕ) (condition : Condition (List ℕ)) → SpellsCondition text condition → EndsSolid text
 condition_ends text condition spells = ends condition.is_either spells
@@ -34,19 +34,19 @@ condition_ends text condition spells = ends condition.is_either spells
     ends : (either : Bool) → SpellsTurned text either condition.is_denied condition.claim → EndsSolid text
     ends false spells = taken_ends text condition.is_denied condition.claim spells
     ends true (gap, own, is, g, of, spells) =
-        ends_as text _ is (ends_behind (codes "either") (gap ++ own) (ends_behind gap own (taken_ends own condition.is_denied condition.claim spells)))
+        ends_as text _ is (ends_after (codes "either") (gap ++ own) (ends_after gap own (taken_ends own condition.is_denied condition.claim spells)))
 
--- a condition with `either` is read behind its first word, and the other way round
+-- a condition with `either` is read after its first word, and the other way round
 pub either_read : (text : List ℕ) (denied : Bool) (claim : Claim (List ℕ)) → SpellsTurned text true denied claim
-    → (run_of text ≡ codes "either") × IsTrue (can_be_mirrored claim) × SpellsTaken (behind_word text) denied claim
+    → (run_of text ≡ codes "either") × IsTrue (can_be_mirrored claim) × SpellsTaken (after_word text) denied claim
 either_read text denied claim (gap, own, is, g, of, spells) =
     let parts = word_read text (codes "either") gap own is refl g (taken_begins own denied claim spells) in
     (parts.0, of, subst (λ x. SpellsTaken x denied claim) (sym parts.1) spells)
 
-pub either_spelled : (text own : List ℕ) (denied : Bool) (claim : Claim (List ℕ)) → run_of text ≡ codes "either" → own ≡ behind_word text → IsTrue (can_be_mirrored claim)
+pub either_spelled : (text own : List ℕ) (denied : Bool) (claim : Claim (List ℕ)) → run_of text ≡ codes "either" → own ≡ after_word text → IsTrue (can_be_mirrored claim)
     → SpellsTaken own denied claim → SpellsTurned text true denied claim
-either_spelled text own denied claim run behind of spells =
-    let two = word_spelled text (codes "either") own run (sym behind) (begins_some own (taken_begins own denied claim spells)) in (two.0, own, two.1, two.2, of, spells)
+either_spelled text own denied claim run after of spells =
+    let two = word_spelled text (codes "either") own run (sym after) (begins_some own (taken_begins own denied claim spells)) in (two.0, own, two.1, two.2, of, spells)
 
 -- and any other is read without it
 pub taken_either : (text : List ℕ) (denied : Bool) (claim : Claim (List ℕ)) → run_of text ≡ codes "either" → SpellsTaken text denied claim → ⊥

@@ -7,7 +7,7 @@ use Rattle.std.proofs.lemmas.Bool.Decides.{nat_tests}
 use Rattle.std.proofs.lemmas.List.{reverse-append, reverse-reverse}
 use Rattle.std.proofs.lemmas.List.Folds.{list_all-append}
 use Rattle.pgn_criteria.specs.Words.{is_blank}
-use Rattle.pgn_criteria.specs.Reading.{behind_blanks, drop_return, core_of}
+use Rattle.pgn_criteria.specs.Reading.{after_blanks, drop_return, core_of}
 use Rattle.pgn_criteria.specs.Lines.{AreBlanks}
 use Rattle.pgn_criteria.proofs.SolidFacts.{is_solid, solid_blank, solid_return, both_true, over_blanks, blank_front, BeginsSolid, EndsSolid, begins_kept}
 
@@ -52,19 +52,19 @@ solid_core line before text after last whole blank_before blank_after end begins
     ap reverse whole ∙ line_reversed before text after last ∙ ap (λ x. reverse last ++ (reverse after ++ (x ++ reverse before))) text_reversed in
     let cut : drop_return (reverse line) ≡ reverse after ++ (b ∷ tail) =
     ap drop_return line_is ∙ return_dropped last (reverse after) tail b end (blanks_reversed after blank_after) solid in
-    let ended : behind_blanks (drop_return (reverse line)) ≡ b ∷ tail =
-    ap behind_blanks cut ∙ over_blanks (reverse after) (b ∷ tail) (blanks_reversed after blank_after)
-    ∙ ap (λ t. if t then behind_blanks tail else b ∷ tail) (solid_blank b solid) in
+    let ended : after_blanks (drop_return (reverse line)) ≡ b ∷ tail =
+    ap after_blanks cut ∙ over_blanks (reverse after) (b ∷ tail) (blanks_reversed after blank_after)
+    ∙ ap (λ t. if t then after_blanks tail else b ∷ tail) (solid_blank b solid) in
     let back : reverse (b ∷ tail) ≡ before ++ text =
     ap (λ x. reverse (x ++ reverse before)) (sym text_reversed) ∙ ap reverse (sym (reverse-append before text)) ∙ reverse-reverse (before ++ text) in
-    ap (λ x. behind_blanks (reverse x)) ended ∙ ap behind_blanks back ∙ over_blanks before text blank_before ∙ begins_kept text begins
+    ap (λ x. after_blanks (reverse x)) ended ∙ ap after_blanks back ∙ over_blanks before text blank_before ∙ begins_kept text begins
 
 -- blanks alone have an empty core
-all_blank : (x : List ℕ) → AreBlanks x → behind_blanks x ≡ []
+all_blank : (x : List ℕ) → AreBlanks x → after_blanks x ≡ []
 all_blank [] are = refl
 all_blank (b ∷ x) are =
     let parts : (is_blank b ≡ true) × (list_all is_blank x ≡ true) = and_parts _ _ are in
-    ap (λ t. if t then behind_blanks x else b ∷ x) parts.0 ∙ all_blank x parts.1
+    ap (λ t. if t then after_blanks x else b ∷ x) parts.0 ∙ all_blank x parts.1
 
 blanks_kept : (x : List ℕ) → AreBlanks x → drop_return x ≡ x
 blanks_kept [] are = refl
@@ -72,9 +72,9 @@ blanks_kept (b ∷ x) are =
     let parts : (is_blank b ≡ true) × (list_all is_blank x ≡ true) = and_parts _ _ are in
     ap (λ t. if t then x else b ∷ x) (blank_return b parts.0)
 
-blanks_dropped : (last x : List ℕ) → (last ≡ []) ⊎ (last ≡ 13 ∷ []) → AreBlanks x → behind_blanks (drop_return (reverse last ++ x)) ≡ []
-blanks_dropped last x (inl none) are = ap (λ y. behind_blanks (drop_return (reverse y ++ x))) none ∙ ap behind_blanks (blanks_kept x are) ∙ all_blank x are
-blanks_dropped last x (inr is) are = ap (λ y. behind_blanks (drop_return (reverse y ++ x))) is ∙ all_blank x are
+blanks_dropped : (last x : List ℕ) → (last ≡ []) ⊎ (last ≡ 13 ∷ []) → AreBlanks x → after_blanks (drop_return (reverse last ++ x)) ≡ []
+blanks_dropped last x (inl none) are = ap (λ y. after_blanks (drop_return (reverse y ++ x))) none ∙ ap after_blanks (blanks_kept x are) ∙ all_blank x are
+blanks_dropped last x (inr is) are = ap (λ y. after_blanks (drop_return (reverse y ++ x))) is ∙ all_blank x are
 
 pub empty_core : (line before text after last : List ℕ) → line ≡ before ++ (text ++ (after ++ last)) → AreBlanks before → AreBlanks after
     → (last ≡ []) ⊎ (last ≡ 13 ∷ []) → text ≡ [] → core_of line ≡ []
@@ -83,8 +83,8 @@ empty_core line before text after last whole blank_before blank_after end none =
     list_all-append is_blank (reverse after) (reverse before) ∙ both_true _ _ (blanks_reversed after blank_after) (blanks_reversed before blank_before) in
     let line_is : reverse line ≡ reverse last ++ (reverse after ++ reverse before) =
     ap reverse whole ∙ line_reversed before text after last ∙ ap (λ x. reverse last ++ (reverse after ++ (reverse x ++ reverse before))) none in
-    ap (λ x. behind_blanks (reverse (behind_blanks (drop_return x)))) line_is
-    ∙ ap (λ x. behind_blanks (reverse x)) (blanks_dropped last (reverse after ++ reverse before) end blanks)
+    ap (λ x. after_blanks (reverse (after_blanks (drop_return x)))) line_is
+    ∙ ap (λ x. after_blanks (reverse x)) (blanks_dropped last (reverse after ++ reverse before) end blanks)
 
 -- the core of a line whose first solid byte is that of a comment begins with it
 drop_over : (x rest : List ℕ) → (y : List ℕ) × (drop_return (x ++ (35 ∷ rest)) ≡ y ++ (35 ∷ rest))
@@ -95,10 +95,10 @@ drop_over (b ∷ x) rest =
       | false ↦ (b ∷ x, refl)
     ]
 
-blanks_over : (x rest : List ℕ) → (y : List ℕ) × (behind_blanks (x ++ (35 ∷ rest)) ≡ y ++ (35 ∷ rest))
+blanks_over : (x rest : List ℕ) → (y : List ℕ) × (after_blanks (x ++ (35 ∷ rest)) ≡ y ++ (35 ∷ rest))
 blanks_over [] rest = ([], refl)
 blanks_over (b ∷ x) rest =
-    elim (is_blank b) as (λ t. (y : List ℕ) × ((if t then behind_blanks (x ++ (35 ∷ rest)) else b ∷ (x ++ (35 ∷ rest))) ≡ y ++ (35 ∷ rest))) [
+    elim (is_blank b) as (λ t. (y : List ℕ) × ((if t then after_blanks (x ++ (35 ∷ rest)) else b ∷ (x ++ (35 ∷ rest))) ≡ y ++ (35 ∷ rest))) [
       | true ↦ blanks_over x rest
       | false ↦ (b ∷ x, refl)
     ]
@@ -110,11 +110,11 @@ comment_core line before rest whole blank_before =
     ∙ append_assoc (reverse rest) (35 ∷ []) (reverse before) in
     let cut = drop_over (reverse rest) (reverse before) in
     let ended = blanks_over cut.0 (reverse before) in
-    let tail : behind_blanks (drop_return (reverse line)) ≡ ended.0 ++ (35 ∷ reverse before) = ap (λ x. behind_blanks (drop_return x)) line_is ∙ ap behind_blanks cut.1 ∙ ended.1 in
+    let tail : after_blanks (drop_return (reverse line)) ≡ ended.0 ++ (35 ∷ reverse before) = ap (λ x. after_blanks (drop_return x)) line_is ∙ ap after_blanks cut.1 ∙ ended.1 in
     let back : reverse (ended.0 ++ (35 ∷ reverse before)) ≡ before ++ (35 ∷ reverse ended.0) =
     reverse-append ended.0 (35 ∷ reverse before) ∙ ap (λ x. x ++ reverse ended.0) (reverse-append (35 ∷ []) (reverse before) ∙ ap (λ x. x ++ (35 ∷ [])) (reverse-reverse before))
     ∙ append_assoc before (35 ∷ []) (reverse ended.0) in
-    (reverse ended.0, ap (λ x. behind_blanks (reverse x)) tail ∙ ap behind_blanks back ∙ over_blanks before (35 ∷ reverse ended.0) blank_before)
+    (reverse ended.0, ap (λ x. after_blanks (reverse x)) tail ∙ ap after_blanks back ∙ over_blanks before (35 ∷ reverse ended.0) blank_before)
 
 -- a line is its core, with blanks about it and perhaps a carriage return at its end
 pub record IsAbout (line core : List ℕ) : Type 0 where
@@ -142,7 +142,7 @@ pub core_about : (line : List ℕ) → IsAbout line (core_of line)
 core_about line =
     let ended = return_front (reverse line) in
     let closed = blank_front (drop_return (reverse line)) in
-    let stem : List ℕ = behind_blanks (drop_return (reverse line)) in
+    let stem : List ℕ = after_blanks (drop_return (reverse line)) in
     let opened = blank_front (reverse stem) in
     let line_is : reverse line ≡ ended.0 ++ (closed.0 ++ stem) = ended.1 ∙ ap (λ x. ended.0 ++ x) closed.1 in
     let back : reverse (ended.0 ++ (closed.0 ++ stem)) ≡ (reverse stem ++ reverse closed.0) ++ reverse ended.0 =

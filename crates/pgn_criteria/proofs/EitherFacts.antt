@@ -131,24 +131,24 @@ each_plain P (condition ∷ more) =
 -- ---- alternatives
 
 pub met_plain : (P : State) (conditions : List (Condition (List ℕ))) (r : Bool) → (IsTrue r ↔ AllSaid P conditions) → r ≡ true → IsTrue true ↔ AllOfPosition P conditions
-met_plain P conditions r told met = (λ t. inl ((each_plain P conditions).1 (told.0 met)), λ all. refl)
+met_plain P conditions r reports met = (λ t. inl ((each_plain P conditions).1 (reports.0 met)), λ all. refl)
 
 pub met_fixed : (P : State) (conditions : List (Condition (List ℕ))) (r : Bool) → (IsTrue r ↔ AllSaid P conditions) → r ≡ false → AreFixed conditions
     → IsTrue false ↔ AllOfPosition P conditions
-met_fixed P conditions r told fails fixed = (
+met_fixed P conditions r reports fails fixed = (
   λ t. absurd (cc),
   λ all. elim all [
-    | inl plain ↦ let t : IsTrue r = told.1 ((each_plain P conditions).0 plain) in absurd (cc)
-    | inr turned ↦ let t : IsTrue r = told.1 (fixed_each P (mirror P) conditions fixed turned) in absurd (cc)
+    | inl plain ↦ let t : IsTrue r = reports.1 ((each_plain P conditions).0 plain) in absurd (cc)
+    | inr turned ↦ let t : IsTrue r = reports.1 (fixed_each P (mirror P) conditions fixed turned) in absurd (cc)
   ],
 )
 
 pub met_mirror : (P : State) (conditions own : List (Condition (List ℕ))) (r s : Bool) → (IsTrue r ↔ AllSaid P conditions) → r ≡ false → AreMirrors own conditions
     → (IsTrue s ↔ AllSaid P own) → IsTrue s ↔ AllOfPosition P conditions
-met_mirror P conditions own r s told fails mirrors told_mirror = (
-  λ t. inr ((mirrors P).0 (told_mirror.0 t)),
+met_mirror P conditions own r s reports fails mirrors reports_mirror = (
+  λ t. inr ((mirrors P).0 (reports_mirror.0 t)),
   λ all. elim all [
-    | inl plain ↦ let t : IsTrue r = told.1 ((each_plain P conditions).0 plain) in absurd (cc)
-    | inr turned ↦ told_mirror.1 ((mirrors P).1 turned)
+    | inl plain ↦ let t : IsTrue r = reports.1 ((each_plain P conditions).0 plain) in absurd (cc)
+    | inr turned ↦ reports_mirror.1 ((mirrors P).1 turned)
   ],
 )

@@ -203,16 +203,16 @@ pub like_begins : (b : ℕ) (word text : List ℕ) → (b ≡ 42 → ⊥) → Is
 like_begins b word text plain (inl (is, rest)) = absurd (plain is)
 like_begins b word text plain (inr (rest, parts, like)) = (rest, parts)
 
-ends_behind : (some : List ℕ) (b : ℕ) (text : List ℕ) → EndsWith b text → EndsWith b (some ++ text)
-ends_behind some b text (front, ends) = (some ++ front, ap (λ x. some ++ x) ends ∙ sym (append_assoc some front (b ∷ [])))
+ends_after : (some : List ℕ) (b : ℕ) (text : List ℕ) → EndsWith b text → EndsWith b (some ++ text)
+ends_after some b text (front, ends) = (some ++ front, ap (λ x. some ++ x) ends ∙ sym (append_assoc some front (b ∷ [])))
 
 pub like_ends : (front : List ℕ) (b : ℕ) (text : List ℕ) → (b ≡ 42 → ⊥) → IsLike (front ++ b ∷ []) text → EndsWith b text
 like_ends [] b text plain (inl (is, rest)) = absurd (plain is)
 like_ends [] b text plain (inr (rest, parts, like)) = ([], parts ∙ ap (λ x. b ∷ x) like)
 like_ends (first ∷ front) b text plain (inl (is, (some, rest, parts, like))) =
-    subst (EndsWith b) (sym parts) (ends_behind some b rest (like_ends front b rest plain like))
+    subst (EndsWith b) (sym parts) (ends_after some b rest (like_ends front b rest plain like))
 like_ends (first ∷ front) b text plain (inr (rest, parts, like)) =
-    subst (EndsWith b) (sym parts) (ends_behind (first ∷ []) b rest (like_ends front b rest plain like))
+    subst (EndsWith b) (sym parts) (ends_after (first ∷ []) b rest (like_ends front b rest plain like))
 
 pub word_begins : (word text : List ℕ) → 1 ≤ length word → (get_or word 0 0 ≡ 42 → ⊥) → IsLike word text → BeginsWith (get_or word 0 0) text
 word_begins [] text some plain like = absurd (omega (arith, some))

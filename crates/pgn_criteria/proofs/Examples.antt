@@ -118,8 +118,8 @@ abbrev three_pawns : List (Option Man)
 three_pawns = None ∷ None ∷ None ∷ None ∷ None ∷ pawn ∷ pawn ∷ pawn ∷ []
 
 -- *1PPP: four squares, an empty one, three pawns
-pawns_behind_an_empty_square : CanBeSplit (items_of (codes "*1PPP")) three_pawns
-pawns_behind_an_empty_square =
+pawns_after_an_empty_square : CanBeSplit (items_of (codes "*1PPP")) three_pawns
+pawns_after_an_empty_square =
     let p : IsSquares 80 (pawn ∷ []) = letter (record { side = White; kind = Pawn }) in
     let e : IsSquares 49 (None ∷ []) = step 1 (omega arith) (omega arith) in (
       None ∷ None ∷ None ∷ None ∷ [],
@@ -246,8 +246,8 @@ no_cross like = let same = (byte_back (codes "*") 120 78 (codes "f3") (λ e. abs
 
 no_letter_between : IsLike (codes "Ne2") (codes "Nge2") → ⊥
 no_letter_between like =
-    let behind = (byte_back (codes "e2") 78 78 (codes "ge2") (λ e. absurd (omega (arith, e))) like).1 in
-    let same = (byte_back (codes "2") 101 103 (codes "e2") (λ e. absurd (omega (arith, e))) behind).0 in absurd (omega (arith, same))
+    let after = (byte_back (codes "e2") 78 78 (codes "ge2") (λ e. absurd (omega (arith, e))) like).1 in
+    let same = (byte_back (codes "2") 101 103 (codes "e2") (λ e. absurd (omega (arith, e))) after).0 in absurd (omega (arith, same))
 
 -- no move leads to the first position of a main line, and none follows the last
 none_before : (replay : Replay) (word : List ℕ) → IsReachedBy replay 0 word → ⊥

@@ -13,7 +13,7 @@ use Rattle.chess.specs.declared.board.man.Kind.{Kind}
 use Rattle.chess.specs.declared.board.man.Kind.TheVariants.{King, Queen, Rook, Bishop, Knight, Pawn}
 use Rattle.pgn_criteria.specs.Patterns.{IsStretch, spelled, any, occupied, white, black, many, among, other, AreRanks, IsPattern, items_where}
 use Rattle.pgn_criteria.specs.Items.{AreItems, is_letter, items_of}
-use Rattle.pgn_criteria.specs.Reading.{run_of, behind_word}
+use Rattle.pgn_criteria.specs.Reading.{run_of, after_word}
 use Rattle.pgn_criteria.specs.Lines.{SpellsFen, SpellsClaim}
 use Rattle.pgn_criteria.specs.declared.condition.Claim.TheVariants.{Fen, Flip}
 use Rattle.pgn_criteria.proofs.SetFacts.{all_men, letter_in, are_split}
@@ -91,23 +91,23 @@ pub pattern_some : (pattern : List ℕ) → IsPattern pattern → pattern ≢ []
 pattern_some [] is none = is.1.0 refl
 pattern_some (b ∷ x) is none = cc
 
-pub fen_read : (text pattern : List ℕ) → SpellsClaim text (Fen pattern) → (run_of text ≡ codes "fen") × (behind_word text ≡ pattern)
+pub fen_read : (text pattern : List ℕ) → SpellsClaim text (Fen pattern) → (run_of text ≡ codes "fen") × (after_word text ≡ pattern)
 fen_read text pattern (gap, is, g, good) =
     word_read text (codes "fen") gap pattern is refl g (solid_begins pattern (pattern_some pattern good) (pattern_solid pattern good))
 
-pub fen_spelled : (text pattern : List ℕ) → run_of text ≡ codes "fen" → pattern ≡ behind_word text → IsPattern pattern → SpellsClaim text (Fen pattern)
-fen_spelled text pattern run behind good =
-    let two = word_spelled text (codes "fen") pattern run (sym behind) (pattern_some pattern good) in (two.0, two.1, two.2, good)
+pub fen_spelled : (text pattern : List ℕ) → run_of text ≡ codes "fen" → pattern ≡ after_word text → IsPattern pattern → SpellsClaim text (Fen pattern)
+fen_spelled text pattern run after good =
+    let two = word_spelled text (codes "fen") pattern run (sym after) (pattern_some pattern good) in (two.0, two.1, two.2, good)
 
--- so it is behind `flip`
+-- so it is after `flip`
 fen_begins : (text pattern : List ℕ) → SpellsFen text pattern → BeginsSolid text
 fen_begins text pattern (gap, is, g, good) = (102, _, is, refl)
 
-pub flip_read : (text pattern : List ℕ) → SpellsClaim text (Flip pattern) → (run_of text ≡ codes "flip") × SpellsFen (behind_word text) pattern
+pub flip_read : (text pattern : List ℕ) → SpellsClaim text (Flip pattern) → (run_of text ≡ codes "flip") × SpellsFen (after_word text) pattern
 flip_read text pattern (gap, own, is, g, spells) =
     let parts = word_read text (codes "flip") gap own is refl g (fen_begins own pattern spells) in
     (parts.0, subst (λ x. SpellsFen x pattern) (sym parts.1) spells)
 
-pub flip_spelled : (text own pattern : List ℕ) → run_of text ≡ codes "flip" → own ≡ behind_word text → SpellsFen own pattern → SpellsClaim text (Flip pattern)
-flip_spelled text own pattern run behind spells =
-    let two = word_spelled text (codes "flip") own run (sym behind) (begins_some own (fen_begins own pattern spells)) in (two.0, own, two.1, two.2, spells)
+pub flip_spelled : (text own pattern : List ℕ) → run_of text ≡ codes "flip" → own ≡ after_word text → SpellsFen own pattern → SpellsClaim text (Flip pattern)
+flip_spelled text own pattern run after spells =
+    let two = word_spelled text (codes "flip") own run (sym after) (begins_some own (fen_begins own pattern spells)) in (two.0, own, two.1, two.2, spells)

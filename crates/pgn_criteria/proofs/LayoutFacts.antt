@@ -19,12 +19,12 @@ use Rattle.chess.specs.declared.board.man.Kind.TheVariants.{King, Queen, Rook, B
 use Rattle.chess.specs.declared.board.man.Side.TheVariants.{White, Black}
 use Rattle.pgn_criteria.specs.Layouts.{AllStand, AreEmpty, EachFrom, Extends, Lays, NoneOf}
 use Rattle.pgn_criteria.specs.declared.rank.Men.{Men}
-use Rattle.pgn_criteria.specs.declared.rank.Class.TheVariants.{Other}
+use Rattle.pgn_criteria.specs.declared.rank.SquareTest.TheVariants.{Other}
 use Rattle.pgn_criteria.specs.declared.layout.Asked.{Asked}
 use Rattle.pgn_criteria.specs.declared.layout.Layout.{Layout}
-use Rattle.pgn_criteria.specs.declared.rank.Class.{Class}
+use Rattle.pgn_criteria.specs.declared.rank.SquareTest.{SquareTest}
 use Rattle.pgn_criteria.specs.declared.rank.Item.TheVariants.{Run, Many}
-use Rattle.pgn_criteria.proofs.NeedFacts.{behind_own, left_behind, left_at_end}
+use Rattle.pgn_criteria.proofs.NeedFacts.{after_own, left_then, left_at_end}
 
 -- nothing is laid out yet
 pub lays_start : {T : Type 0} {Sound : T → Type 0} {Stands : Placement → T → Type 0} (whole : State → Type 0) (old : T) → Extends Sound Stands whole whole old old true
@@ -68,7 +68,7 @@ stand_more men (first ∷ more) one =
     let there = stand_more men more one in
     (λ stand. ((stand.0, (there.0 stand.1).0), (there.0 stand.1).1), λ both. (both.0.0, there.1 (both.0.1, both.1)))
 
-pub lays_asked : (old new : Layout) (class : Class) (square : Place) (one : Asked) → one.class ≡ class → one.square ≡ square → new.asked.items ≡ old.asked.items ++ one ∷ [] → new.barred.items ≡ old.barred.items → new.empty ≡ old.empty
+pub lays_asked : (old new : Layout) (class : SquareTest) (square : Place) (one : Asked) → one.class ≡ class → one.square ≡ square → new.asked.items ≡ old.asked.items ++ one ∷ [] → new.barred.items ≡ old.barred.items → new.empty ≡ old.empty
     → Lays (λ P. IsOf class (man_at P.men square)) (λ P. Unit {0}) old new true
 lays_asked old new class square one is at items barred empty = record {
   sound = λ s. tt;
@@ -88,7 +88,7 @@ lays_asked old new class square one is at items barred empty = record {
 }
 
 -- a square more on which a man must not stand, if that is so
-pub lays_barred : (old new : Layout) (class : Class) (square : Place) (one : Asked) → one.class ≡ class → one.square ≡ square → new.barred.items ≡ old.barred.items ++ one ∷ [] → new.asked.items ≡ old.asked.items → new.empty ≡ old.empty
+pub lays_barred : (old new : Layout) (class : SquareTest) (square : Place) (one : Asked) → one.class ≡ class → one.square ≡ square → new.barred.items ≡ old.barred.items ++ one ∷ [] → new.asked.items ≡ old.asked.items → new.empty ≡ old.empty
     → Lays (λ P. IsTrue true → IsOf class (man_at P.men square)) (λ P. Unit {0}) old new true
 lays_barred old new class square one is at items asked empty = record {
   sound = λ s. tt;
@@ -159,13 +159,13 @@ second_true false b e = e
 
 pub lays_empty : (old new : Layout) (square : Place) → ((s : Place) → is_in new.empty s ≡ (same_square square s || is_in old.empty s)) → new.asked.items ≡ old.asked.items → new.barred.items ≡ old.barred.items
     → Lays (λ P. man_at P.men square ≡ None) (λ P. Unit {0}) old new true
-lays_empty old new square told items barred = record {
+lays_empty old new square reports items barred = record {
   sound = λ s. tt;
   needed = λ P laid here. (
     (
       subst (AllStand P.men) (sym items) laid.0,
       subst (AllStand P.men) (sym barred) laid.1,
-      λ s is. elim (either_true (same_square square s) (is_in old.empty s) (sym (told s) ∙ is)) [
+      λ s is. elim (either_true (same_square square s) (is_in old.empty s) (sym (reports s) ∙ is)) [
         | inl same ↦ subst (λ t. man_at P.men t ≡ None) (same_square-then square s same) here
         | inr before ↦ laid.2 s before
       ],
@@ -173,18 +173,18 @@ lays_empty old new square told items barred = record {
     tt,
   );
   enough = λ so P laid left. (
-    (subst (AllStand P.men) items laid.0, subst (AllStand P.men) barred laid.1, λ s is. laid.2 s (told s ∙ second_true (same_square square s) (is_in old.empty s) is)),
-    laid.2 square (told square ∙ first_true (same_square square square) (is_in old.empty square) (same_square-same square square refl)),
+    (subst (AllStand P.men) items laid.0, subst (AllStand P.men) barred laid.1, λ s is. laid.2 s (reports s ∙ second_true (same_square square s) (is_in old.empty s) is)),
+    laid.2 square (reports square ∙ first_true (same_square square square) (is_in old.empty square) (same_square-same square square refl)),
   );
 }
 
--- one square of a run, and those behind it
-pub each_step : (men : Placement) (class : Class) (rank before step count : ℕ) → step < count
+-- one square of a run, and those after it
+pub each_step : (men : Placement) (class : SquareTest) (rank before step count : ℕ) → step < count
     → EachFrom men class rank before step count ↔ (IsOf class (man_at men (record { file = before + step + 1; rank = rank })) × EachFrom men class rank before (step + 1) count)
 each_step men class rank before step count less = (
   λ each. (each step (omega arith) less, λ k low high. each k (omega arith) high),
   λ both k low high. elim (cases_lt step k) [
-    | inl behind ↦ both.1 k (omega arith) high
+    | inl after ↦ both.1 k (omega arith) high
     | inr here ↦ let same : step ≡ k = omega arith in subst (λ n. IsOf class (man_at men (record { file = before + n + 1; rank = rank }))) same both.0
   ],
 )
@@ -201,27 +201,27 @@ get_row men rank (suc (suc (suc (suc (suc (suc zero)))))) low = refl
 get_row men rank (suc (suc (suc (suc (suc (suc (suc zero))))))) low = refl
 get_row men rank (suc (suc (suc (suc (suc (suc (suc (suc n)))))))) low = absurd (omega arith)
 
-each_at : (class : Class) (own : List (Option Man)) (k : ℕ) → k < length own → EachOf class own → IsOf class (get_or own k None)
+each_at : (class : SquareTest) (own : List (Option Man)) (k : ℕ) → k < length own → EachOf class own → IsOf class (get_or own k None)
 each_at class [] k less each = absurd (omega arith)
 each_at class (square ∷ more) zero less each = each.0
 each_at class (square ∷ more) (suc k) less each = each_at class more k (omega arith) each.1
 
-each_of : (class : Class) (squares : List (Option Man)) (n : ℕ) → n ≤ length squares → ((k : ℕ) → k < n → IsOf class (get_or squares k None)) → EachOf class (take n squares)
+each_of : (class : SquareTest) (squares : List (Option Man)) (n : ℕ) → n ≤ length squares → ((k : ℕ) → k < n → IsOf class (get_or squares k None)) → EachOf class (take n squares)
 each_of class squares zero low each = tt
 each_of class [] (suc n) low each = absurd (omega arith)
 each_of class (square ∷ more) (suc n) low each = (each 0 (omega arith), each_of class more n (omega arith) (λ k less. each (suc k) (omega arith)))
 
 -- an item of a fixed size takes squares that are known
-pub run_split : (men : Placement) (rank taken count : ℕ) (b : List ℕ) (class : Class) (behind : List (List ℕ)) → Reads b (Run class count) → taken + count ≤ 8
-    → CanBeSplit (b ∷ behind) (drop taken (row men rank)) ↔ (EachFrom men class rank taken 0 count × CanBeSplit behind (drop (taken + count) (row men rank)))
-run_split men rank taken count b class behind is room = (
+pub run_split : (men : Placement) (rank taken count : ℕ) (b : List ℕ) (class : SquareTest) (after : List (List ℕ)) → Reads b (Run class count) → taken + count ≤ 8
+    → CanBeSplit (b ∷ after) (drop taken (row men rank)) ↔ (EachFrom men class rank taken 0 count × CanBeSplit after (drop (taken + count) (row men rank)))
+run_split men rank taken count b class after is room = (
   λ split.
       let fits = (is.1 split.0).0 split.3 in (
         λ k low less.
             let at = ap (λ x. get_or x k None) split.2 ∙ get_or-append split.0 split.1 None k (omega (arith, fits.0)) in
             subst (IsOf class) (sym at ∙ get_or-drop taken (row men rank) k None ∙ get_row men rank (taken + k) (omega arith))
             (each_at class split.0 k (omega (arith, fits.0)) fits.1),
-        subst (CanBeSplit behind) (sym (behind_own (row men rank) taken count split.0 split.1 split.2 fits.0)) split.4,
+        subst (CanBeSplit after) (sym (after_own (row men rank) taken count split.0 split.1 split.2 fits.0)) split.4,
       ),
   λ both.
       let squares = drop taken (row men rank) in
@@ -238,12 +238,12 @@ run_split men rank taken count b class behind is room = (
       ),
 )
 
--- the last * leaves what the items behind it take
-pub many_split : (men : Placement) (rank taken size : ℕ) (b : List ℕ) (behind : List (List ℕ)) → Reads b Many → size ≤ 8 → taken ≤ 8 - size
-    → ((own : List (Option Man)) → CanBeSplit behind own → length own ≡ size)
-    → CanBeSplit (b ∷ behind) (drop taken (row men rank)) ↔ CanBeSplit behind (drop (8 - size) (row men rank))
-many_split men rank taken size b behind is small low sized = (
-  λ split. left_at_end (row men rank) behind size refl small sized (left_behind (row men rank) b behind (taken, omega arith, split)),
+-- the last * leaves what the items after it take
+pub many_split : (men : Placement) (rank taken size : ℕ) (b : List ℕ) (after : List (List ℕ)) → Reads b Many → size ≤ 8 → taken ≤ 8 - size
+    → ((own : List (Option Man)) → CanBeSplit after own → length own ≡ size)
+    → CanBeSplit (b ∷ after) (drop taken (row men rank)) ↔ CanBeSplit after (drop (8 - size) (row men rank))
+many_split men rank taken size b after is small low sized = (
+  λ split. left_at_end (row men rank) after size refl small sized (left_then (row men rank) b after (taken, omega arith, split)),
   λ split.
       let squares = drop taken (row men rank) in
       let n = 8 - size - taken in
@@ -257,15 +257,15 @@ many_split men rank taken size b behind is small low sized = (
 )
 
 -- the same of the first of some items
-pub next_run : (men : Placement) (rank taken count : ℕ) (items behind : List ℕ) (class : Class) → IsNextItem items (Run class count) behind → taken + count ≤ 8
-    → CanBeSplit (items_of items) (drop taken (row men rank)) ↔ (EachFrom men class rank taken 0 count × CanBeSplit (items_of behind) (drop (taken + count) (row men rank)))
-next_run men rank taken count items behind class next room =
-    subst (λ (x : List (List ℕ)). CanBeSplit x (drop taken (row men rank)) ↔ (EachFrom men class rank taken 0 count × CanBeSplit (items_of behind) (drop (taken + count) (row men rank)))) (sym next.cut)
-    (run_split men rank taken count next.text class (items_of behind) next.reads room)
+pub next_run : (men : Placement) (rank taken count : ℕ) (items after : List ℕ) (class : SquareTest) → IsNextItem items (Run class count) after → taken + count ≤ 8
+    → CanBeSplit (items_of items) (drop taken (row men rank)) ↔ (EachFrom men class rank taken 0 count × CanBeSplit (items_of after) (drop (taken + count) (row men rank)))
+next_run men rank taken count items after class next room =
+    subst (λ (x : List (List ℕ)). CanBeSplit x (drop taken (row men rank)) ↔ (EachFrom men class rank taken 0 count × CanBeSplit (items_of after) (drop (taken + count) (row men rank)))) (sym next.cut)
+    (run_split men rank taken count next.text class (items_of after) next.reads room)
 
-pub next_many : (men : Placement) (rank taken size : ℕ) (items behind : List ℕ) → IsNextItem items Many behind → size ≤ 8 → taken ≤ 8 - size
-    → ((own : List (Option Man)) → CanBeSplit (items_of behind) own → length own ≡ size)
-    → CanBeSplit (items_of items) (drop taken (row men rank)) ↔ CanBeSplit (items_of behind) (drop (8 - size) (row men rank))
-next_many men rank taken size items behind next small low sized =
-    subst (λ (x : List (List ℕ)). CanBeSplit x (drop taken (row men rank)) ↔ CanBeSplit (items_of behind) (drop (8 - size) (row men rank))) (sym next.cut)
-    (many_split men rank taken size next.text (items_of behind) next.reads small low sized)
+pub next_many : (men : Placement) (rank taken size : ℕ) (items after : List ℕ) → IsNextItem items Many after → size ≤ 8 → taken ≤ 8 - size
+    → ((own : List (Option Man)) → CanBeSplit (items_of after) own → length own ≡ size)
+    → CanBeSplit (items_of items) (drop taken (row men rank)) ↔ CanBeSplit (items_of after) (drop (8 - size) (row men rank))
+next_many men rank taken size items after next small low sized =
+    subst (λ (x : List (List ℕ)). CanBeSplit x (drop taken (row men rank)) ↔ CanBeSplit (items_of after) (drop (8 - size) (row men rank))) (sym next.cut)
+    (many_split men rank taken size next.text (items_of after) next.reads small low sized)

@@ -11,7 +11,7 @@ use Rattle.chess.specs.declared.board.man.Kind.{Kind}
 use Rattle.chess.specs.declared.board.man.Kind.TheVariants.{King, Queen, Rook, Bishop, Knight, Pawn}
 use Rattle.pgn_criteria.specs.Lines.{SpellsLimit, one, exactly, at_least, at_most, any, SpellsEntries, IsLimitIn, SpellsLimits}
 use Rattle.pgn_criteria.specs.Materials.{limit_of}
-use Rattle.pgn_criteria.specs.Reading.{AreEntries, digit_limit, first_limit, limit_behind}
+use Rattle.pgn_criteria.specs.Reading.{AreEntries, digit_limit, first_limit, limit_after}
 use Rattle.pgn_criteria.specs.declared.material.Limit.{Limit}
 use Rattle.pgn_criteria.specs.declared.material.Limit.TheVariants.{Exactly, AtLeast, AtMost, AnyNumber}
 use Rattle.pgn_criteria.specs.declared.material.Limits.{Limits}
@@ -68,18 +68,18 @@ limit_low own limit any = refl
 low_other : (b : ℕ) (letter : ℕ) → is_low b ≡ true → is_high letter ≡ true → (b == letter) ≡ false
 low_other b letter low high = grind (arith, nat_tests)
 
-has_behind_low : (letter : ℕ) (own rest : List ℕ) → is_high letter ≡ true → IsTrue (list_all is_low own) → has_byte letter (own ++ rest) ≡ has_byte letter rest
-has_behind_low letter [] rest high low = refl
-has_behind_low letter (b ∷ own) rest high low =
+has_after_low : (letter : ℕ) (own rest : List ℕ) → is_high letter ≡ true → IsTrue (list_all is_low own) → has_byte letter (own ++ rest) ≡ has_byte letter rest
+has_after_low letter [] rest high low = refl
+has_after_low letter (b ∷ own) rest high low =
     let parts : (is_low b ≡ true) × (list_all is_low own ≡ true) = and_parts _ _ low in
-    ap (λ t. t || has_byte letter (own ++ rest)) (low_other b letter parts.0 high) ∙ has_behind_low letter own rest high parts.1
+    ap (λ t. t || has_byte letter (own ++ rest)) (low_other b letter parts.0 high) ∙ has_after_low letter own rest high parts.1
 
-limit_behind_low : (letter : ℕ) (own rest : List ℕ) → is_high letter ≡ true → IsTrue (list_all is_low own) → limit_behind letter (own ++ rest) ≡ limit_behind letter rest
-limit_behind_low letter [] rest high low = refl
-limit_behind_low letter (b ∷ own) rest high low =
+limit_after_low : (letter : ℕ) (own rest : List ℕ) → is_high letter ≡ true → IsTrue (list_all is_low own) → limit_after letter (own ++ rest) ≡ limit_after letter rest
+limit_after_low letter [] rest high low = refl
+limit_after_low letter (b ∷ own) rest high low =
     let parts : (is_low b ≡ true) × (list_all is_low own ≡ true) = and_parts _ _ low in
-    ap (λ t. if t then (first_limit (own ++ rest)).0 else limit_behind letter (own ++ rest)) (low_other b letter parts.0 high)
-    ∙ limit_behind_low letter own rest high parts.1
+    ap (λ t. if t then (first_limit (own ++ rest)).0 else limit_after letter (own ++ rest)) (low_other b letter parts.0 high)
+    ∙ limit_after_low letter own rest high parts.1
 
 -- the text ends, or goes on with a high byte
 abbrev pub begins_high : List ℕ → Bool
@@ -167,7 +167,7 @@ limit_spelled (b ∷ x) =
     digit_small : (b : ℕ) → is_digit b ≡ true → b - 48 ≤ 9
     digit_small b digit = grind (arith, nat_tests)
 
--- the first entry, and those behind it
+-- the first entry, and those after it
 pub record IsEntry (b : ℕ) (x : List ℕ) (entries : List (Kind × Limit)) : Type 0 where
   pub kind : Kind
   pub more : List (Kind × Limit)
@@ -202,7 +202,7 @@ has_letter : (letter : ℕ) (text : List ℕ) (entries : List (Kind × Limit)) �
 has_letter letter text [] high is = ap (has_byte letter) is
 has_letter letter text (entry ∷ more) high (own, rest, is, limit, spells) =
     ap (has_byte letter) is
-    ∙ ap (λ t. kind_letter entry.0 == letter || t) (has_behind_low letter own rest high (limit_low own entry.1 limit) ∙ has_letter letter rest more high spells)
+    ∙ ap (λ t. kind_letter entry.0 == letter || t) (has_after_low letter own rest high (limit_low own entry.1 limit) ∙ has_letter letter rest more high spells)
 
 -- entries begin with one whose letter does not stand in the rest
 pub entries_read : (b : ℕ) (x : List ℕ) → AreEntries (b ∷ x)
@@ -224,20 +224,20 @@ entries_spelled b x kind is other (more, spells, distinct) =
     subst (λ a. AreEntries (a ∷ x)) (sym is)
     ((kind, (first_limit x).0) ∷ more, entry_spelled kind x more spells, both_true _ _ (ap not absent) distinct)
 
--- the entries of a text give each kind the limit behind its letter
-pub entries_give : (text : List ℕ) (entries : List (Kind × Limit)) → SpellsEntries text entries → (kind : Kind) → IsLimitIn entries kind (limit_behind (kind_letter kind) text)
-entries_give text [] is kind = ap (limit_behind (kind_letter kind)) is
+-- the entries of a text give each kind the limit after its letter
+pub entries_give : (text : List ℕ) (entries : List (Kind × Limit)) → SpellsEntries text entries → (kind : Kind) → IsLimitIn entries kind (limit_after (kind_letter kind) text)
+entries_give text [] is kind = ap (limit_after (kind_letter kind)) is
 entries_give text (entry ∷ more) (own, rest, is, limit, spells) kind =
-    subst (IsLimitIn (entry ∷ more) kind) (sym (ap (limit_behind (kind_letter kind)) is))
+    subst (IsLimitIn (entry ∷ more) kind) (sym (ap (limit_after (kind_letter kind)) is))
     (elim (kind_letter entry.0 == kind_letter kind) as (λ t. (kind_letter entry.0 == kind_letter kind) ≡ t
-    → IsLimitIn (entry ∷ more) kind (if t then (first_limit (own ++ rest)).0 else limit_behind (kind_letter kind) (own ++ rest))) [
+    → IsLimitIn (entry ∷ more) kind (if t then (first_limit (own ++ rest)).0 else limit_after (kind_letter kind) (own ++ rest))) [
       | true ↦ λ same. inl (
         same_kind entry.0 kind (eqb-true _ _ same),
         ap (λ (f : Limit × List ℕ). f.0) (limit_read own rest entry.1 limit (entries_begin rest more spells)),
       )
       | false ↦ λ other. inr (
         (λ e. let clash : true ≡ false = sym (eqb-same _ _ (ap kind_letter e)) ∙ other in cc),
-        subst (IsLimitIn more kind) (sym (limit_behind_low (kind_letter kind) own rest (letter_high kind) (limit_low own entry.1 limit))) (entries_give rest more spells kind),
+        subst (IsLimitIn more kind) (sym (limit_after_low (kind_letter kind) own rest (letter_high kind) (limit_low own entry.1 limit))) (entries_give rest more spells kind),
       )
     ] refl)
   where
@@ -252,7 +252,7 @@ one_limit (entry ∷ more) wanted a b (inl is) (inr has) = absurd (has.0 is.0)
 one_limit (entry ∷ more) wanted a b (inr is) (inl has) = absurd (is.0 has.0)
 one_limit (entry ∷ more) wanted a b (inr is) (inr has) = one_limit more wanted a b is.1 has.1
 
--- limits: what spells them has entries, and gives each kind the limit behind its letter
+-- limits: what spells them has entries, and gives each kind the limit after its letter
 pub limits_entries : (text : List ℕ) (limits : Limits) → SpellsLimits text limits → AreEntries text
 limits_entries text limits (entries, some, spells, distinct, each) = (entries, spells, distinct)
 
@@ -261,11 +261,11 @@ limits_some text limits ([], some, spells, distinct, each) none = some refl
 limits_some text limits (entry ∷ more, some, (own, rest, is, limit, spells), distinct, each) none =
     let clash : kind_letter entry.0 ∷ (own ++ rest) ≡ [] = sym is ∙ none in cc
 
-pub limits_given : (text : List ℕ) (limits : Limits) → SpellsLimits text limits → (kind : Kind) → limit_of limits kind ≡ limit_behind (kind_letter kind) text
+pub limits_given : (text : List ℕ) (limits : Limits) → SpellsLimits text limits → (kind : Kind) → limit_of limits kind ≡ limit_after (kind_letter kind) text
 limits_given text limits (entries, some, spells, distinct, each) kind =
-    one_limit entries kind (limit_of limits kind) (limit_behind (kind_letter kind) text) (each kind) (entries_give text entries spells kind)
+    one_limit entries kind (limit_of limits kind) (limit_after (kind_letter kind) text) (each kind) (entries_give text entries spells kind)
 
-pub limits_spelled : (text : List ℕ) (limits : Limits) → text ≢ [] → AreEntries text → ((kind : Kind) → limit_of limits kind ≡ limit_behind (kind_letter kind) text)
+pub limits_spelled : (text : List ℕ) (limits : Limits) → text ≢ [] → AreEntries text → ((kind : Kind) → limit_of limits kind ≡ limit_after (kind_letter kind) text)
     → SpellsLimits text limits
 limits_spelled text limits some (entries, spells, distinct) each = (
   entries,

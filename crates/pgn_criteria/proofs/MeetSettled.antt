@@ -72,7 +72,7 @@ settled_move replay plies word on_board legal =
           elim (slice_get replay.played plies) as (λ o. slice_get replay.played plies ≡ o → Settled (FitsMove replay plies word)) [
             | None ↦ λ none. inr (λ fits. let played = fits.played in cc)
             | Some m ↦ λ played.
-                settled_by (λ r told. by_move replay plies word P m r here played told)
+                settled_by (λ r reports. by_move replay plies word P m r here played reports)
                 (settled_word P m word (on_board plies P here) (legal plies P m here played))
           ] refl
     ] refl
@@ -111,7 +111,7 @@ settled_on replay plies word on_board legal =
             | None ↦ λ none. inr (λ goes. let played = goes.played in cc)
             | Some m ↦ λ played.
                 let text = some_san P m (on_board plies P here) (legal plies P m here played) in
-                settled_by (λ r told. by_like replay plies word text.0 P m r one_san here played text.1 told) (settled_alike word (without_marks text.0))
+                settled_by (λ r reports. by_like replay plies word text.0 P m r one_san here played text.1 reports) (settled_alike word (without_marks text.0))
           ] refl
     ] refl
 
@@ -244,6 +244,6 @@ each_position_meets lines fen items replay is heading alternatives plies =
     elim (slice_get replay.positions plies) as (λ o. slice_get replay.positions plies ≡ o → Settled (Meets heading replay plies alternatives)) [
       | None ↦ λ none. inr (λ met. let here = met.here in cc)
       | Some P ↦ λ here.
-          settled_by (λ r told. meets_at heading replay plies alternatives P r here told)
+          settled_by (λ r reports. meets_at heading replay plies alternatives P r here reports)
           (settled_some heading replay plies P alternatives all legal (all plies P here))
     ] refl

@@ -330,10 +330,10 @@ pattern_again pattern own is good =
     let parts : parted_at 47 own ≡ turned_ranks (parted_at 47 pattern) = ap (parted_at 47) is ∙ turned_parts pattern in
     subst (AreRanks 8) (sym parts) (are_ranks_turned (parted_at 47 pattern) good)
 
--- the last rank of a text behind the others
-turned_behind : (text rank rest : List ℕ) → parted_at 47 text ≡ rank ∷ parted_at 47 rest
+-- the last rank of a text after the others
+turned_after : (text rank rest : List ℕ) → parted_at 47 text ≡ rank ∷ parted_at 47 rest
     → turned (parted_at 47 text) ≡ turned (parted_at 47 rest) ++ (47 ∷ map other_letter rank)
-turned_behind text rank rest parts =
+turned_after text rank rest parts =
     let more : parted_at 47 rest ≡ _ = parted_by_run 47 rest in
     ap turned parts ∙ ap (λ p. turned (rank ∷ p)) more ∙ ap (λ p. turned p ++ (47 ∷ map other_letter rank)) (sym more)
 
@@ -343,4 +343,4 @@ ranks_added old last pushed text rank rest parts last_is pushed_is =
     ap (λ x. x ++ map other_letter rank) (pushed_is ∙ ap (λ x. x ++ (47 ∷ [])) last_is)
     ∙ append_assoc (old ++ turned (parted_at 47 rest)) (47 ∷ []) (map other_letter rank)
     ∙ append_assoc old (turned (parted_at 47 rest)) (47 ∷ map other_letter rank)
-    ∙ ap (λ x. old ++ x) (sym (turned_behind text rank rest parts))
+    ∙ ap (λ x. old ++ x) (sym (turned_after text rank rest parts))

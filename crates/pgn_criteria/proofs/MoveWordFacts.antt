@@ -4,11 +4,11 @@ use Rattle.std.specs.Prelude.{codes, ◌⊎◌, ◌≤◌, ◌+◌, ◌||◌, �
 use Rattle.std.specs.List.{list_all}
 use Rattle.std.proofs.lemmas.Bool.Decides.{nat_tests}
 use Rattle.pgn_criteria.specs.Words.{is_blank}
-use Rattle.pgn_criteria.specs.Reading.{run_of, after_run, behind_blanks, behind_word}
+use Rattle.pgn_criteria.specs.Reading.{run_of, after_run, after_blanks, after_word}
 use Rattle.pgn_criteria.specs.Lines.{is_move_byte, IsMoveWord, IsMoveLike, AreMoveWords, a_word, and_words, SpellsClaim}
 use Rattle.pgn_criteria.specs.declared.condition.Claim.TheVariants.{Moves, Next, Played}
 use Rattle.pgn_criteria.proofs.WordFacts.{run_whole}
-use Rattle.pgn_criteria.proofs.SolidFacts.{is_solid, AreSolid, BeginsSolid, EndsSolid, all_solid, solid_begins, solid_ends, begins_front, begins_some, ends_behind, word_alone, word_read, word_spelled}
+use Rattle.pgn_criteria.proofs.SolidFacts.{is_solid, AreSolid, BeginsSolid, EndsSolid, all_solid, solid_begins, solid_ends, begins_front, begins_some, ends_after, word_alone, word_read, word_spelled}
 
 move_byte_solid : (b : ℕ) → is_move_byte b ≡ true → is_solid b ≡ true
 move_byte_solid b is = grind (arith, nat_tests)
@@ -27,10 +27,10 @@ words_begin words (and_words word gap more is g are) = begins_front word (gap ++
 
 pub words_end : (words : List ℕ) → AreMoveWords words → EndsSolid words
 words_end words (a_word word is) = solid_ends word (word_some word is) (word_solid word is)
-words_end words (and_words word gap more is g are) = ends_behind word (gap ++ more) (ends_behind gap more (words_end more are))
+words_end words (and_words word gap more is g are) = ends_after word (gap ++ more) (ends_after gap more (words_end more are))
 
--- the first word, and the words behind it
-pub words_read : (x : List ℕ) → AreMoveWords x → IsMoveWord (run_of x) × ((after_run x ≡ []) ⊎ AreMoveWords (behind_word x))
+-- the first word, and the words after it
+pub words_read : (x : List ℕ) → AreMoveWords x → IsMoveWord (run_of x) × ((after_run x ≡ []) ⊎ AreMoveWords (after_word x))
 words_read x (a_word word is) =
     let alone = word_alone word (word_solid word is) in (subst IsMoveWord (sym alone.0) is, inl alone.1)
 words_read x (and_words word gap more is g are) =
@@ -41,20 +41,20 @@ pub last_word : (x : List ℕ) → IsMoveWord (run_of x) → after_run x ≡ [] 
 last_word x is none =
     subst AreMoveWords (sym (append-nil (run_of x)) ∙ ap (λ rest. run_of x ++ rest) (sym none) ∙ run_whole x) (a_word (run_of x) is)
 
-pub first_word : (x : List ℕ) → IsMoveWord (run_of x) → AreMoveWords (behind_word x) → AreMoveWords x
+pub first_word : (x : List ℕ) → IsMoveWord (run_of x) → AreMoveWords (after_word x) → AreMoveWords x
 first_word x is are =
-    let spelled = word_spelled x (run_of x) (behind_word x) refl refl (begins_some (behind_word x) (words_begin (behind_word x) are)) in
-    subst AreMoveWords (sym spelled.1) (and_words (run_of x) spelled.0 (behind_word x) is spelled.2 are)
+    let spelled = word_spelled x (run_of x) (after_word x) refl refl (begins_some (after_word x) (words_begin (after_word x) are)) in
+    subst AreMoveWords (sym spelled.1) (and_words (run_of x) spelled.0 (after_word x) is spelled.2 are)
 
 -- no words follow blanks at the end
-pub words_left : (x : List ℕ) → AreMoveWords x → after_run x ≢ [] → AreMoveWords (behind_word x)
+pub words_left : (x : List ℕ) → AreMoveWords x → after_run x ≢ [] → AreMoveWords (after_word x)
 words_left x are some = elim ((words_read x are).1) [ inl none ↦ absurd (some none) | inr more ↦ more ]
 
-behind_shorter : (x : List ℕ) → length (behind_blanks x) ≤ length x
-behind_shorter [] = omega arith
-behind_shorter (b ∷ x) =
-    elim (is_blank b) as (λ t. length (if t then behind_blanks x else b ∷ x) ≤ length (b ∷ x)) [
-      | true ↦ let less : length (behind_blanks x) ≤ length x = behind_shorter x in let size : length (b ∷ x) ≡ length x + 1 = omega arith in omega arith
+after_shorter : (x : List ℕ) → length (after_blanks x) ≤ length x
+after_shorter [] = omega arith
+after_shorter (b ∷ x) =
+    elim (is_blank b) as (λ t. length (if t then after_blanks x else b ∷ x) ≤ length (b ∷ x)) [
+      | true ↦ let less : length (after_blanks x) ≤ length x = after_shorter x in let size : length (b ∷ x) ≡ length x + 1 = omega arith in omega arith
       | false ↦ omega arith
     ]
 
@@ -62,20 +62,20 @@ some_length : (x : List ℕ) → x ≢ [] → 1 ≤ length x
 some_length [] some = absurd (some refl)
 some_length (b ∷ x) some = omega arith
 
-pub words_shorter : (x : List ℕ) → IsMoveWord (run_of x) → length (behind_word x) < length x
+pub words_shorter : (x : List ℕ) → IsMoveWord (run_of x) → length (after_word x) < length x
 words_shorter x is =
-    let less : length (behind_word x) ≤ length (after_run x) = behind_shorter (after_run x) in
+    let less : length (after_word x) ≤ length (after_run x) = after_shorter (after_run x) in
     let some : 1 ≤ length (run_of x) = some_length (run_of x) (word_some (run_of x) is) in
     let whole : length x ≡ length (run_of x) + length (after_run x) = ap length (sym (run_whole x)) ∙ length-append (run_of x) (after_run x) in
     omega arith
 
 -- the condition: what spells it is read as it, and the other way round
-pub moves_read : (text words : List ℕ) → SpellsClaim text (Moves words) → (run_of text ≡ codes "moves") × (behind_word text ≡ words)
+pub moves_read : (text words : List ℕ) → SpellsClaim text (Moves words) → (run_of text ≡ codes "moves") × (after_word text ≡ words)
 moves_read text words (gap, is, g, are) = word_read text (codes "moves") gap words is refl g (words_begin words are)
 
-pub moves_spelled : (text words : List ℕ) → run_of text ≡ codes "moves" → words ≡ behind_word text → AreMoveWords words → SpellsClaim text (Moves words)
-moves_spelled text words run behind are =
-    let spelled = word_spelled text (codes "moves") words run (sym behind) (begins_some words (words_begin words are)) in
+pub moves_spelled : (text words : List ℕ) → run_of text ≡ codes "moves" → words ≡ after_word text → AreMoveWords words → SpellsClaim text (Moves words)
+moves_spelled text words run after are =
+    let spelled = word_spelled text (codes "moves") words run (sym after) (begins_some words (words_begin words are)) in
     (spelled.0, spelled.1, spelled.2, are)
 
 -- a word for moves that are alike
@@ -95,18 +95,18 @@ pub like_ends : (word : List ℕ) → IsMoveLike word → EndsSolid word
 like_ends word is = solid_ends word (like_some word is) (like_solid word is)
 
 -- the conditions with such a word: what spells one is read as it, and the other way round
-pub next_read : (text word : List ℕ) → SpellsClaim text (Next word) → (run_of text ≡ codes "next") × (behind_word text ≡ word)
+pub next_read : (text word : List ℕ) → SpellsClaim text (Next word) → (run_of text ≡ codes "next") × (after_word text ≡ word)
 next_read text word (gap, is, g, like) = word_read text (codes "next") gap word is refl g (like_begins word like)
 
-pub next_spelled : (text word : List ℕ) → run_of text ≡ codes "next" → word ≡ behind_word text → IsMoveLike word → SpellsClaim text (Next word)
-next_spelled text word run behind like =
-    let spelled = word_spelled text (codes "next") word run (sym behind) (like_some word like) in
+pub next_spelled : (text word : List ℕ) → run_of text ≡ codes "next" → word ≡ after_word text → IsMoveLike word → SpellsClaim text (Next word)
+next_spelled text word run after like =
+    let spelled = word_spelled text (codes "next") word run (sym after) (like_some word like) in
     (spelled.0, spelled.1, spelled.2, like)
 
-pub played_read : (text word : List ℕ) → SpellsClaim text (Played word) → (run_of text ≡ codes "played") × (behind_word text ≡ word)
+pub played_read : (text word : List ℕ) → SpellsClaim text (Played word) → (run_of text ≡ codes "played") × (after_word text ≡ word)
 played_read text word (gap, is, g, like) = word_read text (codes "played") gap word is refl g (like_begins word like)
 
-pub played_spelled : (text word : List ℕ) → run_of text ≡ codes "played" → word ≡ behind_word text → IsMoveLike word → SpellsClaim text (Played word)
-played_spelled text word run behind like =
-    let spelled = word_spelled text (codes "played") word run (sym behind) (like_some word like) in
+pub played_spelled : (text word : List ℕ) → run_of text ≡ codes "played" → word ≡ after_word text → IsMoveLike word → SpellsClaim text (Played word)
+played_spelled text word run after like =
+    let spelled = word_spelled text (codes "played") word run (sym after) (like_some word like) in
     (spelled.0, spelled.1, spelled.2, like)

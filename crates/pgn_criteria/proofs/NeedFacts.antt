@@ -5,31 +5,31 @@ use Rattle.std.proofs.lemmas.List.{drop-drop}
 use Rattle.chess.specs.declared.board.man.Man.{Man}
 use Rattle.pgn_criteria.specs.Patterns.{CanBeSplit, IsStretch}
 use Rattle.pgn_criteria.specs.Items.{Fits, Reads}
-use Rattle.pgn_criteria.specs.declared.rank.Class.{Class}
+use Rattle.pgn_criteria.specs.declared.rank.SquareTest.{SquareTest}
 use Rattle.pgn_criteria.specs.declared.rank.Item.{Item}
 use Rattle.pgn_criteria.specs.declared.rank.Item.TheVariants.{Run}
 
-pub count_taken : (text : List ℕ) (item : Item) (class : Class) (count : ℕ) → Reads text item → item ≡ Run class count
+pub count_taken : (text : List ℕ) (item : Item) (class : SquareTest) (count : ℕ) → Reads text item → item ≡ Run class count
     → (own : List (Option Man)) → IsStretch text own → length own ≡ count
 count_taken text item class count reads run own stretch = (subst (λ i. Fits i own) run ((reads.1 own).0 stretch)).0
 
--- squares of a rank behind an item, from which its other items take theirs
+-- squares of a rank after an item, from which its other items take theirs
 abbrev pub IsLeft : List (Option Man) → List (List ℕ) → Type 0
 IsLeft squares items = (k : ℕ) × (k ≤ length squares) × CanBeSplit items (drop k squares)
 
-pub behind_own : (squares : List (Option Man)) (k n : ℕ) (own more : List (Option Man)) → drop k squares ≡ own ++ more → length own ≡ n → drop (k + n) squares ≡ more
-behind_own squares k n own more cut size =
+pub after_own : (squares : List (Option Man)) (k n : ℕ) (own more : List (Option Man)) → drop k squares ≡ own ++ more → length own ≡ n → drop (k + n) squares ≡ more
+after_own squares k n own more cut size =
     sym (drop-drop n k squares) ∙ ap (drop n) cut ∙ ap (λ m. drop m (own ++ more)) (sym size) ∙ drop-append_seam own more
 
--- behind any item
-pub left_behind : (squares : List (Option Man)) (b : List ℕ) (items : List (List ℕ)) → IsLeft squares (b ∷ items) → IsLeft squares items
-left_behind squares b items left =
+-- after any item
+pub left_then : (squares : List (Option Man)) (b : List ℕ) (items : List (List ℕ)) → IsLeft squares (b ∷ items) → IsLeft squares items
+left_then squares b items left =
     let k = left.0 in
     let split = left.2 in
     let own = split.0 in
     let size : length (drop k squares) ≡ length (own ++ split.1) = ap length split.2 in
     let low : k + length own ≤ length squares = omega (arith, size, length-drop k squares, length-append own split.1, left.1) in
-    (k + length own, low, subst (CanBeSplit items) (sym (behind_own squares k (length own) own split.1 split.2 refl)) split.4)
+    (k + length own, low, subst (CanBeSplit items) (sym (after_own squares k (length own) own split.1 split.2 refl)) split.4)
 
 -- items of a known size at the end of eight squares
 pub left_at_end : (squares : List (Option Man)) (items : List (List ℕ)) (size : ℕ) → length squares ≡ 8 → size ≤ 8

@@ -8,7 +8,7 @@ use Rattle.std.proofs.Math.Nat.{pow-le-pow_right}
 use Rattle.chess.specs.Fen.{number_from}
 use Rattle.pgn_text.specs.Bytes.{is_digit}
 use Rattle.pgn_criteria.specs.Comparing.{number_in}
-use Rattle.pgn_criteria.specs.Numbers.{number_behind}
+use Rattle.pgn_criteria.specs.Numbers.{number_after}
 
 -- a size from 1 to 18
 abbrev is_size : ℕ → Bool
@@ -38,16 +38,16 @@ byte_step digits n digit all rest found few goes = elim (cases_eq digits 18) [
         goes other ∙ ap (λ m. if (is_size m && all) then Some found else None) sum
     by_digit false other = elim (is_size (digits + suc n)) as (λ v. None ≡ (if (v && false) then Some found else None)) [ true ↦ refl | false ↦ refl ]
 
--- the number behind so many digits
-pub behind_digits : (number digits : ℕ) (text : List ℕ) → digits ≤ 18
-    → number_behind number digits text ≡ (if (is_size (digits + length text) && list_all is_digit text) then Some (number_from number text) else None)
-behind_digits number digits [] few = size_end number digits few
-behind_digits number digits (b ∷ x) few =
-    byte_step digits (length x) (is_digit b) (list_all is_digit x) (number_behind (10 * number + (b - 48)) (digits + 1) x) (number_from (10 * number + (b - 48)) x) few
-    (λ other. let less : digits + 1 ≤ 18 = omega arith in behind_digits (10 * number + (b - 48)) (digits + 1) x less)
+-- the number after so many digits
+pub after_digits : (number digits : ℕ) (text : List ℕ) → digits ≤ 18
+    → number_after number digits text ≡ (if (is_size (digits + length text) && list_all is_digit text) then Some (number_from number text) else None)
+after_digits number digits [] few = size_end number digits few
+after_digits number digits (b ∷ x) few =
+    byte_step digits (length x) (is_digit b) (list_all is_digit x) (number_after (10 * number + (b - 48)) (digits + 1) x) (number_from (10 * number + (b - 48)) x) few
+    (λ other. let less : digits + 1 ≤ 18 = omega arith in after_digits (10 * number + (b - 48)) (digits + 1) x less)
 
-pub number_found : (text : List ℕ) → number_behind 0 0 text ≡ number_in text
-number_found text = behind_digits 0 0 text (omega arith) ∙ ap (λ n. if (is_size n && list_all is_digit text) then Some (number_from 0 text) else None) (zero-add (length text))
+pub number_found : (text : List ℕ) → number_after 0 0 text ≡ number_in text
+number_found text = after_digits 0 0 text (omega arith) ∙ ap (λ n. if (is_size n && list_all is_digit text) then Some (number_from 0 text) else None) (zero-add (length text))
 
 -- what a digit stands for
 pub digit_small : (b : ℕ) → is_digit b ≡ true → b - 48 < 10

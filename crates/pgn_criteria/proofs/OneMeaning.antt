@@ -7,7 +7,7 @@ use Rattle.chess.specs.declared.board.man.Side.{Side}
 use Rattle.chess.specs.declared.board.man.Side.TheVariants.{White, Black}
 use Rattle.chess.specs.declared.board.man.Kind.{Kind}
 use Rattle.chess.specs.declared.board.man.Kind.TheVariants.{King, Queen, Rook, Bishop, Knight, Pawn}
-use Rattle.pgn_criteria.specs.Reading.{run_of, behind_word, core_of}
+use Rattle.pgn_criteria.specs.Reading.{run_of, after_word, core_of}
 use Rattle.pgn_criteria.specs.Materials.{limit_of}
 use Rattle.pgn_criteria.specs.Lines.{SpellsFen, SpellsClaim, SpellsTaken, SpellsTurned, SpellsCondition, SpellsLimits, Spells, IsLine, AreLines, side_text, relation_text, comparison_text, alternatives_of, IsFirstBad}
 use Rattle.pgn_criteria.specs.Laws.{TextHasOneMeaning, TextHasOneAnswer, MemoryIsTheOnlyFault}
@@ -87,8 +87,8 @@ one_tag text name other relation reverse contents more is has =
 one_material : (text : List ℕ) (white black first second : Limits) → IsMaterialRead text white black → IsMaterialRead text first second
     → ◌≡◌ {A = Claim (List ℕ)} (Material white black) (Material first second)
 one_material text white black first second is has =
-    let whites : white ≡ first = one_limits (run_of (behind_word text)) white first is.white_is has.white_is in
-    let blacks : black ≡ second = one_limits (behind_word (behind_word (behind_word text))) black second is.black_is has.black_is in
+    let whites : white ≡ first = one_limits (run_of (after_word text)) white first is.white_is has.white_is in
+    let blacks : black ≡ second = one_limits (after_word (after_word (after_word text))) black second is.black_is has.black_is in
     ap (λ x. Material x black) whites ∙ ap (λ x. Material first x) blacks
 
 abbrev pub comparison_at : ℕ → Comparison
@@ -121,7 +121,7 @@ one_claim text (Tag name relation contents) (Tag other reverse more) spells has 
     one_tag text name other relation reverse contents more (tag_read text name relation contents spells) (tag_read text other reverse more has)
 one_claim text (Fen pattern) (Fen other) spells has = ap Fen (one_fen text pattern other spells has)
 one_claim text (Flip pattern) (Flip other) spells has =
-    ap Flip (one_fen (behind_word text) pattern other (flip_read text pattern spells).1 (flip_read text other has).1)
+    ap Flip (one_fen (after_word text) pattern other (flip_read text pattern spells).1 (flip_read text other has).1)
 one_claim text (Material white black) (Material first second) spells has =
     one_material text white black first second (material_read text white black spells) (material_read text first second has)
 one_claim text (Moves words) (Moves other) spells has = ap Moves (sym (moves_read text words spells).1 ∙ (moves_read text other has).1)
@@ -146,7 +146,7 @@ pub one_taken : (text : List ℕ) (p q : Bool) (a b : Claim (List ℕ)) → Spel
 one_taken text false false a b spells has = (refl, one_claim text a b spells has)
 one_taken text false true a b spells has = absurd (claim_not text a (not_read text b has).0 spells)
 one_taken text true false a b spells has = absurd (claim_not text b (not_read text a spells).0 has)
-one_taken text true true a b spells has = (refl, one_claim (behind_word text) a b (not_read text a spells).2 (not_read text b has).2)
+one_taken text true true a b spells has = (refl, one_claim (after_word text) a b (not_read text a spells).2 (not_read text b has).2)
 
 -- which both have `either` or have not
 one_turned : (text : List ℕ) (e f p q : Bool) (a b : Claim (List ℕ)) → SpellsTurned text e p a → SpellsTurned text f q b → (e ≡ f) × (p ≡ q) × (a ≡ b)
@@ -154,7 +154,7 @@ one_turned text false false p q a b spells has = let same = one_taken text p q a
 one_turned text false true p q a b spells has = absurd (taken_either text p a (either_read text q b has).0 spells)
 one_turned text true false p q a b spells has = absurd (taken_either text q b (either_read text p a spells).0 has)
 one_turned text true true p q a b spells has =
-    let same = one_taken (behind_word text) p q a b (either_read text p a spells).2 (either_read text q b has).2 in (refl, same.0, same.1)
+    let same = one_taken (after_word text) p q a b (either_read text p a spells).2 (either_read text q b has).2 in (refl, same.0, same.1)
 
 one_condition : (text : List ℕ) (c d : Condition (List ℕ)) → SpellsCondition text c → SpellsCondition text d → c ≡ d
 one_condition text c d spells has =

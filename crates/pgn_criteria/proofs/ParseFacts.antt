@@ -41,7 +41,7 @@ parted_size separator (b ∷ x) =
 pub part_shorter : (separator : ℕ) (text part rest : List ℕ) → parted_at separator text ≡ part ∷ parted_at separator rest → length rest < length text
 part_shorter separator text part rest parts =
     let whole : length text + 1 ≡ length part + 1 + size_of (parted_at separator rest) = sym (parted_size separator text) ∙ ap size_of parts in
-    let behind : size_of (parted_at separator rest) ≡ length rest + 1 = parted_size separator rest in
+    let after : size_of (parted_at separator rest) ≡ length rest + 1 = parted_size separator rest in
     omega arith
 
 pub rest_shorter : (text part rest : List ℕ) → parted_at 10 text ≡ part ∷ parted_at 10 rest → length rest < length text
@@ -59,25 +59,25 @@ pub record IsUpTo (text rest : List ℕ) (number : ℕ) : Type 0 where
 pub up_start : (text : List ℕ) → IsUpTo text text 1
 up_start text = record { before = []; means = []; parts = refl; counted = refl; are = refl; small = omega arith }
 
-pub up_more : (text rest line behind : List ℕ) (number : ℕ) (own : Meaning (List ℕ)) → IsUpTo text rest number → parted_at 10 rest ≡ line ∷ parted_at 10 behind → IsLine line own
-    → IsUpTo text behind (number + 1)
-up_more text rest line behind number own up parts is =
-    let shorter : length behind < length rest = rest_shorter rest line behind parts in
+pub up_more : (text rest line after : List ℕ) (number : ℕ) (own : Meaning (List ℕ)) → IsUpTo text rest number → parted_at 10 rest ≡ line ∷ parted_at 10 after → IsLine line own
+    → IsUpTo text after (number + 1)
+up_more text rest line after number own up parts is =
+    let shorter : length after < length rest = rest_shorter rest line after parts in
     let counted : number ≡ length up.before + 1 = up.counted in
     let size : length (up.before ++ (line ∷ [])) ≡ length up.before + 1 = length-append up.before (line ∷ []) in
     let small : number + length rest ≤ length text + 1 = up.small in
     record {
       before = up.before ++ (line ∷ []);
       means = up.means ++ (own ∷ []);
-      parts = up.parts ∙ ap (λ x. up.before ++ x) parts ∙ sym (append_assoc up.before (line ∷ []) (parted_at 10 behind));
+      parts = up.parts ∙ ap (λ x. up.before ++ x) parts ∙ sym (append_assoc up.before (line ∷ []) (parted_at 10 after));
       counted = omega arith;
       are = are_more up.before up.means line own up.are is;
       small = omega arith;
     }
 
 -- the first part, whatever follows it
-pub first_part : {T : Type 0} (now : T → List ℕ) (rest line : List ℕ) (behind : Option T)
-    → MatchOption behind (parted_at 10 rest ≡ line ∷ []) (λ found. parted_at 10 rest ≡ line ∷ parted_at 10 (now found))
+pub first_part : {T : Type 0} (now : T → List ℕ) (rest line : List ℕ) (tail : Option T)
+    → MatchOption tail (parted_at 10 rest ≡ line ∷ []) (λ found. parted_at 10 rest ≡ line ∷ parted_at 10 (now found))
     → (after : List (List ℕ)) × (parted_at 10 rest ≡ line ∷ after)
 first_part now rest line None is = ([], is)
 first_part now rest line (Some found) is = (parted_at 10 (now found), is)
@@ -100,7 +100,7 @@ some_alternative (Or ∷ means) = ([], alternatives_of means, refl)
 some_alternative (Asks condition ∷ means) =
     let f = some_alternative means in (condition ∷ f.0, f.1, ap (onto_first condition) f.2)
 
--- the alternatives of the lines up to the rest are built: those behind go on with what is open
+-- the alternatives of the lines up to the rest are built: those after go on with what is open
 pub record IsBuilt (text rest : List ℕ) (done : List (List (Condition (List ℕ)))) (begun : List (Condition (List ℕ))) : Type 0 where
   pub before : List (List ℕ)
   pub means : List (Meaning (List ℕ))
@@ -134,14 +134,14 @@ built_same : (text rest line : List ℕ) (done : List (List (Condition (List ℕ
 built_same text rest line done begun new open_new built added more =
     ap alternatives_of (append_assoc built.means (added.own ∷ []) more) ∙ built.same (added.own ∷ more) ∙ sym (added.same more)
 
-pub built_more : (text rest line behind : List ℕ) (done : List (List (Condition (List ℕ)))) (begun : List (Condition (List ℕ))) (new : List (List (Condition (List ℕ)))) (open_new : List (Condition (List ℕ)))
-    → IsBuilt text rest done begun → IsAdded line done begun new open_new → parted_at 10 rest ≡ line ∷ parted_at 10 behind → IsBuilt text behind new open_new
-built_more text rest line behind done begun new open_new built added parts =
+pub built_more : (text rest line after : List ℕ) (done : List (List (Condition (List ℕ)))) (begun : List (Condition (List ℕ))) (new : List (List (Condition (List ℕ)))) (open_new : List (Condition (List ℕ)))
+    → IsBuilt text rest done begun → IsAdded line done begun new open_new → parted_at 10 rest ≡ line ∷ parted_at 10 after → IsBuilt text after new open_new
+built_more text rest line after done begun new open_new built added parts =
     let left = subst (λ lines. AreLines lines built.later) parts built.left in
     record {
       before = built.before ++ (line ∷ []);
       means = built.means ++ (added.own ∷ []);
-      parts = built.parts ∙ ap (λ x. built.before ++ x) parts ∙ sym (append_assoc built.before (line ∷ []) (parted_at 10 behind));
+      parts = built.parts ∙ ap (λ x. built.before ++ x) parts ∙ sym (append_assoc built.before (line ∷ []) (parted_at 10 after));
       are = are_more built.before built.means line added.own built.are added.is;
       later = left.1;
       left = left.4;

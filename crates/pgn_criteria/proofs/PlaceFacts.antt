@@ -14,8 +14,8 @@ use mir.Syntax.{w16}
 use Rattle.chess.specs.declared.board.man.Man.{Man}
 use Rattle.pgn_criteria.specs.Patterns.{CanBeSplit}
 use Rattle.pgn_criteria.specs.Items.{items_of}
-use Rattle.pgn_criteria.specs.Items.{IsOf, Fits, Reads, IsNextItem, HasNoItem, Has, IsBehind, Ends, Goes}
-use Rattle.pgn_criteria.specs.declared.rank.Class.{Class}
+use Rattle.pgn_criteria.specs.Items.{IsOf, Fits, Reads, IsNextItem, HasNoItem, Has, IsAfter, Ends, Goes}
+use Rattle.pgn_criteria.specs.declared.rank.SquareTest.{SquareTest}
 use Rattle.pgn_criteria.specs.declared.rank.Item.{Item}
 use Rattle.pgn_criteria.specs.declared.rank.Item.TheVariants.{Run, Many}
 use Rattle.pgn_criteria.proofs.SetFacts.{some_items}
@@ -30,23 +30,23 @@ next_square squares place square more cut =
     let within : place < length squares = omega (arith, size, length-drop place squares) in
     let front : drop place squares ≡ get_or squares place None ∷ drop (suc place) squares = drop-cons squares place None within in
     let next : suc place ≡ place + 1 = omega arith in
-    let behind : drop (suc place) squares ≡ more = cc in
-    (within, cc, ap (λ n. drop n squares) (sym next) ∙ behind)
+    let after : drop (suc place) squares ≡ more = cc in
+    (within, cc, ap (λ n. drop n squares) (sym next) ∙ after)
 
 -- a run of one square more
-pub run_more : (class : Class) (squares : List (Option Man)) (reached next left count : ℕ) (items : List (List ℕ)) → length squares ≡ 8 → left ≡ count + 1
-    → ((place : ℕ) → Has next place ↔ IsBehind class squares reached 8 place) → Goes squares next (Run class count) items ↔ Goes squares reached (Run class left) items
-run_more class squares reached next left count items eight more told = (
+pub run_more : (class : SquareTest) (squares : List (Option Man)) (reached next left count : ℕ) (items : List (List ℕ)) → length squares ≡ 8 → left ≡ count + 1
+    → ((place : ℕ) → Has next place ↔ IsAfter class squares reached 8 place) → Goes squares next (Run class count) items ↔ Goes squares reached (Run class left) items
+run_more class squares reached next left count items eight more reports = (
   λ goes.
-      let behind : IsBehind class squares reached 8 goes.0 = (told goes.0).0 goes.2 in
-      let before = behind.0 in
-      let within : before < length squares = omega (arith, behind.2, eight) in
-      let step : suc before ≡ goes.0 = omega (arith, behind.1) in
+      let after : IsAfter class squares reached 8 goes.0 = (reports goes.0).0 goes.2 in
+      let before = after.0 in
+      let within : before < length squares = omega (arith, after.2, eight) in
+      let step : suc before ≡ goes.0 = omega (arith, after.1) in
       let cut : drop before squares ≡ get_or squares before None ∷ (goes.3.0 ++ goes.3.1) =
       drop-cons squares before None within ∙ ap (λ n. get_or squares before None ∷ drop n squares) step ∙ ap (λ x. get_or squares before None ∷ x) goes.3.2 in
       let size : suc (length goes.3.0) ≡ left = omega (arith, goes.3.3.0) in
-      let low : before ≤ 8 = omega (arith, behind.2) in
-      (before, low, behind.3, (get_or squares before None ∷ goes.3.0, goes.3.1, cut, (size, (behind.4, goes.3.3.1)), goes.3.4)),
+      let low : before ≤ 8 = omega (arith, after.2) in
+      (before, low, after.3, (get_or squares before None ∷ goes.3.0, goes.3.1, cut, (size, (after.4, goes.3.3.1)), goes.3.4)),
   λ goes. from_front goes.0 goes.2 goes.3.0 goes.3.1 goes.3.2 goes.3.3 goes.3.4,
 )
   where
@@ -56,13 +56,13 @@ run_more class squares reached next left count items eight more told = (
     from_front place has (square ∷ own) rest cut fits split =
         let front : IsNext squares place square (own ++ rest) = next_square squares place square (own ++ rest) cut in
         let low : place < 8 = omega (arith, front.0) in
-        let here : Has next (place + 1) = (told (place + 1)).1 (place, refl, low, has, subst (IsOf class) (sym front.1) fits.1.0) in
+        let here : Has next (place + 1) = (reports (place + 1)).1 (place, refl, low, has, subst (IsOf class) (sym front.1) fits.1.0) in
         let size : length own ≡ count = omega (arith, fits.0) in
         let high : place + 1 ≤ 8 = omega arith in
         (place + 1, high, here, (own, rest, front.2, (size, fits.1.1), split))
 
 -- a run of no square
-pub run_none : (class : Class) (squares : List (Option Man)) (reached : ℕ) (items : List (List ℕ)) → Ends squares reached items ↔ Goes squares reached (Run class 0) items
+pub run_none : (class : SquareTest) (squares : List (Option Man)) (reached : ℕ) (items : List (List ℕ)) → Ends squares reached items ↔ Goes squares reached (Run class 0) items
 run_none class squares reached items = (
   λ ends. (ends.0, ends.1, ends.2, ([], drop ends.0 squares, refl, (refl, tt), ends.3)),
   λ goes. from_none goes.0 goes.1 goes.2 goes.3.0 goes.3.1 goes.3.2 goes.3.3 goes.3.4,
@@ -76,23 +76,23 @@ run_none class squares reached items = (
 -- any number of squares
 pub many : (squares : List (Option Man)) (reached next : ℕ) (items : List (List ℕ)) → length squares ≡ 8
     → ((place : ℕ) → Has next place ↔ ((first : ℕ) × (first ≤ place) × (place ≤ 8) × Has reached first)) → Ends squares next items ↔ Goes squares reached Many items
-many squares reached next items eight told = (
+many squares reached next items eight reports = (
   λ ends.
-      let from : (first : ℕ) × (first ≤ ends.0) × (ends.0 ≤ 8) × Has reached first = (told ends.0).0 ends.2 in
+      let from : (first : ℕ) × (first ≤ ends.0) × (ends.0 ≤ 8) × Has reached first = (reports ends.0).0 ends.2 in
       let far = ends.0 - from.0 in
       let sum : from.0 + far ≡ ends.0 = omega (arith, from.1) in
-      let behind : drop far (drop from.0 squares) ≡ drop ends.0 squares = drop-drop far from.0 squares ∙ ap (λ n. drop n squares) sum in
+      let after : drop far (drop from.0 squares) ≡ drop ends.0 squares = drop-drop far from.0 squares ∙ ap (λ n. drop n squares) sum in
       let low : from.0 ≤ 8 = omega (arith, from.1, from.2) in
-      (from.0, low, from.3, (take far (drop from.0 squares), drop far (drop from.0 squares), sym (take-append-drop far (drop from.0 squares)), tt, subst (CanBeSplit items) (sym behind) ends.3)),
+      (from.0, low, from.3, (take far (drop from.0 squares), drop far (drop from.0 squares), sym (take-append-drop far (drop from.0 squares)), tt, subst (CanBeSplit items) (sym after) ends.3)),
   λ goes.
       let own = goes.3.0 in
       let rest = goes.3.1 in
       let place = goes.0 + length own in
       let size : length (drop goes.0 squares) ≡ length (own ++ rest) = ap length goes.3.2 in
       let low : place ≤ 8 = omega (arith, size, length-drop goes.0 squares, length-append own rest, goes.1) in
-      let behind : drop place squares ≡ rest = sym (drop-drop (length own) goes.0 squares) ∙ ap (drop (length own)) goes.3.2 ∙ drop-append_seam own rest in
+      let after : drop place squares ≡ rest = sym (drop-drop (length own) goes.0 squares) ∙ ap (drop (length own)) goes.3.2 ∙ drop-append_seam own rest in
       let from : goes.0 ≤ place = omega arith in
-      (place, low, (told place).1 (goes.0, from, low, goes.2), subst (CanBeSplit items) (sym behind) goes.3.4),
+      (place, low, (reports place).1 (goes.0, from, low, goes.2), subst (CanBeSplit items) (sym after) goes.3.4),
 )
 
 -- the item is the next one
@@ -104,22 +104,22 @@ goes_item squares reached text item items reads = (
 )
 
 -- one more square is looked at
-pub place_kept : (class : Class) (squares : List (Option Man)) (reached next end : ℕ) → ((Has reached end × IsOf class (get_or squares end None)) → ⊥)
-    → ((place : ℕ) → Has next place ↔ IsBehind class squares reached end place) → (place : ℕ) → Has next place ↔ IsBehind class squares reached (end + 1) place
-place_kept class squares reached next end not_here told place = (
-  λ has. let is = (told place).0 has in let low : is.0 < end + 1 = omega (arith, is.2) in (is.0, is.1, low, is.3, is.4),
+pub place_kept : (class : SquareTest) (squares : List (Option Man)) (reached next end : ℕ) → ((Has reached end × IsOf class (get_or squares end None)) → ⊥)
+    → ((place : ℕ) → Has next place ↔ IsAfter class squares reached end place) → (place : ℕ) → Has next place ↔ IsAfter class squares reached (end + 1) place
+place_kept class squares reached next end not_here reports place = (
+  λ has. let is = (reports place).0 has in let low : is.0 < end + 1 = omega (arith, is.2) in (is.0, is.1, low, is.3, is.4),
   λ is. elim (cases_lt is.0 end) [
-    | inl below ↦ (told place).1 (is.0, is.1, below, is.3, is.4)
+    | inl below ↦ (reports place).1 (is.0, is.1, below, is.3, is.4)
     | inr above ↦
         let same : is.0 ≡ end = omega (arith, is.2) in
         absurd (not_here (subst (λ b. Has reached b × IsOf class (get_or squares b None)) same (is.3, is.4)))
   ],
 )
 
-pub place_added : (class : Class) (squares : List (Option Man)) (reached next end : ℕ) → end < 8 → Has reached end → IsOf class (get_or squares end None)
-    → ((place : ℕ) → Has next place ↔ IsBehind class squares reached end place)
-    → (place : ℕ) → Has (bit_or next (1 * 2 ^ (end + 1) % 2 ^ bits w16)) place ↔ IsBehind class squares reached (end + 1) place
-place_added class squares reached next end low has_end is_end told place =
+pub place_added : (class : SquareTest) (squares : List (Option Man)) (reached next end : ℕ) → end < 8 → Has reached end → IsOf class (get_or squares end None)
+    → ((place : ℕ) → Has next place ↔ IsAfter class squares reached end place)
+    → (place : ℕ) → Has (bit_or next (1 * 2 ^ (end + 1) % 2 ^ bits w16)) place ↔ IsAfter class squares reached (end + 1) place
+place_added class squares reached next end low has_end is_end reports place =
     let within : end + 1 < bits w16 = omega arith in
     elim (cases_eq place (end + 1)) [
       | inl same ↦ (
@@ -129,10 +129,10 @@ place_added class squares reached next end low has_end is_end told place =
       | inr other ↦ (
         (λ has.
             let old : Has next place = sym (bit_at_set_other w16 next (end + 1) within place other) ∙ has in
-            let is = (told place).0 old in let less : is.0 < end + 1 = omega (arith, is.2) in (is.0, is.1, less, is.3, is.4)),
+            let is = (reports place).0 old in let less : is.0 < end + 1 = omega (arith, is.2) in (is.0, is.1, less, is.3, is.4)),
         (λ is.
             let below : is.0 < end = omega (arith, is.1, is.2, other) in
-            bit_at_set_other w16 next (end + 1) within place other ∙ (told place).1 (is.0, is.1, below, is.3, is.4)),
+            bit_at_set_other w16 next (end + 1) within place other ∙ (reports place).1 (is.0, is.1, below, is.3, is.4)),
       )
     ]
 
@@ -160,15 +160,15 @@ spread_places reached some below =
         (λ has.
             elim (cases_lt place first) [
               | inl before ↦ absurd (cc (bit_at_mask_below first 9 place before, has))
-              | inr behind ↦ elim (cases_lt place 9) [
-                | inl within ↦ let high : place ≤ 8 = omega arith in (first, behind, high, found.1)
+              | inr after ↦ elim (cases_lt place 9) [
+                | inl within ↦ let high : place ≤ 8 = omega arith in (first, after, high, found.1)
                 | inr above ↦ absurd (cc (bit_at_mask_above first 9 place above, has))
               ]
             ]),
         (λ is.
-            let behind : first ≤ place = elim (cases_lt is.0 first) [ inl before ↦ absurd (cc (found.2 is.0 before, is.3)) | inr from ↦ omega (arith, is.1, from) ] in
+            let after : first ≤ place = elim (cases_lt is.0 first) [ inl before ↦ absurd (cc (found.2 is.0 before, is.3)) | inr from ↦ omega (arith, is.1, from) ] in
             let within : place < 9 = omega (arith, is.2) in
-            bit_at_mask_inside first 9 place behind within),
+            bit_at_mask_inside first 9 place after within),
       ),
     )
 
@@ -186,7 +186,7 @@ at_start squares items = (
   λ split. (0, omega arith, refl, split),
 )
 
--- behind the last
+-- after the last
 pub at_end : (squares : List (Option Man)) (reached : ℕ) → length squares ≡ 8 → Ends squares reached [] ↔ Has reached 8
 at_end squares reached eight = (
   λ ends.
@@ -199,13 +199,13 @@ at_end squares reached eight = (
 )
 
 -- the next item is taken
-pub item_kept : (squares : List (Option Man)) (reached next : ℕ) (rest behind : List ℕ) (item : Item) (Whole : Type 0) → IsNextItem rest item behind
+pub item_kept : (squares : List (Option Man)) (reached next : ℕ) (rest after : List ℕ) (item : Item) (Whole : Type 0) → IsNextItem rest item after
     → ((more : List (List ℕ)) → Ends squares next more ↔ Goes squares reached item more)
-    → (Ends squares reached (items_of rest) ↔ Whole) → Ends squares next (items_of behind) ↔ Whole
-item_kept squares reached next rest behind item Whole is step kept =
-    let taken = goes_item squares reached is.text item (items_of behind) is.reads in (
-      λ ends. kept.0 (subst (Ends squares reached) (sym is.cut) (taken.0 ((step (items_of behind)).0 ends))),
-      λ whole. (step (items_of behind)).1 (taken.1 (subst (Ends squares reached) is.cut (kept.1 whole))),
+    → (Ends squares reached (items_of rest) ↔ Whole) → Ends squares next (items_of after) ↔ Whole
+item_kept squares reached next rest after item Whole is step kept =
+    let taken = goes_item squares reached is.text item (items_of after) is.reads in (
+      λ ends. kept.0 (subst (Ends squares reached) (sym is.cut) (taken.0 ((step (items_of after)).0 ends))),
+      λ whole. (step (items_of after)).1 (taken.1 (subst (Ends squares reached) is.cut (kept.1 whole))),
     )
 
 -- there is none, or nothing is reached: then the whole fails
@@ -229,8 +229,8 @@ none_fails squares reached items Whole none kept = (
 -- the last place is among the reached ones
 pub whole_reached : (squares : List (Option Man)) (reached : ℕ) (rest : List ℕ) (r : Bool) (Whole : Type 0) → length squares ≡ 8 → rest ≡ []
     → (IsTrue r ↔ Has reached 8) → (Ends squares reached (items_of rest) ↔ Whole) → IsTrue r ↔ Whole
-whole_reached squares reached rest r Whole eight none told kept =
+whole_reached squares reached rest r Whole eight none reports kept =
     let end = at_end squares reached eight in (
-      λ t. kept.0 (subst (λ x. Ends squares reached (items_of x)) (sym none) (end.1 (told.0 t))),
-      λ whole. told.1 (end.0 (subst (λ x. Ends squares reached (items_of x)) none (kept.1 whole))),
+      λ t. kept.0 (subst (λ x. Ends squares reached (items_of x)) (sym none) (end.1 (reports.0 t))),
+      λ whole. reports.1 (end.0 (subst (λ x. Ends squares reached (items_of x)) none (kept.1 whole))),
     )

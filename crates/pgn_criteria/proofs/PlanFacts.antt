@@ -74,52 +74,52 @@ sound_ways [] one are is = (is, tt)
 sound_ways (first ∷ more) one are is = (are.0, sound_ways more one are.1 is)
 
 -- what is laid out is planned
-pub plans_laid : (fact : State → Type 0) (old new : Plan) (all : Bool) → new.ways ≡ old.ways → new.others ≡ old.others
+pub plans_laid : (fact : State → Type 0) (old new : Plan) (all : Bool) → new.ways ≡ old.ways → new.denied ≡ old.denied
     → Lays fact (λ P. Unit {0}) old.layout new.layout all → Plans fact (λ P. Unit {0}) old new all
-plans_laid fact old new all ways others lays = record {
-  sound = λ are. (subst (λ w. AreSoundWays w.items) (sym ways) are.0, subst (λ o. AreSound o.items) (sym others) are.1);
+plans_laid fact old new all ways denied lays = record {
+  sound = λ are. (subst (λ w. AreSoundWays w.items) (sym ways) are.0, subst (λ o. AreSound o.items) (sym denied) are.1);
   needed = λ P planned holds.
       let laid = lays.needed P planned.0 holds in
-      ((laid.0, subst (λ w. AllEither P.men w.items) (sym ways) planned.1, subst (λ o. NoneLaid P.men o.items) (sym others) planned.2), tt);
+      ((laid.0, subst (λ w. AllEither P.men w.items) (sym ways) planned.1, subst (λ o. NoneLaid P.men o.items) (sym denied) planned.2), tt);
   enough = λ so P planned left.
       let laid = lays.enough so P planned.0 tt in
-      ((laid.0, subst (λ w. AllEither P.men w.items) ways planned.1, subst (λ o. NoneLaid P.men o.items) others planned.2), laid.1);
+      ((laid.0, subst (λ w. AllEither P.men w.items) ways planned.1, subst (λ o. NoneLaid P.men o.items) denied planned.2), laid.1);
 }
 
 -- one way or the other
-pub plans_ways : (fact : State → Type 0) (old new : Plan) (one : Ways) → new.layout ≡ old.layout → new.others ≡ old.others → new.ways.items ≡ old.ways.items ++ one ∷ []
+pub plans_ways : (fact : State → Type 0) (old new : Plan) (one : Ways) → new.layout ≡ old.layout → new.denied ≡ old.denied → new.ways.items ≡ old.ways.items ++ one ∷ []
     → IsSound one.straight × IsSound one.turned → ((P : State) → (Laid P.men one.straight.layout ⊎ Laid P.men one.turned.layout) ↔ fact P)
     → Plans fact (λ P. Unit {0}) old new true
-plans_ways fact old new one layout others ways is same = record {
-  sound = λ are. (subst AreSoundWays (sym ways) (sound_ways old.ways.items one are.0 is), subst (λ o. AreSound o.items) (sym others) are.1);
+plans_ways fact old new one layout denied ways is same = record {
+  sound = λ are. (subst AreSoundWays (sym ways) (sound_ways old.ways.items one are.0 is), subst (λ o. AreSound o.items) (sym denied) are.1);
   needed = λ P planned holds. (
     (
       subst (Laid P.men) (sym layout) planned.0,
       subst (AllEither P.men) (sym ways) ((either_more P.men old.ways.items one).1 (planned.1, (same P).1 holds)),
-      subst (λ o. NoneLaid P.men o.items) (sym others) planned.2,
+      subst (λ o. NoneLaid P.men o.items) (sym denied) planned.2,
     ),
     tt,
   );
   enough = λ so P planned left.
       let both = (either_more P.men old.ways.items one).0 (subst (AllEither P.men) ways planned.1) in
-      ((subst (Laid P.men) layout planned.0, both.0, subst (λ o. NoneLaid P.men o.items) others planned.2), (same P).0 both.1);
+      ((subst (Laid P.men) layout planned.0, both.0, subst (λ o. NoneLaid P.men o.items) denied planned.2), (same P).0 both.1);
 }
 
 -- what is not to stand
-pub plans_other : (fact : State → Type 0) (old new : Plan) (one : Look) → new.layout ≡ old.layout → new.ways ≡ old.ways → new.others.items ≡ old.others.items ++ one ∷ []
+pub plans_denied : (fact : State → Type 0) (old new : Plan) (one : Look) → new.layout ≡ old.layout → new.ways ≡ old.ways → new.denied.items ≡ old.denied.items ++ one ∷ []
     → IsSound one → ((P : State) → (Laid P.men one.layout → ⊥) ↔ fact P) → Plans fact (λ P. Unit {0}) old new true
-plans_other fact old new one layout ways others is same = record {
-  sound = λ are. (subst (λ w. AreSoundWays w.items) (sym ways) are.0, subst AreSound (sym others) (sound_more old.others.items one are.1 is));
+plans_denied fact old new one layout ways denied is same = record {
+  sound = λ are. (subst (λ w. AreSoundWays w.items) (sym ways) are.0, subst AreSound (sym denied) (sound_more old.denied.items one are.1 is));
   needed = λ P planned holds. (
     (
       subst (Laid P.men) (sym layout) planned.0,
       subst (λ w. AllEither P.men w.items) (sym ways) planned.1,
-      subst (NoneLaid P.men) (sym others) ((none_more P.men old.others.items one).1 (planned.2, (same P).1 holds)),
+      subst (NoneLaid P.men) (sym denied) ((none_more P.men old.denied.items one).1 (planned.2, (same P).1 holds)),
     ),
     tt,
   );
   enough = λ so P planned left.
-      let both = (none_more P.men old.others.items one).0 (subst (NoneLaid P.men) others planned.2) in
+      let both = (none_more P.men old.denied.items one).0 (subst (NoneLaid P.men) denied planned.2) in
       ((subst (Laid P.men) layout planned.0, subst (λ w. AllEither P.men w.items) ways planned.1, both.0), (same P).0 both.1);
 }
 

@@ -6,7 +6,7 @@ use Rattle.std.proofs.lemmas.Bool.Decides.{nat_tests}
 use Rattle.chess.specs.Fen.{is_digit}
 use Rattle.chess.specs.FenWords.{ten_to}
 use Rattle.pgn_criteria.specs.Numbers.{IsCounted}
-use Rattle.pgn_criteria.specs.Reading.{run_of, behind_word}
+use Rattle.pgn_criteria.specs.Reading.{run_of, after_word}
 use Rattle.pgn_criteria.specs.Lines.{SpellsClaim, SpellsCompared, SpellsCount, comparison_text}
 use Rattle.pgn_criteria.specs.declared.compare.Comparison.{Comparison}
 use Rattle.pgn_criteria.specs.declared.compare.Comparison.TheVariants.{Equal, Unequal, Less, LessOrEqual, Greater, GreaterOrEqual}
@@ -48,22 +48,22 @@ count_ends digits count spells = solid_ends digits (count_some digits count spel
 -- the words of the text are those of a condition with this key word
 pub record IsComparedRead (key text : List ℕ) (comparison : Comparison) (count : ℕ) : Type 0 where
   pub key_is : run_of text ≡ key
-  pub sign_is : run_of (behind_word text) ≡ comparison_text comparison
-  pub count_is : SpellsCount (behind_word (behind_word text)) count
+  pub sign_is : run_of (after_word text) ≡ comparison_text comparison
+  pub count_is : SpellsCount (after_word (after_word text)) count
 
 pub compared_read : (key text : List ℕ) (comparison : Comparison) (count : ℕ) → AreSolid key → SpellsCompared key text comparison count → IsComparedRead key text comparison count
 compared_read key text comparison count solid (first, second, digits, is, g, h, counted) =
     let sign = comparison_text comparison in
     let one = word_read text key first (sign ++ (second ++ digits)) is solid g (begins_front sign (second ++ digits) (comparison_begins comparison)) in
-    let two = word_read (behind_word text) sign second digits one.1 (comparison_solid comparison) h (count_begins digits count counted) in
+    let two = word_read (after_word text) sign second digits one.1 (comparison_solid comparison) h (count_begins digits count counted) in
     record { key_is = one.0; sign_is = two.0; count_is = subst (λ x. SpellsCount x count) (sym two.1) counted }
 
 -- and a text of such words spells it
 pub compared_spelled : (key text : List ℕ) (comparison : Comparison) (count : ℕ) → IsComparedRead key text comparison count → SpellsCompared key text comparison count
 compared_spelled key text comparison count read =
     let sign = comparison_text comparison in
-    let digits = behind_word (behind_word text) in
-    let two = word_spelled (behind_word text) sign digits read.sign_is refl (count_some digits count read.count_is) in
+    let digits = after_word (after_word text) in
+    let two = word_spelled (after_word text) sign digits read.sign_is refl (count_some digits count read.count_is) in
     let one = word_spelled text key (sign ++ (two.0 ++ digits)) read.key_is two.1 (front_some sign (two.0 ++ digits) (comparison_begins comparison)) in
     (one.0, two.0, digits, one.1, one.2, two.2, read.count_is)
 
@@ -74,14 +74,14 @@ pub counted_read : (text : List ℕ) (comparison : Comparison) (count : ℕ) →
 counted_read text comparison count spells = compared_read (codes "count") text comparison count refl spells
 
 -- a number of plies in a row
-pub for_read : (text : List ℕ) (count : ℕ) → SpellsClaim text (For count) → (run_of text ≡ codes "for") × SpellsCount (behind_word text) count × (1 ≤ count)
+pub for_read : (text : List ℕ) (count : ℕ) → SpellsClaim text (For count) → (run_of text ≡ codes "for") × SpellsCount (after_word text) count × (1 ≤ count)
 for_read text count (gap, digits, is, g, counted, some) =
     let parts = word_read text (codes "for") gap digits is refl g (count_begins digits count counted) in
     (parts.0, subst (λ x. SpellsCount x count) (sym parts.1) counted, some)
 
-pub for_spelled : (text digits : List ℕ) (count : ℕ) → run_of text ≡ codes "for" → digits ≡ behind_word text → SpellsCount digits count → 1 ≤ count → SpellsClaim text (For count)
-for_spelled text digits count run behind counted some =
-    let spelled = word_spelled text (codes "for") digits run (sym behind) (count_some digits count counted) in
+pub for_spelled : (text digits : List ℕ) (count : ℕ) → run_of text ≡ codes "for" → digits ≡ after_word text → SpellsCount digits count → 1 ≤ count → SpellsClaim text (For count)
+for_spelled text digits count run after counted some =
+    let spelled = word_spelled text (codes "for") digits run (sym after) (count_some digits count counted) in
     (spelled.0, digits, spelled.1, spelled.2, counted, some)
 
 -- how the number is read digit by digit
@@ -108,20 +108,20 @@ pub count_small : (n : ℕ) (rest text : List ℕ) → IsCounted n rest text →
 count_small n rest text c some =
     let bound = c.bound in let small = ten_small (9 - length rest) (omega arith) in omega arith
 
-digit_next : (b : ℕ) (behind : List ℕ) → is_digit b ≡ true → list_all is_digit behind ≡ list_all is_digit (b ∷ behind)
-digit_next b behind e = sym (ap (λ t. t && list_all is_digit behind) e)
+digit_next : (b : ℕ) (after : List ℕ) → is_digit b ≡ true → list_all is_digit after ≡ list_all is_digit (b ∷ after)
+digit_next b after e = sym (ap (λ t. t && list_all is_digit after) e)
 
-pub count_more : (n : ℕ) (rest text : List ℕ) (b : ℕ) (behind : List ℕ) → IsCounted n rest text → rest ≡ b ∷ behind → is_digit b ≡ true → b ≤ 57
-    → IsCounted (10 * n + (b - 48)) behind text
-count_more n rest text b behind c e digit high =
-    let before : IsCounted n (b ∷ behind) text = subst (λ x. IsCounted n x text) e c in
+pub count_more : (n : ℕ) (rest text : List ℕ) (b : ℕ) (after : List ℕ) → IsCounted n rest text → rest ≡ b ∷ after → is_digit b ≡ true → b ≤ 57
+    → IsCounted (10 * n + (b - 48)) after text
+count_more n rest text b after c e digit high =
+    let before : IsCounted n (b ∷ after) text = subst (λ x. IsCounted n x text) e c in
     let short = before.short in
     let bound = before.bound in
-    let left : 9 - length behind ≡ suc (9 - length (b ∷ behind)) = omega arith in
-    let room : ten_to (9 - length behind) ≡ 10 * ten_to (9 - length (b ∷ behind)) = ap ten_to left in
+    let left : 9 - length after ≡ suc (9 - length (b ∷ after)) = omega arith in
+    let room : ten_to (9 - length after) ≡ 10 * ten_to (9 - length (b ∷ after)) = ap ten_to left in
     record {
       short = omega arith;
       bound = omega arith;
       value = before.value;
-      digits = digit_next b behind digit ∙ before.digits;
+      digits = digit_next b after digit ∙ before.digits;
     }

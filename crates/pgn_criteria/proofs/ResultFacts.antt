@@ -3,7 +3,7 @@ use Rattle.std.proofs.Common.{◌≡◌, ◌≢◌, ℕ, List, [], ap, sym, ◌�
 use Rattle.std.specs.Prelude.{codes}
 use Rattle.std.specs.List.{list_all}
 use Rattle.pgn_text.specs.GameTexts.{IsResult}
-use Rattle.pgn_criteria.specs.Reading.{run_of, behind_word}
+use Rattle.pgn_criteria.specs.Reading.{run_of, after_word}
 use Rattle.pgn_criteria.specs.Lines.{SpellsClaim}
 use Rattle.pgn_criteria.specs.declared.condition.Claim.TheVariants.{Result}
 use Rattle.pgn_criteria.proofs.SolidFacts.{is_solid, AreSolid, EndsSolid, solid_begins, solid_ends, word_read, word_spelled}
@@ -23,11 +23,11 @@ result_some result (inr (inr (inr star))) none = let clash : codes "*" ≡ [] = 
 pub result_ends : (result : List ℕ) → IsResult result → EndsSolid result
 result_ends result is = solid_ends result (result_some result is) (result_solid result is)
 
-pub result_read : (text result : List ℕ) → SpellsClaim text (Result result) → (run_of text ≡ codes "result") × (behind_word text ≡ result)
+pub result_read : (text result : List ℕ) → SpellsClaim text (Result result) → (run_of text ≡ codes "result") × (after_word text ≡ result)
 result_read text result (gap, is, g, good) =
     word_read text (codes "result") gap result is refl g (solid_begins result (result_some result good) (result_solid result good))
 
-pub result_spelled : (text result : List ℕ) → run_of text ≡ codes "result" → result ≡ behind_word text → IsResult result → SpellsClaim text (Result result)
-result_spelled text result run behind good =
-    let spelled = word_spelled text (codes "result") result run (sym behind) (result_some result good) in
+pub result_spelled : (text result : List ℕ) → run_of text ≡ codes "result" → result ≡ after_word text → IsResult result → SpellsClaim text (Result result)
+result_spelled text result run after good =
+    let spelled = word_spelled text (codes "result") result run (sym after) (result_some result good) in
     (spelled.0, spelled.1, spelled.2, good)

@@ -18,13 +18,13 @@ use Rattle.pgn_criteria.specs.Patterns.{AreMen, IsStretch, CanBeSplit, items_whe
 use Rattle.pgn_criteria.specs.Items.{AreItems, is_letter, IsItem, items_of}
 use Rattle.pgn_criteria.specs.Patterns.IsStretch.{spelled, any, occupied, white, black, many, among, other}
 use Rattle.pgn_criteria.specs.Items.{Fits, Reads, IsNextItem, HasNoItem, item_of, has_man, men_in}
-use Rattle.pgn_criteria.specs.declared.rank.Class.{Class}
-use Rattle.pgn_criteria.specs.declared.rank.Class.TheVariants.{Among, Other}
+use Rattle.pgn_criteria.specs.declared.rank.SquareTest.{SquareTest}
+use Rattle.pgn_criteria.specs.declared.rank.SquareTest.TheVariants.{Among, Other}
 use Rattle.pgn_criteria.specs.declared.rank.Item.{Item}
 use Rattle.pgn_criteria.specs.declared.rank.Item.TheVariants.{Run}
 use Rattle.pgn_criteria.proofs.ItemFacts.{item_exact, no_stretch, some_stretch}
 
--- the first byte of an item, and those behind it
+-- the first byte of an item, and those after it
 abbrev pub first_of : List ℕ → ℕ
 first_of [] = 0
 first_of (b ∷ x) = b
@@ -36,13 +36,13 @@ rest_of (b ∷ x) = x
 -- ---- how a rank is cut
 
 -- a set ends with the first bracket that closes one
-pub set_cut : (x behind : List ℕ) (c : ℕ) → after_run 93 x ≡ c ∷ behind → items_where true x ≡ (run_of 93 x ++ 93 ∷ []) ∷ items_of behind
-set_cut [] behind c e = cc
-set_cut (b ∷ x) behind c e =
-    elim (b == 93) as (λ t. (b == 93) ≡ t → (if t then b ∷ x else after_run 93 x) ≡ c ∷ behind
-    → (if t then (b ∷ []) ∷ items_of x else before_first b (items_where true x)) ≡ ((if t then [] else b ∷ run_of 93 x) ++ 93 ∷ []) ∷ items_of behind) [
-      | true ↦ λ same cut. let byte : b ≡ 93 = eqb-true b 93 same in let rest : x ≡ behind = cc in ap (λ n. (n ∷ []) ∷ items_of x) byte ∙ ap (λ y. (93 ∷ []) ∷ items_of y) rest
-      | false ↦ λ not_end cut. ap (before_first b) (set_cut x behind c cut)
+pub set_cut : (x after : List ℕ) (c : ℕ) → after_run 93 x ≡ c ∷ after → items_where true x ≡ (run_of 93 x ++ 93 ∷ []) ∷ items_of after
+set_cut [] after c e = cc
+set_cut (b ∷ x) after c e =
+    elim (b == 93) as (λ t. (b == 93) ≡ t → (if t then b ∷ x else after_run 93 x) ≡ c ∷ after
+    → (if t then (b ∷ []) ∷ items_of x else before_first b (items_where true x)) ≡ ((if t then [] else b ∷ run_of 93 x) ++ 93 ∷ []) ∷ items_of after) [
+      | true ↦ λ same cut. let byte : b ≡ 93 = eqb-true b 93 same in let rest : x ≡ after = cc in ap (λ n. (n ∷ []) ∷ items_of x) byte ∙ ap (λ y. (93 ∷ []) ∷ items_of y) rest
+      | false ↦ λ not_end cut. ap (before_first b) (set_cut x after c cut)
     ] refl e
 
 -- without one it has all that is left
@@ -204,8 +204,8 @@ no_set inside no_men no_others item = elim (set_form (91 ∷ (inside ++ 93 ∷ [
   | inr none ↦ no_others none.0 none.2 none.3
 ]
 
-pub same_behind : (a b x : List ℕ) → x ≡ 94 ∷ a → x ≡ 94 ∷ b → a ≡ b
-same_behind a b x is has = ap rest_of (sym is ∙ has)
+pub same_after : (a b x : List ℕ) → x ≡ 94 ∷ a → x ≡ 94 ∷ b → a ≡ b
+same_after a b x is has = ap rest_of (sym is ∙ has)
 
 -- ---- the first item of a rank
 
@@ -233,13 +233,13 @@ open_fails x unclosed text more cut item =
     let same = first_is (91 ∷ x) text [] more (sym (set_open 91 x unclosed) ∙ cut) in
     open_stretch text item.0 item.1 x (sym same) unclosed
 
-pub set_next : (x behind : List ℕ) (c : ℕ) (class : Class) → after_run 93 x ≡ c ∷ behind → Reads (91 ∷ (run_of 93 x ++ 93 ∷ [])) (Run class 1) → IsNextItem (91 ∷ x) (Run class 1) behind
-set_next x behind c class cut reads =
-    record { text = 91 ∷ (run_of 93 x ++ 93 ∷ []); cut = ap (before_first 91) (set_cut x behind c cut); reads = reads }
+pub set_next : (x after : List ℕ) (c : ℕ) (class : SquareTest) → after_run 93 x ≡ c ∷ after → Reads (91 ∷ (run_of 93 x ++ 93 ∷ [])) (Run class 1) → IsNextItem (91 ∷ x) (Run class 1) after
+set_next x after c class cut reads =
+    record { text = 91 ∷ (run_of 93 x ++ 93 ∷ []); cut = ap (before_first 91) (set_cut x after c cut); reads = reads }
 
-pub set_fails : (x behind : List ℕ) (c : ℕ) → after_run 93 x ≡ c ∷ behind → (IsItem (91 ∷ (run_of 93 x ++ 93 ∷ [])) → ⊥) → HasNoItem (91 ∷ x)
-set_fails x behind c end no_item text more cut item =
-    let same = first_is (91 ∷ (run_of 93 x ++ 93 ∷ [])) text (items_of behind) more (sym (ap (before_first 91) (set_cut x behind c end)) ∙ cut) in
+pub set_fails : (x after : List ℕ) (c : ℕ) → after_run 93 x ≡ c ∷ after → (IsItem (91 ∷ (run_of 93 x ++ 93 ∷ [])) → ⊥) → HasNoItem (91 ∷ x)
+set_fails x after c end no_item text more cut item =
+    let same = first_is (91 ∷ (run_of 93 x ++ 93 ∷ [])) text (items_of after) more (sym (ap (before_first 91) (set_cut x after c end)) ∙ cut) in
     no_item (subst IsItem (sym same) item)
 
 -- a byte that begins no set
@@ -269,16 +269,16 @@ some_items b x =
     front b [] = (b ∷ [], [], refl)
     front b (first ∷ more) = (b ∷ first, more, refl)
 
--- what is left behind the set is shorter
-pub behind_shorter : (x found : List ℕ) → found ≡ after_run 93 x → 1 ≤ length found → length (take (length found - 1) (drop 1 found)) < length x
-behind_shorter x found is some =
+-- what is left after the set is shorter
+pub after_shorter : (x found : List ℕ) → found ≡ after_run 93 x → 1 ≤ length found → length (take (length found - 1) (drop 1 found)) < length x
+after_shorter x found is some =
     let within = rest_within x (run_of 93 x) (after_run 93 x) found (run_whole 93 x) is in
     let whole : length found ≡ suc (length (take (length found - 1) (drop 1 found))) = ap length (first_and_rest found some) in
     omega arith
 
--- a rank is of items where its first is one and those behind it are
-pub items_next : (rest behind : List ℕ) (item : Item) (Whole : Type 0) → IsNextItem rest item behind → (AreItems (items_of rest) ↔ Whole) → AreItems (items_of behind) ↔ Whole
-items_next rest behind item Whole is kept = (
+-- a rank is of items where its first is one and those after it are
+pub items_next : (rest after : List ℕ) (item : Item) (Whole : Type 0) → IsNextItem rest item after → (AreItems (items_of rest) ↔ Whole) → AreItems (items_of after) ↔ Whole
+items_next rest after item Whole is kept = (
   λ are. kept.0 (subst AreItems (sym is.cut) (is.reads.0, are)),
   λ whole. (subst AreItems is.cut (kept.1 whole)).1,
 )
@@ -303,5 +303,5 @@ are_split (item ∷ more) =
       (λ split. ((split.1.0, split.1.3), there.1 (split.1.1, split.1.4))),
     )
 
-pub told_split : (items : List (List ℕ)) (r : Bool) → (IsTrue r ↔ AreItems items) → IsTrue r ↔ ((squares : List (Option Man)) × CanBeSplit items squares)
-told_split items r told = let same = are_split items in (λ t. same.0 (told.0 t), λ split. told.1 (same.1 split))
+pub reports_split : (items : List (List ℕ)) (r : Bool) → (IsTrue r ↔ AreItems items) → IsTrue r ↔ ((squares : List (Option Man)) × CanBeSplit items squares)
+reports_split items r reports = let same = are_split items in (λ t. same.0 (reports.0 t), λ split. reports.1 (same.1 split))

@@ -6,7 +6,7 @@ use Rattle.std.proofs.lemmas.Bool.{eqb-true, and_parts}
 use Rattle.std.proofs.lemmas.Bool.Decides.{nat_tests}
 use Rattle.chess.specs.Fen.{parted_at, before_first}
 use Rattle.pgn_criteria.specs.Words.{is_blank}
-use Rattle.pgn_criteria.specs.Reading.{run_of, after_run, behind_blanks, behind_word}
+use Rattle.pgn_criteria.specs.Reading.{run_of, after_run, after_blanks, after_word}
 use Rattle.pgn_criteria.specs.Lines.{AreBlanks, IsGap}
 use Rattle.pgn_criteria.proofs.WordFacts.{run_whole, begins_word}
 
@@ -60,9 +60,9 @@ BeginsSolid x = (b : ℕ) × (rest : List ℕ) × (x ≡ b ∷ rest) × (is_soli
 abbrev pub EndsSolid : List ℕ → Type 0
 EndsSolid x = (front : List ℕ) × (b : ℕ) × (x ≡ front ++ (b ∷ [])) × (is_solid b ≡ true)
 
-pub begins_kept : (x : List ℕ) → BeginsSolid x → behind_blanks x ≡ x
+pub begins_kept : (x : List ℕ) → BeginsSolid x → after_blanks x ≡ x
 begins_kept x (b, rest, is, solid) =
-    ap behind_blanks is ∙ ap (λ t. if t then behind_blanks rest else b ∷ rest) (solid_blank b solid) ∙ sym is
+    ap after_blanks is ∙ ap (λ t. if t then after_blanks rest else b ∷ rest) (solid_blank b solid) ∙ sym is
 
 pub begins_some : (x : List ℕ) → BeginsSolid x → x ≢ []
 begins_some x (b, rest, is, solid) none = let clash : b ∷ rest ≡ [] = sym is ∙ none in cc
@@ -70,8 +70,8 @@ begins_some x (b, rest, is, solid) none = let clash : b ∷ rest ≡ [] = sym is
 pub begins_front : (x y : List ℕ) → BeginsSolid x → BeginsSolid (x ++ y)
 begins_front x y (b, rest, is, solid) = (b, rest ++ y, ap (λ z. z ++ y) is, solid)
 
-pub ends_behind : (x y : List ℕ) → EndsSolid y → EndsSolid (x ++ y)
-ends_behind x y (front, b, is, solid) = (x ++ front, b, ap (λ z. x ++ z) is ∙ sym (append_assoc x front (b ∷ [])), solid)
+pub ends_after : (x y : List ℕ) → EndsSolid y → EndsSolid (x ++ y)
+ends_after x y (front, b, is, solid) = (x ++ front, b, ap (λ z. x ++ z) is ∙ sym (append_assoc x front (b ∷ [])), solid)
 
 pub front_some : (x y : List ℕ) → BeginsSolid x → x ++ y ≢ []
 front_some x y begins = begins_some (x ++ y) (begins_front x y begins)
@@ -99,17 +99,17 @@ at_gap (b ∷ gap) rest is =
     )
 
 -- blanks are passed over
-pub over_blanks : (gap rest : List ℕ) → AreBlanks gap → behind_blanks (gap ++ rest) ≡ behind_blanks rest
+pub over_blanks : (gap rest : List ℕ) → AreBlanks gap → after_blanks (gap ++ rest) ≡ after_blanks rest
 over_blanks [] rest are = refl
 over_blanks (b ∷ gap) rest are =
     let parts : (is_blank b ≡ true) × (list_all is_blank gap ≡ true) = and_parts _ _ are in
-    ap (λ t. if t then behind_blanks (gap ++ rest) else b ∷ (gap ++ rest)) parts.0 ∙ over_blanks gap rest parts.1
+    ap (λ t. if t then after_blanks (gap ++ rest) else b ∷ (gap ++ rest)) parts.0 ∙ over_blanks gap rest parts.1
 
 -- the blanks that a text begins with
-pub blank_front : (x : List ℕ) → (gap : List ℕ) × (x ≡ gap ++ behind_blanks x) × AreBlanks gap
+pub blank_front : (x : List ℕ) → (gap : List ℕ) × (x ≡ gap ++ after_blanks x) × AreBlanks gap
 blank_front [] = ([], refl, refl)
 blank_front (b ∷ x) =
-    elim (is_blank b) as (λ t. is_blank b ≡ t → (gap : List ℕ) × (b ∷ x ≡ gap ++ (if t then behind_blanks x else b ∷ x)) × AreBlanks gap) [
+    elim (is_blank b) as (λ t. is_blank b ≡ t → (gap : List ℕ) × (b ∷ x ≡ gap ++ (if t then after_blanks x else b ∷ x)) × AreBlanks gap) [
       | true ↦ λ e. let f = blank_front x in (b ∷ f.0, ap (λ y. b ∷ y) f.1, rw e f.2)
       | false ↦ λ e. ([], refl, refl)
     ] refl
@@ -142,26 +142,26 @@ word_alone word solid =
 
 -- a word, a gap and what follows: read
 pub word_read : (text word gap rest : List ℕ) → text ≡ word ++ (gap ++ rest) → AreSolid word → IsGap gap → BeginsSolid rest
-    → (run_of text ≡ word) × (behind_word text ≡ rest)
+    → (run_of text ≡ word) × (after_word text ≡ rest)
 word_read text word gap rest is solid g begins =
     let at = at_gap gap rest g in
     let front = run_front word (gap ++ rest) solid in (
       ap run_of is ∙ front.0 ∙ ap (λ x. word ++ x) at.0 ∙ append-nil word,
-      ap behind_word is ∙ ap behind_blanks (front.1 ∙ at.1) ∙ over_blanks gap rest g.1 ∙ begins_kept rest begins,
+      ap after_word is ∙ ap after_blanks (front.1 ∙ at.1) ∙ over_blanks gap rest g.1 ∙ begins_kept rest begins,
     )
 
-not_joined : (text rest : List ℕ) → behind_word text ≡ rest → rest ≢ [] → after_run text ≡ rest → ⊥
-not_joined text [] behind some same = some refl
-not_joined text (b ∷ x) behind some same =
-    let clash : false ≡ true = sym (begins_word (after_run text) b x behind) ∙ after_blank text b x same in cc
+not_joined : (text rest : List ℕ) → after_word text ≡ rest → rest ≢ [] → after_run text ≡ rest → ⊥
+not_joined text [] after some same = some refl
+not_joined text (b ∷ x) after some same =
+    let clash : false ≡ true = sym (begins_word (after_run text) b x after) ∙ after_blank text b x same in cc
 
 -- and spelled
-pub word_spelled : (text word rest : List ℕ) → run_of text ≡ word → behind_word text ≡ rest → rest ≢ []
+pub word_spelled : (text word rest : List ℕ) → run_of text ≡ word → after_word text ≡ rest → rest ≢ []
     → (gap : List ℕ) × (text ≡ word ++ (gap ++ rest)) × IsGap gap
-word_spelled text word rest run behind some =
+word_spelled text word rest run after some =
     let f = blank_front (after_run text) in
-    let tail : after_run text ≡ f.0 ++ rest = f.1 ∙ ap (λ x. f.0 ++ x) behind in (
+    let tail : after_run text ≡ f.0 ++ rest = f.1 ∙ ap (λ x. f.0 ++ x) after in (
       f.0,
       sym (run_whole text) ∙ ap (λ x. x ++ after_run text) run ∙ ap (λ x. word ++ x) tail,
-      (λ none. not_joined text rest behind some (tail ∙ ap (λ g. g ++ rest) none), f.2),
+      (λ none. not_joined text rest after some (tail ∙ ap (λ g. g ++ rest) none), f.2),
     )

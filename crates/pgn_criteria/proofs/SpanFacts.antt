@@ -109,10 +109,10 @@ none_before Such least many from none = record {
 
 pub counted_before : (Such : ℕ → Type 0) (least many : ℕ) (is : Bool) → (IsTrue is ↔ Such least) → AreFrom Such (least + 1) many
     → AreFrom Such least (many + (if is then 1 else 0))
-counted_before Such least many true told from = one_before Such least many from (told.0 refl)
-counted_before Such least many false told from =
+counted_before Such least many true reports from = one_before Such least many from (reports.0 refl)
+counted_before Such least many false reports from =
     let same : many ≡ many + 0 = omega arith in
-    subst (AreFrom Such least) same (none_before Such least many from (λ such. let t : false ≡ true = told.1 such in cc))
+    subst (AreFrom Such least) same (none_before Such least many from (λ such. let t : false ≡ true = reports.1 such in cc))
 
 pub from_first : (Such : ℕ → Type 0) (many : ℕ) → AreFrom Such 0 many → AreSoMany Such many
 from_first Such many from = (
@@ -169,9 +169,9 @@ spans_stand Such ply run many is (condition ∷ more) either =
     (λ stand. (here.0 stand.0, there.0 stand.1), λ hold. (here.1 hold.0, there.1 hold.1))
 
 -- all that conditions say of a ply, by its run and the number of all where that is asked for
-pub about_told : (replay : Replay) (conditions : List (Condition (List ℕ))) (ply run many : ℕ) → IsRun (FitsAt replay conditions) ply run
+pub reports_about : (replay : Replay) (conditions : List (Condition (List ℕ))) (ply run many : ℕ) → IsRun (FitsAt replay conditions) ply run
     → (AreNoCounts conditions ⊎ AreSoMany (FitsAt replay conditions) many) → ((0 < run) × SpansStand run many conditions) ↔ FitsAbout replay conditions ply
-about_told replay conditions ply run many is either =
+reports_about replay conditions ply run many is either =
     let Such : ℕ → Type 0 = FitsAt replay conditions in
     let same = spans_stand Such ply run many is conditions either in
     let here : ply + 0 ≡ ply = omega arith in (
@@ -193,8 +193,8 @@ run_next Such ply run next is same = record {
 }
 
 pub run_known : (Such : ℕ → Type 0) (ply run : ℕ) (next : Option ℕ) → IsRun Such ply run → SomeIff next (1 ≤ run) (run - 1) → IfSome next (IsRun Such (ply + 1))
-run_known Such ply run None is told = tt
-run_known Such ply run (Some next) is told = run_next Such ply run next is (omega (arith, told.0, told.1))
+run_known Such ply run None is reports = tt
+run_known Such ply run (Some next) is reports = run_next Such ply run next is (omega (arith, reports.0, reports.1))
 
 -- what asks for a bounded number of first moves has none
 within_no_span : (most : ℕ) (claim : Claim (List ℕ)) → AsksWithin most claim → IsNoSpan claim
@@ -215,7 +215,7 @@ module _ (old now : List Bool) (About : ℕ → Type 0) (at : ℕ) (is : Bool) (
   done_more done here k less = elim (cases_lt k at) [
     | inl before ↦
         let same : get_or (slice_set now at is) k false ≡ get_or now k false = get_or-set_other now at k is false (λ e. omega (arith, e, before)) in
-        let told = done k before in (λ t. told.0 (sym same ∙ t), λ either. same ∙ told.1 either)
+        let reports = done k before in (λ t. reports.0 (sym same ∙ t), λ either. same ∙ reports.1 either)
     | inr up ↦
         let same : k ≡ at = omega (arith, up, less) in
         subst (λ n. IsTrue (get_or (slice_set now at is) n false) ↔ (IsTrue (get_or old n false) ⊎ About n)) (sym same)

@@ -9,21 +9,21 @@ use Rattle.chess.proofs.Searches.{cases_side, cases_man}
 use Rattle.pgn_criteria.specs.Patterns.{AreMen, IsStretch, CanBeSplit, FitRanks, FitsPattern}
 use Rattle.pgn_criteria.specs.Items.{is_letter, IsItem, items_of}
 use Rattle.pgn_criteria.specs.Items.{IsOf, EachOf, Fits, Reads, item_of, has_man, men_in}
-use Rattle.pgn_criteria.specs.declared.rank.Class.{Class}
-use Rattle.pgn_criteria.specs.declared.rank.Class.TheVariants.{Empty, This, Not, Any, Occupied, Of, Among, Other}
+use Rattle.pgn_criteria.specs.declared.rank.SquareTest.{SquareTest}
+use Rattle.pgn_criteria.specs.declared.rank.SquareTest.TheVariants.{Empty, This, Not, Any, Occupied, Of, Among, Other}
 use Rattle.pgn_criteria.specs.declared.rank.Item.{Item}
 use Rattle.pgn_criteria.specs.declared.rank.Item.TheVariants.{Run, Many}
 use Rattle.pgn_criteria.specs.Patterns.IsStretch.{spelled, any, occupied, white, black, many, among, other}
 use Rattle.std.specs.List.{list_all}
 use Rattle.pgn_criteria.proofs.ItemFacts.{item_exact, no_stretch}
-use Rattle.pgn_criteria.proofs.SetFacts.{first_of, rest_of, among_read, other_read, no_set, same_behind}
+use Rattle.pgn_criteria.proofs.SetFacts.{first_of, rest_of, among_read, other_read, no_set, same_after}
 
 -- ---- whether an item takes squares
 
 some_same : (a b : Man) → Some b ≡ Some a → a ≡ b
 some_same a b e = cc
 
-settled_class : (class : Class) (square : Option Man) → Settled (IsOf class square)
+settled_class : (class : SquareTest) (square : Option Man) → Settled (IsOf class square)
 settled_class Empty square = cases_option cases_man square None
 settled_class (This man) square = cases_option cases_man square (Some man)
 settled_class (Not man) square = settled_not (cases_option cases_man square (Some man))
@@ -37,7 +37,7 @@ settled_class (Other men) (Some man) =
     settled_like (λ none other has is. none (subst (λ m. IsTrue (has_man men m)) (some_same other man is) has)) (λ none has. none man has refl)
     (settled_not (settled_true (has_man men man)))
 
-settled_each : (class : Class) (squares : List (Option Man)) → Settled (EachOf class squares)
+settled_each : (class : SquareTest) (squares : List (Option Man)) → Settled (EachOf class squares)
 settled_each class [] = inl tt
 settled_each class (square ∷ more) = settled_both (settled_class class square) (settled_each class more)
 
@@ -58,7 +58,7 @@ settled_men letters = settled_both (settled_not (cases_bytes letters [])) (settl
 settled_other : (letters : List ℕ) (own : List (Option Man)) → (AreMen (94 ∷ letters) → ⊥) → Settled (AreMen letters) → Settled (IsStretch (91 ∷ 94 ∷ (letters ++ 93 ∷ [])) own)
 settled_other letters own no_men (inl are) = settled_read (91 ∷ 94 ∷ (letters ++ 93 ∷ [])) (Run (Other (men_in letters)) 1) own (other_read letters are)
 settled_other letters own no_men (inr none) =
-    settled_no (91 ∷ 94 ∷ (letters ++ 93 ∷ [])) own (no_set (94 ∷ letters) no_men (λ rest is are. none (subst AreMen (sym (same_behind letters rest (94 ∷ letters) refl is)) are)))
+    settled_no (91 ∷ 94 ∷ (letters ++ 93 ∷ [])) own (no_set (94 ∷ letters) no_men (λ rest is are. none (subst AreMen (sym (same_after letters rest (94 ∷ letters) refl is)) are)))
 
 settled_apart : (inside : List ℕ) (own : List (Option Man)) → (AreMen inside → ⊥) → Settled (IsStretch (91 ∷ (inside ++ 93 ∷ [])) own)
 settled_apart [] own no_men = settled_no (91 ∷ 93 ∷ []) own (no_set [] no_men (λ letters is are. cc))

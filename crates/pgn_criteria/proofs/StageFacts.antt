@@ -82,53 +82,53 @@ rest_of_one P condition other = (
 
 -- what is said of the game is what is said of its tags, where nothing is said of its moves
 one_of_heading : (heading : Heading) (replay : Replay) (denied : Bool) (claim : Claim (List ℕ)) → IsFreeOfMoves claim → SaysOfHeading heading denied claim → SaysOfGame heading replay denied claim
-one_of_heading heading replay denied (Tag name relation contents) free told = told
-one_of_heading heading replay denied (Fen pattern) free told = tt
-one_of_heading heading replay denied (Flip pattern) free told = tt
-one_of_heading heading replay denied (Material white black) free told = tt
-one_of_heading heading replay denied (Moves words) free told = absurd free
-one_of_heading heading replay denied (Plies comparison count) free told = absurd free
-one_of_heading heading replay denied (Result result) free told = told
-one_of_heading heading replay denied (Next word) free told = absurd free
-one_of_heading heading replay denied (Played word) free told = absurd free
-one_of_heading heading replay denied (For count) free told = absurd free
-one_of_heading heading replay denied (Count comparison count) free told = absurd free
-one_of_heading heading replay denied (Turn side) free told = tt
-one_of_heading heading replay denied Check free told = tt
-one_of_heading heading replay denied Mate free told = tt
-one_of_heading heading replay denied Stalemate free told = tt
+one_of_heading heading replay denied (Tag name relation contents) free reports = reports
+one_of_heading heading replay denied (Fen pattern) free reports = tt
+one_of_heading heading replay denied (Flip pattern) free reports = tt
+one_of_heading heading replay denied (Material white black) free reports = tt
+one_of_heading heading replay denied (Moves words) free reports = absurd free
+one_of_heading heading replay denied (Plies comparison count) free reports = absurd free
+one_of_heading heading replay denied (Result result) free reports = reports
+one_of_heading heading replay denied (Next word) free reports = absurd free
+one_of_heading heading replay denied (Played word) free reports = absurd free
+one_of_heading heading replay denied (For count) free reports = absurd free
+one_of_heading heading replay denied (Count comparison count) free reports = absurd free
+one_of_heading heading replay denied (Turn side) free reports = tt
+one_of_heading heading replay denied Check free reports = tt
+one_of_heading heading replay denied Mate free reports = tt
+one_of_heading heading replay denied Stalemate free reports = tt
 
 pub all_of_heading : (heading : Heading) (replay : Replay) (conditions : List (Condition (List ℕ))) → AreFreeOfMoves conditions → AllOfHeading heading conditions
     → AllOfGame heading replay conditions
-all_of_heading heading replay [] free told = tt
-all_of_heading heading replay (condition ∷ more) free told =
-    (one_of_heading heading replay condition.is_denied condition.claim free.0 told.0, all_of_heading heading replay more free.1 told.1)
+all_of_heading heading replay [] free reports = tt
+all_of_heading heading replay (condition ∷ more) free reports =
+    (one_of_heading heading replay condition.is_denied condition.claim free.0 reports.0, all_of_heading heading replay more free.1 reports.1)
 
 heading_of_one : (heading : Heading) (replay : Replay) (denied : Bool) (claim : Claim (List ℕ)) → SaysOfGame heading replay denied claim → SaysOfHeading heading denied claim
-heading_of_one heading replay denied (Tag name relation contents) told = told
-heading_of_one heading replay denied (Fen pattern) told = tt
-heading_of_one heading replay denied (Flip pattern) told = tt
-heading_of_one heading replay denied (Material white black) told = tt
-heading_of_one heading replay denied (Moves words) told = tt
-heading_of_one heading replay denied (Plies comparison count) told = tt
-heading_of_one heading replay denied (Result result) told = told
-heading_of_one heading replay denied (Next word) told = tt
-heading_of_one heading replay denied (Played word) told = tt
-heading_of_one heading replay denied (For count) told = tt
-heading_of_one heading replay denied (Count comparison count) told = tt
-heading_of_one heading replay denied (Turn side) told = tt
-heading_of_one heading replay denied Check told = tt
-heading_of_one heading replay denied Mate told = tt
-heading_of_one heading replay denied Stalemate told = tt
+heading_of_one heading replay denied (Tag name relation contents) reports = reports
+heading_of_one heading replay denied (Fen pattern) reports = tt
+heading_of_one heading replay denied (Flip pattern) reports = tt
+heading_of_one heading replay denied (Material white black) reports = tt
+heading_of_one heading replay denied (Moves words) reports = tt
+heading_of_one heading replay denied (Plies comparison count) reports = tt
+heading_of_one heading replay denied (Result result) reports = reports
+heading_of_one heading replay denied (Next word) reports = tt
+heading_of_one heading replay denied (Played word) reports = tt
+heading_of_one heading replay denied (For count) reports = tt
+heading_of_one heading replay denied (Count comparison count) reports = tt
+heading_of_one heading replay denied (Turn side) reports = tt
+heading_of_one heading replay denied Check reports = tt
+heading_of_one heading replay denied Mate reports = tt
+heading_of_one heading replay denied Stalemate reports = tt
 
 heading_of_all : (heading : Heading) (replay : Replay) (conditions : List (Condition (List ℕ))) → AllOfGame heading replay conditions → AllOfHeading heading conditions
-heading_of_all heading replay [] told = tt
-heading_of_all heading replay (condition ∷ more) told = (heading_of_one heading replay condition.is_denied condition.claim told.0, heading_of_all heading replay more told.1)
+heading_of_all heading replay [] reports = tt
+heading_of_all heading replay (condition ∷ more) reports = (heading_of_one heading replay condition.is_denied condition.claim reports.0, heading_of_all heading replay more reports.1)
 
 -- so it is not said of the game where it is not of its tags
 pub not_of_heading : (heading : Heading) (replay : Replay) (conditions : List (Condition (List ℕ))) (r : Bool) → r ≡ false → (IsTrue r ↔ AllOfHeading heading conditions)
     → IsTrue r ↔ AllOfGame heading replay conditions
-not_of_heading heading replay conditions r fails told = (λ t. absurd (cc), λ all. told.1 (heading_of_all heading replay conditions all))
+not_of_heading heading replay conditions r fails reports = (λ t. absurd (cc), λ all. reports.1 (heading_of_all heading replay conditions all))
 
 -- a condition is all that it says
 one_parted : (heading : Heading) (replay : Replay) (ply : ℕ) (P : State) (denied : Bool) (claim : Claim (List ℕ))
@@ -280,11 +280,11 @@ one_more heading replay plies a more met = elim met.hold [
   | inr some ↦ inr (record { position = met.position; here = met.here; hold = some })
 ]
 
-pub meets_found : (heading : Heading) (replay : Replay) (plies : ℕ) (left behind : List (List (Condition (List ℕ)))) (a : List (Condition (List ℕ))) (r : Bool)
-    (whole : List (List (Condition (List ℕ)))) → left ≡ a ∷ behind → r ≡ true → (IsTrue r ↔ Meets heading replay plies (a ∷ []))
+pub meets_found : (heading : Heading) (replay : Replay) (plies : ℕ) (left after : List (List (Condition (List ℕ)))) (a : List (Condition (List ℕ))) (r : Bool)
+    (whole : List (List (Condition (List ℕ)))) → left ≡ a ∷ after → r ≡ true → (IsTrue r ↔ Meets heading replay plies (a ∷ []))
     → (Meets heading replay plies left ↔ Meets heading replay plies whole) → IsTrue true ↔ Meets heading replay plies whole
-meets_found heading replay plies left behind a r whole front holds told kept = (
-  λ t. let met = told.0 holds in
+meets_found heading replay plies left after a r whole front holds reports kept = (
+  λ t. let met = reports.0 holds in
       kept.0 (subst (Meets heading replay plies) (sym front) (record {
         position = met.position;
         here = met.here;
@@ -293,13 +293,13 @@ meets_found heading replay plies left behind a r whole front holds told kept = (
   λ met. refl,
 )
 
-pub meets_left : (heading : Heading) (replay : Replay) (plies : ℕ) (left behind : List (List (Condition (List ℕ)))) (a : List (Condition (List ℕ))) (r : Bool)
-    (whole : List (List (Condition (List ℕ)))) → left ≡ a ∷ behind → r ≡ false → (IsTrue r ↔ Meets heading replay plies (a ∷ []))
-    → (Meets heading replay plies left ↔ Meets heading replay plies whole) → Meets heading replay plies behind ↔ Meets heading replay plies whole
-meets_left heading replay plies left behind a r whole front fails told kept = (
+pub meets_left : (heading : Heading) (replay : Replay) (plies : ℕ) (left after : List (List (Condition (List ℕ)))) (a : List (Condition (List ℕ))) (r : Bool)
+    (whole : List (List (Condition (List ℕ)))) → left ≡ a ∷ after → r ≡ false → (IsTrue r ↔ Meets heading replay plies (a ∷ []))
+    → (Meets heading replay plies left ↔ Meets heading replay plies whole) → Meets heading replay plies after ↔ Meets heading replay plies whole
+meets_left heading replay plies left after a r whole front fails reports kept = (
   λ met. kept.0 (subst (Meets heading replay plies) (sym front) (record { position = met.position; here = met.here; hold = inr met.hold })),
-  λ met. elim (one_more heading replay plies a behind (subst (Meets heading replay plies) front (kept.1 met))) [
-    | inl own ↦ let t : IsTrue r = told.1 own in absurd (cc)
+  λ met. elim (one_more heading replay plies a after (subst (Meets heading replay plies) front (kept.1 met))) [
+    | inl own ↦ let t : IsTrue r = reports.1 own in absurd (cc)
     | inr more ↦ more
   ],
 )
@@ -318,8 +318,8 @@ fits_first heading replay conditions from end (Some n) of_game (low, less, fits,
 -- where it is not so, there is none
 pub no_first : (heading : Heading) (replay : Replay) (conditions : List (Condition (List ℕ))) (from end : ℕ) (r : Bool) → r ≡ false → (IsTrue r ↔ AllOfGame heading replay conditions)
     → IsFirstBefore (λ plies. Meets heading replay plies (conditions ∷ [])) from end None
-no_first heading replay conditions from end r fails told n low less met =
-    let so : IsTrue r = told.1 (game_of heading replay n conditions met) in absurd (cc)
+no_first heading replay conditions from end r fails reports n low less met =
+    let so : IsTrue r = reports.1 (game_of heading replay n conditions met) in absurd (cc)
 
 -- the conditions that speak of positions hold where what all say of positions is so
 on_position : (heading : Heading) (replay : Replay) (ply : ℕ) (P : State) (denied : Bool) (claim : Claim (List ℕ)) → is_on_position claim ≡ true
@@ -389,10 +389,10 @@ positions_met heading replay ply P conditions =
       λ all. (same.1 all, no_spans_hold (HoldsThere heading replay own) ply own (within_no_spans 0 own (positions_ask_none conditions))),
     )
 
-pub told_positions : (heading : Heading) (replay : Replay) (ply : ℕ) (P : State) (conditions : List (Condition (List ℕ))) (r : Bool) → (IsTrue r ↔ AllOfPosition P conditions)
+pub reports_positions : (heading : Heading) (replay : Replay) (ply : ℕ) (P : State) (conditions : List (Condition (List ℕ))) (r : Bool) → (IsTrue r ↔ AllOfPosition P conditions)
     → IsTrue r ↔ IsMetBy heading replay ply P (on_positions conditions)
-told_positions heading replay ply P conditions r told =
-    let same = positions_met heading replay ply P conditions in (λ t. same.1 (told.0 t), λ hold. told.1 (same.0 hold))
+reports_positions heading replay ply P conditions r reports =
+    let same = positions_met heading replay ply P conditions in (λ t. same.1 (reports.0 t), λ hold. reports.1 (same.0 hold))
 
 -- alternatives and one more
 hold_before : (heading : Heading) (replay : Replay) (ply : ℕ) (P : State) (before : List (List (Condition (List ℕ)))) (more : List (List (Condition (List ℕ))))
@@ -400,10 +400,10 @@ hold_before : (heading : Heading) (replay : Replay) (ply : ℕ) (P : State) (bef
 hold_before heading replay ply P [] more hold = absurd hold
 hold_before heading replay ply P (first ∷ before) more hold = elim hold [ inl all ↦ inl all | inr some ↦ inr (hold_before heading replay ply P before more some) ]
 
-hold_behind : (heading : Heading) (replay : Replay) (ply : ℕ) (P : State) (before : List (List (Condition (List ℕ)))) (more : List (List (Condition (List ℕ))))
+hold_after : (heading : Heading) (replay : Replay) (ply : ℕ) (P : State) (before : List (List (Condition (List ℕ)))) (more : List (List (Condition (List ℕ))))
     → SomeHold heading replay ply P more → SomeHold heading replay ply P (before ++ more)
-hold_behind heading replay ply P [] more hold = hold
-hold_behind heading replay ply P (first ∷ before) more hold = inr (hold_behind heading replay ply P before more hold)
+hold_after heading replay ply P [] more hold = hold
+hold_after heading replay ply P (first ∷ before) more hold = inr (hold_after heading replay ply P before more hold)
 
 hold_either : (heading : Heading) (replay : Replay) (ply : ℕ) (P : State) (before : List (List (Condition (List ℕ)))) (more : List (List (Condition (List ℕ))))
     → SomeHold heading replay ply P (before ++ more) → SomeHold heading replay ply P before ⊎ SomeHold heading replay ply P more
@@ -424,8 +424,8 @@ module _ (heading : Heading) (replay : Replay) (before more : List (List (Condit
   met_before : (ply : ℕ) → Meets heading replay ply before → Meets heading replay ply (before ++ more)
   met_before ply met = record { position = met.position; here = met.here; hold = hold_before heading replay ply met.position before more met.hold }
 
-  met_behind : (ply : ℕ) → Meets heading replay ply more → Meets heading replay ply (before ++ more)
-  met_behind ply met = record { position = met.position; here = met.here; hold = hold_behind heading replay ply met.position before more met.hold }
+  met_after : (ply : ℕ) → Meets heading replay ply more → Meets heading replay ply (before ++ more)
+  met_after ply met = record { position = met.position; here = met.here; hold = hold_after heading replay ply met.position before more met.hold }
 
 -- the least of the best so far and of the first ply of one more alternative
 pub next_best : (heading : Heading) (replay : Replay) (before : List (List (Condition (List ℕ)))) (more : List (List (Condition (List ℕ)))) (min max : ℕ) (best found : Option ℕ)
@@ -442,7 +442,7 @@ next_best heading replay before more min max best found first here = go best fou
     go None (Some plies) first here = (
       here.0,
       (let less = here.1 in omega arith),
-      (record { position = here.2.position; here = here.2.here; hold = hold_behind heading replay plies here.2.position before more here.2.hold }),
+      (record { position = here.2.position; here = here.2.here; hold = hold_after heading replay plies here.2.position before more here.2.hold }),
       λ m low less met.
           let past = here.1 in
           elim (either m met) [ inl old ↦ first m low (omega arith) old | inr new ↦ here.3 m low less new ],
@@ -456,7 +456,7 @@ next_best heading replay before more min max best found first here = go best fou
     go (Some best) (Some plies) first here = (
       here.0,
       (let less = here.1 in let high = first.1 in omega arith),
-      (record { position = here.2.position; here = here.2.here; hold = hold_behind heading replay plies here.2.position before more here.2.hold }),
+      (record { position = here.2.position; here = here.2.here; hold = hold_after heading replay plies here.2.position before more here.2.hold }),
       λ m low less met.
           let past = here.1 in
           elim (either m met) [ inl old ↦ first.3 m low (omega arith) old | inr new ↦ here.3 m low less new ],
@@ -474,31 +474,31 @@ kept_one heading replay ply P before rest own most of_game within =
       λ hold. elim (hold_either heading replay ply P (before ++ on_positions own ∷ []) rest hold) [
         | inl front ↦ elim (hold_either heading replay ply P before (on_positions own ∷ []) front) [
           | inl old ↦ hold_before heading replay ply P before (own ∷ rest) old
-          | inr here ↦ hold_behind heading replay ply P before (own ∷ rest) (inl (parts.1 (of_game, same.0 (one_holds heading replay ply P (on_positions own) here), still, spans)))
+          | inr here ↦ hold_after heading replay ply P before (own ∷ rest) (inl (parts.1 (of_game, same.0 (one_holds heading replay ply P (on_positions own) here), still, spans)))
         ]
-        | inr there ↦ hold_behind heading replay ply P before (own ∷ rest) (inr there)
+        | inr there ↦ hold_after heading replay ply P before (own ∷ rest) (inr there)
       ],
       λ hold. elim (hold_either heading replay ply P before (own ∷ rest) hold) [
         | inl old ↦ hold_before heading replay ply P (before ++ on_positions own ∷ []) rest (hold_before heading replay ply P before (on_positions own ∷ []) old)
         | inr more ↦ elim more [
-          | inl here ↦ hold_before heading replay ply P (before ++ on_positions own ∷ []) rest (hold_behind heading replay ply P before (on_positions own ∷ []) (inl (same.1 (parts.0 here).1)))
-          | inr there ↦ hold_behind heading replay ply P (before ++ on_positions own ∷ []) rest there
+          | inl here ↦ hold_before heading replay ply P (before ++ on_positions own ∷ []) rest (hold_after heading replay ply P before (on_positions own ∷ []) (inl (same.1 (parts.0 here).1)))
+          | inr there ↦ hold_after heading replay ply P (before ++ on_positions own ∷ []) rest there
         ]
       ],
     )
 
 pub dropped_one : (heading : Heading) (replay : Replay) (ply : ℕ) (P : State) (before rest : List (List (Condition (List ℕ)))) (own : List (Condition (List ℕ))) (r : Bool) → r ≡ false
     → (IsTrue r ↔ AllOfGame heading replay own) → SomeHold heading replay ply P (before ++ rest) ↔ SomeHold heading replay ply P (before ++ own ∷ rest)
-dropped_one heading replay ply P before rest own r fails told = (
+dropped_one heading replay ply P before rest own r fails reports = (
   λ hold. elim (hold_either heading replay ply P before rest hold) [
     | inl old ↦ hold_before heading replay ply P before (own ∷ rest) old
-    | inr there ↦ hold_behind heading replay ply P before (own ∷ rest) (inr there)
+    | inr there ↦ hold_after heading replay ply P before (own ∷ rest) (inr there)
   ],
   λ hold. elim (hold_either heading replay ply P before (own ∷ rest) hold) [
     | inl old ↦ hold_before heading replay ply P before rest old
     | inr more ↦ elim more [
-      | inl here ↦ let so : IsTrue r = told.1 ((met_parted heading replay ply P own).0 here).0 in absurd (cc)
-      | inr there ↦ hold_behind heading replay ply P before rest there
+      | inl here ↦ let so : IsTrue r = reports.1 ((met_parted heading replay ply P own).0 here).0 in absurd (cc)
+      | inr there ↦ hold_after heading replay ply P before rest there
     ]
   ],
 )
@@ -516,16 +516,16 @@ module _ (heading : Heading) (replay : Replay) (before : List (List (Condition (
   pub met_added : (old new : List Bool) → AllOfGame heading replay own → length new ≡ length old
       → ((ply : ℕ) → ply < length old → IsTrue (get_or new ply false) ↔ (IsTrue (get_or old ply false) ⊎ FitsAbout replay own ply))
       → AreMet heading replay before old → AreMet heading replay (before ++ own ∷ []) new
-  met_added old new of_game size told met = record {
+  met_added old new of_game size reports met = record {
     each = size ∙ met.each;
-    told = λ ply is here.
+    reports = λ ply is here.
         let within : ply < length old = let less = slice_get_within new ply is here in omega (arith, less, size) in
-        let so_far = met.told ply (get_or old ply false) (slice_get-get_or old ply false within) in
-        let now = told ply within in
+        let so_far = met.reports ply (get_or old ply false) (slice_get-get_or old ply false within) in
+        let now = reports ply within in
         let same : get_or new ply false ≡ is = get_or_from_slice_get new ply is false here in (
           λ t. elim (now.0 (same ∙ t)) [
             | inl old ↦ met_before heading replay before (own ∷ []) ply (so_far.0 old)
-            | inr fits ↦ met_behind heading replay before (own ∷ []) ply (one_meets heading replay ply own of_game fits)
+            | inr fits ↦ met_after heading replay before (own ∷ []) ply (one_meets heading replay ply own of_game fits)
           ],
           λ all. sym same ∙ elim (either_met heading replay before (own ∷ []) ply all) [
             | inl old ↦ now.1 (inl (so_far.1 old))
@@ -536,13 +536,13 @@ module _ (heading : Heading) (replay : Replay) (before : List (List (Condition (
 
   pub met_dropped : (met : List Bool) (r : Bool) → r ≡ false → (IsTrue r ↔ AllOfGame heading replay own)
       → AreMet heading replay before met → AreMet heading replay (before ++ own ∷ []) met
-  met_dropped answers r fails told met = record {
+  met_dropped answers r fails reports met = record {
     each = met.each;
-    told = λ ply is here. (
-      λ t. met_before heading replay before (own ∷ []) ply ((met.told ply is here).0 t),
+    reports = λ ply is here. (
+      λ t. met_before heading replay before (own ∷ []) ply ((met.reports ply is here).0 t),
       λ all. elim (either_met heading replay before (own ∷ []) ply all) [
-        | inl old ↦ (met.told ply is here).1 old
-        | inr one ↦ let so : IsTrue r = told.1 (game_of heading replay ply own one) in absurd (cc)
+        | inl old ↦ (met.reports ply is here).1 old
+        | inr one ↦ let so : IsTrue r = reports.1 (game_of heading replay ply own one) in absurd (cc)
       ],
     );
   }
@@ -551,7 +551,7 @@ module _ (heading : Heading) (replay : Replay) (before : List (List (Condition (
 pub none_met : (heading : Heading) (replay : Replay) (count : ℕ) → length replay.positions ≡ count + 1 → AreMet heading replay [] (replicate count false ++ false ∷ [])
 none_met heading replay count size = record {
   each = lasting count ∙ sym size;
-  told = λ ply is here. (λ t. let no = all_false count ply is here in absurd (cc (no, t)), λ met. absurd met.hold);
+  reports = λ ply is here. (λ t. let no = all_false count ply is here in absurd (cc (no, t)), λ met. absurd met.hold);
 }
   where
     lasting : (count : ℕ) → length (replicate count false ++ false ∷ []) ≡ count + 1

@@ -24,7 +24,7 @@ settled_by how (inr none) =
 
 -- and by a test itself
 settled_test : {A : Type 0} (r : Bool) → (IsTrue r ↔ A) → Settled A
-settled_test r told = settled_like told.0 told.1 (settled_true r)
+settled_test r reports = settled_like reports.0 reports.1 (settled_true r)
 
 -- ---- numbers
 
@@ -99,7 +99,7 @@ settled_contents text =
 
 settled_values : (relation : Relation) (given text : List ℕ) → IsContents given → IsContents text → Settled (Stands relation given text)
 settled_values relation given text of_given of_text =
-    settled_by (λ r told. stands_so relation given text r of_given of_text told) (settled_relation relation (value_of given) (value_of text))
+    settled_by (λ r reports. stands_so relation given text r of_given of_text reports) (settled_relation relation (value_of given) (value_of text))
 
 -- without contents of strings there are no values
 pub settled_stands : (relation : Relation) (given text : List ℕ) → Settled (Stands relation given text)

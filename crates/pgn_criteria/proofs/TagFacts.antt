@@ -7,7 +7,7 @@ use Rattle.std.proofs.lemmas.List.{length-append}
 use Rattle.chess.specs.Fen.{parted_at}
 use Rattle.pgn_text.specs.Bytes.{is_name_byte}
 use Rattle.pgn_text.specs.Strings.{IsContents}
-use Rattle.pgn_criteria.specs.Reading.{run_of, behind_word}
+use Rattle.pgn_criteria.specs.Reading.{run_of, after_word}
 use Rattle.pgn_criteria.specs.Lines.{SpellsClaim, AreNames, CanBeCompared, relation_text}
 use Rattle.pgn_criteria.specs.declared.compare.Relation.{Relation}
 use Rattle.pgn_criteria.specs.declared.compare.Relation.TheVariants.{Equal, Unequal, Less, LessOrEqual, Greater, GreaterOrEqual, Has, Begins}
@@ -59,9 +59,9 @@ quoted contents = 34 ∷ (contents ++ 34 ∷ [])
 -- the words of the text are those of the condition
 pub record IsTagRead (text names : List ℕ) (relation : Relation) (contents : List ℕ) : Type 0 where
   pub key_is : run_of text ≡ codes "tag"
-  pub name_is : run_of (behind_word text) ≡ names
-  pub operator_is : run_of (behind_word (behind_word text)) ≡ relation_text relation
-  pub string_is : behind_word (behind_word (behind_word text)) ≡ quoted contents
+  pub name_is : run_of (after_word text) ≡ names
+  pub operator_is : run_of (after_word (after_word text)) ≡ relation_text relation
+  pub string_is : after_word (after_word (after_word text)) ≡ quoted contents
 
 pub tag_read : (text name : List ℕ) (relation : Relation) (contents : List ℕ) → SpellsClaim text (Tag name relation contents) → IsTagRead text name relation contents
 tag_read text name relation contents (first, second, third, is, g, h, k, are, good, fits) =
@@ -70,17 +70,17 @@ tag_read text name relation contents (first, second, third, is, g, h, k, are, go
     let operator = relation_text relation ++ (third ++ string) in
     let named = name ++ (second ++ operator) in
     let one = word_read text (codes "tag") first named is refl g (begins_front name (second ++ operator) begins) in
-    let two = word_read (behind_word text) name second operator one.1 (names_solid name are) h
+    let two = word_read (after_word text) name second operator one.1 (names_solid name are) h
     (begins_front (relation_text relation) (third ++ string) (solid_begins (relation_text relation) (relation_some relation) (relation_solid relation))) in
-    let three = word_read (behind_word (behind_word text)) (relation_text relation) third string two.1 (relation_solid relation) k (34, contents ++ 34 ∷ [], refl, refl) in
+    let three = word_read (after_word (after_word text)) (relation_text relation) third string two.1 (relation_solid relation) k (34, contents ++ 34 ∷ [], refl, refl) in
     record { key_is = one.0; name_is = two.0; operator_is = three.0; string_is = three.1 }
 
 -- and a text of such words spells it
 pub tag_spelled : (text name : List ℕ) (relation : Relation) (contents : List ℕ) → IsTagRead text name relation contents → AreNames (parted_at 124 name)
     → IsContents contents → CanBeCompared relation contents → SpellsClaim text (Tag name relation contents)
 tag_spelled text name relation contents read are good fits =
-    let three = word_spelled (behind_word (behind_word text)) (relation_text relation) (quoted contents) read.operator_is read.string_is (λ none. cc) in
-    let two = word_spelled (behind_word text) name (relation_text relation ++ (three.0 ++ quoted contents)) read.name_is three.1
+    let three = word_spelled (after_word (after_word text)) (relation_text relation) (quoted contents) read.operator_is read.string_is (λ none. cc) in
+    let two = word_spelled (after_word text) name (relation_text relation ++ (three.0 ++ quoted contents)) read.name_is three.1
     (front_some (relation_text relation) (three.0 ++ quoted contents) (solid_begins (relation_text relation) (relation_some relation) (relation_solid relation))) in
     let one = word_spelled text (codes "tag") (name ++ (two.0 ++ (relation_text relation ++ (three.0 ++ quoted contents)))) read.key_is two.1
     (front_some name (two.0 ++ (relation_text relation ++ (three.0 ++ quoted contents))) (solid_begins name (names_some name are) (names_solid name are))) in

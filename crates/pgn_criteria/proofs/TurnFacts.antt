@@ -3,7 +3,7 @@ use Rattle.std.proofs.Common.{◌≡◌, ◌≢◌, ℕ, List, [], refl, sym, �
 use Rattle.std.specs.Prelude.{codes, Option, Some, None, MatchOption}
 use Rattle.chess.specs.declared.board.man.Side.{Side}
 use Rattle.chess.specs.declared.board.man.Side.TheVariants.{White, Black}
-use Rattle.pgn_criteria.specs.Reading.{run_of, behind_word}
+use Rattle.pgn_criteria.specs.Reading.{run_of, after_word}
 use Rattle.pgn_criteria.specs.Lines.{side_text, SpellsClaim}
 use Rattle.pgn_criteria.specs.declared.condition.Claim.TheVariants.{Turn}
 use Rattle.pgn_criteria.proofs.SolidFacts.{AreSolid, EndsSolid, solid_begins, solid_ends, word_read, word_spelled}
@@ -19,16 +19,16 @@ side_some Black none = cc
 pub side_ends : (side : Side) → EndsSolid (side_text side)
 side_ends side = solid_ends (side_text side) (side_some side) (side_solid side)
 
-pub turn_read : (text : List ℕ) (side : Side) → SpellsClaim text (Turn side) → (run_of text ≡ codes "turn") × (behind_word text ≡ side_text side)
+pub turn_read : (text : List ℕ) (side : Side) → SpellsClaim text (Turn side) → (run_of text ≡ codes "turn") × (after_word text ≡ side_text side)
 turn_read text side (gap, is, g) =
     word_read text (codes "turn") gap (side_text side) is refl g (solid_begins (side_text side) (side_some side) (side_solid side))
 
-turn_spelled : (text : List ℕ) (side : Side) → run_of text ≡ codes "turn" → behind_word text ≡ side_text side → SpellsClaim text (Turn side)
-turn_spelled text side run behind = word_spelled text (codes "turn") (side_text side) run behind (side_some side)
+turn_spelled : (text : List ℕ) (side : Side) → run_of text ≡ codes "turn" → after_word text ≡ side_text side → SpellsClaim text (Turn side)
+turn_spelled text side run after = word_spelled text (codes "turn") (side_text side) run after (side_some side)
 
 -- what follows `turn` is a side's name, or the text is no condition on the turn
-pub turn_answer : (text rest : List ℕ) (found : Option Side) → run_of text ≡ codes "turn" → rest ≡ behind_word text
+pub turn_answer : (text rest : List ℕ) (found : Option Side) → run_of text ≡ codes "turn" → rest ≡ after_word text
     → MatchOption found ((side : Side) → rest ≡ side_text side → ⊥) (λ side. rest ≡ side_text side)
     → MatchOption found ((side : Side) → SpellsClaim text (Turn side) → ⊥) (λ side. SpellsClaim text (Turn side))
-turn_answer text rest None run behind told = λ side spells. told side (behind ∙ (turn_read text side spells).1)
-turn_answer text rest (Some side) run behind told = turn_spelled text side run (sym behind ∙ told)
+turn_answer text rest None run after reports = λ side spells. reports side (after ∙ (turn_read text side spells).1)
+turn_answer text rest (Some side) run after reports = turn_spelled text side run (sym after ∙ reports)

@@ -8,7 +8,7 @@ use Rattle.chess.specs.declared.board.man.Side.{Side}
 use Rattle.chess.specs.declared.board.man.Kind.{Kind}
 use Rattle.chess.specs.declared.board.man.Man.{Man}
 use Rattle.pgn_criteria.specs.Items.{IsOf, has_kind}
-use Rattle.pgn_criteria.specs.declared.rank.Class.{Class}
+use Rattle.pgn_criteria.specs.declared.rank.SquareTest.{SquareTest}
 use Rattle.pgn_criteria.specs.declared.rank.Kinds.{Kinds}
 use Rattle.pgn_criteria.specs.declared.layout.Asked.{Asked}
 use Rattle.pgn_criteria.specs.declared.layout.Layout.{Layout}
@@ -35,7 +35,7 @@ abbrev pub IsRest : Places → Places → Type 0
 IsRest empty free = (s : Place) → IsOnBoard s → (is_in free s ≡ true) ↔ (is_in empty s ≡ true → ⊥)
 
 -- of so many squares of a rank, after so many, those from this number on are of the class
-abbrev pub EachFrom : Placement → Class → ℕ → ℕ → ℕ → ℕ → Type 0
+abbrev pub EachFrom : Placement → SquareTest → ℕ → ℕ → ℕ → ℕ → Type 0
 EachFrom men class rank before step count =
     (k : ℕ) → step ≤ k → k < count → IsOf class (man_at men (record { file = before + k + 1; rank = rank }))
 

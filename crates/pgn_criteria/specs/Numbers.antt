@@ -5,10 +5,10 @@ use Rattle.chess.specs.Fen.{number_from}
 use Rattle.chess.specs.FenWords.{ten_to}
 use Rattle.pgn_text.specs.Bytes.{is_digit}
 
--- the number that a text writes behind digits of which there are so many already
-abbrev pub number_behind : ℕ → ℕ → List ℕ → Option ℕ
-number_behind number digits [] = if digits == 0 then None else Some number
-number_behind number digits (b ∷ x) = if (digits == 18 || not (is_digit b)) then None else number_behind (10 * number + (b - 48)) (digits + 1) x
+-- the number that a text writes after digits of which there are so many already
+abbrev pub number_after : ℕ → ℕ → List ℕ → Option ℕ
+number_after number digits [] = if digits == 0 then None else Some number
+number_after number digits (b ∷ x) = if (digits == 18 || not (is_digit b)) then None else number_after (10 * number + (b - 48)) (digits + 1) x
 
 -- the digits before the rest, of at most nine, write the number
 pub record IsCounted (n : ℕ) (rest text : List ℕ) : Type 0 where

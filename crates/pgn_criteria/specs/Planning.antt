@@ -23,7 +23,7 @@ AreSoundWays [] = Unit {0}
 AreSoundWays (ways ∷ more) = (IsSound ways.straight × IsSound ways.turned) × AreSoundWays more
 
 abbrev pub IsSoundPlan : Plan → Type 0
-IsSoundPlan plan = AreSoundWays plan.ways.items × AreSound plan.others.items
+IsSoundPlan plan = AreSoundWays plan.ways.items × AreSound plan.denied.items
 
 -- the men stand the one way or the other, of each two
 abbrev pub AllEither : Placement → List Ways → Type 0
@@ -37,7 +37,7 @@ NoneLaid men (look ∷ more) = (Laid men look.layout → ⊥) × NoneLaid men mo
 
 -- the men stand as is planned
 abbrev pub Planned : Placement → Plan → Type 0
-Planned men plan = Laid men plan.layout × AllEither men plan.ways.items × NoneLaid men plan.others.items
+Planned men plan = Laid men plan.layout × AllEither men plan.ways.items × NoneLaid men plan.denied.items
 
 abbrev pub Plans : (State → Type 0) → (State → Type 0) → Plan → Plan → Bool → Type 0
 Plans = Extends IsSoundPlan Planned

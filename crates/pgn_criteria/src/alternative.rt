@@ -90,7 +90,7 @@ fn plan_one(
     match &condition.claim {
         Claim::Fen(pattern) => {
             if condition.is_denied {
-                plan.add_other(alloc, pattern)
+                plan.add_denied(alloc, pattern)
             } else {
                 plan.add_pattern(pattern)
             }

@@ -8,14 +8,14 @@ ghost use Rattle.chess.specs.Squares.{IsOnBoard};
 ghost use Rattle.chess.specs.declared.board.man.Kind.{Kind};
 ghost use Rattle.chess.specs.declared.board.man.Side.{Side};
 ghost use Rattle.pgn_criteria.specs.Items.{IsOf};
-ghost use Rattle.pgn_criteria.specs.declared.rank.Class.TheVariants.{Not, Other};
+ghost use Rattle.pgn_criteria.specs.declared.rank.SquareTest.TheVariants.{Not, Other};
 ghost use Rattle.pgn_criteria.specs.Layouts.{IsRest, EachFrom, AllStand, Laid, Lays, KindWithin, NoneOf};
 ghost use Rattle.pgn_criteria.specs.Mirrors.{beside, flipped_men};
 ghost use Rattle.pgn_criteria.specs.Patterns.{CanBeSplit, FitsPattern};
 ghost use Rattle.pgn_criteria.specs.Items.{items_of};
 
 use crate::cut::next_part;
-use crate::rank::{Class, Item, Kinds, Men, is_of, next_item, size_of};
+use crate::rank::{Item, Kinds, Men, SquareTest, is_of, next_item, size_of};
 use chess::{Kind, Man, Side, Square, SquareSet};
 use pgn_game::GamePosition;
 use std::alloc::{AllocError, Global};
@@ -34,7 +34,7 @@ fn square_beside(square: Square) -> Square
 /// A square, and what must stand on it.
 #[derive(Drop)]
 pub(crate) struct Asked {
-    class: Class,
+    class: SquareTest,
     square: Square,
 }
 
@@ -56,10 +56,10 @@ impl Asked {
     fn is_met(&self, position: &GamePosition) -> bool
         ensures { IsTrue result ↔ IsOf self.now.class (man_at position.now.men self.now.square) }
     {
-        position.known();
+        position.invariant();
         match self.class {
-            Class::This(man) => position.squares_of(man).has(self.square),
-            Class::Not(man) => !position.squares_of(man).has(self.square),
+            SquareTest::This(man) => position.squares_of(man).has(self.square),
+            SquareTest::Not(man) => !position.squares_of(man).has(self.square),
             class => is_of(class, position.at(self.square)),
         }
     }
@@ -131,7 +131,7 @@ impl Layout {
         ensures { OnOk result (Lays (λ P. IsTrue is_barred → IsOf (Not man) (man_at P.men square)) (λ P. Unit {0}) self.old self.new true) }
     {
         if is_barred {
-            let class = Class::Not(man);
+            let class = SquareTest::Not(man);
             self.barred.push(Asked { class, square })?;
         }
         Ok(())
@@ -202,16 +202,16 @@ impl Layout {
     }
 
     /// Adds a square and what must stand on it.
-    fn add(&mut self, class: Class, square: Square) -> Result<(), AllocError>
+    fn add(&mut self, class: SquareTest, square: Square) -> Result<(), AllocError>
         ensures { OnOk result (Lays (λ P. IsOf class (man_at P.men square)) (λ P. Unit {0}) self.old self.new true) }
     {
         match class {
-            Class::Any => Ok(()),
-            Class::Empty => {
+            SquareTest::Any => Ok(()),
+            SquareTest::Empty => {
                 self.empty.insert(square);
                 Ok(())
             }
-            Class::Other(men) => self.bar_men(men, square),
+            SquareTest::Other(men) => self.bar_men(men, square),
             _ => {
                 self.asked.push(Asked { class, square })?;
                 Ok(())
@@ -220,7 +220,13 @@ impl Layout {
     }
 
     /// Adds so many squares of the class, which stand after so many of the rank.
-    fn add_run(&mut self, class: Class, count: u8, before: u8, rank: u8) -> Result<(), AllocError>
+    fn add_run(
+        &mut self,
+        class: SquareTest,
+        count: u8,
+        before: u8,
+        rank: u8,
+    ) -> Result<(), AllocError>
         requires room { before + count ≤ 8 }
         requires low { 1 ≤ rank }
         requires high { rank ≤ 8 }
@@ -234,7 +240,7 @@ impl Layout {
         Ok(())
     }
 
-    /// Adds what the first of some items asks, where so many squares of the rank are taken. Answers the items behind it, and how many
+    /// Adds what the first of some items asks, where so many squares of the rank are taken. Answers the items after it, and how many
     /// squares are taken then, if that is known.
     fn add_item<'a>(
         &mut self,
@@ -250,21 +256,21 @@ impl Layout {
             self.old self.new true)) }
     {
         match next_item(items) {
-            Some((Item::Run(class, count), behind)) => {
+            Some((Item::Run(class, count), after)) => {
                 if 8 - taken < count {
                     return Ok(None);
                 }
                 self.add_run(class, count, taken, rank)?;
-                Ok(Some((behind, taken + count)))
+                Ok(Some((after, taken + count)))
             }
-            Some((Item::Many, behind)) => {
-                let Some(size) = size_of(behind) else {
+            Some((Item::Many, after)) => {
+                let Some(size) = size_of(after) else {
                     return Ok(None);
                 };
                 if 8 - size < taken {
                     return Ok(None);
                 }
-                Ok(Some((behind, 8 - size)))
+                Ok(Some((after, 8 - size)))
             }
             None => Ok(None),
         }
@@ -279,11 +285,11 @@ impl Layout {
         let mut taken = 0u8;
         let mut rest = items;
         while !rest.is_empty() {
-            let Some((behind, next)) = self.add_item(rest, taken, rank)? else {
+            let Some((after, next)) = self.add_item(rest, taken, rank)? else {
                 return Ok(false);
             };
             taken = next;
-            rest = behind;
+            rest = after;
         }
         Ok(taken == 8)
     }
@@ -295,12 +301,12 @@ impl Layout {
         let mut rest = pattern;
         let mut is_all = true;
         for step in 0u8..8 {
-            let (items, behind) = next_part(b'/', rest);
+            let (items, after) = next_part(b'/', rest);
             is_all = self.add_rank(items, 8 - step)? && is_all;
-            let Some(behind) = behind else {
+            let Some(after) = after else {
                 return Ok(is_all && step == 7);
             };
-            rest = behind;
+            rest = after;
         }
         Ok(false)
     }
@@ -345,7 +351,7 @@ impl Layout {
         if !all_stand(&self.asked, position) || !all_stand(&self.barred, position) {
             return false;
         }
-        position.known();
+        position.invariant();
         self.empty.is_empty() || are_within(position, free)
     }
 }
@@ -381,7 +387,7 @@ impl Look {
 fn is_within(position: &GamePosition, side: Side, kind: Kind, free: &SquareSet) -> bool
     ensures { IsTrue result ↔ KindWithin position.now.men free.now side kind }
 {
-    position.known();
+    position.invariant();
     position.squares_of(Man { side, kind }).is_within(free)
 }
 

@@ -38,11 +38,11 @@ fn add_rank(text: &mut Vec<u8>, rank: &[u8]) -> Result<(), AllocError>
 fn add_ranks(text: &mut Vec<u8>, ranks: &[u8]) -> Result<(), AllocError>
     ensures { OnOk result (text.new.items ≡ text.old.items ++ turned (parted_at 47 ranks.now)) }
 {
-    let (rank, behind) = next_part(b'/', ranks);
-    let Some(behind) = behind else {
+    let (rank, after) = next_part(b'/', ranks);
+    let Some(after) = after else {
         return add_rank(text, rank);
     };
-    add_ranks(text, behind)?;
+    add_ranks(text, after)?;
     text.push(b'/')?;
     add_rank(text, rank)
 }

@@ -24,7 +24,7 @@ pub(crate) struct Ways {
 pub(crate) struct Plan {
     layout: Layout,
     ways: Vec<Ways>,
-    others: Vec<Look>,
+    denied: Vec<Look>,
 }
 
 /// What the pattern asks, if it can be laid out.
@@ -47,7 +47,7 @@ impl Plan {
         Plan {
             layout: Layout::new(alloc),
             ways: Vec::new(alloc),
-            others: Vec::new(alloc),
+            denied: Vec::new(alloc),
         }
     }
 
@@ -74,13 +74,13 @@ impl Plan {
     }
 
     /// Adds a pattern that is not to fit. Answers whether all that this asks is planned.
-    pub(crate) fn add_other(&mut self, alloc: Global, pattern: &[u8]) -> Result<bool, AllocError>
+    pub(crate) fn add_denied(&mut self, alloc: Global, pattern: &[u8]) -> Result<bool, AllocError>
         ensures { IfOk result (Plans (λ P. FitsPattern P.men pattern.now → ⊥) (λ P. Unit {0}) self.old self.new) }
     {
         let Some(layout) = layout_of(alloc, pattern)? else {
             return Ok(false);
         };
-        self.others.push(Look::new(layout))?;
+        self.denied.push(Look::new(layout))?;
         Ok(true)
     }
 
@@ -92,8 +92,8 @@ impl Plan {
             return Ok(false);
         };
         let turned = straight.turned(alloc)?;
-        self.others.push(Look::new(straight))?;
-        self.others.push(Look::new(turned))?;
+        self.denied.push(Look::new(straight))?;
+        self.denied.push(Look::new(turned))?;
         Ok(true)
     }
 
@@ -117,18 +117,18 @@ impl Plan {
     /// Whether patterns that are to fit as they stand are all that is planned.
     #[inline(always)]
     fn is_flat(&self) -> bool
-        ensures { IsTrue result → (self.now.ways.items ≡ []) × (self.now.others.items ≡ []) }
+        ensures { IsTrue result → (self.now.ways.items ≡ []) × (self.now.denied.items ≡ []) }
     {
-        self.ways.is_empty() && self.others.is_empty()
+        self.ways.is_empty() && self.denied.is_empty()
     }
 
     /// Whether the men stand as the other patterns want it.
     #[inline(never)]
     fn is_met_beyond(&self, position: &GamePosition) -> bool
         requires { IsSoundPlan self.now }
-        ensures { IsTrue result ↔ (AllEither position.now.men self.now.ways.items × NoneLaid position.now.men self.now.others.items) }
+        ensures { IsTrue result ↔ (AllEither position.now.men self.now.ways.items × NoneLaid position.now.men self.now.denied.items) }
     {
-        all_either(&self.ways, position) && none_laid(&self.others, position)
+        all_either(&self.ways, position) && none_laid(&self.denied, position)
     }
 }
 

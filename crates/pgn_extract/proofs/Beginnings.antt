@@ -23,8 +23,8 @@ front_all old new xs whole = (length xs, subst (Appends old new) (sym (take_all 
 module _ {aim : Aim} {out out' err err' : Option (List ℕ)} {number : ℕ} {pieces : List MarkedPiece} {verdicts : List Verdict}
     (verdict : Writes aim out out' err err' number pieces verdicts) where
   -- what is reported stays
-  pub tells_kept : {out'' err'' : Option (List ℕ)} → Keeps out' out'' → Keeps err' err'' → Writes aim out out'' err err'' number pieces verdicts
-  tells_kept {out''} {err''} out_kept err_kept = record {
+  pub says_kept : {out'' err'' : Option (List ℕ)} → Keeps out' out'' → Keeps err' err'' → Writes aim out out'' err err'' number pieces verdicts
+  says_kept {out''} {err''} out_kept err_kept = record {
     each = verdict.each;
     output = appends_kept out out' out'' _ verdict.output out_kept;
     faults = appends_kept err err' err'' _ verdict.faults err_kept;
@@ -43,7 +43,7 @@ module _ {aim : Aim} {out out' err err' : Option (List ℕ)} {number : ℕ} {pie
   pub begins_written : (others : List MarkedPiece) → Begins aim out out' err err' number (pieces ++ others)
   begins_written others = record {
     before = pieces;
-    behind = others;
+    after = others;
     parted = refl;
     verdicts = verdicts;
     each = verdict.each;
@@ -56,10 +56,10 @@ module _ {aim : Aim} {out out' err err' : Option (List ℕ)} {number : ℕ} {pie
       → Begins aim out out'' err err'' number ((pieces ++ own) ++ others)
   begins_more {out''} {err''} own others more = record {
     before = pieces ++ more.before;
-    behind = more.behind ++ others;
+    after = more.after ++ others;
     parted =
-        ap (λ t. (pieces ++ t) ++ others) more.parted ∙ append_assoc pieces (more.before ++ more.behind) others
-        ∙ ap (λ t. pieces ++ t) (append_assoc more.before more.behind others) ∙ sym (append_assoc pieces more.before (more.behind ++ others));
+        ap (λ t. (pieces ++ t) ++ others) more.parted ∙ append_assoc pieces (more.before ++ more.after) others
+        ∙ ap (λ t. pieces ++ t) (append_assoc more.before more.after others) ∙ sym (append_assoc pieces more.before (more.after ++ others));
     verdicts = verdicts ++ more.verdicts;
     each = verdicts-append aim number pieces more.before verdicts more.verdicts verdict.each more.each;
     output = subst (AppendsFront out out'') (sym (output_text-append verdicts more.verdicts)) (front_join out out' out'' _ _ verdict.output more.output);

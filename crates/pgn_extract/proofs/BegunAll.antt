@@ -25,12 +25,12 @@ pub begun_all : (aim : Aim) (limit max_depth number offset : ℕ) (bytes : List 
 begun_all aim limit max_depth number offset bytes out out' err err' b =
     let first = b.written in
     let pieces = subst (AreMarkedPieces limit max_depth offset bytes) first.parted b.each in
-    let later = rest_reported aim limit max_depth (number + length first.before) offset bytes first.before first.behind pieces in
+    let later = rest_reported aim limit max_depth (number + length first.before) offset bytes first.before first.after pieces in
     record {
-      pieces = first.before ++ first.behind;
+      pieces = first.before ++ first.after;
       each = pieces;
       verdicts = first.verdicts ++ later.0;
-      written = verdicts-append aim number first.before first.behind first.verdicts later.0 first.each later.1;
+      written = verdicts-append aim number first.before first.after first.verdicts later.0 first.each later.1;
       output = subst (AppendsFront out out') (sym (output_text-append first.verdicts later.0))
           (front_longer out out' (output_text first.verdicts) (output_text later.0) first.output);
       faults = subst (AppendsFront err err') (sym (fault_lines-append first.verdicts later.0))

@@ -33,7 +33,7 @@ begins_none aim limit max_depth number offset block out err =
     record {
       own = own.0;
       each = own.1;
-      written = record { before = []; behind = own.0; parted = refl; verdicts = []; each = refl; output = front_none out _; faults = front_none err _ };
+      written = record { before = []; after = own.0; parted = refl; verdicts = []; each = refl; output = front_none out _; faults = front_none err _ };
     }
 
 module _ {aim : Aim} {report : Report} {limit max_depth number offset : ℕ} {block : List ℕ} {out out' err err' : Option (List ℕ)}

@@ -33,8 +33,8 @@ pub record IsPicked (number offset : ℕ) (P : ℕ → Type 0) (S : ℕ → List
 
 module _ (number offset : ℕ) (P : ℕ → Type 0) (S : ℕ → List ℕ → Type 0) where
   -- among others too
-  picked_behind : (first : ℕ) (all : List ℕ) (entry : Entry) → IsPicked number offset P S all entry → IsPicked number offset P S (first ∷ all) entry
-  picked_behind first all entry of = record {
+  picked_after : (first : ℕ) (all : List ℕ) (entry : Entry) → IsPicked number offset P S all entry → IsPicked number offset P S (first ∷ all) entry
+  picked_after first all entry of = record {
     is = of.is;
     among = Contains-append_right (first ∷ []) all entry.ply of.among;
     fact = of.fact;
@@ -49,9 +49,9 @@ module _ (number offset : ℕ) (P : ℕ → Type 0) (S : ℕ → List ℕ → Ty
       elim (in_front (entry_at number offset first shown) chosen entry has) [
         | inl is ↦
             subst (IsPicked number offset P S (first ∷ all)) is (record { is = refl; among = (0, omega arith, refl); fact = holds; shows = shows })
-        | inr later ↦ picked_behind first all entry (chosen_from all chosen more entry later)
+        | inr later ↦ picked_after first all entry (chosen_from all chosen more entry later)
       ]
-  chosen_from _ _ (leave first all chosen fails more) entry has = picked_behind first all entry (chosen_from all chosen more entry has)
+  chosen_from _ _ (leave first all chosen fails more) entry has = picked_after first all entry (chosen_from all chosen more entry has)
 
   -- their order stays
   pub chosen_ascend : (all : List ℕ) (chosen : List Entry) → AreChosen number offset P S all chosen → Rise all → Ascend chosen

@@ -140,15 +140,15 @@ plies_rise ply (position ∷ more) = (
   plies_rise (ply + 1) more,
 )
 
--- some entries, and behind them later ones
+-- some entries, and after them later ones
 ascend-append : (xs ys : List Entry) → Ascend xs → Ascend ys → ((x y : Entry) → Contains xs x → Contains ys y → IsEarlier x y) → Ascend (xs ++ ys)
-ascend-append [] ys before behind cross = behind
-ascend-append (x ∷ xs) ys before behind cross = (
+ascend-append [] ys before after cross = after
+ascend-append (x ∷ xs) ys before after cross = (
   λ later has. elim (Contains-append_cases xs ys later has) [
     | inl near ↦ before.0 later near
     | inr far ↦ cross x later (0, omega arith, refl) far
   ],
-  ascend-append xs ys before.1 behind (λ a b has other. cross a b (Contains-append_right (x ∷ []) xs a has) other),
+  ascend-append xs ys before.1 after (λ a b has other. cross a b (Contains-append_right (x ∷ []) xs a has) other),
 )
 
 -- the entries of a piece are in order

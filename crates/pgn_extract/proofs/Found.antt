@@ -30,9 +30,9 @@ use Rattle.pgn_extract.proofs.Chosen.{entry_at}
 use Rattle.pgn_extract.proofs.ModeOutputs.{listing-append}
 
 -- what is left after one more move
-goes_behind : {old new : PlayedLine} (word : PlaysWord old new) (before positions : List State) (played all : List Move)
+goes_after : {old new : PlayedLine} (word : PlaysWord old new) (before positions : List State) (played all : List Move)
     → GoesOnWith old before played positions all → GoesOnWith new (before ++ old.position ∷ []) (played ++ word.m ∷ []) positions all
-goes_behind {old} {new} word before positions played all (later, more, line, positions_is, all_is) =
+goes_after {old} {new} word before positions played all (later, more, line, positions_is, all_is) =
     let split : IsMainLine old.position (word.word ∷ new.words) later more = subst (λ ws. IsMainLine old.position ws later more) word.words line in
     let same : split.0 ≡ word.m = one_move old.position word.word split.0 word.m split.5 word.named in (
       split.1,
@@ -63,7 +63,7 @@ played_on {fen} {items} {old} {new} {before} {played} to word = record {
   is_start = to.is_start;
   count = length-append before (old.position ∷ []) ∙ ap (λ n. n + 1) to.count ∙ sym word.plies;
   moves = length-append played (word.m ∷ []) ∙ ap (λ n. n + 1) to.moves ∙ sym word.plies;
-  parts = λ positions all is. goes_behind word before positions played all (to.parts positions all is);
+  parts = λ positions all is. goes_after word before positions played all (to.parts positions all is);
   completes = λ later more line.
       subst (λ ps. IsMainLine to.start (main_words items 0) ps ((played ++ word.m ∷ []) ++ more)) (sym (append_assoc before (old.position ∷ []) later))
       (subst (λ ms. IsMainLine to.start (main_words items 0) (before ++ old.position ∷ later) ms) (sym (append_assoc played (word.m ∷ []) more))
@@ -134,8 +134,8 @@ first_by false is = absurd (cc)
 
 -- one more position
 module _ {aim : Aim} {number offset : ℕ} {game : GameText} {before : List State} {old new : List ℕ} {on : Bool} (P : State) (so_far : Finds aim number offset game before old new on) where
-  behind : (replay : Replay) (rest : List State) → replay.positions ≡ (before ++ P ∷ []) ++ rest → replay.positions ≡ before ++ P ∷ rest
-  behind replay rest is = is ∙ append_assoc before (P ∷ []) rest
+  joined : (replay : Replay) (rest : List State) → replay.positions ≡ (before ++ P ∷ []) ++ rest → replay.positions ≡ before ++ P ∷ rest
+  joined replay rest is = is ∙ append_assoc before (P ∷ []) rest
 
   grown : length (before ++ P ∷ []) ≡ length before + 1
   grown = length-append before (P ∷ [])
@@ -151,11 +151,11 @@ module _ {aim : Aim} {number offset : ℕ} {game : GameText} {before : List Stat
     found = so_far.found;
     written = so_far.written;
     completes = λ replay own rest is later chosen.
-        so_far.completes replay own (P ∷ rest) (behind replay rest is) later
-        (leave (length before) (plies_of (length before + 1) rest) later (fails replay own rest (behind replay rest is))
+        so_far.completes replay own (P ∷ rest) (joined replay rest is) later
+        (leave (length before) (plies_of (length before + 1) rest) later (fails replay own rest (joined replay rest is))
         (subst (λ n. AreChosen number offset (IsEntry aim (heading_of game) replay) (AreFields aim.fields replay) (plies_of n rest) later) grown chosen));
-    quiet = λ is first replay own rest at n less. quiet is first replay own rest (behind replay rest at) n (subst (λ k. n < k) grown less);
-    shut = λ is replay own rest at n low within. shut is replay own rest (behind replay rest at) n (subst (λ k. k ≤ n) grown low) within;
+    quiet = λ is first replay own rest at n less. quiet is first replay own rest (joined replay rest at) n (subst (λ k. n < k) grown less);
+    shut = λ is replay own rest at n low within. shut is replay own rest (joined replay rest at) n (subst (λ k. k ≤ n) grown low) within;
   }
 
   -- it is no longer on
@@ -198,13 +198,13 @@ module _ {aim : Aim} {number offset : ℕ} {game : GameText} {before : List Stat
         ∙ ap (λ t. old ++ t) (ap (λ t. listing aim.name so_far.found ++ t) (sym (append-nil (entry_line aim.name entry))) ∙ sym (listing-append aim.name so_far.found (entry ∷ [])));
     completes = λ replay own rest is later chosen.
         subst (AreListed aim number offset (heading_of game) replay) (sym (append_assoc so_far.found (entry ∷ []) later))
-        (so_far.completes replay own (P ∷ rest) (behind replay rest is) (entry ∷ later)
-        (keep (length before) shown (plies_of (length before + 1) rest) later (listed replay own rest (behind replay rest is))
-        (shows replay own rest (behind replay rest is))
+        (so_far.completes replay own (P ∷ rest) (joined replay rest is) (entry ∷ later)
+        (keep (length before) shown (plies_of (length before + 1) rest) later (listed replay own rest (joined replay rest is))
+        (shows replay own rest (joined replay rest is))
         (subst (λ n. AreChosen number offset (IsEntry aim (heading_of game) replay) (AreFields aim.fields replay) (plies_of n rest) later) grown chosen)));
     quiet = λ is first replay own rest at n less. let no : not aim.first ≡ false = ap not first in absurd (both_ways (not aim.first) no is);
     shut = λ is replay own rest at n low within is_entry.
-        is_entry.1 (first_by aim.first is) (length before) (let size = grown in omega arith) (wanted replay own rest (behind replay rest at));
+        is_entry.1 (first_by aim.first is) (length before) (let size = grown in omega arith) (wanted replay own rest (joined replay rest at));
   }
     where
       entry : Entry
@@ -233,9 +233,9 @@ at_end [] more = refl
 at_end (first ∷ before) more = at_end before more
 
 -- after so many positions and moves it is the move at their ply
-next_behind : (before later : List State) (played more : List Move) (text : List ℕ) → length played ≡ length before
+next_after : (before later : List State) (played more : List Move) (text : List ℕ) → length played ≡ length before
     → IsNextMove later more 0 text → IsNextMove (before ++ later) (played ++ more) (length before) text
-next_behind before later played more text same is =
+next_after before later played more text same is =
     let move : slice_get (played ++ more) (length before) ≡ slice_get more 0 = ap (λ n. slice_get (played ++ more) n) (sym same) ∙ at_end played more in
     let of : Option Move → Option State → Type 0 = λ a b. MatchOption a (text ≡ codes "-") (λ m. (position : State) × (b ≡ Some position) × IsSan position m text) in
     subst (λ a. of a (slice_get (before ++ later) (length before))) (sym move)
@@ -255,7 +255,7 @@ next_there false to replay own shown bare = bare
 next_there true {line = line} {before = before} {played = played} to replay own shown (text, of, whole) =
     let left = left_of to replay own in
     let here : IsNextMove (before ++ left.0) (played ++ left.1) (length before) text =
-    next_behind before left.0 played left.1 text (to.moves ∙ sym to.count) (next_left line.position line.words left.0 left.1 text left.2 of) in (
+    next_after before left.0 played left.1 text (to.moves ∙ sym to.count) (next_left line.position line.words left.0 left.1 text left.2 of) in (
       text,
       subst (λ (ms : List Move). IsNextMove replay.positions ms (length before) text) (sym left.4)
           (subst (λ (ps : List State). IsNextMove ps (played ++ left.1) (length before) text) (sym left.3) here),
@@ -271,17 +271,17 @@ shows_there fields {line = line} {before = before} to replay own rest is shown (
 
 -- what is asked of a position decides whether it is wanted
 module _ (aim : Aim) (game : GameText) (asked : List (List (Condition (List ℕ)))) (asks : AsksFor aim game asked) (before : List State) (P : State) (r : Bool)
-    (told : (tags : Heading) (replay : Replay) (ply : ℕ) → IsTrue r ↔ SomeHold tags replay ply P asked) where
+    (reports : (tags : Heading) (replay : Replay) (ply : ℕ) → IsTrue r ↔ SomeHold tags replay ply P asked) where
   pub is_wanted : r ≡ true → aim.min_ply ≤ length before → length before ≤ aim.max_ply
       → (replay : Replay) → IsOfGame game replay → (rest : List State) → replay.positions ≡ before ++ P ∷ rest → IsWanted aim (heading_of game) replay (length before)
   is_wanted holds low high replay own rest is = (
     low,
     high,
     (asks replay own (length before) (seam_within replay.positions before P rest is)).0
-        ((meets_at (heading_of game) replay (length before) asked P r (ap (λ ps. slice_get ps (length before)) is ∙ at_seam before P rest) (told (heading_of game) replay (length before))).0 holds),
+        ((meets_at (heading_of game) replay (length before) asked P r (ap (λ ps. slice_get ps (length before)) is ∙ at_seam before P rest) (reports (heading_of game) replay (length before))).0 holds),
   )
 
   pub not_wanted : r ≡ false → (replay : Replay) → IsOfGame game replay → (rest : List State) → replay.positions ≡ before ++ P ∷ rest → IsWanted aim (heading_of game) replay (length before) → ⊥
   not_wanted fails replay own rest is wanted =
-      let t : IsTrue r = (meets_at (heading_of game) replay (length before) asked P r (ap (λ ps. slice_get ps (length before)) is ∙ at_seam before P rest) (told (heading_of game) replay (length before))).1
+      let t : IsTrue r = (meets_at (heading_of game) replay (length before) asked P r (ap (λ ps. slice_get ps (length before)) is ∙ at_seam before P rest) (reports (heading_of game) replay (length before))).1
       ((asks replay own (length before) (seam_within replay.positions before P rest is)).1 wanted.2) in absurd (cc)

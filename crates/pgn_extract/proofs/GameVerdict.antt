@@ -10,8 +10,8 @@ use Rattle.pgn_text.proofs.StopsThere.{stops_alone}
 use Rattle.pgn_text.specs.Marks.{marked}
 use Rattle.pgn_text.specs.Parts.{Part}
 use Rattle.pgn_text.specs.Pieces as spec
-use Rattle.pgn_text.specs.declared.pieces.Mark.{Mark}
-use Rattle.pgn_text.specs.declared.pieces.Mark.TheVariants as marks
+use Rattle.pgn_text.specs.declared.pieces.PieceStart.{PieceStart}
+use Rattle.pgn_text.specs.declared.pieces.PieceStart.TheVariants as marks
 use Rattle.pgn_text.specs.declared.pieces.Piece.{Piece}
 use Rattle.pgn_text.specs.declared.pieces.Piece.TheVariants as given
 use Rattle.pgn_game.specs.Faults.{Fault, IsFault}
@@ -123,9 +123,9 @@ exported_replay aim {old} {new} {number} {offset} {game} is_game replay text is 
         unselected (λ is. none (selected_by aim.select (HasEntry aim (heading_in parts) replay) (HasEntry aim own replay) had has is)) empty
 
 -- after bytes that go to the output a fault is reported
-verdict_behind : {old mid new : Report} (text line note : List ℕ) → AddsOutput old mid text → AddsVerdict mid new (FaultyGame [] line note) 0
+verdict_after : {old mid new : Report} (text line note : List ℕ) → AddsOutput old mid text → AddsVerdict mid new (FaultyGame [] line note) 0
     → AddsVerdict old new (FaultyGame text line note) 0
-verdict_behind {old} {mid} {new} text line note put adds = record {
+verdict_after {old} {mid} {new} text line note put adds = record {
   output = adds.output ∙ append-nil mid.output.items ∙ put.output;
   faults = adds.faults ∙ ap (λ t. t ++ (line ++ note)) put.faults;
   games = adds.games ∙ ap (λ n. n + 0) put.games;
@@ -142,7 +142,7 @@ exported_fault aim {old} {mid} {new} {number} {offset} {game} fault note is note
     let line = fault_text aim.name number offset (cause_text fault) in (
       FaultyGame text line note,
       (fault, shown_fault (written_lines aim) shows fault is, refl, noted, ap (faulty_text modes.Export aim.select) shows.text),
-      verdict_behind text line note put adds,
+      verdict_after text line note put adds,
     )
 
 -- by the index, its mark
@@ -168,7 +168,7 @@ game_exported aim number offset game is adds at parts shows =
     let verdict = adds at parts shows in
     (verdict.0, subst (λ m. IsVerdictIn m aim number offset parts verdict.0) (sym is) verdict.1, verdict.2)
 
--- behind a piece that is counted a verdict is reported
+-- after a piece that is counted a verdict is reported
 counted_first : {old mid new : Report} (verdict : Verdict) → AddsVerdict mid new verdict 0
     → mid.output ≡ old.output → mid.faults ≡ old.faults → mid.games ≡ old.games + 1 → mid.faulty ≡ old.faulty → AddsVerdict old new verdict 1
 counted_first verdict adds output faults games faulty = record {
@@ -198,9 +198,9 @@ piece_game aim {old} {mid} {new} number offset here block piece game is_game pla
 stop_alone : (explain : Bool) (offset : ℕ) (block : List ℕ) (at : ℕ) (bytes note : List ℕ) → IsPieceOf offset block (spec.Unreadable at bytes)
     → NamesBlockStop explain offset block at note → NamesStop explain (offset + at) bytes note
 stop_alone false offset block at bytes note among names = tt
-stop_alone true offset block at bytes note (before, behind, are) (place, (agreeing, parted, stops), names) =
+stop_alone true offset block at bytes note (before, after, are) (place, (agreeing, parted, stops), names) =
     let same : offset + place ≡ (offset + at) + agreeing = omega (arith, parted) in
-    (agreeing, stops_alone depth_limit offset block before at bytes behind agreeing are stops, subst (λ (n : ℕ). NamesByte n note) same names)
+    (agreeing, stops_alone depth_limit offset block before at bytes after agreeing are stops, subst (λ (n : ℕ). NamesByte n note) same names)
 
 -- the verdict on bytes of a block that are no game is that on the piece at the same place
 pub unreadable_there : (aim : Aim) (number offset : ℕ) (block : List ℕ) (place at : ℕ) (bytes : List ℕ) (verdict : Verdict) → place ≡ at
@@ -238,7 +238,7 @@ piece_unreadable aim {old} {mid} {new} number offset block piece place verdict i
     )
 
 -- the mark of a piece that is a game is counted, and reported
-pub mark_game : (aim : Aim) {old new : Report} (number offset : ℕ) (block : List ℕ) (place : ℕ) (mark : Mark) → mark ≡ marks.Game place
+pub mark_game : (aim : Aim) {old new : Report} (number offset : ℕ) (block : List ℕ) (place : ℕ) (mark : PieceStart) → mark ≡ marks.Game place
     → new.output.items ≡ old.output.items ++ mark_line aim.name number (offset + place)
     → new.faults.items ≡ old.faults.items → new.games ≡ old.games + 1 → new.faulty ≡ old.faulty
     → (verdict : Verdict) × IsMarkVerdict aim number offset block mark verdict × AddsVerdict old new verdict 1
@@ -250,7 +250,7 @@ mark_game aim {old} {new} number offset block place mark is output faults games 
     )
 
 -- and that of one that is none
-pub mark_unreadable : (aim : Aim) {old mid new : Report} (number offset : ℕ) (block : List ℕ) (place : ℕ) (mark : Mark) (verdict : Verdict)
+pub mark_unreadable : (aim : Aim) {old mid new : Report} (number offset : ℕ) (block : List ℕ) (place : ℕ) (mark : PieceStart) (verdict : Verdict)
     → mark ≡ marks.Unreadable place → IsBlockVerdict aim number offset block place verdict → AddsVerdict mid new verdict 0
     → mid.output ≡ old.output → mid.faults ≡ old.faults → mid.games ≡ old.games + 1 → mid.faulty ≡ old.faulty
     → (verdict : Verdict) × IsMarkVerdict aim number offset block mark verdict × AddsVerdict old new verdict 1

@@ -81,11 +81,11 @@ module _ {aim : Aim} {report : Report} {out out' err err' : Option (List ℕ)} {
   }
 
   -- a beginning of what the report has is written
-  pub gathers_begun : {out'' err'' : Option (List ℕ)} (own behind : List MarkedPiece) → own ≡ pieces ++ behind
+  pub gathers_begun : {out'' err'' : Option (List ℕ)} (own after : List MarkedPiece) → own ≡ pieces ++ after
       → AppendsFront out' out'' report.output.items → AppendsFront err' err'' report.faults.items → Begins aim out out'' err err'' number own
-  gathers_begun {out''} {err''} own behind parted output faults = record {
+  gathers_begun {out''} {err''} own after parted output faults = record {
     before = pieces;
-    behind = behind;
+    after = after;
     parted = parted;
     verdicts = g.verdicts;
     each = g.each;

@@ -7,8 +7,8 @@ use Rattle.pgn_text.specs.Left.{Left, ArePiecesLeft}
 use Rattle.pgn_text.specs.LeftMarks.{IsMark, TakesMark}
 use Rattle.pgn_text.specs.Marks.{marked, within as in_limit}
 use Rattle.pgn_text.specs.Pieces as spec
-use Rattle.pgn_text.specs.declared.pieces.Mark.{Mark}
-use Rattle.pgn_text.specs.declared.pieces.Mark.TheVariants.{Game, Unreadable}
+use Rattle.pgn_text.specs.declared.pieces.PieceStart.{PieceStart}
+use Rattle.pgn_text.specs.declared.pieces.PieceStart.TheVariants.{Game, Unreadable}
 use Rattle.pgn_extract.specs.Aims.{Aim}
 use Rattle.pgn_extract.specs.Blockwise.{Gathers, GathersBlock, Passes, BeginsBlock, AddsVerdict, IsPieceOf, IsMarkVerdict}
 use Rattle.pgn_extract.specs.Index.{mark_line}
@@ -21,7 +21,7 @@ use Rattle.pgn_extract.proofs.Gathered.{gathers_none, gathers_more, gathers_pass
 use Rattle.pgn_extract.proofs.Listed.{piece_in, begun_of}
 
 -- what is reported of a mark is the index's verdict on the piece
-mark_is_verdict : (aim : Aim) (number offset : ℕ) (block : List ℕ) (mark : Mark) (shown : spec.Piece) (verdict : Verdict)
+mark_is_verdict : (aim : Aim) (number offset : ℕ) (block : List ℕ) (mark : PieceStart) (shown : spec.Piece) (verdict : Verdict)
     → aim.mode ≡ modes.Index → IsMark mark shown → IsPieceOf offset block shown
     → IsMarkVerdict aim number offset block mark verdict → IsVerdict aim number (marked offset shown) verdict
 mark_is_verdict aim number offset block (Game place) (spec.Game at parts) verdict index is among by =
@@ -65,7 +65,7 @@ indexed_none aim start block report number offset out err is output faults games
 module _ {aim : Aim} {start now : Left} {report : Report} {number offset : ℕ} {out out' err err' : Option (List ℕ)}
     (l : Indexed aim start now report number offset out out' err err') where
   -- one more mark
-  pub indexed_more : {next : Left} {report' : Report} {here : ℕ} (block : List ℕ) (mark : Mark)
+  pub indexed_more : {next : Left} {report' : Report} {here : ℕ} (block : List ℕ) (mark : PieceStart)
       → start ≡ record { block = block; file_start = offset == 0; at = 0; failed = false } → aim.mode ≡ modes.Index → TakesMark depth_limit now next mark
       → here ≡ number + report.games → (verdict : Verdict) × IsMarkVerdict aim here offset block mark verdict × AddsVerdict report report' verdict 1
       → Indexed aim start next report' number offset out out' err err'

@@ -9,21 +9,21 @@ use Rattle.pgn_extract.proofs.OneReport.{same_report}
 use Rattle.pgn_extract.proofs.VerdictFacts.{output_text-append, fault_lines-append, verdicts-append, count_by-join, same_output, same_faulty}
 
 pub parts_join : PartsJoin
-parts_join aim limit max_depth number offset text before piece behind all whole first second front rest one two =
+parts_join aim limit max_depth number offset text before piece after all whole first second front rest one two =
     let size = piece.offset - offset in
     let same_before : first ≡ before =
     one_marked_pieces limit max_depth offset (take size text) first before one.each
-    (front_of_text limit max_depth offset text before piece behind whole.each) in
-    let same_behind : second ≡ piece ∷ behind =
-    one_marked_pieces limit max_depth piece.offset (drop size text) second (piece ∷ behind) two.each
-    (resumes limit max_depth offset text before piece behind whole.each) in
-    let verdicts_behind = subst (λ p. AreVerdicts aim (number + length first) p rest) same_behind two.written in
+    (front_of_text limit max_depth offset text before piece after whole.each) in
+    let same_after : second ≡ piece ∷ after =
+    one_marked_pieces limit max_depth piece.offset (drop size text) second (piece ∷ after) two.each
+    (resumes limit max_depth offset text before piece after whole.each) in
+    let verdicts_after = subst (λ p. AreVerdicts aim (number + length first) p rest) same_after two.written in
     let both =
-    verdicts-append aim number before (piece ∷ behind) front rest (subst (λ p. AreVerdicts aim number p front) same_before one.written)
-    (subst (λ p. AreVerdicts aim (number + length p) (piece ∷ behind) rest) same_before verdicts_behind) in
-    let joined = same_report aim number (before ++ piece ∷ behind) all (front ++ rest) whole.written both in record {
+    verdicts-append aim number before (piece ∷ after) front rest (subst (λ p. AreVerdicts aim number p front) same_before one.written)
+    (subst (λ p. AreVerdicts aim (number + length p) (piece ∷ after) rest) same_before verdicts_after) in
+    let joined = same_report aim number (before ++ piece ∷ after) all (front ++ rest) whole.written both in record {
       same_before = same_before;
-      same_behind = same_behind;
+      same_after = same_after;
       reported = joined;
       output = same_output all (front ++ rest) joined.but_notes ∙ output_text-append front rest;
       faults = λ plain. ap fault_lines (joined.without_notes plain) ∙ fault_lines-append front rest;

@@ -68,18 +68,18 @@ none_played replay ply past =
 
 -- what is known of a ply of the line that is kept decides whether it is wanted
 module _ (aim : Aim) (game : GameText) (kept : Replay) (own : IsOfGame game kept) (ply : ℕ) (met : Bool)
-    (told : IsTrue met ↔ IsMet aim.criteria (heading_of game) kept ply) (before : List State) (P : State) (at : length before ≡ ply) where
+    (reports : IsTrue met ↔ IsMet aim.criteria (heading_of game) kept ply) (before : List State) (P : State) (at : length before ≡ ply) where
   pub wanted_there : met ≡ true → aim.min_ply ≤ ply → ply ≤ aim.max_ply
       → (replay : Replay) → IsOfGame game replay → (rest : List State) → replay.positions ≡ before ++ P ∷ rest → IsWanted aim (heading_of game) replay (length before)
   wanted_there does low high replay also rest is =
       let same = one_main game kept replay own also in
-      subst (IsWanted aim (heading_of game) replay) (sym at) (low, high, met_there aim.criteria (heading_of game) kept replay same.0 same.1 ply (told.0 does))
+      subst (IsWanted aim (heading_of game) replay) (sym at) (low, high, met_there aim.criteria (heading_of game) kept replay same.0 same.1 ply (reports.0 does))
 
   pub unwanted_there : met ≡ false
       → (replay : Replay) → IsOfGame game replay → (rest : List State) → replay.positions ≡ before ++ P ∷ rest → IsWanted aim (heading_of game) replay (length before) → ⊥
   unwanted_there fails replay also rest is wanted =
       let same = one_main game replay kept also own in
-      let holds : IsTrue met = told.1 (met_there aim.criteria (heading_of game) replay kept same.0 same.1 ply (subst (IsWanted aim (heading_of game) replay) at wanted).2) in
+      let holds : IsTrue met = reports.1 (met_there aim.criteria (heading_of game) replay kept same.0 same.1 ply (subst (IsWanted aim (heading_of game) replay) at wanted).2) in
       absurd (false≢true (sym fails ∙ holds))
 
   pub shown_there : (fields : Fields) (shown : List ℕ) → AreFields fields kept ply shown

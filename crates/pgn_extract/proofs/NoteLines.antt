@@ -9,14 +9,14 @@ use Rattle.std.proofs.lemmas.List.Folds.{list_all-append}
 use Rattle.pgn_text.specs.Bytes.{is_white, is_name_byte, is_not_line_feed, after_run}
 use Rattle.pgn_text.specs.Limits.{depth_limit}
 use Rattle.pgn_text.specs.StopPlaces.{tag_name_of}
-use Rattle.pgn_text.specs.declared.agreement.Within.{Within}
-use Rattle.pgn_text.specs.declared.agreement.Within.TheVariants.{Comment, TagName, TagValue, Tags, Variation, MainLine, Game}
+use Rattle.pgn_text.specs.declared.error_position.Within.{Within}
+use Rattle.pgn_text.specs.declared.error_position.Within.TheVariants.{Comment, TagName, TagValue, Tags, Variation, MainLine, Game}
 use Rattle.pgn_text.proofs.EachStops.{stop_exists}
 use Rattle.pgn_text.proofs.Fronts.{list_all-run}
 use Rattle.pgn_game.proofs.PlainTokens.{AreDigits, decimal_digits}
 use Rattle.pgn_extract.specs.Blockwise.{NamesBlockStop}
 use Rattle.pgn_extract.specs.Notes.{IsNote, NamesByte, NamesStop, AreLines, indented}
-use Rattle.pgn_extract.specs.NoteTexts.{line_feeds, column_behind, position_text, place_in, place_text, begin_in, begin_text, hex_digit, byte_text, stopper_text, context_text, stop_line, hints, IsStopNote, too_long_text}
+use Rattle.pgn_extract.specs.NoteTexts.{line_feeds, column_after, position_text, place_in, place_text, begin_in, begin_text, hex_digit, byte_text, stopper_text, context_text, stop_line, hints, IsStopNote, too_long_text}
 use Rattle.pgn_extract.specs.declared.notes.Origin.{Origin}
 use Rattle.pgn_extract.proofs.StopNotes.{stops_within}
 
@@ -53,10 +53,10 @@ decimal_line n = digits_line (decimal n) (decimal_digits n)
 
 position_line : (first : ℕ) (front : List ℕ) → IsLine (position_text first front)
 position_line first front =
-    let column = decimal (column_behind front) in
+    let column = decimal (column_after front) in
     let line = decimal (first + line_feeds front) in
     line_join (codes "line " ++ line ++ codes ", column ") column
-    (line_join_two (codes "line ") line (codes ", column ") refl (decimal_line (first + line_feeds front)) refl) (decimal_line (column_behind front))
+    (line_join_two (codes "line ") line (codes ", column ") refl (decimal_line (first + line_feeds front)) refl) (decimal_line (column_after front))
 
 pub place_line : (line : Option ℕ) (byte : ℕ) (front : List ℕ) → IsLine (place_in line byte front)
 place_line None byte front = line_join (codes "byte ") (decimal byte) refl (decimal_line byte)
@@ -200,7 +200,7 @@ names_place None byte front stopper context tail =
     ([], (stopper ++ context) ++ tail, inl refl, ap (λ t. codes "  byte " ++ t) (joined_bare (decimal byte) stopper context tail))
 names_place (Some first) byte front stopper context tail =
     let line = first + line_feeds front in
-    let column = column_behind front in (
+    let column = column_after front in (
       position_text first front ++ codes ", ",
       (stopper ++ context) ++ tail,
       inr (line, column, refl),

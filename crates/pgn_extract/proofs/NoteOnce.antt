@@ -58,16 +58,16 @@ after_place first second offset other more others (inr (line, column, is)) (inr 
     let lines =
     append_cancel_left (codes "line ") (decimal line ++ (codes ", column " ++ (decimal column ++ (codes ", " ++ rest_of offset more))))
     (decimal row ++ (codes ", column " ++ (decimal at ++ (codes ", " ++ rest_of other others)))) both in
-    let behind_line =
+    let after_line =
     (digits_once 44 (inl (omega arith)) (decimal line) (decimal row)
     (codes " column " ++ (decimal column ++ (codes ", " ++ rest_of offset more))) (codes " column " ++ (decimal at ++ (codes ", " ++ rest_of other others)))
     (decimal_digits line) (decimal_digits row) lines).1 in
     let columns =
-    append_cancel_left (codes " column ") (decimal column ++ (codes ", " ++ rest_of offset more)) (decimal at ++ (codes ", " ++ rest_of other others)) behind_line in
-    let behind_column =
+    append_cancel_left (codes " column ") (decimal column ++ (codes ", " ++ rest_of offset more)) (decimal at ++ (codes ", " ++ rest_of other others)) after_line in
+    let after_column =
     (digits_once 44 (inl (omega arith)) (decimal column) (decimal at) (codes " " ++ rest_of offset more) (codes " " ++ rest_of other others)
     (decimal_digits column) (decimal_digits at) columns).1 in
-    append_cancel_left (codes " ") (rest_of offset more) (rest_of other others) behind_column
+    append_cancel_left (codes " ") (rest_of offset more) (rest_of other others) after_column
 
 names_once : (offset other : ℕ) (note : List ℕ) → offset < 2 ^ 64 → other < 2 ^ 64 → NamesByte offset note → NamesByte other note → offset ≡ other
 names_once offset other note small fits (place, after, is_place, is) (second, rest, also_place, also) =

@@ -34,7 +34,7 @@ module _ (number offset : ℕ) (P : ℕ → Type 0) (S : ℕ → List ℕ → Ty
   leaves_all ply (position ∷ more) fail =
       leave ply (plies_of (ply + 1) more) [] (fail ply (omega arith) (omega arith)) (leaves_all (ply + 1) more (λ n low high. fail n (omega arith) (omega arith)))
 
--- how many are left behind the first ones
+-- how many are left after the first ones
 pub dropped : (count : ℕ) (positions : List State) → (length positions ≤ count + length (drop count positions))
     × (0 < length (drop count positions) → count + length (drop count positions) ≤ length positions)
 dropped zero positions = (omega arith, λ some. omega arith)

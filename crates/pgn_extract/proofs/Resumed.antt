@@ -20,18 +20,18 @@ at_least_all least number (verdict ∷ more) low =
     ∙ ap (λ rest. verdict ∷ rest) (at_least_all least (number + 1) more (omega arith))
 
 -- of the pieces before the mark nothing is kept, of those from it on all
-at_least_from : (aim : Aim) (number : ℕ) (before behind : List MarkedPiece) (verdicts : List Verdict) → AreVerdicts aim number (before ++ behind) verdicts
-    → (later : List Verdict) × AreVerdicts aim (length before + number) behind later × (verdicts_at_least (length before + number) number verdicts ≡ later)
-at_least_from aim number [] behind verdicts all =
+at_least_from : (aim : Aim) (number : ℕ) (before after : List MarkedPiece) (verdicts : List Verdict) → AreVerdicts aim number (before ++ after) verdicts
+    → (later : List Verdict) × AreVerdicts aim (length before + number) after later × (verdicts_at_least (length before + number) number verdicts ≡ later)
+at_least_from aim number [] after verdicts all =
     let none : number ≡ 0 + number = omega arith in
-    (verdicts, subst (λ n. AreVerdicts aim n behind verdicts) none all, at_least_all (0 + number) number verdicts (omega arith))
-at_least_from aim number (piece ∷ before) behind verdicts (verdict, rest, parted, is, others) =
+    (verdicts, subst (λ n. AreVerdicts aim n after verdicts) none all, at_least_all (0 + number) number verdicts (omega arith))
+at_least_from aim number (piece ∷ before) after verdicts (verdict, rest, parted, is, others) =
     let least = length (piece ∷ before) + number in
     let above : nat_le least number ≡ false = grind (arith, nat_tests) in
     let next : length before + (number + 1) ≡ least = omega arith in
-    let from = at_least_from aim (number + 1) before behind rest others in (
+    let from = at_least_from aim (number + 1) before after rest others in (
       from.0,
-      subst (λ n. AreVerdicts aim n behind from.0) next from.1,
+      subst (λ n. AreVerdicts aim n after from.0) next from.1,
       ap (verdicts_at_least least number) parted
           ∙ ap (λ b. if b then verdict ∷ verdicts_at_least least (number + 1) rest else verdicts_at_least least (number + 1) rest) above
           ∙ ap (λ n. verdicts_at_least n (number + 1) rest) (sym next) ∙ from.2,
@@ -42,10 +42,10 @@ pub resumes_of : (job : Job) (io : Io) (whole : List ℕ) (summary : Summary) �
 resumes_of job io whole summary ends = record { rest = rest_of }
   where
     rest_of : (pieces : List MarkedPiece) → AreMarkedPieces job.limit job.max_depth 0 whole pieces → (mark : IsMarkAmong job.number job.offset pieces)
-        → WritesRest job.aim job.number pieces (mark.piece ∷ mark.behind) io.out.old.bytes io.out.new.bytes io.err.old.bytes io.err.new.bytes
+        → WritesRest job.aim job.number pieces (mark.piece ∷ mark.after) io.out.old.bytes io.out.new.bytes io.err.old.bytes io.err.new.bytes
     rest_of pieces all mark =
-        let rest = mark.piece ∷ mark.behind in
-        let same : ends.pieces ≡ rest = resumed_pieces job.limit job.max_depth whole mark.before mark.piece mark.behind ends.pieces
+        let rest = mark.piece ∷ mark.after in
+        let same : ends.pieces ≡ rest = resumed_pieces job.limit job.max_depth whole mark.before mark.piece mark.after ends.pieces
         (subst (AreMarkedPieces job.limit job.max_depth 0 whole) mark.parted all)
         (subst (λ o. AreMarkedPieces job.limit job.max_depth o (drop o whole) ends.pieces) mark.placed ends.each) in
         let own : AreVerdicts job.aim job.number rest ends.verdicts = subst (λ p. AreVerdicts job.aim job.number p ends.verdicts) same ends.written.each in record {

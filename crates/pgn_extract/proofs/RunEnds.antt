@@ -34,8 +34,8 @@ module _ (job : Job) (io : Io) where
   rest_listed : (whole : List ℕ) → Lists job io whole → ListsRest job io whole
   rest_listed whole lists = record {
     rest = λ pieces each mark entries are.
-        let rest = mark.piece ∷ mark.behind in
-        let same : lists.pieces ≡ rest = resumed_pieces job.limit job.max_depth whole mark.before mark.piece mark.behind lists.pieces
+        let rest = mark.piece ∷ mark.after in
+        let same : lists.pieces ≡ rest = resumed_pieces job.limit job.max_depth whole mark.before mark.piece mark.after lists.pieces
         (subst (AreMarkedPieces job.limit job.max_depth 0 whole) mark.parted each)
         (subst (λ o. AreMarkedPieces job.limit job.max_depth o (drop o whole) lists.pieces) mark.placed lists.each) in
         let kept : AreEntries job.aim job.number rest (entries_at_least job.number entries) =

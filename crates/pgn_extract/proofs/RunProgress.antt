@@ -19,7 +19,7 @@ use Rattle.pgn_extract.specs.declared.outcome.RunError.TheVariants.{Write, OutOf
 use Rattle.pgn_extract.specs.Verdicts.{Verdict, is_faulty}
 use Rattle.pgn_extract.specs.declared.outcome.Summary.{Summary}
 use Rattle.pgn_extract.specs.Aims.{Aim}
-use Rattle.pgn_extract.proofs.Beginnings.{tells_kept, writes_more, begins_written, begins_more}
+use Rattle.pgn_extract.proofs.Beginnings.{says_kept, writes_more, begins_written, begins_more}
 use Rattle.pgn_extract.proofs.BlocksGiven.{Given, none_given, one_given, all_given, all_but_last, goes_on}
 use Rattle.pgn_extract.proofs.Dropping.{all_read}
 use Rattle.pgn_extract.proofs.VerdictFacts.{count_by-join}
@@ -93,7 +93,7 @@ module _ {aim : Aim} {limit max_depth number offset : ℕ} {now : Window} {first
       some_bytes [] more f = absurd (more (sym (append-nil next.ahead) ∙ empty_first (next.ahead ++ []) f))
       some_bytes (x ∷ b) more f = omega arith
 
-  -- the bytes of a block and those ahead then, behind those before
+  -- the bytes of a block and those ahead then, after those before
   total : {next : Window} {left' : Option (List ℕ)} {count' : ℕ} {read block : List ℕ} → IsCutOff now next left' read block → Reads left left' count count' read
       → Reads first left' moved count' ((p.bytes ++ block) ++ next.ahead)
   total {next} {left'} {count'} {read} {block} cut more =
@@ -172,7 +172,7 @@ module _ {aim : Aim} {limit max_depth number offset : ℕ} {now : Window} {first
         pieces = p.pieces;
         each = all_given p.given ended none;
         verdicts = p.verdicts;
-        written = tells_kept p.written out_kept err_kept;
+        written = says_kept p.written out_kept err_kept;
         games = counted ∙ p.counted;
         faulty = faults ∙ p.faults;
       }
@@ -194,7 +194,7 @@ module _ {aim : Aim} {limit max_depth number offset : ℕ} {now : Window} {first
       all = record {
         pieces = p.pieces ++ [];
         each = subst (AreMarkedPieces limit max_depth offset p.bytes) (sym (append-nil p.pieces)) (all_given p.given ended (p.last ended).0);
-        written = begins_written (tells_kept p.written out_kept err_kept) [];
+        written = begins_written (says_kept p.written out_kept err_kept) [];
       }
 
       begun : (f : Option (List ℕ)) → IfSome f (λ whole. whole ≡ p.bytes) → IfSome f (λ whole. BeginsFirst aim limit max_depth number offset whole out out'' err err'')

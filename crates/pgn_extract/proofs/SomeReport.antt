@@ -224,12 +224,12 @@ pub some_report : TextHasAReport
 some_report aim limit max_depth number offset text pieces h =
     all_reported aim (all_decided aim) number pieces (blocks_made limit max_depth offset h.blocks pieces h.each)
 
-made_behind : (xs ys : List MarkedPiece) → AreMade (xs ++ ys) → AreMade ys
-made_behind [] ys made = made
-made_behind (x ∷ xs) ys made = made_behind xs ys made.1
+made_after : (xs ys : List MarkedPiece) → AreMade (xs ++ ys) → AreMade ys
+made_after [] ys made = made
+made_after (x ∷ xs) ys made = made_after xs ys made.1
 
 -- the last of the pieces of a text are reported in some way too
-pub rest_reported : (aim : Aim) (limit max_depth number offset : ℕ) (text : List ℕ) (before behind : List MarkedPiece)
-    → AreMarkedPieces limit max_depth offset text (before ++ behind) → (reported : List Verdict) × AreVerdicts aim number behind reported
-rest_reported aim limit max_depth number offset text before behind h =
-    all_reported aim (all_decided aim) number behind (made_behind before behind (blocks_made limit max_depth offset h.blocks (before ++ behind) h.each))
+pub rest_reported : (aim : Aim) (limit max_depth number offset : ℕ) (text : List ℕ) (before after : List MarkedPiece)
+    → AreMarkedPieces limit max_depth offset text (before ++ after) → (reported : List Verdict) × AreVerdicts aim number after reported
+rest_reported aim limit max_depth number offset text before after h =
+    all_reported aim (all_decided aim) number after (made_after before after (blocks_made limit max_depth offset h.blocks (before ++ after) h.each))

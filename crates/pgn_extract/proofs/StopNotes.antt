@@ -3,13 +3,13 @@ use Rattle.std.proofs.Common.{◌≡◌, ℕ, ◌+◌, ◌<◌, ◌≤◌, Bool,
 use Rattle.pgn_text.specs.Bytes.{begins}
 use Rattle.pgn_text.specs.Parts.{Part, spelled}
 use Rattle.pgn_text.specs.StopPlaces.{PartsThen, StandsWithin, is_open_brace, is_open_bracket}
-use Rattle.pgn_text.specs.Stops.{StopsAt}
-use Rattle.pgn_text.specs.declared.agreement.Within.{Within}
-use Rattle.pgn_text.specs.declared.agreement.Within.TheVariants.{Comment, TagName, TagValue, Tags, Variation, MainLine, Game}
+use Rattle.pgn_text.specs.Stops.{IsLongestViablePrefix}
+use Rattle.pgn_text.specs.declared.error_position.Within.{Within}
+use Rattle.pgn_text.specs.declared.error_position.Within.TheVariants.{Comment, TagName, TagValue, Tags, Variation, MainLine, Game}
 use Rattle.pgn_extract.specs.NoteTexts.{IsWithinBlock}
 
 pub stops_within : (max_depth : ℕ) (f : Bool) (block : List ℕ) (begin agreeing : ℕ) → begin ≤ length block
-    → StopsAt max_depth f (take begin block) (drop begin block) agreeing → begin + agreeing ≤ length block
+    → IsLongestViablePrefix max_depth f (take begin block) (drop begin block) agreeing → begin + agreeing ≤ length block
 stops_within max_depth f block begin agreeing fits stops = let w = stops.within in omega (arith, length-drop begin block)
 
 some_byte : (test : ℕ → Bool) (front : List ℕ) → begins test front ≡ true → 0 < length front
@@ -36,7 +36,7 @@ begins_within f block begin place Variation fits stands = tt
 begins_within f block begin place MainLine fits stands = tt
 begins_within f block begin place Game fits stands = tt
 
--- the parts of a note, pushed one behind the other
+-- the parts of a note, pushed one after the other
 pub note_joined : (t0 t1 t2 t3 t4 t5 t6 place stopper context more : List ℕ) → t1 ≡ t0 ++ (32 ∷ 32 ∷ []) → t2 ≡ t1 ++ place → t3 ≡ t2 ++ stopper
     → t4 ≡ t3 ++ context → t5 ≡ t4 ++ (10 ∷ []) → t6 ≡ t5 ++ more → t6 ≡ t0 ++ (32 ∷ 32 ∷ (place ++ stopper ++ context) ++ 10 ∷ more)
 note_joined t0 t1 t2 t3 t4 t5 t6 place stopper context more a b c d e f =

@@ -22,7 +22,7 @@ fault_lines-append [] ys = refl
 fault_lines-append (x ∷ xs) ys =
     ap (λ t. fault_line_of x ++ t) (fault_lines-append xs ys) ∙ sym (append_assoc (fault_line_of x) (fault_lines xs) (fault_lines ys))
 
--- pieces are reported, and others behind them
+-- pieces are reported, and others after them
 pub verdicts-append : (aim : Aim) (number : ℕ) (xs ys : List MarkedPiece) (first second : List Verdict) → AreVerdicts aim number xs first
     → AreVerdicts aim (number + length xs) ys second → AreVerdicts aim number (xs ++ ys) (first ++ second)
 verdicts-append aim number [] ys first second none others =

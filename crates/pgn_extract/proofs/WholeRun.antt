@@ -15,7 +15,7 @@ use Rattle.pgn_extract.specs.declared.outcome.Summary.{Summary}
 use Rattle.pgn_extract.proofs.BegunAll.{begun_all}
 use Rattle.pgn_extract.proofs.Writing.{appends_none}
 
--- behind the bytes dropped stand the others, also where there were too few to be dropped
+-- after the bytes dropped stand the others, also where there were too few to be dropped
 drop_is : (most : ℕ) (dropped rest : List ℕ) → length dropped ≤ most → (length dropped < most → rest ≡ []) → drop most (dropped ++ rest) ≡ rest
 drop_is most dropped rest fits end =
     elim (cases_lt (length dropped) most) [

@@ -40,7 +40,7 @@ aim_of settings = record {
   explain = settings.explain;
 }
 
--- the position behind so many plies of a main line meets the criteria; without criteria every one does
+-- the position after so many plies of a main line meets the criteria; without criteria every one does
 abbrev pub IsMet : Option (List (List (Condition (List ℕ)))) → Heading → Replay → ℕ → Type 0
 IsMet None tags replay ply = Unit {0}
 IsMet (Some criteria) tags replay ply = Meets tags replay ply criteria

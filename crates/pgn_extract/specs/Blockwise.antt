@@ -14,10 +14,10 @@ use Rattle.pgn_text.specs.Limits.{depth_limit, largest_offset}
 use Rattle.pgn_text.specs.Marks.{TooLongBlock, MarkedPiece, marked, AreOfBlock, AreMarkedPieces}
 use Rattle.pgn_text.specs.Parts.{Part}
 use Rattle.pgn_text.specs.Pieces as spec
-use Rattle.pgn_text.specs.declared.pieces.Mark.{Mark}
-use Rattle.pgn_text.specs.declared.pieces.Mark.TheVariants as mark
+use Rattle.pgn_text.specs.declared.pieces.PieceStart.{PieceStart}
+use Rattle.pgn_text.specs.declared.pieces.PieceStart.TheVariants as mark
 use Rattle.pgn_text.specs.declared.pieces.Piece.{Piece}
-use Rattle.pgn_text.specs.Stops.{StopsBlockAt}
+use Rattle.pgn_text.specs.Stops.{IsErrorPosition}
 use Rattle.pgn_text.specs.Tallies.{Reads}
 use Rattle.pgn_text.specs.declared.blocks.Body.{Body}
 use Rattle.pgn_text.specs.declared.blocks.Body.TheVariants.{Bytes, TooLong}
@@ -131,7 +131,7 @@ AddsMark aim old new number piece = (verdict : Verdict) × IsVerdict aim number 
 -- the piece is one of those of the block that begins at the offset
 abbrev pub IsPieceOf : ℕ → List ℕ → spec.Piece → Type 0
 IsPieceOf offset block piece =
-    (before : List spec.Piece) × (behind : List spec.Piece) × spec.ArePieces depth_limit (offset == 0) [] (before ++ piece ∷ behind) block
+    (before : List spec.Piece) × (after : List spec.Piece) × spec.ArePieces depth_limit (offset == 0) [] (before ++ piece ∷ after) block
 
 -- the same, of the piece that is given of the block that begins at the offset
 abbrev pub AddsPiece : Aim → Report → Report → ℕ → ℕ → List ℕ → Piece → Type 0
@@ -142,7 +142,7 @@ AddsPiece aim old new number offset block piece =
 abbrev pub NamesBlockStop : Bool → ℕ → List ℕ → ℕ → List ℕ → Type 0
 NamesBlockStop false offset block begin note = Unit {0}
 NamesBlockStop true offset block begin note =
-    (place : ℕ) × StopsBlockAt depth_limit (offset == 0) block begin place × NamesByte (offset + place) note
+    (place : ℕ) × IsErrorPosition depth_limit (offset == 0) block begin place × NamesByte (offset + place) note
 
 -- bytes of the block from the place `begin` on that are no game are reported so
 abbrev pub IsBlockVerdict : Aim → ℕ → ℕ → List ℕ → ℕ → Verdict → Type 0
@@ -151,7 +151,7 @@ IsBlockVerdict aim number offset block begin verdict =
     × (verdict ≡ FaultyGame (faulty_text aim.mode aim.select (drop begin block)) (fault_text aim.name number (offset + begin) (codes "unreadable")) note)
 
 -- so the index reports the piece whose mark is given, in the block that begins at the offset
-abbrev pub IsMarkVerdict : Aim → ℕ → ℕ → List ℕ → Mark → Verdict → Type 0
+abbrev pub IsMarkVerdict : Aim → ℕ → ℕ → List ℕ → PieceStart → Verdict → Type 0
 IsMarkVerdict aim number offset block (mark.Game place) verdict = verdict ≡ SoundGame (mark_line aim.name number (offset + place))
 IsMarkVerdict aim number offset block (mark.Unreadable place) verdict = IsBlockVerdict aim number offset block place verdict
 
@@ -205,8 +205,8 @@ pub record WritesBlock (aim : Aim) (limit max_depth number offset : ℕ) (block 
 -- each of the two grew by a beginning of what is reported of the first of the pieces
 pub record Begins (aim : Aim) (out out' err err' : Option (List ℕ)) (number : ℕ) (pieces : List MarkedPiece) : Type 0 where
   pub before : List MarkedPiece
-  pub behind : List MarkedPiece
-  pub parted : pieces ≡ before ++ behind
+  pub after : List MarkedPiece
+  pub parted : pieces ≡ before ++ after
   pub verdicts : List Verdict
   pub each : AreVerdicts aim number before verdicts
   pub output : AppendsFront out out' (output_text verdicts)

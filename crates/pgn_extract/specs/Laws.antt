@@ -1,7 +1,7 @@
 -- What holds of the entries of every text, of its marks, and of what is reported of it.
 use Rattle.std.specs.Prelude.{◌≡◌, ◌↔◌, Bool, true, false, ℕ, ◌+◌, ◌-◌, ◌^◌, ◌<◌, ◌≤◌, ◌==◌, List, [], ◌∷◌, ◌++◌, length, take, drop, count_by, codes}
 use Rattle.pgn_text.specs.Limits.{depth_limit, largest_offset}
-use Rattle.pgn_text.specs.Stops.{StopsAt}
+use Rattle.pgn_text.specs.Stops.{IsLongestViablePrefix}
 use Rattle.pgn_text.specs.Marks.{PieceKind, ReadableGame, UnreadableRest, TooLongBlock, MarkedPiece, AreMarkedPieces}
 use Rattle.pgn_text.specs.Parts.{spelled}
 use Rattle.pgn_extract.specs.Listing.{Entry, AreEntries}
@@ -23,8 +23,8 @@ PiecesHaveOneListing =
 
 -- each piece of a text has a mark, which is one of them: its number, counted from 1, and its offset, which is within the text and no lower than
 -- the pieces before it are many
-pub record HasAMark (text : List ℕ) (before : List MarkedPiece) (piece : MarkedPiece) (behind : List MarkedPiece) : Type 0 where
-  pub among : IsMarkAmong (length before + 1) piece.offset (before ++ piece ∷ behind)
+pub record HasAMark (text : List ℕ) (before : List MarkedPiece) (piece : MarkedPiece) (after : List MarkedPiece) : Type 0 where
+  pub among : IsMarkAmong (length before + 1) piece.offset (before ++ piece ∷ after)
   pub within : piece.offset < length text
   pub few : length before ≤ piece.offset
   -- so it is one at which a run can begin
@@ -33,8 +33,8 @@ pub record HasAMark (text : List ℕ) (before : List MarkedPiece) (piece : Marke
 
 abbrev pub EachPieceHasAMark : Type 0
 EachPieceHasAMark =
-    (limit max_depth : ℕ) (text : List ℕ) (before : List MarkedPiece) (piece : MarkedPiece) (behind : List MarkedPiece)
-    → AreMarkedPieces limit max_depth 0 text (before ++ piece ∷ behind) → HasAMark text before piece behind
+    (limit max_depth : ℕ) (text : List ℕ) (before : List MarkedPiece) (piece : MarkedPiece) (after : List MarkedPiece)
+    → AreMarkedPieces limit max_depth 0 text (before ++ piece ∷ after) → HasAMark text before piece after
 
 -- the pieces of each text are reported in some way, whatever is to be reported
 abbrev pub TextHasAReport : Type 0
@@ -128,17 +128,17 @@ PieceIsInOneExport =
 abbrev pub NoteNamesTheStop : Type 0
 NoteNamesTheStop =
     (offset byte : ℕ) (bytes note : List ℕ) → offset + length bytes < 2 ^ 64 → byte < 2 ^ 64 → NamesStop true offset bytes note → NamesByte byte note
-    → (agreeing : ℕ) × (byte ≡ offset + agreeing) × StopsAt depth_limit (offset == 0) [] bytes agreeing
+    → (agreeing : ℕ) × (byte ≡ offset + agreeing) × IsLongestViablePrefix depth_limit (offset == 0) [] bytes agreeing
 
 -- a line that is not indented is no note, nor is any where no explanations are asked for; and a byte alone is no place
 abbrev pub NoNotes : Type 0
 NoNotes = (IsNote true (codes "x") → ⊥) × (IsNote false (codes "  x") → ⊥) × (IsLinePlace (codes "x") → ⊥)
 
--- two parts of a text have its pieces, one part those before the cut and the other those behind, and what is reported of them, one behind
+-- two parts of a text have its pieces, one part those before the cut and the other those after, and what is reported of them, one after
 -- the other, is what is reported of the whole: on the output, counted, and on standard error but for the notes
-pub record AreJoined (aim : Aim) (before behind first second : List MarkedPiece) (all front rest : List Verdict) : Type 0 where
+pub record AreJoined (aim : Aim) (before after first second : List MarkedPiece) (all front rest : List Verdict) : Type 0 where
   pub same_before : first ≡ before
-  pub same_behind : second ≡ behind
+  pub same_after : second ≡ after
   pub reported : IsSameReport aim all (front ++ rest)
   pub output : output_text all ≡ output_text front ++ output_text rest
   pub faults : aim.explain ≡ false → fault_lines all ≡ fault_lines front ++ fault_lines rest
@@ -149,12 +149,12 @@ pub record AreJoined (aim : Aim) (before behind first second : List MarkedPiece)
 abbrev pub PartsJoin : Type 0
 PartsJoin =
     (aim : Aim) (limit max_depth number offset : ℕ) (text : List ℕ)
-    (before : List MarkedPiece) (piece : MarkedPiece) (behind : List MarkedPiece) (all : List Verdict)
-    → IsTextReported aim limit max_depth number offset text (before ++ piece ∷ behind) all
+    (before : List MarkedPiece) (piece : MarkedPiece) (after : List MarkedPiece) (all : List Verdict)
+    → IsTextReported aim limit max_depth number offset text (before ++ piece ∷ after) all
     → (first second : List MarkedPiece) (front rest : List Verdict)
     → IsTextReported aim limit max_depth number offset (take (piece.offset - offset) text) first front
     → IsTextReported aim limit max_depth (number + length first) piece.offset (drop (piece.offset - offset) text) second rest
-    → AreJoined aim before (piece ∷ behind) first second all front rest
+    → AreJoined aim before (piece ∷ after) first second all front rest
 
 -- so two runs over a text, the first up to a mark and the second from it on, report what one run over the whole reports, where no explanations
 -- are asked for

@@ -2,9 +2,9 @@
 use Rattle.std.specs.Prelude.{◌≡◌, ℕ, ◌+◌, ◌/◌, ◌%◌, ◌<◌, ◌==◌, ◌&&◌, nat_le, nat_lt, Bool, List, [], ◌∷◌, ◌++◌, length, take, drop, fold, count_by, slice_index, Option, Some, None, codes, decimal, bytes_eq, if◌then◌else◌}
 use Rattle.pgn_text.specs.Limits.{depth_limit}
 use Rattle.pgn_text.specs.StopPlaces.{StandsWithin, tag_name_of}
-use Rattle.pgn_text.specs.Stops.{StopsBlockAt}
-use Rattle.pgn_text.specs.declared.agreement.Within.{Within}
-use Rattle.pgn_text.specs.declared.agreement.Within.TheVariants.{Comment, TagName, TagValue, Tags, Variation, MainLine, Game}
+use Rattle.pgn_text.specs.Stops.{IsErrorPosition}
+use Rattle.pgn_text.specs.declared.error_position.Within.{Within}
+use Rattle.pgn_text.specs.declared.error_position.Within.TheVariants.{Comment, TagName, TagValue, Tags, Variation, MainLine, Game}
 use Rattle.pgn_extract.specs.Notes.{indented}
 use Rattle.pgn_extract.specs.declared.notes.Origin.{Origin}
 
@@ -12,20 +12,20 @@ use Rattle.pgn_extract.specs.declared.notes.Origin.{Origin}
 abbrev pub line_feeds : List ℕ → ℕ
 line_feeds bytes = count_by (λ b. b == 10) bytes
 
--- the column of the byte behind the bytes: it is 1 at their begin and behind a line feed, and else one more than that of the byte before
-abbrev pub column_behind : List ℕ → ℕ
-column_behind front = fold (λ (column b : ℕ). if b == 10 then 1 else column + 1) 1 front
+-- the column of the byte after the bytes: it is 1 at their begin and after a line feed, and else one more than that of the byte before
+abbrev pub column_after : List ℕ → ℕ
+column_after front = fold (λ (column b : ℕ). if b == 10 then 1 else column + 1) 1 front
 
--- line and column of the byte behind the front of a block that begins on the line
+-- line and column of the byte after the front of a block that begins on the line
 abbrev pub position_text : ℕ → List ℕ → List ℕ
-position_text first front = codes "line " ++ decimal (first + line_feeds front) ++ codes ", column " ++ decimal (column_behind front)
+position_text first front = codes "line " ++ decimal (first + line_feeds front) ++ codes ", column " ++ decimal (column_after front)
 
 -- a byte by its offset, and where lines are known by its line and column too
 abbrev pub place_in : Option ℕ → ℕ → List ℕ → List ℕ
 place_in None byte front = codes "byte " ++ decimal byte
 place_in (Some first) byte front = position_text first front ++ codes ", byte " ++ decimal byte
 
--- where the byte behind the front of a block stands in the file
+-- where the byte after the front of a block stands in the file
 abbrev pub place_text : Origin → List ℕ → List ℕ
 place_text origin front = place_in origin.line (origin.offset + length front) front
 
@@ -34,7 +34,7 @@ abbrev pub begin_in : Option ℕ → ℕ → List ℕ → List ℕ
 begin_in None byte front = codes "byte " ++ decimal byte
 begin_in (Some first) byte front = position_text first front
 
--- where what stands behind the front of a block begins in the file
+-- where what stands after the front of a block begins in the file
 abbrev pub begin_text : Origin → List ℕ → List ℕ
 begin_text origin front = begin_in origin.line (origin.offset + length front) front
 
@@ -75,7 +75,7 @@ hints offset block =
 pub record IsStopNote (origin : Origin) (block : List ℕ) (begin : ℕ) (note : List ℕ) : Type 0 where
   pub place : ℕ
   pub within : Within
-  pub stops : StopsBlockAt depth_limit (origin.offset == 0) block begin place
+  pub stops : IsErrorPosition depth_limit (origin.offset == 0) block begin place
   pub stands : StandsWithin (origin.offset == 0) block begin place within
   pub says : note ≡ indented (stop_line origin block place within ∷ hints origin.offset block)
 

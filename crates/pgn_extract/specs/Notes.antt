@@ -1,11 +1,11 @@
--- What stands on standard error behind the line of a faulty game where explanations are asked for.
+-- What stands on standard error after the line of a faulty game where explanations are asked for.
 use Rattle.std.specs.Prelude.{◌≡◌, ◌⊎◌, ℕ, ◌+◌, ◌==◌, Bool, true, false, List, [], ◌∷◌, ◌++◌, codes, decimal, IsTrue}
 use Rattle.std.specs.List.{list_all}
 use Rattle.pgn_text.specs.Bytes.{is_not_line_feed}
 use Rattle.pgn_text.specs.Limits.{depth_limit}
-use Rattle.pgn_text.specs.Stops.{StopsAt}
+use Rattle.pgn_text.specs.Stops.{IsLongestViablePrefix}
 
--- lines, each behind two blanks and ended by a line feed
+-- lines, each after two blanks and ended by a line feed
 abbrev pub indented : List (List ℕ) → List ℕ
 indented [] = []
 indented (line ∷ more) = 32 ∷ 32 ∷ line ++ 10 ∷ indented more
@@ -28,11 +28,11 @@ IsLinePlace text =
 -- the note names the byte at the offset: with its line and column, or without
 abbrev pub NamesByte : ℕ → List ℕ → Type 0
 NamesByte offset note =
-    (place behind : List ℕ) × IsLinePlace place × (note ≡ codes "  " ++ place ++ codes "byte " ++ decimal offset ++ codes ": " ++ behind)
+    (place after : List ℕ) × IsLinePlace place × (note ≡ codes "  " ++ place ++ codes "byte " ++ decimal offset ++ codes ": " ++ after)
 
 -- the note on bytes that begin at the offset and are no game names that at which they stop agreeing with games. They are taken by themselves:
 -- nothing that stands before them is needed
 abbrev pub NamesStop : Bool → ℕ → List ℕ → List ℕ → Type 0
 NamesStop false offset bytes note = Unit {0}
 NamesStop true offset bytes note =
-    (agreeing : ℕ) × StopsAt depth_limit (offset == 0) [] bytes agreeing × NamesByte (offset + agreeing) note
+    (agreeing : ℕ) × IsLongestViablePrefix depth_limit (offset == 0) [] bytes agreeing × NamesByte (offset + agreeing) note

@@ -15,8 +15,8 @@ verdicts_at_least least number (verdict ∷ more) =
 pub record IsMarkAmong (number offset : ℕ) (pieces : List MarkedPiece) : Type 0 where
   pub before : List MarkedPiece
   pub piece : MarkedPiece
-  pub behind : List MarkedPiece
-  pub parted : pieces ≡ before ++ piece ∷ behind
+  pub after : List MarkedPiece
+  pub parted : pieces ≡ before ++ piece ∷ after
   pub numbered : number ≡ length before + 1
   pub placed : offset ≡ piece.offset
 

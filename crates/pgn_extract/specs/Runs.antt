@@ -141,7 +141,7 @@ Exported job io = OnInput io (λ whole. job.aim.mode ≡ mode.Export → Exports
 -- Begun at a mark of one of the pieces of the whole input, the run reported just those from it on, as a run over the whole reports them.
 pub record Resumes (job : Job) (io : Io) (whole : List ℕ) : Type 0 where
   pub rest : (pieces : List MarkedPiece) → AreMarkedPieces job.limit job.max_depth 0 whole pieces → (mark : IsMarkAmong job.number job.offset pieces)
-      → WritesRest job.aim job.number pieces (mark.piece ∷ mark.behind) io.out.old.bytes io.out.new.bytes io.err.old.bytes io.err.new.bytes
+      → WritesRest job.aim job.number pieces (mark.piece ∷ mark.after) io.out.old.bytes io.out.new.bytes io.err.old.bytes io.err.new.bytes
 
 abbrev pub Rest : Job → Io → Type 0
 Rest job io = OnInput io (λ whole. Resumes job io whole)

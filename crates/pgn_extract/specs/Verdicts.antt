@@ -18,7 +18,7 @@ use Rattle.pgn_extract.specs.declared.settings.Mode.TheVariants as modes
 pub data Verdict : Type 0 where
   -- it is sound in the mode: these bytes go to the output
   SoundGame : List ℕ → Verdict
-  -- it is faulty in the mode: these bytes go to the output, this line to standard error, and this note behind it
+  -- it is faulty in the mode: these bytes go to the output, this line to standard error, and this note after it
   FaultyGame : List ℕ → List ℕ → List ℕ → Verdict
 
 -- what goes to the output
@@ -77,7 +77,7 @@ IsVerdictIn modes.Export aim number offset parts verdict = IsExported aim verdic
 abbrev pub IsGameVerdict : Aim → ℕ → ℕ → List Part → Verdict → Type 0
 IsGameVerdict aim number offset parts verdict = IsVerdictIn aim.mode aim number offset parts verdict
 
--- the piece is faulty: these bytes go to the output, this line to standard error, and a note behind it where explanations are asked for
+-- the piece is faulty: these bytes go to the output, this line to standard error, and a note after it where explanations are asked for
 abbrev pub IsReportedBy : Aim → List ℕ → List ℕ → Verdict → Type 0
 IsReportedBy aim text line verdict = (note : List ℕ) × IsNote aim.explain note × (verdict ≡ FaultyGame text line note)
 

@@ -5,7 +5,7 @@ ghost use Rattle.std.specs.Io.KnownBytes.{Appends};
 use crate::file_name::FileName;
 use crate::messages;
 use crate::outcome::{RunError, Summary};
-use crate::put::{finish, put};
+use crate::write_all::{finish, write_all};
 use pgn_text::Tally;
 use std::alloc::Global;
 use std::io::Write;
@@ -25,7 +25,7 @@ pub fn report_bytes<E: Write>(err: &mut Tally<E>, bytes: &[u8]) {
     if err.faulted() {
         return;
     }
-    let _ = put(err, bytes);
+    let _ = write_all(err, bytes);
     let _ = err.flush();
 }
 
@@ -45,15 +45,15 @@ pub fn put_line<E: Write>(
     ensures fault { IsErrOf result RunError.Write ↔ (err.new.faulted ≡ true) }
 {
     let Some(name) = name else {
-        return put(err, line.as_bytes());
+        return write_all(err, line.as_bytes());
     };
     let Some(rest) = line.strip_prefix(messages::PROGRAM) else {
-        return put(err, line.as_bytes());
+        return write_all(err, line.as_bytes());
     };
-    put(err, messages::PROGRAM.as_bytes())?;
-    put(err, name.bytes())?;
-    put(err, b": ")?;
-    put(err, rest.as_bytes())
+    write_all(err, messages::PROGRAM.as_bytes())?;
+    write_all(err, name.bytes())?;
+    write_all(err, b": ")?;
+    write_all(err, rest.as_bytes())
 }
 
 /// Reports why a run failed, with the name of its file where there is one. A fault in that is ignored.

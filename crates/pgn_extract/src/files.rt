@@ -8,12 +8,12 @@ ghost use Rattle.pgn_extract.specs.Runs.{Adds, passage};
 ghost use Rattle.pgn_extract.specs.Several.{AtPath, Unknown, AreKnown, IsOpened, IsRefused, NamesUnopened, WritesPaths, WritesRead, is_no_file, order_at, order_of, paths_of};
 
 use crate::endings::put_summary;
-use crate::extract::run_skipping;
+use crate::engine::run_skipping;
 use crate::file_name::FileName;
 use crate::outcome::{RunError, Summary};
-use crate::put::{finish, put};
 use crate::refusal_notes::push_reason;
 use crate::settings::Settings;
+use crate::write_all::{finish, write_all};
 use pgn_text::{Skip, Tally};
 use std::alloc::{AllocError, Global};
 use std::io;
@@ -163,7 +163,7 @@ fn put_unopened<E: Write>(
         return Err(RunError::OutOfMemory);
     }
     let line = unopened_line(alloc, path, error)?;
-    put(err, &line)?;
+    write_all(err, &line)?;
     finish(err)
 }
 

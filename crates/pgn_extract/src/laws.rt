@@ -41,7 +41,7 @@ pub fn notes()
     ensures none { NoNotes }
 {}
 
-/// What is reported of a text is what is reported of its parts, one behind the other, where it is cut at one of its pieces. The text begins
+/// What is reported of a text is what is reported of its parts, one after the other, where it is cut at one of its pieces. The text begins
 /// at any offset and its pieces are numbered from any number, so it may be cut again.
 pub fn parts()
     ensures join { PartsJoin }

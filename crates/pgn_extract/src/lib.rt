@@ -1,5 +1,5 @@
 //! `pgn-extract` as a library: `run` writes the exports, the listing or the index of a file of chess games, and `program` is the command-line tool
-//! over words and files that are handed in.
+//! over arguments and files that are handed in.
 //!
 //! The listing of a text in memory, as lines `N@O P`; the contract of `list_text` is the listing theorem:
 //!
@@ -13,16 +13,16 @@
 //! The module `memory` has such a proved example for each fact of the contract of `run`.
 #![tactic(auto)]
 
+mod app;
 mod choosing;
 mod command;
 mod conditions;
 mod endings;
+mod engine;
 mod entries;
 mod exporting;
-mod extract;
 mod file_name;
 mod files;
-mod front;
 mod kept;
 pub mod laws;
 mod listing;
@@ -33,7 +33,7 @@ mod move_notes;
 mod notes;
 mod outcome;
 mod piecewise;
-mod put;
+mod read_prefix;
 mod refusal_notes;
 mod report;
 mod settings;
@@ -41,11 +41,11 @@ mod showing;
 mod skip;
 pub mod status;
 mod texts;
-mod tool;
+mod write_all;
 
-pub use extract::{run, run_skipping};
+pub use app::program;
+pub use engine::{run, run_skipping};
 pub use file_name::FileName;
 pub use files::{Files, Task, Total, run_files, run_input};
 pub use outcome::{RunError, Summary};
 pub use settings::{Fields, Form, Mode, Select, Settings};
-pub use tool::program;

@@ -15,7 +15,7 @@ pub const MARK_ROOM: usize = 41;
 /// The most bytes that the line of an entry without a name has: a mark, a space, 20 digits and the end of the line.
 const LINE_ROOM: usize = MARK_ROOM + 22;
 
-/// The ply behind the last one that is listed of a main line with so many plies, where there are no criteria.
+/// The ply after the last one that is listed of a main line with so many plies, where there are no criteria.
 fn end_ply(settings: &Settings, plies: usize) -> usize
     ensures { (ply : ℕ) → IsPlainEntry (aim_of settings.now) plies ply ↔ (settings.now.min_ply ≤ ply) × (ply < result) }
 {

@@ -12,7 +12,7 @@ ghost use Rattle.pgn_extract.specs.Runs.{ArePieces, job_of};
 ghost use Rattle.pgn_extract.specs.Several.{IsReport, NamesUnopened};
 ghost use Rattle.pgn_extract.specs.Verdicts.{Verdict, AreVerdicts, IsSameReport, fault_lines, is_faulty, output_text};
 
-use crate::extract::run;
+use crate::engine::run;
 use crate::files::{Files, Task, run_files};
 use crate::outcome::{RunError, Summary};
 use crate::settings::{Mode, Settings};

@@ -3,11 +3,11 @@ ghost use Rattle.std.specs.Prelude.{◌≡◌, ℕ, List, ◌+◌, ◌^◌, ◌<
 ghost use Rattle.pgn_text.specs.Limits.{block_limit};
 ghost use Rattle.pgn_extract.specs.MoveNotes.{KeepsLine};
 ghost use Rattle.pgn_extract.specs.Notes.{indented};
-ghost use Rattle.pgn_extract.specs.NoteTexts.{line_feeds as line_feeds_of, column_behind, position_text, place_text, begin_text, hex_digit as hex_digit_of, byte_text, stopper_text, context_text, hints, too_long_text, IsStopNote, IsWithinBlock};
+ghost use Rattle.pgn_extract.specs.NoteTexts.{line_feeds as line_feeds_of, column_after, position_text, place_text, begin_text, hex_digit as hex_digit_of, byte_text, stopper_text, context_text, hints, too_long_text, IsStopNote, IsWithinBlock};
 
 use crate::settings::Settings;
 use itoa::Buffer;
-use pgn_text::{BLOCK_LIMIT, Block, Body, Stop, Within, stopped_within, tag_name_at};
+use pgn_text::{BLOCK_LIMIT, Block, Body, Stop, Within, locate_error, tag_name_at};
 use std::alloc::AllocError;
 
 /// Where a block begins in its file.
@@ -28,8 +28,8 @@ pub fn first_line(settings: &Settings) -> Option<u32> {
     }
 }
 
-/// The line on which the next block begins, where this one begins on the line. Behind a block over the limit, and past the largest number, lines are not known.
-pub fn line_behind(line: Option<u32>, block: Block<'_>) -> Option<u32> {
+/// The line on which the next block begins, where this one begins on the line. After a block over the limit, and past the largest number, lines are not known.
+pub fn line_after(line: Option<u32>, block: Block<'_>) -> Option<u32> {
     let Some(first) = line else {
         return None;
     };
@@ -93,7 +93,7 @@ fn line_feeds(bytes: &[u8]) -> usize
 
 /// The column of the byte after the front of a block.
 fn column(front: &[u8]) -> usize
-    ensures { result ≡ column_behind front.now }
+    ensures { result ≡ column_after front.now }
 {
     let mut column = 1;
     for byte in front {
@@ -273,7 +273,7 @@ pub fn push_stop_note(
     requires room { origin.offset + length block.now < 2 ^ 64 }
     ensures { OnOk result ((note : List ℕ) × IsStopNote origin block.now begin note × (text.new.items ≡ text.old.items ++ note)) }
 {
-    let stop = stopped_within(block, begin, origin.offset == 0);
+    let stop = locate_error(block, begin, origin.offset == 0);
     text.extend_from_slice(b"  ")?;
     push_place(text, origin, &block[..stop.place])?;
     push_stopper(text, block, stop.place)?;

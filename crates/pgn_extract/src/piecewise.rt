@@ -7,11 +7,11 @@ ghost use Rattle.pgn_extract.specs.RunParts.{AddsFront, BeginsPieces, GathersPie
 ghost use Rattle.pgn_extract.specs.Runs.{Adds, job_at, passage};
 ghost use Rattle.pgn_extract.specs.declared.settings.Mode.TheVariants.{Index};
 
-use crate::notes::line_behind;
+use crate::notes::line_after;
 use crate::outcome::{RunError, Summary};
-use crate::put::put;
 use crate::report::{BlockContext, Report, add_mark, report_too_long};
 use crate::settings::{Mode, Settings};
+use crate::write_all::write_all;
 use pgn_text::{Block, Body, Tally, games, marks};
 use std::alloc::Global;
 use std::io::Write;
@@ -60,8 +60,8 @@ fn put_report<O: Write, E: Write>(
     ensures only { IfErr result (λ error. error ≡ RunError.Write) }
     ensures faults { WriteFaultsAre result (passage O.contents out.old out.new) (passage E.contents err.old err.new) }
 {
-    put(out, &report.output)?;
-    put(err, &report.faults)
+    write_all(out, &report.output)?;
+    write_all(err, &report.faults)
 }
 
 /// Writes the texts of a report, and makes them empty; it counts on.
@@ -230,7 +230,7 @@ pub fn put_block<'a, O: Write, E: Write>(
 {
     report_block(out, err, report, work)?;
     put_report(out, err, report)?;
-    report.line = line_behind(report.line, work.block);
+    report.line = line_after(report.line, work.block);
     Ok(Summary {
         games: report.games,
         faulty: report.faulty,

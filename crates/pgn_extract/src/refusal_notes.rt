@@ -54,7 +54,7 @@ fn push_refusal(note: &mut Vec<u8>, number: usize) -> Result<(), AllocError> {
 }
 
 /// What follows the first line of a text.
-fn behind_line(text: &[u8]) -> &[u8] {
+fn after_line(text: &[u8]) -> &[u8] {
     match memchr(b'\n', text) {
         Some(end) => &text[end + 1..],
         None => b"".as_slice(),
@@ -77,7 +77,7 @@ fn first_line(text: &[u8]) -> &[u8] {
 fn line_at(text: &[u8], number: usize) -> &[u8] {
     let mut rest = text;
     for _ in 1..number {
-        rest = behind_line(rest);
+        rest = after_line(rest);
     }
     first_line(rest)
 }

@@ -22,7 +22,7 @@ use crate::settings::{Mode, Settings};
 use crate::showing::push_shown;
 use crate::texts::{push_fault_line, push_game_fault, push_mark_line};
 use pgn_game::{GameFault, Lines, count_plies};
-use pgn_text::{Mark, Piece, RawGame};
+use pgn_text::{Piece, PieceStart, RawGame};
 use std::alloc::{AllocError, Global};
 
 /// So many bytes of both texts together are large: a report that has them is written before its block ends.
@@ -239,7 +239,7 @@ impl Report {
         requires room { site.origin.offset + length site.block.now < 2 ^ 64 }
         ensures { OnOk result (AddsExported (aim_of context.entry.settings.now) self.old self.new context.entry.own.number context.entry.own.offset game.now) }
     {
-        game.known();
+        game.invariant();
         match put_selected(&mut self.output, context, game) {
             Ok(()) => Ok(()),
             Err(fault) => {
@@ -386,7 +386,11 @@ pub fn report_too_long(
 }
 
 /// Adds what the index has of one piece of the block.
-pub fn add_mark(index: &mut Report, context: BlockContext<'_>, mark: Mark) -> Result<(), AllocError>
+pub fn add_mark(
+    index: &mut Report,
+    context: BlockContext<'_>,
+    mark: PieceStart,
+) -> Result<(), AllocError>
     requires place { mark_place mark ≤ length context.bytes.now }
     requires room { context.offset + length context.bytes.now < 2 ^ 64 }
     requires counts { (index.old.games + 1 < 2 ^ 64) × (index.old.faulty + 1 < 2 ^ 64) }
@@ -395,12 +399,12 @@ pub fn add_mark(index: &mut Report, context: BlockContext<'_>, mark: Mark) -> Re
 {
     index.games += 1;
     match mark {
-        Mark::Game(at) => push_mark_line(
+        PieceStart::Game(at) => push_mark_line(
             &mut index.output,
             &context.settings.name,
             context.number,
             context.offset + at as u64,
         ),
-        Mark::Unreadable(at) => index.add_unreadable(context, at),
+        PieceStart::Unreadable(at) => index.add_unreadable(context, at),
     }
 }

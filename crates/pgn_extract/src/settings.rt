@@ -81,7 +81,7 @@ pub struct Settings {
     /// What is kept of a game in the standard's format. Where variations are, each line of a game must be sound, also of one that is written
     /// as it stands; else its main line alone, as where it is written on a line.
     pub style: Style,
-    /// Whether notes stand behind the lines of faulty games: where a game is faulty, and why.
+    /// Whether notes stand after the lines of faulty games: where a game is faulty, and why.
     pub explain: bool,
     /// The number of the first piece that the run meets.
     pub number: u64,

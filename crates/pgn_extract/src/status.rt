@@ -6,7 +6,7 @@ pub const SOUND: u8 = 0;
 /// A game was faulty.
 pub const FAULTY: u8 = 1;
 
-/// The words or the criteria were refused, or a file could not be opened.
+/// The arguments or the criteria were refused, or a file could not be opened.
 pub const REFUSED: u8 = 2;
 
 /// The run failed.

@@ -2,13 +2,13 @@
 use Rattle.std.proofs.Common.{◌≡◌, ◌⊎◌, ℕ, ◌+◌, ◌-◌, Bool, true, false, ◌&&◌, List, [], ◌∷◌, ◌++◌, Option, Some, None, IfSome, flat_map, refl, sym, ap, ◌∙◌, subst, inl, inr}
 use Rattle.chess.specs.Placements.{AreOnBoard}
 use Rattle.chess.specs.Positions.{State}
-use Rattle.chess.specs.Start.{usual}
+use Rattle.chess.specs.Start.{initial}
 use Rattle.chess.specs.Moves.{after}
 use Rattle.chess.specs.declared.moves.Move.{Move}
 use Rattle.chess.proofs.FenSettled.{fen_answer}
 use Rattle.chess.proofs.NamedSettled.{each_text_names}
 use Rattle.chess.proofs.OnBoard.{spelled_men_on_board, men_stay_on_board}
-use Rattle.chess.proofs.StartFacts.{usual_kept}
+use Rattle.chess.proofs.StartFacts.{initial_kept}
 use Rattle.chess.proofs.LegalSettled.{settled_check}
 use Rattle.pgn_text.specs.GameTexts.{IsPaired}
 use Rattle.pgn_text.specs.Games.{Item}
@@ -21,8 +21,8 @@ use Rattle.pgn_game.specs.Faults.{Fault, BadStart, IllegalMove, AmbiguousMove, I
 use Rattle.pgn_game.specs.Replays.{AreTurns, IsSoundGame}
 use Rattle.pgn_game.specs.declared.replayer.Lines.{Lines}
 use Rattle.pgn_game.specs.declared.replayer.Lines.TheVariants.{Main, All}
-use Rattle.pgn_game.specs.declared.turn.Turn.{Turn}
-use Rattle.pgn_game.specs.declared.turn.Turn.TheVariants.{Played, Passed}
+use Rattle.pgn_game.specs.declared.line_move.LineMove.{LineMove}
+use Rattle.pgn_game.specs.declared.line_move.LineMove.TheVariants.{Played, Passed}
 use Rattle.pgn_game.proofs.OneLine.{main_of_all, main_words_of}
 use Rattle.pgn_game.proofs.Spelling.{one_spelt}
 
@@ -48,7 +48,7 @@ line_answer now plies (word ∷ words) on_board = elim (each_text_names now word
 
 -- what a word says, or how it is refused, where it is a pass and where it is none
 turn_answer : (passes : Bool) (now : State) (plies : ℕ) (word : List ℕ) → AreOnBoard now.men
-    → ((turn : Turn) × SaysTurn passes now word turn × AreOnBoard (after_turn now turn).men) ⊎ ((fault : Fault) × RefusesTurn passes now plies word fault)
+    → ((turn : LineMove) × SaysTurn passes now word turn × AreOnBoard (after_turn now turn).men) ⊎ ((fault : Fault) × RefusesTurn passes now plies word fault)
 turn_answer true now plies word on_board = elim (settled_check now.men now.turn on_board) [
   | inl check ↦ inr (IllegalMove word (plies + 1), (check, refl))
   | inr free ↦ inl (Passed, free, on_board)
@@ -63,7 +63,7 @@ turn_answer false now plies word on_board = elim (each_text_names now word on_bo
 
 -- a line is played with all its variations, or has a first fault
 abbrev HasTurns : Bool → State → State → Line → Type 0
-HasTurns inside before now line = (turns : List Turn) × IsPlayed inside before now line turns
+HasTurns inside before now line = (turns : List LineMove) × IsPlayed inside before now line turns
 
 abbrev HasFault : Bool → State → State → ℕ → Line → Type 0
 HasFault inside before now plies line = (fault : Fault) × IsLineFault inside before now plies line fault
@@ -90,7 +90,7 @@ all_answer (ThenVariation inner line) inside before now plies last on_board = el
 
 -- the value of the FEN tag is read, or refused
 start_answer : (fen : Option (List ℕ)) → IfSome fen IsContents → ((start : State) × IsStart fen start) ⊎ IsBadStart fen
-start_answer None has = inl (usual, refl)
+start_answer None has = inl (initial, refl)
 start_answer (Some contents) (signs, spells, all) =
     let value = flat_map value_of_sign signs in
     let is : IsValueOf contents value = (signs, record { spells = spells; each = all; gives = refl }) in
@@ -100,13 +100,13 @@ start_answer (Some contents) (signs, spells, all) =
     ]
 
 pub start_on_board : (fen : Option (List ℕ)) (start : State) → IsStart fen start → AreOnBoard start.men
-start_on_board None start is = subst (λ (P : State). AreOnBoard P.men) (sym is) usual_kept.sound.on_board
+start_on_board None start is = subst (λ (P : State). AreOnBoard P.men) (sym is) initial_kept.sound.on_board
 start_on_board (Some contents) start (value, given, read) = spelled_men_on_board value start read.spells
 
 -- the lines that are replayed are played, or have a first fault
 abbrev HasReplay : Lines → State → List Item → Type 0
 HasReplay lines start items =
-    (positions : List State) × (played : List Move) × (turns : List Turn) × IsMainLine start (main_words items 0) positions played × AreTurns lines start items turns
+    (positions : List State) × (played : List Move) × (turns : List LineMove) × IsMainLine start (main_words items 0) positions played × AreTurns lines start items turns
 
 lines_answer : (lines : Lines) (start : State) (items : List Item) → AreOnBoard start.men → (lines ≡ All → IsPaired 0 items)
     → HasReplay lines start items ⊎ ((fault : Fault) × HasLineFault lines start items fault)
@@ -137,7 +137,7 @@ game_answer lines fen items has paired = elim (start_answer fen has) [
 ]
 
 -- a game of which all lines are played is sound
-pub played_sound : (fen : Option (List ℕ)) (start : State) (items : List Item) (turns : List Turn) → IsStart fen start → ArePlayed start items turns
+pub played_sound : (fen : Option (List ℕ)) (start : State) (items : List Item) (turns : List LineMove) → IsStart fen start → ArePlayed start items turns
     → IsSoundGame All fen items
 played_sound fen start items turns is_start (tree, spells, played) =
     let line = main_of_all tree start start turns played in

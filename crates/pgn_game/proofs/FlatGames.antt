@@ -10,15 +10,15 @@ use Rattle.pgn_game.specs.LineWalks.{IsFlat}
 use Rattle.pgn_game.specs.MainLines.{main_words, IsMainLine}
 use Rattle.pgn_game.specs.Replays.{IsSoundGame}
 use Rattle.pgn_game.specs.declared.replayer.Lines.TheVariants.{Main, All}
-use Rattle.pgn_game.specs.declared.turn.Turn.{Turn}
-use Rattle.pgn_game.specs.declared.turn.Turn.TheVariants.{Played}
+use Rattle.pgn_game.specs.declared.line_move.LineMove.{LineMove}
+use Rattle.pgn_game.specs.declared.line_move.LineMove.TheVariants.{Played}
 use Rattle.pgn_game.proofs.AnAnswer.{played_sound}
 use Rattle.pgn_game.proofs.OneLine.{main_words_of}
 use Rattle.pgn_game.proofs.Spelling.{one_spelt}
 
 -- the moves of its words are its turns
 flat_played : (line : Line) (before now : State) (positions : List State) (played : List Move) → IsFlat (spelled line) → IsMainLine now (own_words line) positions played
-    → (turns : List Turn) × IsPlayed false before now line turns
+    → (turns : List LineMove) × IsPlayed false before now line turns
 flat_played LineEnd before now positions played flat is = ([], refl)
 flat_played (ThenMove word rest) before now positions played flat (m, later, more, positions_is, played_is, named, line) =
     let there = flat_played rest now (after now m) later more flat line in

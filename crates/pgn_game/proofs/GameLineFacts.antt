@@ -172,8 +172,8 @@ put_begins notation start walk before items position plies depth = record {
       (subst (λ d. IsMoveFault walk.position walk.plies (main_words items d) fault) depth met));
 }
 
-pub put_more : {notation : Notation} {start : State} {words : List (List ℕ)} {old new : MainWalk} {before mid behind : List ℕ} {item : Item} {items : List Item}
-    → HasPutSome notation start words old before mid (item ∷ items) → PutsElement notation old new item mid behind → HasPutSome notation start words new before behind items
+pub put_more : {notation : Notation} {start : State} {words : List (List ℕ)} {old new : MainWalk} {before mid after : List ℕ} {item : Item} {items : List Item}
+    → HasPutSome notation start words old before mid (item ∷ items) → PutsElement notation old new item mid after → HasPutSome notation start words new before after items
 put_more {notation} {start} {words} {before = before} {items = items} some puts = record {
   own = some.own ++ puts.own;
   put = puts.put ∙ ap (λ bytes. bytes ++ puts.own) some.put ∙ append_assoc before some.own puts.own;
@@ -181,13 +181,13 @@ put_more {notation} {start} {words} {before = before} {items = items} some puts 
   faults = λ fault met. some.faults fault (puts.faults items fault met);
 }
 
-pub put_ends : {notation : Notation} {start : State} {words : List (List ℕ)} {walk : MainWalk} {before behind : List ℕ}
-    → HasPutSome notation start words walk before behind [] → (text : List ℕ) × AreWritten notation start words text × (behind ≡ before ++ text)
+pub put_ends : {notation : Notation} {start : State} {words : List (List ℕ)} {walk : MainWalk} {before after : List ℕ}
+    → HasPutSome notation start words walk before after [] → (text : List ℕ) × AreWritten notation start words text × (after ≡ before ++ text)
 put_ends {notation} {start} {words} some = (some.own, subst (AreWritten notation start words) (append-nil some.own) (some.completes [] refl), some.put)
 
 -- a move of the main line, and any other element
-pub puts_move : {notation : Notation} {old new : MainWalk} {before behind : List ℕ} (word : List ℕ) → old.depth ≡ 0 → PutsMove notation old new word before behind
-    → PutsElement notation old new (MoveText word) before behind
+pub puts_move : {notation : Notation} {old new : MainWalk} {before after : List ℕ} (word : List ℕ) → old.depth ≡ 0 → PutsMove notation old new word before after
+    → PutsElement notation old new (MoveText word) before after
 puts_move {notation} {old} {new} word outside puts = record {
   own = 32 ∷ puts.own;
   put = puts.put;

@@ -2,7 +2,7 @@
 use Rattle.std.proofs.Common.{◌≡◌, ◌⊎◌, ℕ, ◌+◌, ◌<◌, Bool, true, false, List, [], ◌∷◌, ◌++◌, length, nat_le, refl, sym, ap, ◌∙◌, subst, inl, inr, append_assoc, append-nil, length-append, arith}
 use Rattle.std.proofs.lemmas.Bool.Decides.{nat_tests}
 use Rattle.pgn_game.specs.TextLines.{joined, tokens_of, text_of, IsLine, IsFull, AreLines, TokensHaveAText}
-use Rattle.pgn_game.specs.Pens.{added, parted, column_behind, AddedIsLaid}
+use Rattle.pgn_game.specs.Pens.{added, parted, column_after, AddedIsLaid}
 
 -- a line and one token more
 joined_more : (first : List ℕ) (line : List (List ℕ)) (token : List ℕ) → joined ((first ∷ line) ++ token ∷ []) ≡ joined (first ∷ line) ++ 32 ∷ token
@@ -24,7 +24,7 @@ fits_or_not a b = by (nat_le a b) refl
     by true e = inl e
     by false e = inr e
 
--- lines behind a first line that stands already
+-- lines after a first line that stands already
 pub record LaidOn (width : ℕ) (first : List ℕ) (line : List (List ℕ)) (tokens : List (List ℕ)) (text : List ℕ) : Type 0 where
   pub own : List (List ℕ)
   pub lines : List (List (List ℕ))
@@ -57,7 +57,7 @@ laid_on (token ∷ tokens) width first line is_line = by (fits_or_not (column + 
     column = length (joined (first ∷ line))
 
     written : Bool → List ℕ
-    written b = parted b token ++ added width (column_behind b column (length token)) tokens
+    written b = parted b token ++ added width (column_after b column (length token)) tokens
 
     by : (nat_le (column + 1 + length token) width ≡ true) ⊎ (nat_le (column + 1 + length token) width ≡ false)
         → (nat_le (column + 1 + length token) width ≡ true → LaidOn width first (line ++ token ∷ []) tokens (added width (length (joined (first ∷ (line ++ token ∷ [])))) tokens))

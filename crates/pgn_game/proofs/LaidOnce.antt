@@ -3,26 +3,26 @@ use Rattle.std.proofs.Common.{◌≡◌, ℕ, ◌+◌, ◌<◌, ◌≤◌, List,
 use Rattle.pgn_game.specs.TextLines.{joined, tokens_of, text_of, IsLine, IsFull, AreLines, TokensHaveOneText}
 
 -- a token more makes no line shorter
-behind_first : (x y : List ℕ) (ys : List (List ℕ)) → length (joined (x ∷ y ∷ ys)) ≡ length x + 1 + length (joined (y ∷ ys))
-behind_first x y ys =
+after_first : (x y : List ℕ) (ys : List (List ℕ)) → length (joined (x ∷ y ∷ ys)) ≡ length x + 1 + length (joined (y ∷ ys))
+after_first x y ys =
     let a : length (joined (x ∷ y ∷ ys)) ≡ length x + length (32 ∷ joined (y ∷ ys)) = length-append x (32 ∷ joined (y ∷ ys)) in
     let b : length (32 ∷ joined (y ∷ ys)) ≡ 1 + length (joined (y ∷ ys)) = omega arith in
     omega arith
 
 first_fits : (token : List ℕ) (rest : List (List ℕ)) → length token ≤ length (joined (token ∷ rest))
 first_fits token [] = omega arith
-first_fits token (next ∷ rest) = let a = behind_first token next rest in omega arith
+first_fits token (next ∷ rest) = let a = after_first token next rest in omega arith
 
 front_fits : (line : List (List ℕ)) (token : List ℕ) (rest : List (List ℕ)) → length (joined (line ++ token ∷ [])) ≤ length (joined (line ++ token ∷ rest))
 front_fits [] token rest = first_fits token rest
 front_fits (x ∷ []) token rest =
-    let a = behind_first x token [] in
-    let b = behind_first x token rest in
+    let a = after_first x token [] in
+    let b = after_first x token rest in
     let c = first_fits token rest in
     omega arith
 front_fits (x ∷ y ∷ line) token rest =
-    let a = behind_first x y (line ++ token ∷ []) in
-    let b = behind_first x y (line ++ token ∷ rest) in
+    let a = after_first x y (line ++ token ∷ []) in
+    let b = after_first x y (line ++ token ∷ rest) in
     let c = front_fits (y ∷ line) token rest in
     omega arith
 

@@ -12,8 +12,8 @@ use Rattle.pgn_text.specs.Games.{Item, MoveText}
 use Rattle.pgn_game.specs.MainLines.{main_words, IsMainLine}
 use Rattle.pgn_game.specs.AllLines.{IsTurn}
 use Rattle.pgn_game.specs.LineWalks.{is_inside, gone_on, first_level, main_now, Runs, Stops, RunsOn, StopsOn, MainOn, AreWithin, Keeps, HasTurned}
-use Rattle.pgn_game.specs.declared.turn.Turn.{Turn}
-use Rattle.pgn_game.specs.declared.turn.Turn.TheVariants.{Played, Passed}
+use Rattle.pgn_game.specs.declared.line_move.LineMove.{LineMove}
+use Rattle.pgn_game.specs.declared.line_move.LineMove.TheVariants.{Played, Passed}
 use Rattle.pgn_game.specs.declared.all_lines.Level.{Level}
 use Rattle.pgn_game.specs.declared.all_lines.LinesWalk.{LinesWalk}
 
@@ -36,7 +36,7 @@ inside_reverse [] = refl
 inside_reverse (x ∷ xs) = ap is_inside (reverse-append (x ∷ []) xs) ∙ inside_append (reverse xs) x
 
 -- a turn, by the lines suspended
-turned_at : (outer : List Level) (before next : List State) (moves grown : List Move) (level : Level) (word : List ℕ) (turn : Turn) (items : List Item)
+turned_at : (outer : List Level) (before next : List State) (moves grown : List Move) (level : Level) (word : List ℕ) (turn : LineMove) (items : List Item)
     (positions : List State) (played : List Move) → IsTurn (is_inside outer) level.now word turn → Keeps (is_inside outer) before next moves grown level.now turn
     → Rest next grown (gone_on level turn) outer items positions played → Rest before moves level outer (MoveText word ∷ items) positions played
 turned_at [] before next moves grown level word (Played m) items positions played says keeps (later, more, positions_is, played_is, line) = (
@@ -83,7 +83,7 @@ main_first (next ∷ outer) first line is =
     same_level a b same = cc
 
 -- before the first element
-pub runs_begin : (walk : LinesWalk) (start : State) (items : List Item) (turns : List Turn) → walk.turns.items ≡ [] → walk.outer.items ≡ [] → walk.line ≡ first_level start
+pub runs_begin : (walk : LinesWalk) (start : State) (items : List Item) (turns : List LineMove) → walk.turns.items ≡ [] → walk.outer.items ≡ [] → walk.line ≡ first_level start
     → RunsOn walk items turns → Runs items (first_level start) [] turns
 runs_begin walk start items turns none outside line (more, is, runs) =
     subst (λ level. Runs items level [] turns) line (subst (λ xs. Runs items walk.line (reverse xs) turns) outside

@@ -11,14 +11,14 @@ use Rattle.pgn_game.specs.Exports.{number_tokens, kept}
 use Rattle.pgn_game.specs.Faults.{Fault, IsRefusedTurn}
 use Rattle.pgn_game.specs.LineWalks.{Stops, first_level, is_inside}
 use Rattle.pgn_game.specs.MovetextWalks.{in_variation, first_line, level_of, set_apart, varied, AreWithin, IsBack, IsPlayable, IsShort, Draws, DrawsOn, HaltsOn, HasMoved, shown_items}
-use Rattle.pgn_game.specs.Pens.{HasPut, behind_tokens}
+use Rattle.pgn_game.specs.Pens.{HasPut, after_tokens}
 use Rattle.pgn_game.specs.TextLines.{IsLaid}
 use Rattle.pgn_game.specs.declared.pen.Pen.{Pen}
 use Rattle.pgn_game.specs.declared.movetext.MovetextWalk.{MovetextWalk}
 use Rattle.pgn_game.specs.declared.movetext.WrittenLine.{WrittenLine}
 use Rattle.pgn_game.specs.declared.style.Style.{Style}
-use Rattle.pgn_game.specs.declared.turn.Turn.{Turn}
-use Rattle.pgn_game.specs.declared.turn.Turn.TheVariants.{Played, Passed}
+use Rattle.pgn_game.specs.declared.line_move.LineMove.{LineMove}
+use Rattle.pgn_game.specs.declared.line_move.LineMove.TheVariants.{Played, Passed}
 use Rattle.pgn_game.proofs.LaidFacts.{added_is_laid}
 
 -- two facts of one answer
@@ -26,18 +26,18 @@ pub both_ok : {T E : Type 0} (P Q : Type 0) (r : Result T E) → OnOk r P → On
 both_ok P Q (Ok value) p q = (p, q)
 both_ok P Q (Err error) p q = p
 
--- behind the last element nothing is left
+-- after the last element nothing is left
 pub drawn_end : (walk : MovetextWalk) (style : Style) (variations : Bool) (depth : ℕ) → DrawsOn walk (shown_items variations depth []) style []
 drawn_end walk style true depth = refl
 drawn_end walk style false depth = refl
 
 -- what a pen writes from its first token on is laid in lines
-pub laid_first : (width : ℕ) (tokens : List (List ℕ)) → IsLaid width tokens (behind_tokens width false 0 tokens)
+pub laid_first : (width : ℕ) (tokens : List (List ℕ)) → IsLaid width tokens (after_tokens width false 0 tokens)
 laid_first width [] = record { lines = []; all = refl; are_lines = record {}; spells = refl }
 laid_first width (first ∷ rest) = added_is_laid width first rest
 
 -- what a word says can be played
-pub playable : (passes : Bool) (now : State) (word : List ℕ) (turn : Turn) → SaysTurn passes now word turn → IsPlayable now turn
+pub playable : (passes : Bool) (now : State) (word : List ℕ) (turn : LineMove) → SaysTurn passes now word turn → IsPlayable now turn
 playable true now word (Played m) says = absurd says
 playable true now word Passed says = says
 playable false now word (Played m) says = says.named.legal
@@ -197,9 +197,9 @@ begun_draws walk start items style tokens line outer draws =
 
 -- a pen that begins and ends writes the text of its tokens
 pub pen_writes : (first last : Pen) (width : ℕ) (before between after : List ℕ) (tokens : List (List ℕ)) → first.width ≡ width → first.begun ≡ false → first.column ≡ 0
-    → HasPut first last before between tokens → after ≡ between ++ behind_tokens last.width last.begun last.column [] → after ≡ before ++ behind_tokens width false 0 tokens
+    → HasPut first last before between tokens → after ≡ between ++ after_tokens last.width last.begun last.column [] → after ≡ before ++ after_tokens width false 0 tokens
 pen_writes first last width before between after tokens is_width begun column put ends =
-    let text : behind_tokens first.width first.begun first.column (tokens ++ []) ≡ behind_tokens width false 0 tokens =
-    ap (λ w. behind_tokens w first.begun first.column (tokens ++ [])) is_width ∙ ap (λ b. behind_tokens width b first.column (tokens ++ [])) begun
-    ∙ ap (λ n. behind_tokens width false n (tokens ++ [])) column ∙ ap (behind_tokens width false 0) (append-nil tokens) in
+    let text : after_tokens first.width first.begun first.column (tokens ++ []) ≡ after_tokens width false 0 tokens =
+    ap (λ w. after_tokens w first.begun first.column (tokens ++ [])) is_width ∙ ap (λ b. after_tokens width b first.column (tokens ++ [])) begun
+    ∙ ap (λ n. after_tokens width false n (tokens ++ [])) column ∙ ap (after_tokens width false 0) (append-nil tokens) in
     ends ∙ put [] ∙ ap (λ bytes. before ++ bytes) text

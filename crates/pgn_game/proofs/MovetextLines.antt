@@ -24,8 +24,8 @@ use Rattle.pgn_game.specs.declared.fault.GameFault.{GameFault}
 use Rattle.pgn_game.specs.declared.movetext.WrittenLine.{WrittenLine}
 use Rattle.pgn_game.specs.declared.replayer.Lines.TheVariants.{All}
 use Rattle.pgn_game.specs.declared.style.Style.{Style}
-use Rattle.pgn_game.specs.declared.turn.Turn.{Turn}
-use Rattle.pgn_game.specs.declared.turn.Turn.TheVariants.{Played, Passed}
+use Rattle.pgn_game.specs.declared.line_move.LineMove.{LineMove}
+use Rattle.pgn_game.specs.declared.line_move.LineMove.TheVariants.{Played, Passed}
 use Rattle.pgn_game.proofs.OneLine.{main_words_of}
 use Rattle.pgn_game.proofs.OneReplay.{line_head, no_fault}
 use Rattle.pgn_game.proofs.RunFacts.{stops_faulty}
@@ -39,7 +39,7 @@ main_stops : (items : List Item) (depth : ℕ) (level : Level) (fault : Fault) �
 main_stops [] depth level fault stops = stops
 main_stops (MoveText word ∷ items) depth level fault stops = by (depth == 0) stops (λ next later. main_stops items depth next fault later)
   where
-    turned : (turn : Turn) → SaysTurn false level.now word turn → IsMoveFault (after_turn level.now turn) (level.plies + 1) (main_words items depth) fault
+    turned : (turn : LineMove) → SaysTurn false level.now word turn → IsMoveFault (after_turn level.now turn) (level.plies + 1) (main_words items depth) fault
         → (m : Move) × IsOnlyNamed level.now word m × IsMoveFault (after level.now m) (level.plies + 1) (main_words items depth) fault
     turned (Played m) says met = (m, says, met)
     turned Passed says met = absurd says
@@ -82,7 +82,7 @@ starts_there style fen items replay now (lines, all, is) here =
 
 -- ---- the tokens of all lines
 
--- a line has tokens, and what stands behind it from some line on
+-- a line has tokens, and what stands after it from some line on
 abbrev pub DrawnThen : WrittenLine → List WrittenLine → Line → List Item → Style → List (List ℕ) → Type 0
 DrawnThen at outer line rest style tokens =
     (own : List (List ℕ)) × (more : List (List ℕ)) × (last : WrittenLine) × (tokens ≡ own ++ more)
@@ -202,7 +202,7 @@ drawn_line : (line : Line) (style : Style) (before now : State) (apart : Bool) (
 drawn_line LineEnd style before now apart tokens none = (now ∷ [], [], (refl, refl))
 drawn_line (ThenMove word line) style before now apart tokens (turn, text, more, says, spells, is, rest) = by turn says (drawn_line line style now (after_turn now turn) false more rest)
   where
-    by : (turn : Turn) → SaysTurn false now word turn
+    by : (turn : LineMove) → SaysTurn false now word turn
         → ((positions : List State) × (played : List Move) × IsMainLine (after_turn now turn) (own_words line) positions played)
         → (positions : List State) × (played : List Move) × IsMainLine now (word ∷ own_words line) positions played
     by (Played m) says (later, moves, there) = (now ∷ later, m ∷ moves, (m, later, moves, refl, refl, says, there))
@@ -213,7 +213,7 @@ drawn_line (ThenVariation inner line) style before now apart tokens (own, more, 
 
 -- and the turns of all its lines, where variations are written
 drawn_turns : (line : Line) (style : Style) → style.variations ≡ true → (inside : Bool) (before now : State) (apart : Bool) (tokens : List (List ℕ))
-    → AreTokens style inside before now apart line tokens → (turns : List Turn) × IsPlayed inside before now line turns
+    → AreTokens style inside before now apart line tokens → (turns : List LineMove) × IsPlayed inside before now line turns
 drawn_turns LineEnd style shown inside before now apart tokens none = ([], refl)
 drawn_turns (ThenMove word line) style shown inside before now apart tokens (turn, text, more, says, spells, is, rest) =
     let there = drawn_turns line style shown inside now (after_turn now turn) false more rest in
@@ -237,7 +237,7 @@ written_sound style fen start items result tokens is_start (line, own, spells, d
       record { start = start; is_start = is_start; line = subst (λ ws. IsMainLine start ws main.0 main.1) words main.2; turns = turns.1 },
     )
   where
-    by : (variations : Bool) → style.variations ≡ variations → (turns : List Turn) × AreTurns (lines_with variations) start items turns
+    by : (variations : Bool) → style.variations ≡ variations → (turns : List LineMove) × AreTurns (lines_with variations) start items turns
     by true shown = let there = drawn_turns line style shown false start start true own drawn in (there.0, (line, spells, there.1))
     by false hidden = ([], refl)
 
@@ -245,7 +245,7 @@ written_sound style fen start items result tokens is_start (line, own, spells, d
 pub none_of_sound : (style : Style) (fen : Option (List ℕ)) (items : List Item) (replay : Replay) (start : State) (answer : GameFault)
     → IsReplayFor style fen items replay → IsStart fen start
     → IfSome (fault_of answer) (HasLineFault (lines_with style.variations) start items) → fault_of answer ≡ None
-none_of_sound style fen items replay start answer (lines, every, is) is_start told = none (fault_of answer) told
+none_of_sound style fen items replay start answer (lines, every, is) is_start reports = none (fault_of answer) reports
   where
     sound : (variations : Bool) → (variations ≡ true → lines ≡ All) → (other : Replay) × IsReplay (lines_with variations) fen items other
     sound true all = (replay, subst (λ which. IsReplay which fen items replay) (all refl) is)
@@ -255,7 +255,7 @@ none_of_sound style fen items replay start answer (lines, every, is) is_start to
     )
 
     none : (fault : Option Fault) → IfSome fault (HasLineFault (lines_with style.variations) start items) → fault ≡ None
-    none None told = refl
-    none (Some fault) told =
+    none None reports = refl
+    none (Some fault) reports =
         let there = sound style.variations every in
-        absurd (no_fault (lines_with style.variations) fen items fault there (inr (start, is_start, told)))
+        absurd (no_fault (lines_with style.variations) fen items fault there (inr (start, is_start, reports)))

@@ -9,11 +9,11 @@ use Rattle.pgn_text.specs.Games.{Item, VariationClose}
 use Rattle.pgn_game.specs.MainLines.{main_words, IsMainLine}
 use Rattle.pgn_game.specs.Faults.{Fault, RefusesTurn, IsLineFault}
 use Rattle.pgn_game.specs.AllLines.{Line, LineEnd, ThenMove, ThenGlyph, ThenComment, ThenVariation, spelled, own_words, is_pass, SaysTurn, after_turn, IsPlayed}
-use Rattle.pgn_game.specs.declared.turn.Turn.{Turn}
-use Rattle.pgn_game.specs.declared.turn.Turn.TheVariants.{Played, Passed}
+use Rattle.pgn_game.specs.declared.line_move.LineMove.{LineMove}
+use Rattle.pgn_game.specs.declared.line_move.LineMove.TheVariants.{Played, Passed}
 use Rattle.pgn_game.proofs.OneWord.{named_or_refused, one_refused}
 
-pub one_turn : (passes : Bool) (now : State) (word : List ℕ) (turn other : Turn) → SaysTurn passes now word turn → SaysTurn passes now word other → turn ≡ other
+pub one_turn : (passes : Bool) (now : State) (word : List ℕ) (turn other : LineMove) → SaysTurn passes now word turn → SaysTurn passes now word other → turn ≡ other
 one_turn true now word (Played m) other a b = absurd a
 one_turn true now word Passed (Played n) a b = absurd b
 one_turn true now word Passed Passed a b = refl
@@ -21,13 +21,13 @@ one_turn false now word (Played m) (Played n) a b = ap (λ k. Played k) (b.only 
 one_turn false now word (Played m) Passed a b = absurd b
 one_turn false now word Passed other a b = absurd a
 
-said_or_refused : (passes : Bool) (now : State) (plies : ℕ) (word : List ℕ) (turn : Turn) (fault : Fault) → SaysTurn passes now word turn → RefusesTurn passes now plies word fault → ⊥
+said_or_refused : (passes : Bool) (now : State) (plies : ℕ) (word : List ℕ) (turn : LineMove) (fault : Fault) → SaysTurn passes now word turn → RefusesTurn passes now plies word fault → ⊥
 said_or_refused true now plies word (Played m) fault a refused = a
 said_or_refused true now plies word Passed fault a refused = a refused.0
 said_or_refused false now plies word (Played m) fault a refused = named_or_refused now plies word m fault a refused
 said_or_refused false now plies word Passed fault a refused = a
 
-pub one_playing : (line : Line) (inside : Bool) (before now : State) (turns others : List Turn)
+pub one_playing : (line : Line) (inside : Bool) (before now : State) (turns others : List LineMove)
     → IsPlayed inside before now line turns → IsPlayed inside before now line others → turns ≡ others
 one_playing LineEnd inside before now turns others a b = a ∙ sym b
 one_playing (ThenMove word line) inside before now turns others (turn, more, is, says, rest) (other, more2, is2, says2, rest2) =
@@ -44,7 +44,7 @@ one_refusal : (passes : Bool) (now : State) (plies : ℕ) (word : List ℕ) (fau
 one_refusal true now plies word fault other a b = a.1 ∙ sym b.1
 one_refusal false now plies word fault other a b = one_refused now plies word fault other a b
 
-pub played_or_faulty : (line : Line) (inside : Bool) (before now : State) (plies : ℕ) (turns : List Turn) (fault : Fault)
+pub played_or_faulty : (line : Line) (inside : Bool) (before now : State) (plies : ℕ) (turns : List LineMove) (fault : Fault)
     → IsPlayed inside before now line turns → IsLineFault inside before now plies line fault → ⊥
 played_or_faulty LineEnd inside before now plies turns fault a met = met
 played_or_faulty (ThenMove word line) inside before now plies turns fault (turn, more, is, says, rest) (inl refused) =
@@ -80,7 +80,7 @@ one_fault_of (ThenVariation inner line) inside before now plies fault other (inr
 one_fault_of (ThenVariation inner line) inside before now plies fault other (inr (own, played, a)) (inr (own2, played2, b)) =
     one_fault_of line inside before now plies fault other a b
 
-pub main_of_all : (line : Line) (before now : State) (turns : List Turn) → IsPlayed false before now line turns
+pub main_of_all : (line : Line) (before now : State) (turns : List LineMove) → IsPlayed false before now line turns
     → (positions : List State) × (played : List Move) × IsMainLine now (own_words line) positions played
 main_of_all LineEnd before now turns a = (now ∷ [], [], (refl, refl))
 main_of_all (ThenMove word line) before now turns (Played m, more, is, says, rest) =

@@ -7,12 +7,12 @@ use Rattle.pgn_game.specs.AllLines.{Line, LineEnd, ThenMove, ThenGlyph, ThenComm
 use Rattle.pgn_game.specs.Comments.{comment_tokens}
 use Rattle.pgn_game.specs.Exports.{number_tokens, IsTurnText, kept, AreTokens, MovetextHasOneList}
 use Rattle.pgn_game.specs.declared.style.Style.{Style}
-use Rattle.pgn_game.specs.declared.turn.Turn.{Turn}
-use Rattle.pgn_game.specs.declared.turn.Turn.TheVariants.{Played, Passed}
+use Rattle.pgn_game.specs.declared.line_move.LineMove.{LineMove}
+use Rattle.pgn_game.specs.declared.line_move.LineMove.TheVariants.{Played, Passed}
 use Rattle.pgn_game.proofs.OneLine.{one_turn}
 use Rattle.pgn_game.proofs.Spelling.{one_tree}
 
-one_turn_text : (now : State) (turn : Turn) (text other : List ℕ) → IsTurnText now turn text → IsTurnText now turn other → text ≡ other
+one_turn_text : (now : State) (turn : LineMove) (text other : List ℕ) → IsTurnText now turn text → IsTurnText now turn other → text ≡ other
 one_turn_text now (Played m) text other a b = one_san now m text other a b
 one_turn_text now Passed text other a b = a ∙ sym b
 

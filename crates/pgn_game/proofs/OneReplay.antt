@@ -18,7 +18,7 @@ use Rattle.pgn_game.specs.Laws.{GameHasOneReplay, GameHasOneFault, SoundGameHasN
 use Rattle.pgn_game.specs.Replays.{Replay, AreTurns, IsReplay}
 use Rattle.pgn_game.specs.declared.replayer.Lines.{Lines}
 use Rattle.pgn_game.specs.declared.replayer.Lines.TheVariants.{Main, All}
-use Rattle.pgn_game.specs.declared.turn.Turn.{Turn}
+use Rattle.pgn_game.specs.declared.line_move.LineMove.{LineMove}
 use Rattle.pgn_game.proofs.OneLine.{one_playing, one_fault_of, played_or_faulty}
 use Rattle.pgn_game.proofs.OneWord.{named_or_refused, one_refused}
 use Rattle.pgn_game.proofs.Spelling.{one_tree}
@@ -141,18 +141,18 @@ line_or_fault now plies (word ∷ words) positions played fault (m, later, more,
     line_or_fault (after now m) (plies + 1) words later more fault rest
     (subst (λ k. IsMoveFault (after now k) (plies + 1) words fault) (one_move now word n m named2 named) met)
 
-pub all_or_fault : (start : State) (items : List Item) (turns : List Turn) (fault : Fault) → ArePlayed start items turns → HaveFault start items fault → ⊥
+pub all_or_fault : (start : State) (items : List Item) (turns : List LineMove) (fault : Fault) → ArePlayed start items turns → HaveFault start items fault → ⊥
 all_or_fault start items turns fault (tree, is, all) (tree2, is2, met) =
     let same : tree2 ≡ tree = one_tree tree2 tree (sym is2 ∙ is) in
     played_or_faulty tree false start start 0 turns fault all (subst (λ l. IsLineFault false start start 0 l fault) same met)
 
-lines_or_fault : (lines : Lines) (start : State) (items : List Item) (positions : List State) (played : List Move) (turns : List Turn) (fault : Fault)
+lines_or_fault : (lines : Lines) (start : State) (items : List Item) (positions : List State) (played : List Move) (turns : List LineMove) (fault : Fault)
     → IsMainLine start (main_words items 0) positions played → AreTurns lines start items turns → HasLineFault lines start items fault → ⊥
 lines_or_fault Main start items positions played turns fault line none met = line_or_fault start 0 (main_words items 0) positions played fault line met
 lines_or_fault All start items positions played turns fault line all met = all_or_fault start items turns fault all met
 
 replay_or_fault : (lines : Lines) (fen : Option (List ℕ)) (items : List Item) (replay : Replay) (fault : Fault) → IsReplay lines fen items replay → IsFault lines fen items fault → ⊥
-replay_or_fault lines fen items replay fault is (inl (bad, told)) = start_or_bad fen is.start is.is_start bad
+replay_or_fault lines fen items replay fault is (inl (bad, reports)) = start_or_bad fen is.start is.is_start bad
 replay_or_fault lines fen items replay fault is (inr (start, is_start, met)) =
     lines_or_fault lines is.start items replay.positions replay.played replay.turns fault is.line is.turns
     (subst (λ s. HasLineFault lines s items fault) (one_start fen start is.start is_start is.is_start) met)
@@ -162,7 +162,7 @@ replay_or_fault lines fen items replay fault is (inr (start, is_start, met)) =
 pub same_replay : (replay other : Replay) → replay.positions ≡ other.positions → replay.played ≡ other.played → replay.turns ≡ other.turns → replay ≡ other
 same_replay replay other positions played turns i = record { positions = positions i; played = played i; turns = turns i }
 
-same_turns : (lines : Lines) (start : State) (items : List Item) (turns others : List Turn) → AreTurns lines start items turns → AreTurns lines start items others → turns ≡ others
+same_turns : (lines : Lines) (start : State) (items : List Item) (turns others : List LineMove) → AreTurns lines start items turns → AreTurns lines start items others → turns ≡ others
 same_turns Main start items turns others none none2 = none ∙ sym none2
 same_turns All start items turns others (line, is, all) (line2, is2, all2) =
     let same : line2 ≡ line = one_tree line2 line (sym is2 ∙ is) in

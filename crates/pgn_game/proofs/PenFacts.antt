@@ -2,7 +2,7 @@
 use Rattle.std.proofs.Common.{◌≡◌, ◌+◌, ◌≤◌, ℕ, true, List, [], ◌∷◌, ◌++◌, length, sym, ap, subst, ◌∙◌, arith, append_assoc, length-append}
 use Rattle.std.specs.Prelude.{nat_le}
 use Rattle.std.proofs.lemmas.Bool.Decides.{nat_tests}
-use Rattle.pgn_game.specs.Pens.{HasPut, added, parted, column_behind, behind_tokens}
+use Rattle.pgn_game.specs.Pens.{HasPut, added, parted, column_after, after_tokens}
 use Rattle.pgn_game.specs.TextLines.{joined}
 use Rattle.pgn_game.specs.declared.pen.Pen.{Pen}
 
@@ -10,7 +10,7 @@ use Rattle.pgn_game.specs.declared.pen.Pen.{Pen}
 pub put_both : (old middle new : Pen) (before between after : List ℕ) (first second : List (List ℕ))
     → HasPut old middle before between first → HasPut middle new between after second → HasPut old new before after (first ++ second)
 put_both old middle new before between after first second one other more =
-    other more ∙ one (second ++ more) ∙ ap (λ tokens. before ++ behind_tokens old.width old.begun old.column tokens) (sym (append_assoc first second more))
+    other more ∙ one (second ++ more) ∙ ap (λ tokens. before ++ after_tokens old.width old.begun old.column tokens) (sym (append_assoc first second more))
 
 within : (a b : ℕ) → a ≤ b → nat_le a b ≡ true
 within a b low = grind (arith, nat_tests)
@@ -19,26 +19,26 @@ within a b low = grind (arith, nat_tests)
 in_one_line : (width column : ℕ) (first : List ℕ) (rest more : List (List ℕ)) → column + 1 + length (joined (first ∷ rest)) ≤ width
     → added width column (first ∷ (rest ++ more)) ≡ 32 ∷ (joined (first ∷ rest) ++ added width (column + 1 + length (joined (first ∷ rest))) more)
 in_one_line width column first [] more fits =
-    ap (λ t. parted t first ++ added width (column_behind t column (length first)) more) (within (column + 1 + length first) width fits)
+    ap (λ t. parted t first ++ added width (column_after t column (length first)) more) (within (column + 1 + length first) width fits)
 in_one_line width column first (next ∷ rest) more fits =
-    let behind = joined (next ∷ rest) in
-    let size = length-append first (32 ∷ behind) in
-    let one_more : length (32 ∷ behind) ≡ length behind + 1 = omega arith in
+    let after = joined (next ∷ rest) in
+    let size = length-append first (32 ∷ after) in
+    let one_more : length (32 ∷ after) ≡ length after + 1 = omega arith in
     let fits_first : column + 1 + length first ≤ width = omega arith in
-    let fits_rest : column + 1 + length first + 1 + length behind ≤ width = omega arith in
-    let end : column + 1 + length first + 1 + length behind ≡ column + 1 + length (first ++ (32 ∷ behind)) = omega arith in
-    ap (λ t. parted t first ++ added width (column_behind t column (length first)) (next ∷ (rest ++ more))) (within (column + 1 + length first) width fits_first)
+    let fits_rest : column + 1 + length first + 1 + length after ≤ width = omega arith in
+    let end : column + 1 + length first + 1 + length after ≡ column + 1 + length (first ++ (32 ∷ after)) = omega arith in
+    ap (λ t. parted t first ++ added width (column_after t column (length first)) (next ∷ (rest ++ more))) (within (column + 1 + length first) width fits_first)
     ∙ ap (λ x. 32 ∷ (first ++ x)) (in_one_line width (column + 1 + length first) next rest more fits_rest)
-    ∙ ap (λ x. 32 ∷ x) (sym (append_assoc first (32 ∷ behind) (added width (column + 1 + length first + 1 + length behind) more)))
-    ∙ ap (λ n. 32 ∷ ((first ++ (32 ∷ behind)) ++ added width n more)) end
+    ∙ ap (λ x. 32 ∷ x) (sym (append_assoc first (32 ∷ after) (added width (column + 1 + length first + 1 + length after) more)))
+    ∙ ap (λ n. 32 ∷ ((first ++ (32 ∷ after)) ++ added width n more)) end
 
 put_joined : (old new : Pen) (before after : List ℕ) (first : List ℕ) (rest : List (List ℕ)) → old.begun ≡ true
     → old.column + 1 + length (joined (first ∷ rest)) ≤ old.width → HasPut old new before after (joined (first ∷ rest) ∷ []) → HasPut old new before after (first ∷ rest)
 put_joined old new before after first rest begun fits put more =
-    put more ∙ ap (λ b. before ++ behind_tokens old.width b old.column (joined (first ∷ rest) ∷ more)) begun
+    put more ∙ ap (λ b. before ++ after_tokens old.width b old.column (joined (first ∷ rest) ∷ more)) begun
     ∙ ap (λ x. before ++ x)
     (in_one_line old.width old.column (joined (first ∷ rest)) [] more fits ∙ sym (in_one_line old.width old.column first rest more fits))
-    ∙ sym (ap (λ b. before ++ behind_tokens old.width b old.column (first ∷ (rest ++ more))) begun)
+    ∙ sym (ap (λ b. before ++ after_tokens old.width b old.column (first ∷ (rest ++ more))) begun)
 
 pub put_at_once : (old new : Pen) (before after : List ℕ) (tokens : List (List ℕ)) (b : ℕ) (text : List ℕ) → joined tokens ≡ b ∷ text → old.begun ≡ true
     → old.column + 1 + length (b ∷ text) ≤ old.width → HasPut old new before after ((b ∷ text) ∷ []) → HasPut old new before after tokens

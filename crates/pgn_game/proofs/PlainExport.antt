@@ -12,7 +12,7 @@ use Rattle.pgn_game.specs.Laws.{IsMisread, IsReadAsOne, ExportIsReadAsOne}
 use Rattle.pgn_game.specs.Starts.{fen_tag}
 use Rattle.pgn_game.specs.TagLines.{missing_text, escaped, IsTagText, tag_line, AreLinesOf, is_beside}
 use Rattle.pgn_game.specs.declared.style.Style.{Style}
-use Rattle.pgn_game.proofs.PlainLines.{HasNoFeed, IsRight, same_word, solid_feed, behind_feed, line_right, feed_right, movetext_right, feed_alone}
+use Rattle.pgn_game.proofs.PlainLines.{HasNoFeed, IsRight, same_word, solid_feed, after_feed, line_right, feed_right, movetext_right, feed_alone}
 use Rattle.pgn_game.proofs.PlainTokens.{AllOf, IsInk, IsSolid, all_append, result_may}
 
 -- ---- bytes that end no line
@@ -106,8 +106,8 @@ other_bytes : List ℕ → List ℕ
 other_bytes [] = []
 other_bytes (b ∷ bytes) = bytes
 
-no_event_name : (name behind bytes : List ℕ) → IsOther name → name ++ 32 ∷ behind ≡ codes "Event" ++ 32 ∷ bytes → ⊥
-no_event_name name behind bytes other is = other.1 (same_word name (codes "Event") 32 32 behind bytes other.0 (name_solid (codes "Event") refl) (inr refl) (inr refl) is)
+no_event_name : (name after bytes : List ℕ) → IsOther name → name ++ 32 ∷ after ≡ codes "Event" ++ 32 ∷ bytes → ⊥
+no_event_name name after bytes other is = other.1 (same_word name (codes "Event") 32 32 after bytes other.0 (name_solid (codes "Event") refl) (inr refl) (inr refl) is)
 
 line_escape : (name text more bytes : List ℕ) → line_bytes name text ++ 10 ∷ more ≡ 37 ∷ bytes → ⊥
 unfolding first_byte
@@ -158,7 +158,7 @@ others_kept test (name ∷ names) solid other = by (test name) refl (others_kept
 beside_other : (style : Style) (has_fen : Bool) (name : List ℕ) → is_beside style has_fen name ≡ true → name ≢ codes "Event"
 beside_other style has_fen name is event = let no : false ≡ true = subst (λ n. is_beside style has_fen n ≡ true) event is in absurd (cc)
 
--- the roster behind its first name
+-- the roster after its first name
 abbrev roster_rest : List (List ℕ)
 roster_rest = codes "Site" ∷ codes "Date" ∷ codes "Round" ∷ codes "White" ∷ codes "Black" ∷ codes "Result" ∷ []
 
@@ -180,10 +180,10 @@ rest_other = (
 read_as_one : (text more : List ℕ) → HasNoFeed text → IsRight more → IsReadAsOne (line_bytes (codes "Event") text ++ 10 ∷ more)
 read_as_one text more none right = record {
   first = ((text ++ (34 ∷ 93 ∷ [])) ++ 10 ∷ more, refl);
-  only = λ before rest bytes is event. right rest (behind_feed (line_bytes (codes "Event") text) before rest more line is) (bytes, inr event);
+  only = λ before rest bytes is event. right rest (after_feed (line_bytes (codes "Event") text) before rest more line is) (bytes, inr event);
   no_escape = λ rest bytes begins escape. elim begins [
     | inl is ↦ line_escape (codes "Event") text more bytes (is ∙ escape)
-    | inr there ↦ right rest (behind_feed (line_bytes (codes "Event") text) there.0 rest more line there.1) (bytes, inl escape)
+    | inr there ↦ right rest (after_feed (line_bytes (codes "Event") text) there.0 rest more line there.1) (bytes, inl escape)
   ];
 }
   where

@@ -11,7 +11,7 @@ use Rattle.pgn_game.specs.TextLines.{joined, tokens_of, text_of, AreLines, IsLai
 use Rattle.pgn_game.specs.declared.style.Style.{Style}
 use Rattle.pgn_game.proofs.PlainTokens.{AllOf, IsInk, IsSolid, MayBegin, AllMayBegin, all_append, all_front, all_back, movetext_may}
 
--- a byte between tokens or behind the last one of a line
+-- a byte between tokens or after the last one of a line
 abbrev pub IsBetween : ℕ → Type 0
 IsBetween b = (b ≡ 10) ⊎ (b ≡ 32)
 
@@ -62,18 +62,18 @@ joined_feed (token ∷ []) all = solid_feed token all.0.solid
 joined_feed (token ∷ next ∷ line) all =
     all_append (λ b. b ≡ 10 → ⊥) token (32 ∷ joined (next ∷ line)) (solid_feed token all.0.solid) ((λ is. omega arith), joined_feed (next ∷ line) all.1)
 
--- so a line feed stands behind it or further on
-pub behind_feed : (line before rest more : List ℕ) → HasNoFeed line → line ++ 10 ∷ more ≡ before ++ 10 ∷ rest → BeginsLine more rest
-behind_feed [] [] rest more none is = inl (cc)
-behind_feed [] (c ∷ before) rest more none is = inr (before, cc)
-behind_feed (b ∷ line) [] rest more none is = let first : b ≡ 10 = cc in absurd (none.0 first)
-behind_feed (b ∷ line) (c ∷ before) rest more none is = let tail : line ++ 10 ∷ more ≡ before ++ 10 ∷ rest = cc in behind_feed line before rest more none.1 tail
+-- so a line feed stands after it or further on
+pub after_feed : (line before rest more : List ℕ) → HasNoFeed line → line ++ 10 ∷ more ≡ before ++ 10 ∷ rest → BeginsLine more rest
+after_feed [] [] rest more none is = inl (cc)
+after_feed [] (c ∷ before) rest more none is = inr (before, cc)
+after_feed (b ∷ line) [] rest more none is = let first : b ≡ 10 = cc in absurd (none.0 first)
+after_feed (b ∷ line) (c ∷ before) rest more none is = let tail : line ++ 10 ∷ more ≡ before ++ 10 ∷ rest = cc in after_feed line before rest more none.1 tail
 
 -- a text none of whose lines is misread
 abbrev pub IsRight : List ℕ → Type 0
 IsRight text = (rest : List ℕ) → BeginsLine text rest → IsMisread rest → ⊥
 
--- a text behind a line feed, and one behind a line that is not misread
+-- a text after a line feed, and one after a line that is not misread
 nothing_right : IsRight []
 nothing_right rest (inl is) (more, inl escape) = let none : [] ≡ 37 ∷ more = is ∙ escape in absurd (cc)
 nothing_right rest (inl is) (more, inr event) = let none : [] ≡ event_line ++ more = is ∙ event in absurd (cc)
@@ -82,7 +82,7 @@ nothing_right rest (inr (b ∷ before, is)) read = absurd (cc)
 
 pub line_right : (line more : List ℕ) → HasNoFeed line → (IsMisread (line ++ 10 ∷ more) → ⊥) → IsRight more → IsRight (line ++ 10 ∷ more)
 line_right line more none first later rest (inl is) read = first (subst IsMisread (sym is) read)
-line_right line more none first later rest (inr (before, is)) read = later rest (behind_feed line before rest more none is) read
+line_right line more none first later rest (inr (before, is)) read = later rest (after_feed line before rest more none is) read
 
 no_feed_read : (more : List ℕ) → IsMisread (10 ∷ more) → ⊥
 no_feed_read more (other, inl escape) = absurd (cc)
@@ -91,7 +91,7 @@ no_feed_read more (other, inr event) = absurd (cc)
 pub feed_right : (more : List ℕ) → IsRight more → IsRight (10 ∷ more)
 feed_right more later = line_right [] more (record {}) (no_feed_read more) later
 
--- the lines of tokens, and what stands behind them
+-- the lines of tokens, and what stands after them
 pub lines_right : (width : ℕ) (lines : List (List (List ℕ))) (tail : List ℕ) → AreLines width lines → AllMayBegin (tokens_of lines) → IsRight tail
     → IsRight (text_of lines ++ tail)
 lines_right width [] tail are all right = right
@@ -104,7 +104,7 @@ lines_right width ((token ∷ line) ∷ lines) tail are all right =
     own : AllMayBegin (token ∷ line)
     own = all_front MayBegin (token ∷ line) (tokens_of lines) all
 
--- the movetext, and what stands behind it
+-- the movetext, and what stands after it
 pub movetext_right : (style : Style) (start : State) (items : List Item) (result : List ℕ) (tokens : List (List ℕ)) (width : ℕ) (movetext tail : List ℕ) → IsResult result
     → AreMovetextTokens style start items result tokens → IsLaid width tokens movetext → IsRight tail → IsRight (movetext ++ tail)
 movetext_right style start items result tokens width movetext tail ends are laid right =

@@ -21,8 +21,8 @@ use Rattle.pgn_game.specs.AllLines.{Line, LineEnd, ThenMove, ThenGlyph, ThenComm
 use Rattle.pgn_game.specs.Comments.{in_first, cut_at_white, words_in, unbraced, later_word, closed, braced, comment_tokens}
 use Rattle.pgn_game.specs.Exports.{number_tokens, IsTurnText, kept, AreTokens, AreMovetextTokens}
 use Rattle.pgn_game.specs.declared.style.Style.{Style}
-use Rattle.pgn_game.specs.declared.turn.Turn.{Turn}
-use Rattle.pgn_game.specs.declared.turn.Turn.TheVariants.{Played, Passed}
+use Rattle.pgn_game.specs.declared.line_move.LineMove.{LineMove}
+use Rattle.pgn_game.specs.declared.line_move.LineMove.TheVariants.{Played, Passed}
 
 -- each element has the property
 abbrev pub AllOf : {X : Type 0} → (X → Type 0) → List X → Type 0
@@ -96,12 +96,12 @@ digit n = let small : n % 10 < 10 = omega arith in by (nat_lt (n % 10) 10) (grin
     by true e small = (omega arith, omega arith)
     by false e small = absurd (cc)
 
-onto_digits : (k n : ℕ) (behind : List ℕ) → AreDigits behind → AreDigits (digits_onto k 10 false n behind)
-onto_digits zero n behind a = a
-onto_digits (suc k) n behind a = by (n / 10 == 0) (digit n, a) (onto_digits k (n / 10) (digit_glyph false (n % 10) ∷ behind) (digit n, a))
+onto_digits : (k n : ℕ) (after : List ℕ) → AreDigits after → AreDigits (digits_onto k 10 false n after)
+onto_digits zero n after a = a
+onto_digits (suc k) n after a = by (n / 10 == 0) (digit n, a) (onto_digits k (n / 10) (digit_glyph false (n % 10) ∷ after) (digit n, a))
   where
-    by : (last : Bool) → AreDigits (digit_glyph false (n % 10) ∷ behind) → AreDigits (digits_onto k 10 false (n / 10) (digit_glyph false (n % 10) ∷ behind))
-        → AreDigits (if last then digit_glyph false (n % 10) ∷ behind else digits_onto k 10 false (n / 10) (digit_glyph false (n % 10) ∷ behind))
+    by : (last : Bool) → AreDigits (digit_glyph false (n % 10) ∷ after) → AreDigits (digits_onto k 10 false (n / 10) (digit_glyph false (n % 10) ∷ after))
+        → AreDigits (if last then digit_glyph false (n % 10) ∷ after else digits_onto k 10 false (n / 10) (digit_glyph false (n % 10) ∷ after))
     by true a b = a
     by false a b = b
 
@@ -171,12 +171,12 @@ origin_solid now m origin (by_rank some none) = (ink (48 + m.from.rank) (omega a
 origin_solid now m origin (by_both some more) = (ink (96 + m.from.file) (omega arith), (ink (48 + m.from.rank) (omega arith), record {}))
 
 piece_plain : (now : State) (m : Move) (kind : Kind) (text : List ℕ) → IsPieceText now m kind text → IsPlain text
-piece_plain now m kind text (origin, tells, is) =
+piece_plain now m kind text (origin, says, is) =
     let high = kind_high kind in
     subst IsPlain (sym is) (
       (
         ink (kind_letter kind) (omega arith),
-        all_append IsInk origin (capture_text now m ++ square_text m.to) (origin_solid now m origin tells)
+        all_append IsInk origin (capture_text now m ++ square_text m.to) (origin_solid now m origin says)
             (all_append IsInk (capture_text now m) (square_text m.to) (capture_solid now m) (square_plain m).0),
       ),
       (omega arith, omega arith),
@@ -196,7 +196,7 @@ mark_plain now mark (mate mated) = ((ink 35 (omega arith), record {}), (omega ar
 mark_plain now mark (check checked other) = ((ink 43 (omega arith), record {}), (omega arith, omega arith))
 mark_plain now mark (quiet calm) = empty_plain
 
-pub turn_may : (now : State) (turn : Turn) (text : List ℕ) → IsTurnText now turn text → MayBegin text
+pub turn_may : (now : State) (turn : LineMove) (text : List ℕ) → IsTurnText now turn text → MayBegin text
 turn_may now (Played m) text is =
     plain_may text (subst IsPlain (sym is.text)
     (plain_append is.body is.mark (body_plain now m m.castle is.man.kind is.body is.body_is) (mark_plain (after now m) is.mark is.mark_is)))
@@ -238,7 +238,7 @@ unbraced_solid : (word : List ℕ) → IsSolid word → IsSolid (unbraced word)
 unbraced_solid [] solid = solid
 unbraced_solid (b ∷ word) solid = (brace_ink b (b == 125) solid.0, unbraced_solid word solid.1)
 
--- what may stand behind a word
+-- what may stand after a word
 abbrev pub IsEnd : List ℕ → Type 0
 IsEnd ends = (ends ≡ []) ⊎ (ends ≡ codes "}")
 

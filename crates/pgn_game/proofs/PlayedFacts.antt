@@ -14,15 +14,15 @@ use Rattle.pgn_game.specs.Walks.{HasStepped}
 use Rattle.pgn_game.specs.declared.main_line.MainWalk.{MainWalk}
 use Rattle.pgn_game.proofs.WalkFacts.{items_step}
 
--- the elements behind the first
-behind_first : (rest : List Element) → 1 ≤ length rest → take (length rest - 1) (drop 1 rest) ≡ drop 1 rest
-behind_first [] some = absurd (omega arith)
-behind_first (first ∷ more) some = take_all (length (first ∷ more) - 1) more (omega arith)
+-- the elements after the first
+after_first : (rest : List Element) → 1 ≤ length rest → take (length rest - 1) (drop 1 rest) ≡ drop 1 rest
+after_first [] some = absurd (omega arith)
+after_first (first ∷ more) some = take_all (length (first ∷ more) - 1) more (omega arith)
 
 first_item : (rest : List Element) (d : Element) → 1 ≤ length rest
     → map item_of rest ≡ item_of (get_or rest 0 d) ∷ map item_of (take (length rest - 1) (drop 1 rest))
 first_item rest d some =
-    items_step rest 0 d (omega arith) ∙ ap (λ xs. item_of (get_or rest 0 d) ∷ map item_of xs) (sym (behind_first rest some))
+    items_step rest 0 d (omega arith) ∙ ap (λ xs. item_of (get_or rest 0 d) ∷ map item_of xs) (sym (after_first rest some))
 
 module _ (old new : MainWalk) (entry : PlayedLine) (rest : List Element) (d : Element) (some : 1 ≤ length rest)
     (words : main_words (map item_of rest) old.depth ≡ entry.words) (position : old.position ≡ entry.position) (plies : old.plies ≡ entry.plies) where
@@ -58,7 +58,7 @@ module _ (old new : MainWalk) (entry : PlayedLine) (rest : List Element) (d : El
   passes_plies (Some m) stepped is = absurd (cc)
   passes_plies None stepped is = stepped.plies ∙ plies
 
--- behind the last
+-- after the last
 pub has_ended : (walk : MainWalk) (rest : List Element) (entry : PlayedLine) → length rest < 1 → main_words (map item_of rest) walk.depth ≡ entry.words
     → walk.position ≡ entry.position → walk.plies ≡ entry.plies
     → HasEnded entry (record { position = walk.position; plies = walk.plies; words = main_words (map item_of rest) walk.depth })

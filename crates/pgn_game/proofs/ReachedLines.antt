@@ -14,7 +14,7 @@ use Rattle.pgn_game.specs.Refusals.{played_items, PlayedLine, after_move, in_its
 use Rattle.pgn_game.specs.declared.all_lines.Level.{Level}
 use Rattle.pgn_game.specs.declared.replayer.Lines.{Lines}
 use Rattle.pgn_game.specs.declared.replayer.Lines.TheVariants.{Main, All}
-use Rattle.pgn_game.specs.declared.turn.Turn.TheVariants.{Played, Passed}
+use Rattle.pgn_game.specs.declared.line_move.LineMove.TheVariants.{Played, Passed}
 use Rattle.pgn_game.proofs.OneLine.{one_turn}
 use Rattle.pgn_game.proofs.RunFacts.{stops_faulty}
 
@@ -89,23 +89,23 @@ pub stops_from : (lines : Lines) (start : State) (items : List Item) (fault : Fa
 stops_from Main start items fault paired stops = main_stops (main_words items 0) (first_level start) fault stops
 stops_from All start items fault paired stops = stops_faulty start items fault paired stops
 
--- how many variations are open behind the elements
-depth_behind : List Item → ℕ → ℕ
-depth_behind [] depth = depth
-depth_behind (MoveText word ∷ items) depth = depth_behind items depth
-depth_behind (GlyphNumber number ∷ items) depth = depth_behind items depth
-depth_behind (CommentText text ∷ items) depth = depth_behind items depth
-depth_behind (VariationOpen ∷ items) depth = depth_behind items (depth + 1)
-depth_behind (VariationClose ∷ items) depth = depth_behind items (depth - 1)
+-- how many variations are open after the elements
+open_after : List Item → ℕ → ℕ
+open_after [] depth = depth
+open_after (MoveText word ∷ items) depth = open_after items depth
+open_after (GlyphNumber number ∷ items) depth = open_after items depth
+open_after (CommentText text ∷ items) depth = open_after items depth
+open_after (VariationOpen ∷ items) depth = open_after items (depth + 1)
+open_after (VariationClose ∷ items) depth = open_after items (depth - 1)
 
-words_parted : (items more : List Item) (depth : ℕ) → main_words (items ++ more) depth ≡ main_words items depth ++ main_words more (depth_behind items depth)
-unfolding depth_behind
+words_parted : (items more : List Item) (depth : ℕ) → main_words (items ++ more) depth ≡ main_words items depth ++ main_words more (open_after items depth)
+unfolding open_after
 words_parted [] more depth = refl
 words_parted (MoveText word ∷ items) more depth = by (depth == 0) (words_parted items more depth)
   where
-    by : (main : Bool) → main_words (items ++ more) depth ≡ main_words items depth ++ main_words more (depth_behind items depth)
+    by : (main : Bool) → main_words (items ++ more) depth ≡ main_words items depth ++ main_words more (open_after items depth)
         → (if main then word ∷ main_words (items ++ more) depth else main_words (items ++ more) depth)
-        ≡ (if main then word ∷ main_words items depth else main_words items depth) ++ main_words more (depth_behind items depth)
+        ≡ (if main then word ∷ main_words items depth else main_words items depth) ++ main_words more (open_after items depth)
     by true is = ap (λ words. word ∷ words) is
     by false is = is
 words_parted (GlyphNumber number ∷ items) more depth = words_parted items more depth
@@ -113,7 +113,7 @@ words_parted (CommentText text ∷ items) more depth = words_parted items more d
 words_parted (VariationOpen ∷ items) more depth = words_parted items more (depth + 1)
 words_parted (VariationClose ∷ items) more depth = words_parted items more (depth - 1)
 
--- where a word would be played, it is, whatever stands behind it
+-- where a word would be played, it is, whatever stands after it
 abbrev PlayedThen : Lines → List Item → List ℕ → List Item → Type 0
 PlayedThen lines items word more =
     (rest : List Item) × (played_items lines (items ++ MoveText word ∷ more) 0 ≡ played_items lines items 0 ++ MoveText word ∷ rest)
@@ -128,28 +128,28 @@ no_longer xs x is =
 abbrev texts : List (List ℕ) → List Item
 texts words = map (λ w. MoveText w) words
 
-texts_parted : (front rest : List Item) → texts (main_words (front ++ rest) 0) ≡ texts (main_words front 0) ++ texts (main_words rest (depth_behind front 0))
-texts_parted front rest = ap texts (words_parted front rest 0) ∙ map-append (λ w. MoveText w) (main_words front 0) (main_words rest (depth_behind front 0))
+texts_parted : (front rest : List Item) → texts (main_words (front ++ rest) 0) ≡ texts (main_words front 0) ++ texts (main_words rest (open_after front 0))
+texts_parted front rest = ap texts (words_parted front rest 0) ∙ map-append (λ w. MoveText w) (main_words front 0) (main_words rest (open_after front 0))
 
 main_then : (front : List Item) (word : List ℕ) (more : List Item)
-    → texts (main_words (front ++ MoveText word ∷ []) 0) ≡ texts (main_words front 0) ++ MoveText word ∷ [] → (depth : ℕ) → depth_behind front 0 ≡ depth → PlayedThen Main front word more
+    → texts (main_words (front ++ MoveText word ∷ []) 0) ≡ texts (main_words front 0) ++ MoveText word ∷ [] → (depth : ℕ) → open_after front 0 ≡ depth → PlayedThen Main front word more
 main_then front word more there zero is =
     (texts (main_words more 0), texts_parted front (MoveText word ∷ more) ∙ ap (λ d. texts (main_words front 0) ++ texts (main_words (MoveText word ∷ more) d)) is)
 main_then front word more there (suc depth) is =
     let deep : (suc depth == 0) ≡ false = grind (arith, nat_tests) in
     let none : main_words (MoveText word ∷ []) (suc depth) ≡ [] = ap (λ (b : Bool). if b then word ∷ [] else []) deep in
-    let behind : texts (main_words (front ++ MoveText word ∷ []) 0) ≡ texts (main_words front 0) =
+    let after : texts (main_words (front ++ MoveText word ∷ []) 0) ≡ texts (main_words front 0) =
     texts_parted front (MoveText word ∷ []) ∙ ap (λ d. texts (main_words front 0) ++ texts (main_words (MoveText word ∷ []) d)) is
     ∙ ap (λ ws. texts (main_words front 0) ++ texts ws) none ∙ append-nil (texts (main_words front 0)) in
-    absurd (no_longer (texts (main_words front 0)) (MoveText word) (sym behind ∙ there))
+    absurd (no_longer (texts (main_words front 0)) (MoveText word) (sym after ∙ there))
 
 played_then : (lines : Lines) (items : List Item) (index : ℕ) (word : List ℕ) (more : List Item) → IsPlayedThere lines items index → PlayedThen lines (take index items) word more
 played_then All items index word more there = (more, refl)
-played_then Main items index word more there = main_then (take index items) word more (there word) (depth_behind (take index items) 0) refl
+played_then Main items index word more there = main_then (take index items) word more (there word) (open_after (take index items) 0) refl
 
 pub refused_word_is_the_fault : RefusedWordIsTheFault
 refused_word_is_the_fault lines start items index inside line (leads, there) word more fault paired refused =
-    let behind = played_then lines items index word more there in
+    let after = played_then lines items index word more there in
     stops_from lines start (take index items ++ MoveText word ∷ more) fault paired
-    (subst (λ xs. Stops xs (first_level start) [] fault) (sym behind.1)
-    (lead_stops (played_items lines (take index items) 0) (first_level start) [] inside line word behind.0 fault leads refused))
+    (subst (λ xs. Stops xs (first_level start) [] fault) (sym after.1)
+    (lead_stops (played_items lines (take index items) 0) (first_level start) [] inside line word after.0 fault leads refused))

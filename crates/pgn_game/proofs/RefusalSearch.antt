@@ -22,8 +22,8 @@ use Rattle.pgn_game.specs.declared.all_lines.LinesWalk.{LinesWalk}
 use Rattle.pgn_game.specs.declared.explain.Refused.{Refused}
 use Rattle.pgn_game.specs.declared.replayer.Lines.{Lines}
 use Rattle.pgn_game.specs.declared.replayer.Lines.TheVariants.{Main, All}
-use Rattle.pgn_game.specs.declared.turn.Turn.{Turn}
-use Rattle.pgn_game.specs.declared.turn.Turn.TheVariants.{Played, Passed}
+use Rattle.pgn_game.specs.declared.line_move.LineMove.{LineMove}
+use Rattle.pgn_game.specs.declared.line_move.LineMove.TheVariants.{Played, Passed}
 use Rattle.pgn_game.proofs.MainFacts.{inside_reverse, runs_begin, within_begin}
 use Rattle.pgn_game.proofs.OneReplay.{all_or_fault, line_or_fault, one_start, start_or_bad}
 use Rattle.pgn_game.proofs.ReachedLines.{line_of, leads_to}
@@ -34,23 +34,23 @@ use Rattle.pgn_game.proofs.RunFacts.{runs_played}
 -- a word that is refused and does not name several moves names none
 pub none_named : (now : State) (plies : ℕ) (word : List ℕ) (fault : Fault) → IsRefusedWord now plies word fault → (NamesSeveral now word → ⊥) → NamesNone now word
 none_named now plies word BadStart refused other = absurd refused
-none_named now plies word (IllegalMove told ply) refused other = refused.2
-none_named now plies word (AmbiguousMove told ply) refused other = absurd (other refused.2)
+none_named now plies word (IllegalMove reports ply) refused other = refused.2
+none_named now plies word (AmbiguousMove reports ply) refused other = absurd (other refused.2)
 
--- a word at which a walk stops, with nothing behind it, is refused
+-- a word at which a walk stops, with nothing after it, is refused
 pub stops_here : (word : List ℕ) (level : Level) (outer : List Level) (fault : Fault) → Stops (MoveText word ∷ []) level outer fault
     → IsRefusedTurn (is_inside outer) level.now level.plies word fault
 stops_here word level outer fault (inl refused) = refused
 stops_here word level outer fault (inr on) = absurd on.2
 
-some_fault : (met : Fault → Type 0) (told : Option Fault) → (told ≡ None → ⊥) → IfSome told met → (fault : Fault) × met fault
+some_fault : (met : Fault → Type 0) (reports : Option Fault) → (reports ≡ None → ⊥) → IfSome reports met → (fault : Fault) × met fault
 some_fault met None some is = absurd (some refl)
 some_fault met (Some fault) some is = (fault, is)
 
-pub refused_here : (walk : LinesWalk) (word : List ℕ) (told : Option Fault) → (told ≡ None → ⊥) → ((items : List Item) → IfSome told (StopsOn walk (MoveText word ∷ items)))
+pub refused_here : (walk : LinesWalk) (word : List ℕ) (reports : Option Fault) → (reports ≡ None → ⊥) → ((items : List Item) → IfSome reports (StopsOn walk (MoveText word ∷ items)))
     → (fault : Fault) × IsRefusedTurn (is_inside walk.outer.items) walk.line.now walk.line.plies word fault
-refused_here walk word told some stuck =
-    let stops = some_fault (StopsOn walk (MoveText word ∷ [])) told some (stuck []) in (
+refused_here walk word reports some stuck =
+    let stops = some_fault (StopsOn walk (MoveText word ∷ [])) reports some (stuck []) in (
       stops.0,
       subst (λ b. IsRefusedTurn b walk.line.now walk.line.plies word stops.0) (inside_reverse walk.outer.items)
           (stops_here word walk.line (reverse walk.outer.items) stops.0 stops.1),
@@ -58,7 +58,7 @@ refused_here walk word told some stuck =
 
 -- ---- the words of the main line, played
 
-pub main_runs : (words : List (List ℕ)) (level : Level) (turns : List Turn) → Runs (map (λ word. MoveText word) words) level [] turns
+pub main_runs : (words : List (List ℕ)) (level : Level) (turns : List LineMove) → Runs (map (λ word. MoveText word) words) level [] turns
     → (positions : List State) × (played : List Move) × IsMainLine level.now words positions played
 main_runs [] level turns runs = (level.now ∷ [], [], (refl, refl))
 main_runs (word ∷ words) level turns (Played m, more, is, says, runs) =
@@ -68,7 +68,7 @@ main_runs (word ∷ words) level turns (Passed, more, is, says, runs) = absurd s
 
 -- ---- from the start
 
-pub runs_from : (lines : Lines) (start : State) (items : List Item) (turns : List Turn) (fault : Fault) → IsPaired 0 items → Runs (played_items lines items 0) (first_level start) [] turns
+pub runs_from : (lines : Lines) (start : State) (items : List Item) (turns : List LineMove) (fault : Fault) → IsPaired 0 items → Runs (played_items lines items 0) (first_level start) [] turns
     → HasLineFault lines start items fault → ⊥
 runs_from Main start items turns fault paired runs met =
     let line = main_runs (main_words items 0) (first_level start) turns runs in line_or_fault start 0 (main_words items 0) line.0 line.1 fault line.2 met
@@ -153,13 +153,13 @@ module _ (lines : Lines) (start : State) (items : List Item) (i : ℕ) (old : Li
   )
 
   pub search_ends : (refused : Refused) → IsCounted lines item depth next true → IsRefusedHere old item i refused → IsRefusedFrom lines start items refused
-  search_ends refused counted told = record {
-    here = subst (λ k. slice_get items k ≡ Some (MoveText refused.word.now)) (sym told.element) (here ∙ ap (λ (x : Item). Some x) told.word);
+  search_ends refused counted reports = record {
+    here = subst (λ k. slice_get items k ≡ Some (MoveText refused.word.now)) (sym reports.element) (here ∙ ap (λ (x : Item). Some x) reports.word);
     inside = is_inside old.outer.items;
     line = line_of old.line;
-    reached = subst (λ k. IsReached lines start items k (is_inside old.outer.items) (line_of old.line)) (sym told.element) (reached_there counted);
-    position = told.position;
-    why = told.why;
+    reached = subst (λ k. IsReached lines start items k (is_inside old.outer.items) (line_of old.line)) (sym reports.element) (reached_there counted);
+    position = reports.position;
+    why = reports.why;
   }
 
 pub search_finds_none : (lines : Lines) (start : State) (items : List Item) (walk : LinesWalk) (depth : ℕ) → IsPaired 0 items

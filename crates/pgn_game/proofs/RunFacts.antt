@@ -8,15 +8,15 @@ use Rattle.pgn_game.specs.AllLines.{Line, LineEnd, ThenMove, ThenGlyph, ThenComm
 use Rattle.pgn_game.specs.LineWalks.{is_inside, gone_on, begun, first_level, Runs, Stops}
 use Rattle.pgn_text.specs.GameTexts.{IsPaired}
 use Rattle.pgn_game.proofs.Spelling.{one_spelt}
-use Rattle.pgn_game.specs.declared.turn.Turn.{Turn}
+use Rattle.pgn_game.specs.declared.line_move.LineMove.{LineMove}
 use Rattle.pgn_game.specs.declared.all_lines.Level.{Level}
 
--- a line is played, and what stands behind it from some level on
-abbrev pub PlayedThen : Level → List Level → Line → List Item → List Turn → Type 0
+-- a line is played, and what stands after it from some level on
+abbrev pub PlayedThen : Level → List Level → Line → List Item → List LineMove → Type 0
 PlayedThen level outer line rest turns =
-    (own : List Turn) × (more : List Turn) × (last : Level) × (turns ≡ own ++ more) × IsPlayed (is_inside outer) level.before level.now line own × Runs rest last outer more
+    (own : List LineMove) × (more : List LineMove) × (last : Level) × (turns ≡ own ++ more) × IsPlayed (is_inside outer) level.before level.now line own × Runs rest last outer more
 
-pub run_line : (line : Line) (rest : List Item) (level : Level) (outer : List Level) (turns : List Turn)
+pub run_line : (line : Line) (rest : List Item) (level : Level) (outer : List Level) (turns : List LineMove)
     → Runs (spelled line ++ rest) level outer turns → PlayedThen level outer line rest turns
 run_line LineEnd rest level outer turns runs = ([], turns, level, refl, refl, runs)
 run_line (ThenMove word line) rest level outer turns (turn, more, is, says, runs) =
@@ -36,21 +36,21 @@ run_line (ThenVariation inner line) rest level outer turns runs =
       there.5,
     )
 
--- or it has the fault, or what stands behind it has
+-- or it has the fault, or what stands after it has
 abbrev pub FaultThen : Level → List Level → Line → List Item → Fault → Type 0
 FaultThen level outer line rest fault =
     IsLineFault (is_inside outer) level.before level.now level.plies line fault
-    ⊎ ((own : List Turn) × (last : Level) × IsPlayed (is_inside outer) level.before level.now line own × Stops rest last outer fault)
+    ⊎ ((own : List LineMove) × (last : Level) × IsPlayed (is_inside outer) level.before level.now line own × Stops rest last outer fault)
 
 pub stop_line : (line : Line) (rest : List Item) (level : Level) (outer : List Level) (fault : Fault)
     → Stops (spelled line ++ rest) level outer fault → FaultThen level outer line rest fault
 stop_line LineEnd rest level outer fault stops = inr ([], level, refl, stops)
 stop_line (ThenMove word line) rest level outer fault (inl refused) = inl (inl refused)
-stop_line (ThenMove word line) rest level outer fault (inr (turn, says, stops)) = behind_turn (stop_line line rest (gone_on level turn) outer fault stops)
+stop_line (ThenMove word line) rest level outer fault (inr (turn, says, stops)) = turn_then (stop_line line rest (gone_on level turn) outer fault stops)
   where
-    behind_turn : FaultThen (gone_on level turn) outer line rest fault → FaultThen level outer (ThenMove word line) rest fault
-    behind_turn (inl met) = inl (inr (turn, says, met))
-    behind_turn (inr (own, last, played, later)) = inr (turn ∷ own, last, (turn, own, refl, says, played), later)
+    turn_then : FaultThen (gone_on level turn) outer line rest fault → FaultThen level outer (ThenMove word line) rest fault
+    turn_then (inl met) = inl (inr (turn, says, met))
+    turn_then (inr (own, last, played, later)) = inr (turn ∷ own, last, (turn, own, refl, says, played), later)
 stop_line (ThenGlyph number line) rest level outer fault stops = stop_line line rest level outer fault stops
 stop_line (ThenComment text line) rest level outer fault stops = stop_line line rest level outer fault stops
 stop_line (ThenVariation inner line) rest level outer fault stops =
@@ -58,7 +58,7 @@ stop_line (ThenVariation inner line) rest level outer fault stops =
     (subst (λ items. Stops items (begun level) (level ∷ outer) fault) (append_assoc (spelled inner) (VariationClose ∷ spelled line) rest) stops))
     (λ stops. stop_line line rest level outer fault stops)
   where
-    out_of : (own : List Turn) → IsPlayed true level.before level.before inner own → FaultThen level outer line rest fault → FaultThen level outer (ThenVariation inner line) rest fault
+    out_of : (own : List LineMove) → IsPlayed true level.before level.before inner own → FaultThen level outer line rest fault → FaultThen level outer (ThenVariation inner line) rest fault
     out_of own played (inl met) = inl (inr (own, played, met))
     out_of own played (inr (more, last, there, later)) = inr (own ++ more, last, (own, more, refl, played, there), later)
 
@@ -68,7 +68,7 @@ stop_line (ThenVariation inner line) rest level outer fault stops =
     varied (inr (own, last, played, later)) back = out_of own played (back later)
 
 -- the whole
-pub all_run : (line : Line) (level : Level) (outer : List Level) (turns : List Turn) → Runs (spelled line) level outer turns
+pub all_run : (line : Line) (level : Level) (outer : List Level) (turns : List LineMove) → Runs (spelled line) level outer turns
     → IsPlayed (is_inside outer) level.before level.now line turns
 all_run line level outer turns runs =
     let there = run_line line [] level outer turns (subst (λ items. Runs items level outer turns) (sym (append-nil (spelled line))) runs) in
@@ -83,7 +83,7 @@ all_stop line level outer fault stops = ends (stop_line line [] level outer faul
     ends (inr (own, last, played, none)) = absurd none
 
 -- from the start
-pub runs_played : (start : State) (items : List Item) (turns : List Turn) → IsPaired 0 items → Runs items (first_level start) [] turns → ArePlayed start items turns
+pub runs_played : (start : State) (items : List Item) (turns : List LineMove) → IsPaired 0 items → Runs items (first_level start) [] turns → ArePlayed start items turns
 runs_played start items turns paired runs =
     let line = one_spelt items paired in
     (line.0, line.1, all_run line.0 (first_level start) [] turns (subst (λ xs. Runs xs (first_level start) [] turns) line.1 runs))

@@ -14,14 +14,14 @@ use Rattle.pgn_game.specs.Laws.{MovetextHasTokens}
 use Rattle.pgn_game.specs.MainLines.{main_words, IsMainLine}
 use Rattle.pgn_game.specs.Replays.{AreTurns}
 use Rattle.pgn_game.specs.declared.style.Style.{Style}
-use Rattle.pgn_game.specs.declared.turn.Turn.{Turn}
-use Rattle.pgn_game.specs.declared.turn.Turn.TheVariants.{Played, Passed}
+use Rattle.pgn_game.specs.declared.line_move.LineMove.{LineMove}
+use Rattle.pgn_game.specs.declared.line_move.LineMove.TheVariants.{Played, Passed}
 use Rattle.pgn_game.proofs.AnAnswer.{start_on_board}
 use Rattle.pgn_game.proofs.OneLine.{main_words_of}
 use Rattle.pgn_game.proofs.Spelling.{one_spelt, one_tree}
 
--- a turn has a text, and behind it men stand on the board alone
-turn_text : (passes : Bool) (now : State) (word : List ℕ) (turn : Turn) → AreOnBoard now.men → SaysTurn passes now word turn
+-- a turn has a text, and after it men stand on the board alone
+turn_text : (passes : Bool) (now : State) (word : List ℕ) (turn : LineMove) → AreOnBoard now.men → SaysTurn passes now word turn
     → (text : List ℕ) × IsTurnText now turn text × AreOnBoard (after_turn now turn).men
 turn_text true now word (Played m) on_board says = absurd says
 turn_text true now word Passed on_board says = (codes "--", refl, on_board)
@@ -33,7 +33,7 @@ abbrev pub SomeTokens : Style → Bool → State → State → Bool → Line →
 SomeTokens style inside before now apart line = (tokens : List (List ℕ)) × AreTokens style inside before now apart line tokens
 
 -- all lines that are played
-all_tokens : (line : Line) (style : Style) (inside : Bool) (before now : State) (apart : Bool) (turns : List Turn) → AreOnBoard before.men → AreOnBoard now.men
+all_tokens : (line : Line) (style : Style) (inside : Bool) (before now : State) (apart : Bool) (turns : List LineMove) → AreOnBoard before.men → AreOnBoard now.men
     → IsPlayed inside before now line turns → SomeTokens style inside before now apart line
 all_tokens LineEnd style inside before now apart turns on_board stands played = ([], refl)
 all_tokens (ThenMove word line) style inside before now apart turns on_board stands (turn, more, is, says, played) =
@@ -48,8 +48,8 @@ all_tokens (ThenComment text line) style inside before now apart turns on_board 
     (kept style.comments (comment_tokens text) ++ there.0, (there.0, refl, there.1))
 all_tokens (ThenVariation inner line) style inside before now apart turns on_board stands (own, more, is, within, played) =
     let there = all_tokens inner style true before before true own on_board on_board within in
-    let behind = all_tokens line style inside before now (apart || style.variations) more on_board stands played in
-    (kept style.variations (codes "(" ∷ there.0 ++ codes ")" ∷ []) ++ behind.0, (there.0, behind.0, refl, (λ _. there.1), behind.1))
+    let after = all_tokens line style inside before now (apart || style.variations) more on_board stands played in
+    (kept style.variations (codes "(" ∷ there.0 ++ codes ")" ∷ []) ++ after.0, (there.0, after.0, refl, (λ _. there.1), after.1))
 
 -- the main line, where variations are left out
 main_tokens : (line : Line) (style : Style) → style.variations ≡ false → (before now : State) (apart : Bool) (positions : List State) (played : List Move)
@@ -66,9 +66,9 @@ main_tokens (ThenComment text line) style hidden before now apart positions play
     let there = main_tokens line style hidden before now (apart || style.comments) positions played stands line_is in
     (kept style.comments (comment_tokens text) ++ there.0, (there.0, refl, there.1))
 main_tokens (ThenVariation inner line) style hidden before now apart positions played stands line_is =
-    let behind = main_tokens line style hidden before now (apart || style.variations) positions played stands line_is in (
-      kept style.variations (codes "(" ∷ codes ")" ∷ []) ++ behind.0,
-      ([], behind.0, refl, (λ shown. let never : true ≡ false = sym shown ∙ hidden in absurd (cc)), behind.1),
+    let tail = main_tokens line style hidden before now (apart || style.variations) positions played stands line_is in (
+      kept style.variations (codes "(" ∷ codes ")" ∷ []) ++ tail.0,
+      ([], tail.0, refl, (λ shown. let never : true ≡ false = sym shown ∙ hidden in absurd (cc)), tail.1),
     )
 
 pub some_movetext : MovetextHasTokens

@@ -8,7 +8,7 @@ use Rattle.std.specs.List.{list_all}
 use Rattle.chess.specs.Squares.{Place}
 use Rattle.chess.specs.Placements.{Placement, man_at}
 use Rattle.chess.specs.Positions.{State, IsSound, FitsEnPassant}
-use Rattle.chess.specs.Start.{usual, usual_man, usual_men}
+use Rattle.chess.specs.Start.{initial, initial_man, initial_men}
 use Rattle.chess.specs.Letters.{man_letter}
 use Rattle.chess.specs.Fen.{IsSquares, SpellsRank, SpellRanks, row, side_text, is_digit, number_from, IsCount, GiveCounts, joined, or_dash, rights_letters, en_passant_text, IsFen}
 use Rattle.chess.specs.Fen.IsSquares.{letter, step}
@@ -24,9 +24,9 @@ use Rattle.chess.proofs.FenOneText.{one_fen}
 use Rattle.chess.proofs.FenReadBack.{fen_spells}
 use Rattle.chess.proofs.FenTextFacts.{spell_ranks, shortest_ranks}
 use Rattle.chess.proofs.SoundRead.{read_sound}
-use Rattle.chess.proofs.StartFacts.{usual_at, usual_kept}
+use Rattle.chess.proofs.StartFacts.{initial_at, initial_kept}
 use Rattle.pgn_game.specs.Starts.{IsStart}
-use Rattle.pgn_game.specs.GameLines.{unspaced, IsStartText, as_usual, as_fen}
+use Rattle.pgn_game.specs.GameLines.{unspaced, IsStartText, as_initial, as_fen}
 use Rattle.pgn_game.proofs.PlainTokens.{AllOf, all_append, AreDigits, decimal_digits}
 
 -- ---- each position has a text
@@ -42,36 +42,36 @@ some_fen P = (
   record { ranks = rank_texts P.men 8; spelled = spell_ranks P.men 8; shortest = shortest_ranks P.men 8; text = refl },
 )
 
--- ---- that of the usual position
+-- ---- that of the initial position
 
-abbrev pub usual_fen : List ℕ
-usual_fen = codes "rnbqkbnr/pppppppp/8/8/8/8/PPPPPPPP/RNBQKBNR w KQkq - 0 1"
+abbrev pub initial_fen : List ℕ
+initial_fen = codes "rnbqkbnr/pppppppp/8/8/8/8/PPPPPPPP/RNBQKBNR w KQkq - 0 1"
 
 -- the men of a rank, square by square
-abbrev usual_row : ℕ → List (Option Man)
-usual_row r =
-    usual_man (record { file = 1; rank = r }) ∷ usual_man (record { file = 2; rank = r }) ∷ usual_man (record { file = 3; rank = r })
-    ∷ usual_man (record { file = 4; rank = r }) ∷ usual_man (record { file = 5; rank = r }) ∷ usual_man (record { file = 6; rank = r })
-    ∷ usual_man (record { file = 7; rank = r }) ∷ usual_man (record { file = 8; rank = r }) ∷ []
+abbrev initial_row : ℕ → List (Option Man)
+initial_row r =
+    initial_man (record { file = 1; rank = r }) ∷ initial_man (record { file = 2; rank = r }) ∷ initial_man (record { file = 3; rank = r })
+    ∷ initial_man (record { file = 4; rank = r }) ∷ initial_man (record { file = 5; rank = r }) ∷ initial_man (record { file = 6; rank = r })
+    ∷ initial_man (record { file = 7; rank = r }) ∷ initial_man (record { file = 8; rank = r }) ∷ []
 
-here : (file r : ℕ) → 1 ≤ file → file ≤ 8 → 1 ≤ r → r ≤ 8 → man_at usual_men (record { file = file; rank = r }) ≡ usual_man (record { file = file; rank = r })
-here file r a b c d = usual_at (record { file = file; rank = r }) (record { file_low = a; file_high = b; rank_low = c; rank_high = d })
+here : (file r : ℕ) → 1 ≤ file → file ≤ 8 → 1 ≤ r → r ≤ 8 → man_at initial_men (record { file = file; rank = r }) ≡ initial_man (record { file = file; rank = r })
+here file r a b c d = initial_at (record { file = file; rank = r }) (record { file_low = a; file_high = b; rank_low = c; rank_high = d })
 
-same_row : (r : ℕ) → 1 ≤ r → r ≤ 8 → row usual_men r ≡ usual_row r
+same_row : (r : ℕ) → 1 ≤ r → r ≤ 8 → row initial_men r ≡ initial_row r
 same_row r low high =
     λ i. here 1 r (omega arith) (omega arith) low high i ∷ here 2 r (omega arith) (omega arith) low high i
     ∷ here 3 r (omega arith) (omega arith) low high i ∷ here 4 r (omega arith) (omega arith) low high i
     ∷ here 5 r (omega arith) (omega arith) low high i ∷ here 6 r (omega arith) (omega arith) low high i
     ∷ here 7 r (omega arith) (omega arith) low high i ∷ here 8 r (omega arith) (omega arith) low high i ∷ []
 
-abbrev usual_rank : ℕ → List ℕ
-usual_rank r = spelled_from 0 (usual_row r)
+abbrev initial_rank : ℕ → List ℕ
+initial_rank r = spelled_from 0 (initial_row r)
 
-same_rank : (r : ℕ) → 1 ≤ r → r ≤ 8 → spelled_from 0 (row usual_men r) ≡ usual_rank r
+same_rank : (r : ℕ) → 1 ≤ r → r ≤ 8 → spelled_from 0 (row initial_men r) ≡ initial_rank r
 same_rank r low high = ap (spelled_from 0) (same_row r low high)
 
-same_ranks : rank_texts usual_men 8
-    ≡ usual_rank 8 ∷ usual_rank 7 ∷ usual_rank 6 ∷ usual_rank 5 ∷ usual_rank 4 ∷ usual_rank 3 ∷ usual_rank 2 ∷ usual_rank 1 ∷ []
+same_ranks : rank_texts initial_men 8
+    ≡ initial_rank 8 ∷ initial_rank 7 ∷ initial_rank 6 ∷ initial_rank 5 ∷ initial_rank 4 ∷ initial_rank 3 ∷ initial_rank 2 ∷ initial_rank 1 ∷ []
 same_ranks =
     λ i. same_rank 8 (omega arith) (omega arith) i ∷ same_rank 7 (omega arith) (omega arith) i ∷ same_rank 6 (omega arith) (omega arith) i
     ∷ same_rank 5 (omega arith) (omega arith) i ∷ same_rank 4 (omega arith) (omega arith) i ∷ same_rank 3 (omega arith) (omega arith) i
@@ -79,16 +79,16 @@ same_ranks =
 
 abbrev with_counts : List (List ℕ) → List ℕ → List ℕ → List ℕ
 with_counts ranks clock number =
-    joined 32 (joined 47 ranks ∷ side_text usual.turn ∷ or_dash (rights_letters usual.rights) ∷ en_passant_text usual.en_passant ∷ clock ∷ number ∷ [])
+    joined 32 (joined 47 ranks ∷ side_text initial.turn ∷ or_dash (rights_letters initial.rights) ∷ en_passant_text initial.en_passant ∷ clock ∷ number ∷ [])
 
-pub usual_has_fen : IsFen usual usual_fen
-usual_has_fen = record {
-  ranks = rank_texts usual_men 8;
-  spelled = spell_ranks usual_men 8;
-  shortest = shortest_ranks usual_men 8;
+pub initial_has_fen : IsFen initial initial_fen
+initial_has_fen = record {
+  ranks = rank_texts initial_men 8;
+  spelled = spell_ranks initial_men 8;
+  shortest = shortest_ranks initial_men 8;
   text = sym (ap (λ ranks. with_counts ranks (decimal 0) (decimal 1)) same_ranks
-      ∙ ap (λ clock. with_counts (usual_rank 8 ∷ usual_rank 7 ∷ usual_rank 6 ∷ usual_rank 5 ∷ usual_rank 4 ∷ usual_rank 3 ∷ usual_rank 2 ∷ usual_rank 1 ∷ []) clock (decimal 1)) (decimal_digit 0 (omega arith))
-      ∙ ap (λ number. with_counts (usual_rank 8 ∷ usual_rank 7 ∷ usual_rank 6 ∷ usual_rank 5 ∷ usual_rank 4 ∷ usual_rank 3 ∷ usual_rank 2 ∷ usual_rank 1 ∷ []) (48 ∷ []) number) (decimal_digit 1 (omega arith)));
+      ∙ ap (λ clock. with_counts (initial_rank 8 ∷ initial_rank 7 ∷ initial_rank 6 ∷ initial_rank 5 ∷ initial_rank 4 ∷ initial_rank 3 ∷ initial_rank 2 ∷ initial_rank 1 ∷ []) clock (decimal 1)) (decimal_digit 0 (omega arith))
+      ∙ ap (λ number. with_counts (initial_rank 8 ∷ initial_rank 7 ∷ initial_rank 6 ∷ initial_rank 5 ∷ initial_rank 4 ∷ initial_rank 3 ∷ initial_rank 2 ∷ initial_rank 1 ∷ []) (48 ∷ []) number) (decimal_digit 1 (omega arith)));
 }
 
 -- ---- a position that FEN may give: its text is read back
@@ -98,7 +98,7 @@ pub record IsReadBack (P : State) : Type 0 where
   pub clock : P.halfmove_clock ≤ 9999999
   pub number : P.fullmove_number ≤ 9999999
 
--- the largest number that so many digits make behind one that is no larger than this
+-- the largest number that so many digits make after one that is no larger than this
 abbrev largest : ℕ → List ℕ → ℕ
 largest bound [] = bound
 largest bound (d ∷ x) = largest (10 * bound + 9) x
@@ -145,7 +145,7 @@ few_both (x ∷ y ∷ []) clock number given = (few x clock given.0, few y numbe
 few_both (x ∷ y ∷ z ∷ more) clock number given = absurd given
 
 pub start_read_back : (fen : Option (List ℕ)) (P : State) → IsStart fen P → IsReadBack P
-start_read_back None P is = subst IsReadBack (sym is) record { sound = usual_kept.sound; clock = omega arith; number = omega arith }
+start_read_back None P is = subst IsReadBack (sym is) record { sound = initial_kept.sound; clock = omega arith; number = omega arith }
 start_read_back (Some contents) P (value, given, reads) =
     let counts = few_both reads.spells.count_fields P.halfmove_clock P.fullmove_number reads.spells.counts in
     record { sound = read_sound value P reads; clock = counts.0; number = counts.1 }
@@ -154,31 +154,31 @@ start_read_back (Some contents) P (value, given, reads) =
 pub same_fen : (P Q : State) (x : List ℕ) → IsReadBack P → IsReadBack Q → IsFen P x → IsFen Q x → P ≡ Q
 same_fen P Q x p q is also = one_spelling x P Q (fen_spells P x p.sound p.clock p.number is) (fen_spells Q x q.sound q.clock q.number also)
 
-usual_read_back : IsReadBack usual
-usual_read_back = start_read_back None usual refl
+initial_read_back : IsReadBack initial
+initial_read_back = start_read_back None initial refl
 
-pub usual_by_fen : (P : State) (x : List ℕ) → IsReadBack P → IsFen P x → x ≡ usual_fen → P ≡ usual
-usual_by_fen P x p is same = same_fen P usual usual_fen p usual_read_back (subst (IsFen P) same is) usual_has_fen
+pub initial_by_fen : (P : State) (x : List ℕ) → IsReadBack P → IsFen P x → x ≡ initial_fen → P ≡ initial
+initial_by_fen P x p is same = same_fen P initial initial_fen p initial_read_back (subst (IsFen P) same is) initial_has_fen
 
-pub unusual_by_fen : (P : State) (x : List ℕ) → IsFen P x → x ≢ usual_fen → P ≢ usual
-unusual_by_fen P x is other same = other (one_fen usual x usual_fen (subst (λ s. IsFen s x) same is) usual_has_fen)
+pub not_initial_by_fen : (P : State) (x : List ℕ) → IsFen P x → x ≢ initial_fen → P ≢ initial
+not_initial_by_fen P x is other same = other (one_fen initial x initial_fen (subst (λ s. IsFen s x) same is) initial_has_fen)
 
 -- ---- so a start has one text
 
 pub some_start_text : (P : State) → IsReadBack P → (text : List ℕ) × IsStartText P text
 some_start_text P p =
     let fen = some_fen P in
-    by fen.0 fen.1 (bytes_eq fen.0 usual_fen) refl
+    by fen.0 fen.1 (bytes_eq fen.0 initial_fen) refl
   where
-    by : (x : List ℕ) → IsFen P x → (same : Bool) → bytes_eq x usual_fen ≡ same → (text : List ℕ) × IsStartText P text
-    by x is true same = (codes "-", as_usual (usual_by_fen P x p is ((bytes_eq-Decides x usual_fen).0 same)) refl)
+    by : (x : List ℕ) → IsFen P x → (same : Bool) → bytes_eq x initial_fen ≡ same → (text : List ℕ) × IsStartText P text
+    by x is true same = (codes "-", as_initial (initial_by_fen P x p is ((bytes_eq-Decides x initial_fen).0 same)) refl)
     by x is false other =
-        (map unspaced x, as_fen (unusual_by_fen P x is (λ same. let no : bytes_eq x usual_fen ≡ true = (bytes_eq-Decides x usual_fen).1 same in absurd (cc))) x is refl)
+        (map unspaced x, as_fen (not_initial_by_fen P x is (λ same. let no : bytes_eq x initial_fen ≡ true = (bytes_eq-Decides x initial_fen).1 same in absurd (cc))) x is refl)
 
 pub one_start_text : (P : State) (x y : List ℕ) → IsStartText P x → IsStartText P y → x ≡ y
-one_start_text P x y (as_usual is a) (as_usual also b) = a ∙ sym b
-one_start_text P x y (as_usual is a) (as_fen other fen spells b) = absurd (other is)
-one_start_text P x y (as_fen other fen spells a) (as_usual is b) = absurd (other is)
+one_start_text P x y (as_initial is a) (as_initial also b) = a ∙ sym b
+one_start_text P x y (as_initial is a) (as_fen other fen spells b) = absurd (other is)
+one_start_text P x y (as_fen other fen spells a) (as_initial is b) = absurd (other is)
 one_start_text P x y (as_fen other fen spells a) (as_fen others more also b) = a ∙ ap (map unspaced) (one_fen P fen more spells also) ∙ sym b
 
 -- ---- no `_` stands in the text of a position
@@ -309,9 +309,9 @@ no_dash : (P : State) (x : List ℕ) → IsFen P x → codes "-" ≡ map unspace
 no_dash P x is same = let a = ap length same in let b = length_map x in let c = fen_is_long P x is in omega arith
 
 pub same_start : (P Q : State) (x : List ℕ) → IsReadBack P → IsReadBack Q → IsStartText P x → IsStartText Q x → P ≡ Q
-same_start P Q x p q (as_usual is a) (as_usual also b) = is ∙ sym also
-same_start P Q x p q (as_usual is a) (as_fen other fen spells b) = absurd (no_dash Q fen spells (sym a ∙ b))
-same_start P Q x p q (as_fen other fen spells a) (as_usual is b) = absurd (no_dash P fen spells (sym b ∙ a))
+same_start P Q x p q (as_initial is a) (as_initial also b) = is ∙ sym also
+same_start P Q x p q (as_initial is a) (as_fen other fen spells b) = absurd (no_dash Q fen spells (sym a ∙ b))
+same_start P Q x p q (as_fen other fen spells a) (as_initial is b) = absurd (no_dash P fen spells (sym b ∙ a))
 same_start P Q x p q (as_fen other fen spells a) (as_fen others more also b) =
     let same : fen ≡ more = texts_once fen more (lined_fen P fen p.sound spells) (lined_fen Q more q.sound also) (sym a ∙ b) in
     same_fen P Q more p q (subst (IsFen P) same spells) also
@@ -333,7 +333,7 @@ unspaced_all [] = record {}
 unspaced_all (b ∷ x) = (unspaced_byte b, unspaced_all x)
 
 pub start_unspaced : (P : State) (x : List ℕ) → IsStartText P x → IsUnspaced x
-start_unspaced P x (as_usual is a) = subst IsUnspaced (sym a) (omega arith, record {})
+start_unspaced P x (as_initial is a) = subst IsUnspaced (sym a) (omega arith, record {})
 start_unspaced P x (as_fen other fen spells a) = subst IsUnspaced (sym a) (unspaced_all fen)
 
 -- ---- bytes that are appended where memory is not refused

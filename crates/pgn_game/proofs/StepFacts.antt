@@ -5,7 +5,7 @@ use Rattle.std.specs.Prelude.{Result, Ok, Err, OnOk}
 use Rattle.pgn_game.specs.Steps.{AreWithin, IsBack, IsWithin, Step, Turned, Beside, Visits, Walks, around}
 use Rattle.pgn_game.specs.LineWalks.{Runs, begun, gone_on}
 use Rattle.pgn_game.specs.declared.line_stack.LineStack.{LineStack}
-use Rattle.pgn_game.specs.declared.turn.Turn.{Turn}
+use Rattle.pgn_game.specs.declared.line_move.LineMove.{LineMove}
 use Rattle.pgn_game.specs.declared.all_lines.Level.{Level}
 
 pub visits_one_more : {V : Type 0} (does : V → Step → V → Type 0) (done : List Step) (old mid new : V) (step : Step) → Visits does old done mid → does mid step new
@@ -34,14 +34,14 @@ within_begun n old new line outer all =
     let here = all.0 in
     subst (λ l. AreWithin n (l ∷ around new)) (sym line) (subst (λ ls. AreWithin n (begun old.line ∷ ls)) (sym outer) (omega arith, all))
 
-pub within_turned : (n : ℕ) (old new : LineStack Level) (turn : Turn) → new.line ≡ gone_on old.line turn → around new ≡ around old → IsWithin n old → IsWithin (n + 1) new
+pub within_turned : (n : ℕ) (old new : LineStack Level) (turn : LineMove) → new.line ≡ gone_on old.line turn → around new ≡ around old → IsWithin n old → IsWithin (n + 1) new
 within_turned n old new turn line outer all =
     let here = all.0 in
     subst (λ l. AreWithin (n + 1) (l ∷ around new)) (sym line) (subst (λ ls. AreWithin (n + 1) (gone_on old.line turn ∷ ls)) (sym outer)
     (omega arith, within_more n (around old) all.1))
 
 -- the turns of a walk
-abbrev pub turns_of : List Step → List Turn
+abbrev pub turns_of : List Step → List LineMove
 turns_of [] = []
 turns_of (Turned inside now turn ∷ steps) = turn ∷ turns_of steps
 turns_of (Beside item ∷ steps) = turns_of steps

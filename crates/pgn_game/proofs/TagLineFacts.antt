@@ -1,4 +1,4 @@
--- The lines of tags, one behind another.
+-- The lines of tags, one after another.
 use Rattle.std.proofs.Common.{◌≡◌, ℕ, ◌+◌, ◌<◌, List, [], ◌∷◌, ◌++◌, length, take, get_or, map, refl, sym, ap, ◌∙◌, subst, Bor}
 use Rattle.std.specs.Prelude.{Bool, true, filter, if◌then◌else◌}
 use Rattle.std.specs.Map.Iter.{deref_pair}

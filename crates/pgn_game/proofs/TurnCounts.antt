@@ -4,7 +4,7 @@ use Rattle.chess.specs.Positions.{State}
 use Rattle.pgn_text.specs.Games.{Item, MoveText, GlyphNumber, CommentText, VariationOpen, VariationClose}
 use Rattle.pgn_game.specs.AllLines.{Line, LineEnd, ThenMove, ThenGlyph, ThenComment, ThenVariation, spelled, after_turn, IsPlayed}
 use Rattle.pgn_game.specs.Laws.{move_count, EachMoveHasATurn}
-use Rattle.pgn_game.specs.declared.turn.Turn.{Turn}
+use Rattle.pgn_game.specs.declared.line_move.LineMove.{LineMove}
 
 count_append : (items more : List Item) → move_count (items ++ more) ≡ move_count items + move_count more
 count_append [] more = omega arith
@@ -14,7 +14,7 @@ count_append (CommentText text ∷ items) more = count_append items more
 count_append (VariationOpen ∷ items) more = count_append items more
 count_append (VariationClose ∷ items) more = count_append items more
 
-line_turns : (line : Line) (inside : Bool) (before now : State) (turns : List Turn) → IsPlayed inside before now line turns → length turns ≡ move_count (spelled line)
+line_turns : (line : Line) (inside : Bool) (before now : State) (turns : List LineMove) → IsPlayed inside before now line turns → length turns ≡ move_count (spelled line)
 line_turns LineEnd inside before now turns none = ap length none
 line_turns (ThenMove word line) inside before now turns (turn, more, is, says, rest) =
     let a : length turns ≡ length (turn ∷ more) = ap length is in

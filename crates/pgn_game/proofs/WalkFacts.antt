@@ -37,7 +37,7 @@ walk_begins start walk items position plies depth = record {
 }
 
 module _ {start : State} {words : List (List ℕ)} {old : MainWalk} {positions : List State} {played : List Move} where
-  -- behind a move of the main line
+  -- after a move of the main line
   pub walked_by : {new : MainWalk} {item : Item} {items : List Item} (m : Move) → HasWalked start words old positions played (item ∷ items) → HasPlayed old new item m
       → HasWalked start words new (positions ++ old.position ∷ []) (played ++ m ∷ []) items
   walked_by {new} {item} {items} m walked move = record {
@@ -58,7 +58,7 @@ module _ {start : State} {words : List (List ℕ)} {old : MainWalk} {positions :
         )));
   }
 
-  -- behind any other element
+  -- after any other element
   pub walked_past : {new : MainWalk} {item : Item} {items : List Item} → HasWalked start words old positions played (item ∷ items) → HasPassed old new item
       → HasWalked start words new positions played items
   walked_past {new} {item} {items} walked passed = record {
@@ -72,7 +72,7 @@ module _ {start : State} {words : List (List ℕ)} {old : MainWalk} {positions :
         (subst (λ n. IsMoveFault new.position n (main_words items new.depth) fault) passed.plies met)));
   }
 
-  -- behind the last
+  -- after the last
   pub walk_ends : HasWalked start words old positions played [] → IsMainLine start words (positions ++ old.position ∷ []) played
   walk_ends walked =
       subst (λ ms. IsMainLine start words (positions ++ old.position ∷ []) ms) (append-nil played) (walked.completes (old.position ∷ []) [] (refl, refl))
@@ -92,7 +92,7 @@ pub stuck_at : {start : State} {words : List (List ℕ)} {walk : MainWalk} {posi
 stuck_at {items = items} fault walked stuck = IfSome_then (fault_of fault) (stuck items) walked.faults
 
 module _ {start : State} {words : List (List ℕ)} {old new : LineKeeper} {item : Item} {items : List Item} (keeps : KeepsLine start words old (item ∷ items)) where
-  -- a move of the main line, kept with the position behind it
+  -- a move of the main line, kept with the position after it
   pub keeps_move : {walk : MainWalk} (m : Move) (answer : Option Move) → answer ≡ Some m → HasStepped old.walk walk item answer → new.walk ≡ walk
       → new.positions.items ≡ old.positions.items ++ walk.position ∷ [] → new.played.items ≡ old.played.items ++ m ∷ [] → KeepsLine start words new items
   keeps_move m answer is stepped same positions played = record {

@@ -5,10 +5,10 @@ use Rattle.chess.specs.Moves.{after}
 use Rattle.chess.specs.Passes.{passed}
 use Rattle.chess.specs.San.{IsOnlyNamed}
 use Rattle.pgn_text.specs.Games.{Item, MoveText, GlyphNumber, CommentText, VariationOpen, VariationClose}
-use Rattle.pgn_game.specs.declared.turn.Turn.{Turn}
-use Rattle.pgn_game.specs.declared.turn.Turn.TheVariants.{Played, Passed}
+use Rattle.pgn_game.specs.declared.line_move.LineMove.{LineMove}
+use Rattle.pgn_game.specs.declared.line_move.LineMove.TheVariants.{Played, Passed}
 
--- a line from some place on: nothing, or a move, a glyph, a comment or a whole variation, and the line behind it
+-- a line from some place on: nothing, or a move, a glyph, a comment or a whole variation, and the line after it
 pub data Line : Type 0 where
   LineEnd : Line
   ThenMove : List ℕ → Line → Line
@@ -38,32 +38,32 @@ is_pass word = bytes_eq word (codes "--") || bytes_eq word (codes "Z0")
 
 -- what the word says in the position, where it is a pass and where it is none: a pass, which no side in check may make, or the only legal
 -- move that it names
-abbrev pub SaysTurn : Bool → State → List ℕ → Turn → Type 0
+abbrev pub SaysTurn : Bool → State → List ℕ → LineMove → Type 0
 SaysTurn true now word Passed = IsCheck now.men now.turn → ⊥
 SaysTurn true now word (Played m) = ⊥
 SaysTurn false now word Passed = ⊥
 SaysTurn false now word (Played m) = IsOnlyNamed now word m
 
 -- what the word of a move says, which stands in a variation or not: in the main line there is no pass
-abbrev pub IsTurn : Bool → State → List ℕ → Turn → Type 0
+abbrev pub IsTurn : Bool → State → List ℕ → LineMove → Type 0
 IsTurn inside now word turn = SaysTurn (inside && is_pass word) now word turn
 
 -- the position after it
-abbrev pub after_turn : State → Turn → State
+abbrev pub after_turn : State → LineMove → State
 after_turn now (Played m) = after now m
 after_turn now Passed = passed now
 
 -- the line is played, with all its variations, by these turns in the order of the text. `now` is the position that it is played from, and
 -- `before` the one before the last turn that stands in front of it: from there a variation is played
-abbrev pub IsPlayed : Bool → State → State → Line → List Turn → Type 0
+abbrev pub IsPlayed : Bool → State → State → Line → List LineMove → Type 0
 IsPlayed inside before now LineEnd turns = turns ≡ []
 IsPlayed inside before now (ThenMove word rest) turns =
-    (turn : Turn) × (more : List Turn) × (turns ≡ turn ∷ more) × IsTurn inside now word turn × IsPlayed inside now (after_turn now turn) rest more
+    (turn : LineMove) × (more : List LineMove) × (turns ≡ turn ∷ more) × IsTurn inside now word turn × IsPlayed inside now (after_turn now turn) rest more
 IsPlayed inside before now (ThenGlyph number rest) turns = IsPlayed inside before now rest turns
 IsPlayed inside before now (ThenComment text rest) turns = IsPlayed inside before now rest turns
 IsPlayed inside before now (ThenVariation inner rest) turns =
-    (own : List Turn) × (more : List Turn) × (turns ≡ own ++ more) × IsPlayed true before before inner own × IsPlayed inside before now rest more
+    (own : List LineMove) × (more : List LineMove) × (turns ≡ own ++ more) × IsPlayed true before before inner own × IsPlayed inside before now rest more
 
 -- the elements spell a line that is played from the position by these turns
-abbrev pub ArePlayed : State → List Item → List Turn → Type 0
+abbrev pub ArePlayed : State → List Item → List LineMove → Type 0
 ArePlayed start items turns = (line : Line) × (items ≡ spelled line) × IsPlayed false start start line turns

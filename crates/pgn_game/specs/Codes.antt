@@ -9,8 +9,8 @@ use Rattle.chess.specs.declared.board.man.Kind.{Kind}
 use Rattle.chess.specs.declared.board.man.Wing.{Wing}
 use Rattle.chess.specs.declared.board.man.Wing.TheVariants.{KingSide, QueenSide}
 use Rattle.chess.specs.declared.moves.Move.{Move}
-use Rattle.pgn_game.specs.declared.turn.Turn.{Turn}
-use Rattle.pgn_game.specs.declared.turn.Turn.TheVariants.{Played, Passed}
+use Rattle.pgn_game.specs.declared.line_move.LineMove.{LineMove}
+use Rattle.pgn_game.specs.declared.line_move.LineMove.TheVariants.{Played, Passed}
 use Rattle.pgn_game.specs.Replays.{Replay}
 use Rattle.pgn_game.specs.PlayedLines.{PlayedLine}
 
@@ -36,23 +36,23 @@ coded_move = code_by (Place × (Place × (Option Kind × Option Wing)))
     (λ p. record { from = p.0; to = p.1.0; promote = p.1.1.0; castle = p.1.1.1 }) (λ _. refl)
 
 -- a turn as a move or none, which is a pass
-abbrev pub move_of : Turn → Option Move
+abbrev pub move_of : LineMove → Option Move
 move_of (Played m) = Some m
 move_of Passed = None
 
-abbrev pub turn_of : Option Move → Turn
+abbrev pub turn_of : Option Move → LineMove
 turn_of (Some m) = Played m
 turn_of None = Passed
 
-pub turn_back : (turn : Turn) → turn_of (move_of turn) ≡ turn
+pub turn_back : (turn : LineMove) → turn_of (move_of turn) ≡ turn
 turn_back (Played m) = refl
 turn_back Passed = refl
 
-abbrev pub coded_turn : Coded Turn
+abbrev pub coded_turn : Coded LineMove
 coded_turn = code_by (Option Move) (coded_option coded_move) move_of turn_of turn_back
 
 abbrev pub coded_replay : Coded Replay
-coded_replay = code_by (List State × (List Move × List Turn)) (coded× (coded_list coded_state) (coded× (coded_list coded_move) (coded_list coded_turn)))
+coded_replay = code_by (List State × (List Move × List LineMove)) (coded× (coded_list coded_state) (coded× (coded_list coded_move) (coded_list coded_turn)))
     (λ r. (r.positions, (r.played, r.turns))) (λ p. record { positions = p.0; played = p.1.0; turns = p.1.1 }) (λ _. refl)
 
 abbrev pub coded_played_line : Coded PlayedLine

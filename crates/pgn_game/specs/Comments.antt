@@ -1,4 +1,4 @@
--- A comment as tokens: its words, the first behind an opening brace and the last before a closing one.
+-- A comment as tokens: its words, the first after an opening brace and the last before a closing one.
 use Rattle.std.specs.Prelude.{ℕ, not, ◌==◌, if◌then◌else◌, bytes_eq, codes, List, [], ◌∷◌, ◌++◌, map, filter}
 use Rattle.pgn_text.specs.Bytes.{is_white, is_empty, begins}
 

@@ -15,8 +15,8 @@ use Rattle.pgn_game.specs.TextLines.{IsLaid}
 use Rattle.pgn_game.specs.declared.replayer.Lines.{Lines}
 use Rattle.pgn_game.specs.declared.replayer.Lines.TheVariants.{Main, All}
 use Rattle.pgn_game.specs.declared.style.Style.{Style}
-use Rattle.pgn_game.specs.declared.turn.Turn.{Turn}
-use Rattle.pgn_game.specs.declared.turn.Turn.TheVariants.{Played, Passed}
+use Rattle.pgn_game.specs.declared.line_move.LineMove.{LineMove}
+use Rattle.pgn_game.specs.declared.line_move.LineMove.TheVariants.{Played, Passed}
 
 -- the tokens of a move's number: White's move always has one; Black's has one where it stands apart from the move before it, as the first of
 -- its line or with a written comment or variation between them (PGN 8.2.2)
@@ -26,7 +26,7 @@ number_tokens Black number true = (decimal number ++ codes "...") ∷ []
 number_tokens Black number false = []
 
 -- the text of a turn: the standard text of a move, or `--`
-abbrev pub IsTurnText : State → Turn → List ℕ → Type 0
+abbrev pub IsTurnText : State → LineMove → List ℕ → Type 0
 IsTurnText now (Played m) text = IsSan now m text
 IsTurnText now Passed text = text ≡ codes "--"
 
@@ -40,7 +40,7 @@ kept false tokens = []
 abbrev pub AreTokens : Style → Bool → State → State → Bool → Line → List (List ℕ) → Type 0
 AreTokens style inside before now apart LineEnd tokens = tokens ≡ []
 AreTokens style inside before now apart (ThenMove word rest) tokens =
-    (turn : Turn) × (text : List ℕ) × (more : List (List ℕ)) × IsTurn inside now word turn × IsTurnText now turn text
+    (turn : LineMove) × (text : List ℕ) × (more : List (List ℕ)) × IsTurn inside now word turn × IsTurnText now turn text
     × (tokens ≡ number_tokens now.turn now.fullmove_number apart ++ text ∷ more) × AreTokens style inside now (after_turn now turn) false rest more
 AreTokens style inside before now apart (ThenGlyph number rest) tokens =
     (more : List (List ℕ)) × (tokens ≡ kept style.glyphs ((36 ∷ decimal number) ∷ []) ++ more) × AreTokens style inside before now apart rest more

@@ -8,7 +8,7 @@ use Rattle.pgn_text.specs.Games.{Item}
 use Rattle.pgn_game.specs.MainLines.{main_words}
 use Rattle.pgn_game.specs.Starts.{IsStart, IsBadStart}
 use Rattle.pgn_game.specs.AllLines.{Line, LineEnd, ThenMove, ThenGlyph, ThenComment, ThenVariation, spelled, is_pass, IsTurn, after_turn, IsPlayed}
-use Rattle.pgn_game.specs.declared.turn.Turn.{Turn}
+use Rattle.pgn_game.specs.declared.line_move.LineMove.{LineMove}
 use Rattle.pgn_game.specs.declared.replayer.Lines.{Lines}
 use Rattle.pgn_game.specs.declared.replayer.Lines.TheVariants.{Main, All}
 
@@ -55,12 +55,12 @@ abbrev pub IsLineFault : Bool → State → State → ℕ → Line → Fault →
 IsLineFault inside before now plies LineEnd fault = ⊥
 IsLineFault inside before now plies (ThenMove word rest) fault =
     IsRefusedTurn inside now plies word fault
-    ⊎ ((turn : Turn) × IsTurn inside now word turn × IsLineFault inside now (after_turn now turn) (plies + 1) rest fault)
+    ⊎ ((turn : LineMove) × IsTurn inside now word turn × IsLineFault inside now (after_turn now turn) (plies + 1) rest fault)
 IsLineFault inside before now plies (ThenGlyph number rest) fault = IsLineFault inside before now plies rest fault
 IsLineFault inside before now plies (ThenComment text rest) fault = IsLineFault inside before now plies rest fault
 IsLineFault inside before now plies (ThenVariation inner rest) fault =
     IsLineFault true before before (plies - 1) inner fault
-    ⊎ ((own : List Turn) × IsPlayed true before before inner own × IsLineFault inside before now plies rest fault)
+    ⊎ ((own : List LineMove) × IsPlayed true before before inner own × IsLineFault inside before now plies rest fault)
 
 -- the elements spell a line that has the fault, where it is played from the position
 abbrev pub HaveFault : State → List Item → Fault → Type 0

@@ -1,7 +1,7 @@
 -- The main line of a game on one line: the position that it starts from, and its moves.
 use Rattle.std.specs.Prelude.{◌≡◌, ◌≢◌, ◌↔◌, ℕ, ◌+◌, ◌==◌, if◌then◌else◌, List, [], ◌∷◌, ◌++◌, map, codes, Option, Some, None}
 use Rattle.chess.specs.Positions.{State}
-use Rattle.chess.specs.Start.{usual}
+use Rattle.chess.specs.Start.{initial}
 use Rattle.chess.specs.Moves.{after}
 use Rattle.chess.specs.Letters.{kind_letter, square_text}
 use Rattle.chess.specs.Fen.{IsFen}
@@ -20,10 +20,10 @@ use Rattle.pgn_game.specs.declared.replayer.Lines.TheVariants.{Main}
 abbrev pub unspaced : ℕ → ℕ
 unspaced b = if b == 32 then 95 else b
 
--- the position from which a game starts: `-` for the usual one, else its text in FEN without spaces
+-- the position from which a game starts: `-` for the initial one, else its text in FEN without spaces
 pub data IsStartText (start : State) (text : List ℕ) : Type 0 where
-  as_usual : start ≡ usual → text ≡ codes "-" → IsStartText start text
-  as_fen : start ≢ usual → (fen : List ℕ) → IsFen start fen → text ≡ map unspaced fen → IsStartText start text
+  as_initial : start ≡ initial → text ≡ codes "-" → IsStartText start text
+  as_fen : start ≢ initial → (fen : List ℕ) → IsFen start fen → text ≡ map unspaced fen → IsStartText start text
 
 -- the letter of what a pawn becomes, in lower case
 abbrev pub promotion_letter : Option Kind → List ℕ
@@ -39,7 +39,7 @@ abbrev pub IsMoveText : Notation → State → Move → List ℕ → Type 0
 IsMoveText San now m text = IsSan now m text
 IsMoveText Uci now m text = text ≡ uci_text m
 
--- the moves that are played in a row from the position, each behind a space
+-- the moves that are played in a row from the position, each after a space
 abbrev pub AreMoveTexts : Notation → State → List Move → List ℕ → Type 0
 AreMoveTexts notation now [] text = text ≡ []
 AreMoveTexts notation now (m ∷ more) text =

@@ -22,7 +22,7 @@ use Rattle.pgn_game.specs.declared.replayer.Lines.TheVariants.{All}
 use Rattle.pgn_game.specs.declared.style.Style.{Style}
 
 -- whichever lines are replayed, each move of the main line is the only legal move that its word names in the position before it, and the
--- position behind it is the one after that move
+-- position after it is the one after that move
 abbrev pub EachMoveIsNamed : Type 0
 EachMoveIsNamed =
     (lines : Lines) (fen : Option (List ℕ)) (items : List Item) (replay : Replay) → IsReplay lines fen items replay

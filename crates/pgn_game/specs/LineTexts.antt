@@ -11,7 +11,7 @@ use Rattle.pgn_game.specs.MainLines.{main_words}
 use Rattle.pgn_game.specs.declared.main_line.MainWalk.{MainWalk}
 use Rattle.pgn_game.specs.declared.notation.Notation.{Notation}
 
--- the words are played from the position, and the moves that they name written one behind another
+-- the words are played from the position, and the moves that they name written one after another
 abbrev pub AreWritten : Notation → State → List (List ℕ) → List ℕ → Type 0
 AreWritten notation now [] text = text ≡ []
 AreWritten notation now (word ∷ words) text =
@@ -19,7 +19,7 @@ AreWritten notation now (word ∷ words) text =
     × AreWritten notation (after now m) words rest
 
 -- the word is played and its move written
-pub record PutsMove (notation : Notation) (old new : MainWalk) (word before behind : List ℕ) : Type 0 where
+pub record PutsMove (notation : Notation) (old new : MainWalk) (word before written : List ℕ) : Type 0 where
   pub m : Move
   pub own : List ℕ
   pub named : IsOnlyNamed old.position word m
@@ -27,20 +27,20 @@ pub record PutsMove (notation : Notation) (old new : MainWalk) (word before behi
   pub position : new.position ≡ after old.position m
   pub plies : new.plies ≡ old.plies + 1
   pub depth : new.depth ≡ old.depth
-  pub put : behind ≡ before ++ 32 ∷ own
+  pub put : written ≡ before ++ 32 ∷ own
 
--- the walk went on by the element: what the others are written as stands behind what is added, and their fault is met behind it
-pub record PutsElement (notation : Notation) (old new : MainWalk) (item : Item) (before behind : List ℕ) : Type 0 where
+-- the walk went on by the element: what the others are written as stands after what is added, and their fault is met after it
+pub record PutsElement (notation : Notation) (old new : MainWalk) (item : Item) (before after : List ℕ) : Type 0 where
   pub own : List ℕ
-  pub put : behind ≡ before ++ own
+  pub put : after ≡ before ++ own
   pub completes : (items : List Item) (rest : List ℕ) → AreWritten notation new.position (main_words items new.depth) rest
       → AreWritten notation old.position (main_words (item ∷ items) old.depth) (own ++ rest)
   pub faults : (items : List Item) (fault : Fault) → IsMoveFault new.position new.plies (main_words items new.depth) fault
       → IsMoveFault old.position old.plies (main_words (item ∷ items) old.depth) fault
 
 -- so far the walk wrote a beginning of the whole
-pub record HasPutSome (notation : Notation) (start : State) (words : List (List ℕ)) (walk : MainWalk) (before behind : List ℕ) (items : List Item) : Type 0 where
+pub record HasPutSome (notation : Notation) (start : State) (words : List (List ℕ)) (walk : MainWalk) (before after : List ℕ) (items : List Item) : Type 0 where
   pub own : List ℕ
-  pub put : behind ≡ before ++ own
+  pub put : after ≡ before ++ own
   pub completes : (rest : List ℕ) → AreWritten notation walk.position (main_words items walk.depth) rest → AreWritten notation start words (own ++ rest)
   pub faults : (fault : Fault) → IsMoveFault walk.position walk.plies (main_words items walk.depth) fault → IsMoveFault start 0 words fault

@@ -7,8 +7,8 @@ use Rattle.pgn_text.specs.Games.{Item, MoveText, GlyphNumber, CommentText, Varia
 use Rattle.pgn_game.specs.MainLines.{main_words, IsMainLine}
 use Rattle.pgn_game.specs.Faults.{Fault, IsRefusedTurn}
 use Rattle.pgn_game.specs.AllLines.{IsTurn, after_turn}
-use Rattle.pgn_game.specs.declared.turn.Turn.{Turn}
-use Rattle.pgn_game.specs.declared.turn.Turn.TheVariants.{Played, Passed}
+use Rattle.pgn_game.specs.declared.line_move.LineMove.{LineMove}
+use Rattle.pgn_game.specs.declared.line_move.LineMove.TheVariants.{Played, Passed}
 use Rattle.pgn_game.specs.declared.all_lines.Level.{Level}
 use Rattle.pgn_game.specs.declared.all_lines.LinesWalk.{LinesWalk}
 
@@ -18,7 +18,7 @@ is_inside [] = false
 is_inside (line ∷ outer) = true
 
 -- the line after a turn; a variation as it begins
-abbrev pub gone_on : Level → Turn → Level
+abbrev pub gone_on : Level → LineMove → Level
 gone_on level turn = record { before = level.now; now = after_turn level.now turn; plies = level.plies + 1 }
 
 abbrev pub begun : Level → Level
@@ -29,10 +29,10 @@ abbrev pub first_level : State → Level
 first_level start = record { before = start; now = start; plies = 0 }
 
 -- with these lines around this one, what is left of the elements is played by these turns
-abbrev pub Runs : List Item → Level → List Level → List Turn → Type 0
+abbrev pub Runs : List Item → Level → List Level → List LineMove → Type 0
 Runs [] level outer turns = turns ≡ []
 Runs (MoveText word ∷ items) level outer turns =
-    (turn : Turn) × (more : List Turn) × (turns ≡ turn ∷ more) × IsTurn (is_inside outer) level.now word turn × Runs items (gone_on level turn) outer more
+    (turn : LineMove) × (more : List LineMove) × (turns ≡ turn ∷ more) × IsTurn (is_inside outer) level.now word turn × Runs items (gone_on level turn) outer more
 Runs (GlyphNumber number ∷ items) level outer turns = Runs items level outer turns
 Runs (CommentText text ∷ items) level outer turns = Runs items level outer turns
 Runs (VariationOpen ∷ items) level outer turns = Runs items (begun level) (level ∷ outer) turns
@@ -44,7 +44,7 @@ abbrev pub Stops : List Item → Level → List Level → Fault → Type 0
 Stops [] level outer fault = ⊥
 Stops (MoveText word ∷ items) level outer fault =
     IsRefusedTurn (is_inside outer) level.now level.plies word fault
-    ⊎ ((turn : Turn) × IsTurn (is_inside outer) level.now word turn × Stops items (gone_on level turn) outer fault)
+    ⊎ ((turn : LineMove) × IsTurn (is_inside outer) level.now word turn × Stops items (gone_on level turn) outer fault)
 Stops (GlyphNumber number ∷ items) level outer fault = Stops items level outer fault
 Stops (CommentText text ∷ items) level outer fault = Stops items level outer fault
 Stops (VariationOpen ∷ items) level outer fault = Stops items (begun level) (level ∷ outer) fault
@@ -55,7 +55,7 @@ Stops (VariationClose ∷ items) level (next ∷ outer) fault = Stops items next
 abbrev pub Leads : List Item → Level → List Level → Bool → Level → Type 0
 Leads [] level outer inside last = (inside ≡ is_inside outer) × (last ≡ level)
 Leads (MoveText word ∷ items) level outer inside last =
-    (turn : Turn) × IsTurn (is_inside outer) level.now word turn × Leads items (gone_on level turn) outer inside last
+    (turn : LineMove) × IsTurn (is_inside outer) level.now word turn × Leads items (gone_on level turn) outer inside last
 Leads (GlyphNumber number ∷ items) level outer inside last = Leads items level outer inside last
 Leads (CommentText text ∷ items) level outer inside last = Leads items level outer inside last
 Leads (VariationOpen ∷ items) level outer inside last = Leads items (begun level) (level ∷ outer) inside last
@@ -68,8 +68,8 @@ main_now level [] = level.now
 main_now level (next ∷ outer) = main_now next outer
 
 -- what is left of the elements completes the turns, or the main line, or has the fault, or leads to a line
-abbrev pub RunsOn : LinesWalk → List Item → List Turn → Type 0
-RunsOn walk items turns = (more : List Turn) × (turns ≡ walk.turns.items ++ more) × Runs items walk.line (reverse walk.outer.items) more
+abbrev pub RunsOn : LinesWalk → List Item → List LineMove → Type 0
+RunsOn walk items turns = (more : List LineMove) × (turns ≡ walk.turns.items ++ more) × Runs items walk.line (reverse walk.outer.items) more
 
 abbrev pub StopsOn : LinesWalk → List Item → Fault → Type 0
 StopsOn walk items fault = Stops items walk.line (reverse walk.outer.items) fault
@@ -83,14 +83,14 @@ MainOn walk items positions played =
     × IsMainLine (main_now walk.line (reverse walk.outer.items)) (main_words items (length (reverse walk.outer.items))) later more
 
 -- a turn of the main line was kept in it: a move, and the position before it
-abbrev pub Keeps : Bool → List State → List State → List Move → List Move → State → Turn → Type 0
+abbrev pub Keeps : Bool → List State → List State → List Move → List Move → State → LineMove → Type 0
 Keeps true before next moves grown now turn = (next ≡ before) × (grown ≡ moves)
 Keeps false before next moves grown now (Played m) = (next ≡ before ++ now ∷ []) × (grown ≡ moves ++ m ∷ [])
 Keeps false before next moves grown now Passed = ⊥
 
 -- the walk went on by a turn
 pub record HasTurned (old : LinesWalk) (word : List ℕ) (new : LinesWalk) : Type 0 where
-  pub turn : Turn
+  pub turn : LineMove
   pub is_turn : IsTurn (is_inside old.outer.items) old.line.now word turn
   pub turns : new.turns.items ≡ old.turns.items ++ turn ∷ []
   pub line : new.line ≡ gone_on old.line turn

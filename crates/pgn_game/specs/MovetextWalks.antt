@@ -13,8 +13,8 @@ use Rattle.pgn_game.specs.declared.all_lines.Level.{Level}
 use Rattle.pgn_game.specs.declared.movetext.MovetextWalk.{MovetextWalk}
 use Rattle.pgn_game.specs.declared.movetext.WrittenLine.{WrittenLine}
 use Rattle.pgn_game.specs.declared.style.Style.{Style}
-use Rattle.pgn_game.specs.declared.turn.Turn.{Turn}
-use Rattle.pgn_game.specs.declared.turn.Turn.TheVariants.{Played, Passed}
+use Rattle.pgn_game.specs.declared.line_move.LineMove.{LineMove}
+use Rattle.pgn_game.specs.declared.line_move.LineMove.TheVariants.{Played, Passed}
 
 -- an element that is written or left out
 abbrev pub shown_if : Bool → Item → List Item → List Item
@@ -36,7 +36,7 @@ shown_items true depth items = items
 shown_items false depth items = outside items depth
 
 -- the turn may be taken in the position
-abbrev pub IsPlayable : State → Turn → Type 0
+abbrev pub IsPlayable : State → LineMove → Type 0
 IsPlayable now (Played m) = IsLegal now m
 IsPlayable now Passed = IsCheck now.men now.turn → ⊥
 
@@ -45,8 +45,8 @@ abbrev pub in_variation : List WrittenLine → Bool
 in_variation [] = false
 in_variation (line ∷ outer) = true
 
--- the line after a turn; behind something that is written or left out; a variation as it begins; and the main line as it begins
-abbrev pub moved_on : WrittenLine → Turn → WrittenLine
+-- the line after a turn; after something that is written or left out; a variation as it begins; and the main line as it begins
+abbrev pub moved_on : WrittenLine → LineMove → WrittenLine
 moved_on line turn = record { before = line.now; now = after_turn line.now turn; plies = line.plies + 1; apart = false }
 
 abbrev pub set_apart : Bool → WrittenLine → WrittenLine
@@ -58,7 +58,7 @@ varied line = record { before = line.before; now = line.before; plies = line.pli
 abbrev pub first_line : State → WrittenLine
 first_line start = record { before = start; now = start; plies = 0; apart = true }
 
--- behind the end of a variation the line around it goes on
+-- after the end of a variation the line around it goes on
 abbrev pub IsBack : WrittenLine → List WrittenLine → WrittenLine → List WrittenLine → Type 0
 IsBack line [] new left = (new ≡ line) × (left ≡ [])
 IsBack line (next ∷ outer) new left = (new ≡ next) × (left ≡ outer)
@@ -67,7 +67,7 @@ IsBack line (next ∷ outer) new left = (new ≡ next) × (left ≡ outer)
 abbrev pub Draws : List Item → Style → WrittenLine → List WrittenLine → List (List ℕ) → Type 0
 Draws [] style line outer tokens = tokens ≡ []
 Draws (MoveText word ∷ items) style line outer tokens =
-    (turn : Turn) × (text : List ℕ) × (more : List (List ℕ)) × IsTurn (in_variation outer) line.now word turn × IsTurnText line.now turn text
+    (turn : LineMove) × (text : List ℕ) × (more : List (List ℕ)) × IsTurn (in_variation outer) line.now word turn × IsTurnText line.now turn text
     × (tokens ≡ number_tokens line.now.turn line.now.fullmove_number line.apart ++ text ∷ more) × Draws items style (moved_on line turn) outer more
 Draws (GlyphNumber number ∷ items) style line outer tokens =
     (more : List (List ℕ)) × (tokens ≡ kept style.glyphs ((36 ∷ decimal number) ∷ []) ++ more) × Draws items style line outer more
@@ -99,7 +99,7 @@ IsShort n walk = AreWithin n (walk.line ∷ reverse walk.outer.items)
 
 -- the walk went on by the turn that the word says, and wrote its number and its text
 pub record HasMoved (old new : MovetextWalk) (word : List ℕ) (before after : List ℕ) : Type 0 where
-  pub turn : Turn
+  pub turn : LineMove
   pub text : List ℕ
   pub says : IsTurn (in_variation old.outer.items) old.line.now word turn
   pub spells : IsTurnText old.line.now turn text

@@ -11,7 +11,7 @@ use Rattle.pgn_game.specs.declared.all_lines.Level.{Level}
 use Rattle.pgn_game.specs.declared.all_lines.LinesWalk.{LinesWalk}
 use Rattle.pgn_game.specs.declared.explain.Refused.{Refused}
 use Rattle.pgn_game.specs.declared.replayer.Lines.{Lines}
-use Rattle.pgn_game.specs.declared.turn.Turn.{Turn}
+use Rattle.pgn_game.specs.declared.line_move.LineMove.{LineMove}
 
 -- the element is played, and so would each other word be in its place; or it is not
 abbrev pub IsCounted : Lines → Item → ℕ → ℕ → Bool → Type 0
@@ -22,7 +22,7 @@ IsCounted lines item old new false = (more : List Item) → played_items lines (
 
 -- the walk went on by the element
 pub record GoesOn (old : LinesWalk) (item : Item) (new : LinesWalk) : Type 0 where
-  pub runs : (items : List Item) (turns : List Turn) → RunsOn new items turns → RunsOn old (item ∷ items) turns
+  pub runs : (items : List Item) (turns : List LineMove) → RunsOn new items turns → RunsOn old (item ∷ items) turns
   pub leads : (items : List Item) (inside : Bool) (last : Level) → LeadsOn new items inside last → LeadsOn old (item ∷ items) inside last
   pub within : (n : ℕ) → AreWithin n old → AreWithin (n + 1) new
 
@@ -35,7 +35,7 @@ pub record IsRefusedHere (old : LinesWalk) (item : Item) (index : ℕ) (refused 
 
 -- the elements in front of the index were gone through
 pub record IsSearched (lines : Lines) (start : State) (items : List Item) (index : ℕ) (walk : LinesWalk) (depth : ℕ) : Type 0 where
-  pub runs : (more : List Item) (turns : List Turn) → RunsOn walk (played_items lines more depth) turns
+  pub runs : (more : List Item) (turns : List LineMove) → RunsOn walk (played_items lines more depth) turns
       → Runs (played_items lines (take index items ++ more) 0) (first_level start) [] turns
   pub leads : (more : List Item) (inside : Bool) (last : Level) → LeadsOn walk more inside last
       → Leads (played_items lines (take index items) 0 ++ more) (first_level start) [] inside last
@@ -43,7 +43,7 @@ pub record IsSearched (lines : Lines) (start : State) (items : List Item) (index
   pub within : AreWithin index walk
   pub depth_within : depth ≤ index
 
--- the legal move that the word names from the square was put behind the others, if there is one
+-- the legal move that the word names from the square was put after the others, if there is one
 abbrev pub AddsFrom : State → List ℕ → Place → List Move → List Move → Type 0
 AddsFrom now word s old new =
     ((new ≡ old) × ((m : Move) → m.from ≡ s → IsNamed now word m → ⊥))

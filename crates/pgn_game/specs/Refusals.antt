@@ -18,7 +18,7 @@ use Rattle.pgn_game.specs.declared.explain.Why.{Why}
 use Rattle.pgn_game.specs.declared.explain.Why.TheVariants.{PassInCheck, Ambiguous, Illegal}
 use Rattle.pgn_game.specs.declared.replayer.Lines.{Lines}
 use Rattle.pgn_game.specs.declared.replayer.Lines.TheVariants.{Main, All}
-use Rattle.pgn_game.specs.declared.turn.Turn.{Turn}
+use Rattle.pgn_game.specs.declared.line_move.LineMove.{LineMove}
 
 -- why the word is refused in the position, in a variation or not
 abbrev pub IsWhy : Bool → State → List ℕ → Why → Type 0
@@ -39,7 +39,7 @@ pub record PlayedLine : Type 0 where
   pub plies : ℕ
 
 -- the line after a turn; a variation as it begins, which stands for the last turn; and the main line as it begins
-abbrev pub after_move : PlayedLine → Turn → PlayedLine
+abbrev pub after_move : PlayedLine → LineMove → PlayedLine
 after_move line turn = record { before = line.now; now = after_turn line.now turn; plies = line.plies + 1 }
 
 abbrev pub in_its_place : PlayedLine → PlayedLine
@@ -54,11 +54,11 @@ is_variation [] = false
 is_variation (line ∷ outer) = true
 
 -- where a line is played so far, and these lines around it, the elements lead to that line, which is a variation or not: each word is a turn
--- in the position that the words before it lead to, and behind the end of a variation the line around it goes on
+-- in the position that the words before it lead to, and after the end of a variation the line around it goes on
 abbrev pub LeadTo : List Item → PlayedLine → List PlayedLine → Bool → PlayedLine → Type 0
 LeadTo [] line outer inside last = (inside ≡ is_variation outer) × (last ≡ line)
 LeadTo (MoveText word ∷ items) line outer inside last =
-    (turn : Turn) × IsTurn (is_variation outer) line.now word turn × LeadTo items (after_move line turn) outer inside last
+    (turn : LineMove) × IsTurn (is_variation outer) line.now word turn × LeadTo items (after_move line turn) outer inside last
 LeadTo (GlyphNumber number ∷ items) line outer inside last = LeadTo items line outer inside last
 LeadTo (CommentText text ∷ items) line outer inside last = LeadTo items line outer inside last
 LeadTo (VariationOpen ∷ items) line outer inside last = LeadTo items (in_its_place line) (line ∷ outer) inside last
@@ -100,7 +100,7 @@ OneLineIsReached =
     (lines : Lines) (start : State) (items : List Item) (index : ℕ) (inside within : Bool) (line other : PlayedLine)
     → IsReached lines start items index inside line → IsReached lines start items index within other → (inside ≡ within) × (line ≡ other)
 
--- whatever word stands at an index and is refused in the position that is reached there is the fault of the game, whatever stands behind it
+-- whatever word stands at an index and is refused in the position that is reached there is the fault of the game, whatever stands after it
 abbrev pub RefusedWordIsTheFault : Type 0
 RefusedWordIsTheFault =
     (lines : Lines) (start : State) (items : List Item) (index : ℕ) (inside : Bool) (line : PlayedLine)

@@ -7,7 +7,7 @@ use Rattle.pgn_game.specs.MainLines.{main_words, IsMainLine}
 use Rattle.pgn_game.specs.AllLines.{ArePlayed}
 use Rattle.pgn_game.specs.Starts.{IsStart}
 use Rattle.pgn_game.specs.Faults.{Fault, BadStart, IllegalMove, AmbiguousMove}
-use Rattle.pgn_game.specs.declared.turn.Turn.{Turn}
+use Rattle.pgn_game.specs.declared.line_move.LineMove.{LineMove}
 use Rattle.pgn_game.specs.declared.replayer.Lines.{Lines}
 use Rattle.pgn_game.specs.declared.replayer.Lines.TheVariants.{Main, All}
 use Rattle.pgn_game.specs.declared.fault.GameFault.{GameFault}
@@ -17,10 +17,10 @@ use Rattle.pgn_game.specs.declared.fault.GameFault.TheVariants as answers
 pub record Replay : Type 0 where
   pub positions : List State
   pub played : List Move
-  pub turns : List Turn
+  pub turns : List LineMove
 
 -- the turns of the lines that are replayed: where the main line alone is, none are kept beside its moves
-abbrev pub AreTurns : Lines → State → List Item → List Turn → Type 0
+abbrev pub AreTurns : Lines → State → List Item → List LineMove → Type 0
 AreTurns Main start items turns = turns ≡ []
 AreTurns All start items turns = ArePlayed start items turns
 

@@ -1,7 +1,7 @@
 -- The position from which a game starts (PGN 9.7.2).
 use Rattle.std.specs.Prelude.{◌≡◌, ℕ, List, Option, Some, None, codes}
 use Rattle.chess.specs.Positions.{State}
-use Rattle.chess.specs.Start.{usual}
+use Rattle.chess.specs.Start.{initial}
 use Rattle.chess.specs.Fen.{ReadsFen, IsRefused}
 use Rattle.chess.specs.declared.fen.FenError.{FenError}
 use Rattle.pgn_text.specs.Strings.{Sign, HasValue}
@@ -16,7 +16,7 @@ IsValueOf contents value = (signs : List Sign) × HasValue contents value signs
 
 -- a game with these contents of its FEN tag, or with no such tag, starts from the position
 abbrev pub IsStart : Option (List ℕ) → State → Type 0
-IsStart None start = start ≡ usual
+IsStart None start = start ≡ initial
 IsStart (Some contents) start = (value : List ℕ) × IsValueOf contents value × ReadsFen value start
 
 -- the value of its FEN tag is refused, so it starts from no position

@@ -6,7 +6,7 @@ use Rattle.pgn_game.specs.AllLines.{IsTurn}
 use Rattle.pgn_game.specs.Faults.{Fault}
 use Rattle.pgn_game.specs.LineWalks.{Stops, begun, gone_on, is_inside}
 use Rattle.pgn_game.specs.declared.line_stack.LineStack.{LineStack}
-use Rattle.pgn_game.specs.declared.turn.Turn.{Turn}
+use Rattle.pgn_game.specs.declared.line_move.LineMove.{LineMove}
 use Rattle.pgn_game.specs.declared.all_lines.Level.{Level}
 
 -- the lines around the one that is gone along, the innermost first
@@ -20,14 +20,14 @@ IsBack line (next ∷ outer) new left = (new ≡ next) × (left ≡ outer)
 
 -- a turn taken in a position, in a variation or not; or another element
 pub data Step : Type 0 where
-  Turned : Bool → State → Turn → Step
+  Turned : Bool → State → LineMove → Step
   Beside : Item → Step
 
 -- with these lines around this one, what is left of the elements has these steps
 abbrev pub Walks : List Item → Level → List Level → List Step → Type 0
 Walks [] line outer steps = steps ≡ []
 Walks (MoveText word ∷ items) line outer steps =
-    (turn : Turn) × (more : List Step) × (steps ≡ Turned (is_inside outer) line.now turn ∷ more) × IsTurn (is_inside outer) line.now word turn
+    (turn : LineMove) × (more : List Step) × (steps ≡ Turned (is_inside outer) line.now turn ∷ more) × IsTurn (is_inside outer) line.now word turn
     × Walks items (gone_on line turn) outer more
 Walks (GlyphNumber number ∷ items) line outer steps = (more : List Step) × (steps ≡ Beside (GlyphNumber number) ∷ more) × Walks items line outer more
 Walks (CommentText text ∷ items) line outer steps = (more : List Step) × (steps ≡ Beside (CommentText text) ∷ more) × Walks items line outer more

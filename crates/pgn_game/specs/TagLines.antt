@@ -14,7 +14,7 @@ abbrev pub missing_text : List ℕ → List ℕ → List ℕ
 missing_text result name =
     if bytes_eq name (codes "Result") then result else (if bytes_eq name (codes "Date") then codes "????.??.??" else codes "?")
 
--- a byte in a string: a quote and a backslash stand behind a backslash, and a tab, which is no printing character, is a space (PGN 7)
+-- a byte in a string: a quote and a backslash stand after a backslash, and a tab, which is no printing character, is a space (PGN 7)
 abbrev pub escaped : ℕ → List ℕ
 escaped b = if (b == 34 || b == 92) then 92 ∷ b ∷ [] else (if b == 9 then 32 ∷ [] else b ∷ [])
 

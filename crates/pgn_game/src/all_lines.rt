@@ -13,10 +13,10 @@ ghost use Rattle.pgn_game.specs.declared.all_lines.Level.{Level};
 ghost use Rattle.pgn_game.specs.LineWalks.{is_inside, RunsOn, StopsOn, LeadsOn, MainOn, HasTurned, AreWithin, Keeps, begun, first_level, main_now, Runs, Stops};
 
 use crate::fault::GameFault;
+use crate::line_move::LineMove;
 use crate::naming::play_named;
 use crate::replayed::{GamePosition, Replayed};
-use crate::saying::passes;
-use crate::turn::Turn;
+use crate::saying::is_null_move;
 use chess::Move;
 use pgn_text::Element;
 use std::alloc::{AllocError, Global};
@@ -50,7 +50,7 @@ impl Level {
 pub(crate) struct LinesWalk {
     positions: Vec<GamePosition>,
     played: Vec<Move>,
-    turns: Vec<Turn>,
+    turns: Vec<LineMove>,
     line: Level,
     outer: Vec<Level>,
 }
@@ -61,22 +61,22 @@ pub(crate) fn play_turn<'a>(
     inside: bool,
     word: &'a [u8],
     ply: usize,
-) -> Result<Turn, GameFault<'a>>
+) -> Result<LineMove, GameFault<'a>>
     ensures { MatchResult result
         (λ turn. IsTurn inside position.old word.now turn × (position.new ≡ after_turn position.old turn))
         (λ fault. (plies : ℕ) → ply ≡ plies + 1 → IfSome (fault_of fault) (IsRefusedTurn inside position.old plies word.now)) }
 {
-    if passes(inside, word) {
+    if is_null_move(inside, word) {
         return match position.pass() {
             Some(next) => {
                 *position = next;
-                Ok(Turn::Passed)
+                Ok(LineMove::Passed)
             }
             None => Err(GameFault::Illegal { word, ply }),
         };
     }
     let m = play_named(position, word, ply)?;
-    Ok(Turn::Played(m))
+    Ok(LineMove::Played(m))
 }
 
 impl LinesWalk {
@@ -104,7 +104,7 @@ impl LinesWalk {
         !self.outer.is_empty()
     }
 
-    /// The position behind the last turn of the line that is played.
+    /// The position after the last turn of the line that is played.
     pub(crate) fn position(&self) -> GamePosition
         ensures { result ≡ self.now.line.now }
     {
@@ -112,7 +112,7 @@ impl LinesWalk {
     }
 
     /// Keeps the last turn, and a move of the main line also among its moves, with the position before it.
-    fn keep(&mut self, inside: bool, turn: Turn) -> Result<(), AllocError>
+    fn keep(&mut self, inside: bool, turn: LineMove) -> Result<(), AllocError>
         requires inside { inside ≡ is_inside self.old.outer.items }
         requires says { (word : List ℕ) × IsTurn inside self.old.line.before word turn }
         ensures turns { OnOk result (self.new.turns.items ≡ self.old.turns.items ++ turn ∷ []) }
@@ -122,7 +122,7 @@ impl LinesWalk {
     {
         self.turns.push(turn)?;
         if !inside {
-            if let Turn::Played(m) = &turn {
+            if let LineMove::Played(m) = &turn {
                 self.positions.push(self.line.before.copy())?;
                 self.played.push(*m)?;
             }
@@ -166,7 +166,7 @@ impl LinesWalk {
     /// Goes on by the element.
     pub(crate) fn step<'a>(&mut self, element: Element<'a>) -> Result<(), GameFault<'a>>
         requires room { self.old.line.plies < usize.MAX }
-        ensures played { OnOk result ((items : List Item) (turns : List Turn) → RunsOn self.new items turns → RunsOn self.old (item_of element.entry ∷ items) turns) }
+        ensures played { OnOk result ((items : List Item) (turns : List LineMove) → RunsOn self.new items turns → RunsOn self.old (item_of element.entry ∷ items) turns) }
         ensures faults { OnOk result ((items : List Item) (fault : Fault) → StopsOn self.new items fault → StopsOn self.old (item_of element.entry ∷ items) fault) }
         ensures leads { OnOk result ((items : List Item) (inside : Bool) (last : Level) → LeadsOn self.new items inside last → LeadsOn self.old (item_of element.entry ∷ items) inside last) }
         ensures stuck { IfErr result (λ fault. (items : List Item) → IfSome (fault_of fault) (StopsOn self.old (item_of element.entry ∷ items))) }

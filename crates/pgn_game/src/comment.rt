@@ -2,7 +2,7 @@
 ghost use Rattle.std.specs.Prelude.{◌≡◌, ◌+◌, ◌++◌, ◌∷◌, ◌<◌, ◌≤◌, ℕ, List, [], length, map, OnOk, IfSome, IsTrue, true};
 ghost use Rattle.pgn_text.specs.Bytes.{is_white};
 ghost use Rattle.pgn_game.specs.Comments.{words_in, unbraced, later_word, closed, comment_tokens};
-ghost use Rattle.pgn_game.specs.CommentWords.{word_front, behind_front, behind_white, found_words, closing, IsBare, IsFoundBare, IsBehindBare, IsBehindKept, IsSpaced};
+ghost use Rattle.pgn_game.specs.CommentWords.{word_front, after_front, after_white, found_words, closing, IsBare, IsFoundBare, IsAfterBare, IsAfterKept, IsSpaced};
 ghost use Rattle.pgn_game.specs.Pens.{HasPut};
 
 use crate::pen::Pen;
@@ -23,43 +23,43 @@ fn is_white(byte: u8) -> bool
     matches!(byte, 9..=13 | b' ')
 }
 
-/// The text behind the white space that it begins with.
-fn behind_white(text: &[u8]) -> &[u8]
-    ensures { result.now ≡ behind_white text.now }
+/// The text after the white space that it begins with.
+fn after_white(text: &[u8]) -> &[u8]
+    ensures { result.now ≡ after_white text.now }
 {
     let mut rest = text;
-    while let [first, behind @ ..] = rest
+    while let [first, after @ ..] = rest
         && is_white(*first)
     {
-        rest = behind;
+        rest = after;
     }
     rest
 }
 
 /// The text from the first white space on.
 fn from_white(text: &[u8]) -> &[u8]
-    ensures { result.now ≡ behind_front text.now }
+    ensures { result.now ≡ after_front text.now }
 {
     let mut rest = text;
-    while let [first, behind @ ..] = rest
+    while let [first, after @ ..] = rest
         && !is_white(*first)
     {
-        rest = behind;
+        rest = after;
     }
     rest
 }
 
-/// The text behind the bytes that it begins with which stand in words and are no closing braces: all of a word, for most words.
+/// The text after the bytes that it begins with which stand in words and are no closing braces: all of a word, for most words.
 #[inline(always)]
-fn behind_bare(text: &[u8]) -> &[u8]
-    ensures { IsBehindBare text.now result.now }
+fn after_bare(text: &[u8]) -> &[u8]
+    ensures { IsAfterBare text.now result.now }
 {
     let mut rest = text;
-    while let [first, behind @ ..] = rest
+    while let [first, after @ ..] = rest
         && *first > b' '
         && *first != b'}'
     {
-        rest = behind;
+        rest = after;
     }
     rest
 }
@@ -67,10 +67,10 @@ fn behind_bare(text: &[u8]) -> &[u8]
 /// The bytes before the first white space, and those from it on.
 fn split_word(text: &[u8]) -> Found<'_>
     ensures word { result.word.now ≡ word_front text.now }
-    ensures rest { result.rest.now ≡ behind_front text.now }
+    ensures rest { result.rest.now ≡ after_front text.now }
     ensures bare { result.bare ≡ true → IsBare result.word.now }
 {
-    let left = behind_bare(text);
+    let left = after_bare(text);
     let rest = from_white(left);
     Found {
         word: &text[..text.len() - rest.len()],
@@ -85,7 +85,7 @@ fn first_word(text: &[u8]) -> Option<Found<'_>>
     ensures shorter { IfSome result (λ found. length found.rest.now < length text.now) }
     ensures bare { IsFoundBare result }
 {
-    let rest = behind_white(text);
+    let rest = after_white(text);
     if rest.is_empty() {
         return None;
     }
@@ -130,7 +130,7 @@ fn push_front(out: &mut Vec<u8>, front: &[u8]) -> Result<(), AllocError>
     Ok(())
 }
 
-/// Writes a word as a token behind what it begins with; the last one has the closing brace.
+/// Writes a word as a token after what it begins with; the last one has the closing brace.
 fn put_word(
     pen: &mut Pen,
     out: &mut Vec<u8>,
@@ -153,7 +153,7 @@ fn put_word(
     Ok(())
 }
 
-/// What a word behind the first one begins with, and what follows: it must be neither an event line nor an escape at the beginning of a
+/// What a word after the first one begins with, and what follows: it must be neither an event line nor an escape at the beginning of a
 /// line.
 fn guarded(word: &[u8]) -> (&[u8], &[u8])
     ensures text { later_word word.now ≡ result.0.now ++ unbraced result.1.now }
@@ -168,7 +168,7 @@ fn guarded(word: &[u8]) -> (&[u8], &[u8])
     }
 }
 
-/// Writes the words behind the first one.
+/// Writes the words after the first one.
 fn put_later(pen: &mut Pen, out: &mut Vec<u8>, first: Option<Found<'_>>) -> Result<(), AllocError>
     requires { IsFoundBare first }
     ensures text { OnOk result (HasPut pen.old pen.new out.old.items out.new.items (closed (map later_word (found_words first.entry)))) }
@@ -184,7 +184,7 @@ fn put_later(pen: &mut Pen, out: &mut Vec<u8>, first: Option<Found<'_>>) -> Resu
     Ok(())
 }
 
-/// Whether a word behind the first one is written as it is, but for its closing braces.
+/// Whether a word after the first one is written as it is, but for its closing braces.
 fn is_kept(word: &[u8]) -> bool
     ensures { IsTrue result → later_word word.now ≡ unbraced word.now }
 {
@@ -193,8 +193,8 @@ fn is_kept(word: &[u8]) -> bool
 
 /// What follows the first word of the text, if the text begins with a word, which is written as it is wherever it stands.
 #[inline(always)]
-fn behind_kept(text: &[u8]) -> Option<&[u8]>
-    ensures { IfSome result (λ rest. IsBehindKept text.now rest.now) }
+fn after_kept(text: &[u8]) -> Option<&[u8]>
+    ensures { IfSome result (λ rest. IsAfterKept text.now rest.now) }
 {
     let found = split_word(text);
     if found.word.is_empty() || !found.bare || !is_kept(found.word) {
@@ -207,14 +207,14 @@ fn behind_kept(text: &[u8]) -> Option<&[u8]>
 fn is_spaced(text: &[u8]) -> bool
     ensures { IsTrue result → IsSpaced text.now }
 {
-    let Some(mut rest) = behind_kept(text) else {
+    let Some(mut rest) = after_kept(text) else {
         return false;
     };
     while let [b' ', more @ ..] = rest {
-        let Some(behind) = behind_kept(more) else {
+        let Some(after) = after_kept(more) else {
             return false;
         };
-        rest = behind;
+        rest = after;
     }
     rest.is_empty()
 }

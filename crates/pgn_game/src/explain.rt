@@ -12,7 +12,7 @@ use crate::all_lines::LinesWalk;
 use crate::fault::GameFault;
 use crate::replayed::GamePosition;
 use crate::replayer::Lines;
-use crate::saying::passes;
+use crate::saying::is_null_move;
 use crate::starting::starting_position;
 use chess::{Move, Refusal, SanError, Square, named_from, resolve, why_unnamed};
 use pgn_text::{Element, RawGame};
@@ -47,7 +47,7 @@ fn why_refused(position: &GamePosition, inside: bool, word: &[u8]) -> Why
     requires { (plies : ℕ) × (fault : Fault) × IsRefusedTurn inside position.now plies word.now fault }
     ensures { IsWhy inside position.now word.now result }
 {
-    if passes(inside, word) {
+    if is_null_move(inside, word) {
         return Why::PassInCheck;
     }
     if is_ambiguous(position, word) {
@@ -70,7 +70,7 @@ fn is_out_of_memory(fault: GameFault<'_>) -> bool
     matches!(fault, GameFault::OutOfMemory)
 }
 
-/// Whether the element is played, where these lines are replayed and so many variations are open; counts those that are open behind it.
+/// Whether the element is played, where these lines are replayed and so many variations are open; counts those that are open after it.
 fn is_played(lines: Lines, element: Element<'_>, depth: &mut usize) -> bool
     requires { depth.old < usize.MAX }
     ensures counted { IsCounted lines (item_of element.entry) depth.old depth.new result }

@@ -34,21 +34,21 @@ fn push_unspaced(out: &mut Vec<u8>, bytes: &[u8]) -> Result<(), AllocError>
     Ok(())
 }
 
-/// Appends the text of the position from which a game starts: `-` for the usual one.
+/// Appends the text of the position from which a game starts: `-` for the initial one.
 fn push_start(out: &mut Vec<u8>, start: &GamePosition) -> Result<(), AllocError>
     requires { (fen : Option (List ℕ)) × IsStart fen start.now }
     ensures text { OnOk result ((text : List ℕ) × IsStartText start.now text × (out.new.items ≡ out.old.items ++ text)) }
     ensures kept { (some : List ℕ) × (out.new.items ≡ out.old.items ++ some) }
 {
     let fen = start.fen();
-    let usual: &[u8] = b"rnbqkbnr/pppppppp/8/8/8/8/PPPPPPPP/RNBQKBNR w KQkq - 0 1";
-    if fen.as_bytes() == usual {
+    let initial: &[u8] = b"rnbqkbnr/pppppppp/8/8/8/8/PPPPPPPP/RNBQKBNR w KQkq - 0 1";
+    if fen.as_bytes() == initial {
         return out.extend_from_slice(b"-");
     }
     push_unspaced(out, fen.as_bytes())
 }
 
-/// Appends the standard text of a move behind a space.
+/// Appends the standard text of a move after a space.
 fn push_text(out: &mut Vec<u8>, text: &[u8]) -> Result<(), AllocError>
     ensures text { OnOk result (out.new.items ≡ out.old.items ++ 32 ∷ text.now) }
     ensures kept { (some : List ℕ) × (out.new.items ≡ out.old.items ++ some) }
@@ -71,7 +71,7 @@ fn promotion_letter(kind: Kind) -> u8
     }
 }
 
-/// Appends the two squares of a move, and what a pawn becomes, behind a space.
+/// Appends the two squares of a move, and what a pawn becomes, after a space.
 fn push_squares(out: &mut Vec<u8>, m: Move) -> Result<(), AllocError>
     ensures text { OnOk result (out.new.items ≡ out.old.items ++ 32 ∷ uci_text m) }
     ensures kept { (some : List ℕ) × (out.new.items ≡ out.old.items ++ some) }
@@ -90,7 +90,7 @@ fn push_squares(out: &mut Vec<u8>, m: Move) -> Result<(), AllocError>
     Ok(())
 }
 
-/// Plays the move that the word names, and appends its standard text behind a space; or answers the fault of its ply.
+/// Plays the move that the word names, and appends its standard text after a space; or answers the fault of its ply.
 fn push_san<'a>(out: &mut Vec<u8>, walk: &mut MainWalk, word: &'a [u8]) -> Result<(), GameFault<'a>>
     requires { walk.old.plies < usize.MAX }
     ensures text { OnOk result (PutsMove San walk.old walk.new word.now out.old.items out.new.items) }
@@ -104,7 +104,7 @@ fn push_san<'a>(out: &mut Vec<u8>, walk: &mut MainWalk, word: &'a [u8]) -> Resul
     Ok(())
 }
 
-/// Plays the move that the word names, and appends its squares behind a space; or answers the fault of its ply.
+/// Plays the move that the word names, and appends its squares after a space; or answers the fault of its ply.
 fn push_uci<'a>(out: &mut Vec<u8>, walk: &mut MainWalk, word: &'a [u8]) -> Result<(), GameFault<'a>>
     requires { walk.old.plies < usize.MAX }
     ensures text { OnOk result (PutsMove Uci walk.old walk.new word.now out.old.items out.new.items) }
@@ -118,7 +118,7 @@ fn push_uci<'a>(out: &mut Vec<u8>, walk: &mut MainWalk, word: &'a [u8]) -> Resul
     Ok(())
 }
 
-/// Plays the move that the word names, and appends its text behind a space; or answers the fault of its ply.
+/// Plays the move that the word names, and appends its text after a space; or answers the fault of its ply.
 fn push_move<'a>(
     out: &mut Vec<u8>,
     walk: &mut MainWalk,
@@ -164,7 +164,7 @@ fn push_element<'a>(
     }
 }
 
-/// Plays the main line of the elements from the position, and appends its moves, each behind a space.
+/// Plays the main line of the elements from the position, and appends its moves, each after a space.
 fn push_moves<'a>(
     out: &mut Vec<u8>,
     start: GamePosition,
@@ -182,8 +182,8 @@ fn push_moves<'a>(
     Ok(())
 }
 
-/// Plays the main line of the game, and appends it while it is played: the position that it starts from, `-` for the usual one, and then
-/// each move behind a space. No line feed is appended. Where the main line is faulty or memory is refused, some bytes of it may stand in the
+/// Plays the main line of the game, and appends it while it is played: the position that it starts from, `-` for the initial one, and then
+/// each move after a space. No line feed is appended. Where the main line is faulty or memory is refused, some bytes of it may stand in the
 /// vector.
 pub fn push_line<'a>(
     alloc: Global,

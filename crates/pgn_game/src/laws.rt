@@ -40,7 +40,7 @@ pub fn an_answer()
 {}
 
 /// The elements in front of one lead to one position alone; and whatever word stands there and is refused in that position is the fault of
-/// the game, whatever stands behind it.
+/// the game, whatever stands after it.
 pub fn one_place_reached()
     ensures line { OneLineIsReached }
     ensures fault { RefusedWordIsTheFault }

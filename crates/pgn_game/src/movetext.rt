@@ -7,18 +7,18 @@ ghost use Rattle.pgn_game.specs.Comments.{comment_tokens};
 ghost use Rattle.pgn_game.specs.Exports.{IsTurnText, AreMovetextTokens, kept, lines_with, number_tokens};
 ghost use Rattle.pgn_game.specs.Faults.{Fault, HasLineFault, IsRefusedTurn};
 ghost use Rattle.pgn_game.specs.MovetextWalks.{IsShort, Draws, DrawsOn, HaltsOn, HasMoved, IsBack, IsNoMove, IsPlayable, first_line, in_variation, moved_on, set_apart, shown_if, shown_items, varied};
-ghost use Rattle.pgn_game.specs.Pens.{HasPut, behind_tokens};
+ghost use Rattle.pgn_game.specs.Pens.{HasPut, after_tokens};
 ghost use Rattle.pgn_game.specs.Replays.{fault_of};
 ghost use Rattle.pgn_game.specs.TextLines.{IsLaid};
 
 use crate::comment::put_comment;
 use crate::fault::GameFault;
+use crate::line_move::LineMove;
 use crate::pen::Pen;
 use crate::replayed::GamePosition;
 use crate::saying::said_turn;
 use crate::style::Style;
 use crate::tokens::{put_glyph, put_number, put_turn};
-use crate::turn::Turn;
 use pgn_text::{Element, RawGame};
 use std::alloc::{AllocError, Global};
 use std::mem;
@@ -104,7 +104,7 @@ impl MovetextWalk {
     }
 
     /// Writes a turn with its number.
-    fn put_turn(&mut self, turn: &Turn, out: &mut Vec<u8>) -> Result<(), AllocError>
+    fn put_turn(&mut self, turn: &LineMove, out: &mut Vec<u8>) -> Result<(), AllocError>
         requires room { self.old.line.plies < usize.MAX }
         requires playable { IsPlayable self.old.line.now turn.now }
         ensures text { OnOk result ((text : List ℕ) × IsTurnText self.old.line.now turn.now text
@@ -143,7 +143,7 @@ impl MovetextWalk {
         Ok(())
     }
 
-    /// Writes a comment; the next move stands apart behind it.
+    /// Writes a comment; the next move stands apart after it.
     fn put_remark(&mut self, text: &[u8], out: &mut Vec<u8>) -> Result<(), AllocError>
         ensures text { OnOk result (HasPut self.old.pen self.new.pen out.old.items out.new.items (comment_tokens text.now)) }
         ensures line { OnOk result (self.new.line ≡ set_apart true self.old.line) }

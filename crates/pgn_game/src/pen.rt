@@ -1,10 +1,10 @@
 //! Tokens in lines.
 ghost use Rattle.std.specs.Prelude.{◌≡◌, ◌+◌, ◌≤◌, ◌++◌, ◌∷◌, ℕ, List, [], length, false, true, OnOk, IsTrue};
-ghost use Rattle.pgn_game.specs.Pens.{HasPut, behind_tokens};
+ghost use Rattle.pgn_game.specs.Pens.{HasPut, after_tokens};
 
 use std::alloc::AllocError;
 
-/// Writes tokens one behind another, in lines of a width: a token goes into the line that is begun where it is within the width behind a
+/// Writes tokens one after another, in lines of a width: a token goes into the line that is begun where it is within the width after a
 /// space, and else begins the next line.
 #[derive(Drop)]
 pub(crate) struct Pen {
@@ -35,7 +35,7 @@ impl Pen {
         self.begun && self.column < self.width && size < self.width - self.column
     }
 
-    /// Begins a token of so many bytes behind the others: they are to follow.
+    /// Begins a token of so many bytes after the others: they are to follow.
     #[inline(always)]
     pub(crate) fn start(&mut self, out: &mut Vec<u8>, size: usize) -> Result<(), AllocError>
         ensures text { OnOk result ((token : List ℕ) → length token ≡ size → HasPut self.old self.new out.old.items (out.new.items ++ token) (token ∷ [])) }
@@ -57,7 +57,7 @@ impl Pen {
         Ok(())
     }
 
-    /// Writes a token behind the others.
+    /// Writes a token after the others.
     #[inline(always)]
     pub(crate) fn put(&mut self, out: &mut Vec<u8>, token: &[u8]) -> Result<(), AllocError>
         ensures text { OnOk result (HasPut self.old self.new out.old.items out.new.items (token.now ∷ [])) }
@@ -71,7 +71,7 @@ impl Pen {
 
     /// Ends the last line, if there is one.
     pub(crate) fn finish(&self, out: &mut Vec<u8>) -> Result<(), AllocError>
-        ensures text { OnOk result (out.new.items ≡ out.old.items ++ behind_tokens self.now.width self.now.begun self.now.column []) }
+        ensures text { OnOk result (out.new.items ≡ out.old.items ++ after_tokens self.now.width self.now.begun self.now.column []) }
         ensures kept { (some : List ℕ) × (out.new.items ≡ out.old.items ++ some) }
     {
         if self.begun {

@@ -4,7 +4,7 @@ ghost use Rattle.std.specs.List.{slice_get};
 ghost use Rattle.pgn_game.specs.Codes.{coded_replay};
 ghost use Rattle.pgn_game.specs.Replays.{Replay};
 
-use crate::turn::Turn;
+use crate::line_move::LineMove;
 use chess::{Bits, Move, Position};
 use std::marker::Model;
 
@@ -16,7 +16,7 @@ pub type GamePosition = Position<Bits>;
 pub struct Replayed {
     pub(crate) positions: Vec<GamePosition>,
     pub(crate) played: Vec<Move>,
-    pub(crate) turns: Vec<Turn>,
+    pub(crate) turns: Vec<LineMove>,
 }
 
 impl Model for Replayed {
@@ -62,7 +62,7 @@ impl Replayed {
     }
 
     /// The turn that so many stand before, in the order of the text: a move, or in a variation a pass.
-    pub fn turn(&self, index: usize) -> Turn
+    pub fn turn(&self, index: usize) -> LineMove
         requires { index < length self.now.turns }
         ensures { slice_get self.now.turns index ≡ Some result }
     {

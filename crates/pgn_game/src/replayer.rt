@@ -27,7 +27,7 @@ pub enum Lines {
     All,
 }
 
-/// Plays the lines of the game from its start: the position of its FEN tag, or the usual one. Each move is the only legal move that its
+/// Plays the lines of the game from its start: the position of its FEN tag, or the initial one. Each move is the only legal move that its
 /// word names, and no pass is made in check. At the first word in the order of the text that can't be played so, the game is refused for
 /// it; the word's ply is counted along its own line, where the first move of a variation has the ply of the move that it stands for.
 pub fn replay<'a>(alloc: Global, raw: &RawGame<'a>, lines: Lines) -> Result<Replayed, GameFault<'a>>
@@ -77,7 +77,7 @@ pub fn check_variations<'a>(alloc: Global, raw: &RawGame<'a>) -> Result<(), Game
         (λ _. IsSoundGame All (tag_in fen_tag raw.now.tags) raw.now.elements)
         (λ fault. IfSome (fault_of fault) (IsFault All (tag_in fen_tag raw.now.tags) raw.now.elements)) }
 {
-    raw.known();
+    raw.invariant();
     if is_flat(raw.elements()) {
         return Ok(());
     }

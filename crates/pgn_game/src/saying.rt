@@ -6,12 +6,12 @@ ghost use Rattle.pgn_game.specs.Faults.{IsRefusedTurn, IsRefusedWord};
 ghost use Rattle.pgn_game.specs.Replays.{fault_of};
 
 use crate::fault::GameFault;
+use crate::line_move::LineMove;
 use crate::replayed::GamePosition;
-use crate::turn::Turn;
 use chess::{Move, SanError, resolve};
 
 /// Whether the word is a pass: in a variation `--` and `Z0` are, in the main line no word is.
-pub(crate) fn passes(inside: bool, word: &[u8]) -> bool
+pub(crate) fn is_null_move(inside: bool, word: &[u8]) -> bool
     ensures { result ≡ (inside && is_pass word.now) }
 {
     inside && (word == b"--".as_slice() || word == b"Z0".as_slice())
@@ -40,17 +40,17 @@ pub(crate) fn said_turn<'a>(
     inside: bool,
     word: &'a [u8],
     ply: usize,
-) -> Result<Turn, GameFault<'a>>
+) -> Result<LineMove, GameFault<'a>>
     ensures { MatchResult result
         (IsTurn inside position.now word.now)
         (λ fault. (plies : ℕ) → ply ≡ plies + 1 → IfSome (fault_of fault) (IsRefusedTurn inside position.now plies word.now)) }
 {
-    if !passes(inside, word) {
+    if !is_null_move(inside, word) {
         let m = named(position, word, ply)?;
-        return Ok(Turn::Played(m));
+        return Ok(LineMove::Played(m));
     }
     if position.in_check() {
         return Err(GameFault::Illegal { word, ply });
     }
-    Ok(Turn::Passed)
+    Ok(LineMove::Passed)
 }

@@ -15,7 +15,7 @@ const ROSTER: [&[u8]; 7] = [
     b"Event", b"Site", b"Date", b"Round", b"White", b"Black", b"Result",
 ];
 
-/// Appends a byte of a string: a quote or a backslash behind a backslash, a tab as a space.
+/// Appends a byte of a string: a quote or a backslash after a backslash, a tab as a space.
 fn put_byte(byte: u8, out: &mut Vec<u8>) -> Result<(), AllocError>
     ensures text { OnOk result (out.new.items ≡ out.old.items ++ escaped byte) }
     ensures kept { (some : List ℕ) × (out.new.items ≡ out.old.items ++ some) }

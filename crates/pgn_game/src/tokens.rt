@@ -7,14 +7,14 @@ ghost use Rattle.pgn_game.specs.Exports.{number_tokens, IsTurnText};
 ghost use Rattle.pgn_game.specs.Pens.{HasPut};
 ghost use Rattle.pgn_game.specs.MovetextWalks.{IsPlayable};
 
+use crate::line_move::LineMove;
 use crate::pen::Pen;
 use crate::replayed::GamePosition;
-use crate::turn::Turn;
 use chess::{Side, play_san};
 use itoa::Buffer;
 use std::alloc::AllocError;
 
-/// Writes digits with bytes behind them, as one token.
+/// Writes digits with bytes after them, as one token.
 #[inline(always)]
 fn put_digits(pen: &mut Pen, out: &mut Vec<u8>, digits: &[u8], end: &[u8]) -> Result<(), AllocError>
     ensures text { OnOk result (HasPut pen.old pen.new out.old.items out.new.items ((digits.now ++ end.now) ∷ [])) }
@@ -27,7 +27,7 @@ fn put_digits(pen: &mut Pen, out: &mut Vec<u8>, digits: &[u8], end: &[u8]) -> Re
     Ok(())
 }
 
-/// Writes a number with bytes behind it, as one token: most numbers of moves have one digit or two.
+/// Writes a number with bytes after it, as one token: most numbers of moves have one digit or two.
 #[inline(always)]
 fn put_count(pen: &mut Pen, out: &mut Vec<u8>, number: u32, end: &[u8]) -> Result<(), AllocError>
     ensures text { OnOk result (HasPut pen.old pen.new out.old.items out.new.items ((decimal number ++ end.now) ∷ [])) }
@@ -98,7 +98,7 @@ pub(crate) fn put_turn(
     pen: &mut Pen,
     out: &mut Vec<u8>,
     position: &mut GamePosition,
-    turn: &Turn,
+    turn: &LineMove,
 ) -> Result<(), AllocError>
     requires { IsPlayable position.old turn.now }
     ensures text { OnOk result ((text : List ℕ) × IsTurnText position.old turn.now text × HasPut pen.old pen.new out.old.items out.new.items (text ∷ [])) }
@@ -107,11 +107,11 @@ pub(crate) fn put_turn(
     ensures width { pen.new.width ≡ pen.old.width }
 {
     match turn {
-        Turn::Played(m) => {
+        LineMove::Played(m) => {
             pen.put(out, play_san(position, *m).as_bytes())?;
             Ok(())
         }
-        Turn::Passed => {
+        LineMove::Passed => {
             pass(position);
             pen.put(out, b"--")?;
             Ok(())

@@ -11,9 +11,9 @@ ghost use Rattle.pgn_game.specs.Steps.{Beside, IsNoMove, Step, StopsAt, Turned, 
 
 use crate::all_lines::{Level, play_turn};
 use crate::fault::GameFault;
+use crate::line_move::LineMove;
 use crate::line_stack::LineStack;
 use crate::replayed::GamePosition;
-use crate::turn::Turn;
 use pgn_text::Element;
 use std::alloc::{AllocError, Global};
 
@@ -28,7 +28,7 @@ pub(crate) trait Visitor {
         inside: bool,
         word: &'a [u8],
         ply: usize,
-    ) -> Result<Turn, GameFault<'a>>
+    ) -> Result<LineMove, GameFault<'a>>
         ensures { MatchResult result
             (λ turn. IsTurn inside position.old word.now turn × (position.new ≡ after_turn position.old turn) × does self.old (Turned inside position.old turn) self.new)
             (λ fault. (plies : ℕ) → ply ≡ plies + 1 → IfSome (fault_of fault) (IsRefusedTurn inside position.old plies word.now)) };
@@ -45,7 +45,7 @@ fn turn<'a, V: Visitor>(
     visitor: &mut V,
 ) -> Result<(), GameFault<'a>>
     requires room { stack.old.line.plies < usize.MAX }
-    ensures turned { OnOk result ((turn : Turn) × IsTurn (is_inside (around stack.old)) stack.old.line.now word.now turn
+    ensures turned { OnOk result ((turn : LineMove) × IsTurn (is_inside (around stack.old)) stack.old.line.now word.now turn
         × (stack.new.line ≡ gone_on stack.old.line turn) × (around stack.new ≡ around stack.old)
         × V.does visitor.old (Turned (is_inside (around stack.old)) stack.old.line.now turn) visitor.new) }
     ensures stuck { IfErr result (λ fault. IfSome (fault_of fault) (IsRefusedTurn (is_inside (around stack.old)) stack.old.line.now stack.old.line.plies word.now)) }
@@ -140,7 +140,7 @@ impl Visitor for Discard {
         inside: bool,
         word: &'a [u8],
         ply: usize,
-    ) -> Result<Turn, GameFault<'a>> {
+    ) -> Result<LineMove, GameFault<'a>> {
         play_turn(position, inside, word, ply)
     }
 
@@ -157,7 +157,7 @@ pub(crate) fn check_all_lines<'a>(
 ) -> Result<(), GameFault<'a>>
     requires { IsPaired 0 (map item_of elements.now) }
     ensures { MatchResult result
-        (λ _. (turns : List Turn) × ArePlayed start.now (map item_of elements.now) turns)
+        (λ _. (turns : List LineMove) × ArePlayed start.now (map item_of elements.now) turns)
         (λ fault. IfSome (fault_of fault) (HaveFault start.now (map item_of elements.now))) }
 {
     let mut stack = LineStack::new(alloc, Level::first(start));

@@ -18,7 +18,7 @@ use Rattle.pgn_text.specs.Searches.{IsNextCut}
 abbrev cut_test : ℕ → List ℕ → Bool
 cut_test byte shown = (byte == 10) && pointwise nat_eq event_line shown
 
--- an event line shows its eight bytes, so bytes behind them change nothing
+-- an event line shows its eight bytes, so bytes after them change nothing
 pub cut_stays : (text more : List ℕ) (j : ℕ) → 0 < j → j + 8 ≤ length text → is_cut (text ++ more) j ≡ is_cut text j
 cut_stays text more j low fits =
     let here : j - 1 < length text = omega arith in
@@ -29,7 +29,7 @@ cut_stays text more j low fits =
     ap (λ b. cut_test b (take 8 (drop j (text ++ more)))) (get_or_append_left text more 0 (j - 1) here)
     ∙ ap (cut_test (get_or text (j - 1) 0)) shown
 
--- a place behind some bytes of a text is a cut as the two sides show it
+-- a place after some bytes of a text is a cut as the two sides show it
 pub seam : (before x y : List ℕ) → 0 < length x → is_cut (before ++ (x ++ y)) (length before + length x) ≡ is_event_line x y
 seam before x y some =
     let at = length before + length x in
@@ -49,7 +49,7 @@ pub no_cut_join : (text : List ℕ) (from mid end : ℕ) → NoCutBefore text fr
 no_cut_join text from mid end front back j low high =
     elim (cases_lt j mid) [ inl less ↦ front j low less | inr more ↦ back j more high ]
 
--- bytes with no cut within, and a cut or the text's end behind them, are a first block
+-- bytes with no cut within, and a cut or the text's end after them, are a first block
 pub first_block : (before bytes ahead : List ℕ) → NoCutBefore (before ++ (bytes ++ ahead)) (length before + 1) (length before + length bytes)
     → (ahead ≢ [] → IsTrue (is_event_line bytes ahead)) → IsFirstBlock bytes ahead
 first_block before bytes ahead none ends = record {
@@ -92,7 +92,7 @@ first_block_at_end before bytes none =
     (λ j low high. ap (λ t. is_cut t j) same ∙ none j low (omega (arith, length-append before bytes)))
     (λ some. absurd (some refl))
 
--- where the first bytes of a text are given up, and those held begin at a place: a cut behind that place is one of the text
+-- where the first bytes of a text are given up, and those held begin at a place: a cut after that place is one of the text
 pub cut_moved : (gone held : List ℕ) (begin j : ℕ) → begin < j → is_cut (gone ++ drop begin held) (length gone + (j - begin)) ≡ is_cut held j
 cut_moved gone held begin j low =
     let at = length gone + (j - begin) in
@@ -115,11 +115,11 @@ no_cut_moved gone held begin from end low none j front back =
     let same : length gone + (there - begin) ≡ j = omega arith in
     ap (is_cut (gone ++ drop begin held)) (sym same) ∙ cut_moved gone held begin there (omega arith) ∙ none there (omega arith) (omega arith)
 
--- the bytes of a cut: a line feed, and the event line behind it
+-- the bytes of a cut: a line feed, and the event line after it
 abbrev cut_bytes : List ℕ
 cut_bytes = 10 ∷ event_line
 
--- what stands behind the place before a cut
+-- what stands after the place before a cut
 cut_shown : (text : List ℕ) (from k : ℕ) → 0 < from → from + k ≤ length text → drop k (drop (from - 1) text) ≡ get_or text (from + k - 1) 0 ∷ drop (from + k) text
 cut_shown text from k some within =
     drop-drop k (from - 1) text ∙ ap (λ i. drop i text) (omega arith)

@@ -9,7 +9,7 @@ use Rattle.pgn_text.specs.Parts.{Part, ByteOrderMark, White, Brace, Line, Escape
 use Rattle.pgn_text.specs.Games.{is_tag}
 use Rattle.pgn_text.specs.Steps.{State}
 use Rattle.pgn_text.specs.PartFronts.{Follows, IsPartFront, Ends}
-use Rattle.pgn_text.specs.declared.agreement.InTag.TheVariants.{BeforeName}
+use Rattle.pgn_text.specs.declared.error_position.InTag.TheVariants.{BeforeName}
 use Rattle.pgn_text.proofs.InTag.{tag_is, tag_ends, tag_bytes}
 use Rattle.pgn_text.proofs.Lines.{cut_append}
 
@@ -35,8 +35,8 @@ all_bytes test each (b ∷ xs) all =
     and_from (is_byte b) (list_all is_byte xs) (each b both.0) (all_bytes test each xs both.1)
 
 -- what follows in bytes is bytes
-pub bytes_behind : (x more all : List ℕ) → all ≡ x ++ more → IsTrue (list_all is_byte all) → IsTrue (list_all is_byte more)
-bytes_behind x more all e h =
+pub bytes_after : (x more all : List ℕ) → all ≡ x ++ more → IsTrue (list_all is_byte all) → IsTrue (list_all is_byte more)
+bytes_after x more all e h =
     (and_parts (list_all is_byte x) (list_all is_byte more) (sym (list_all-append is_byte x more) ∙ ap (list_all is_byte) (sym e) ∙ h)).1
 
 -- ---- the front of a part
@@ -49,7 +49,7 @@ module _ (max_depth : ℕ) (place : Standing) (s : State) where
   itself : (p : Part) (x more : List ℕ) → spelled_part p ≡ x ++ more → Stands place p [] → Follows max_depth s p
       → IsTrue (list_all is_byte (spelled_part p)) → InBytes x
   itself p x more e h follows all =
-      (record { part = p; more = more; spelt = e; stands = h; follows = follows }, bytes_behind x more (spelled_part p) e all)
+      (record { part = p; more = more; spelt = e; stands = h; follows = follows }, bytes_after x more (spelled_part p) e all)
 
   -- a comment whose brace comes next, or has begun to
   brace_bytes : (text : List ℕ) (c : ℕ) (x more : List ℕ) → spelled_part (Brace text) ≡ (c ∷ x) ++ more → Stands place (Brace text) []
@@ -77,7 +77,7 @@ module _ (max_depth : ℕ) (place : Standing) (s : State) where
             stands = h;
             follows = record { ends = λ r. cc; goes_on = λ r. (s, refl) };
           },
-          bytes_behind t.0 more (125 ∷ []) t.2 refl,
+          bytes_after t.0 more (125 ∷ []) t.2 refl,
         )
       ]
 
@@ -117,7 +117,7 @@ module _ (max_depth : ℕ) (place : Standing) (s : State) where
         ends.2,
       )
 
-  -- the front of a part that may follow is one with bytes behind it
+  -- the front of a part that may follow is one with bytes after it
   pub part_bytes : (x : List ℕ) → IsPartFront max_depth place s x → InBytes x
   part_bytes [] k = (
     record {

@@ -23,7 +23,7 @@ pub cut_off : (held : List ℕ) (at : ℕ) {held' : List ℕ} {place : ℕ} {lef
     × (length bytes ≡ end.size) × (end.size ≤ block_limit → EndsIn (take end.at held') end.size bytes))
     × HoldsTheRest (window_at held at place failed ended over) (window_at held' end.at (place + end.size) failed' ended' over') read
 cut_off held at {held'} {place} {end = end} going phase finds =
-    let behind : length (drop end.at held') ≡ length held' - end.at = length-drop end.at held' in (
+    let after : length (drop end.at held') ≡ length held' - end.at = length-drop end.at held' in (
       finds.read,
       finds.reads,
       (

@@ -20,11 +20,11 @@ nothing_left max_depth f before (Game at parts ∷ more) are =
     absurd (game_has_byte max_depth f (before ++ spelled are.0) parts are.1 are.5 (no_bytes (spelled parts) are.1 (second_empty (spelled are.0) (spelled parts ++ are.1) (sym are.2))))
 nothing_left max_depth f before (Unreadable at bytes ∷ more) are = absurd (are.4 (second_empty (spelled are.0) bytes (sym are.1)))
 
--- the place behind a gap
-place_behind : (f : Bool) (block : List ℕ) (at begin : ℕ) → (to : GapTo f block at begin) → begin ≡ length (take at block ++ spelled to.gap)
-place_behind f block at begin to = sym (length-take-le begin block to.within) ∙ ap length to.passed
+-- the place after a gap
+place_past : (f : Bool) (block : List ℕ) (at begin : ℕ) → (to : GapTo f block at begin) → begin ≡ length (take at block ++ spelled to.gap)
+place_past f block at begin to = sym (length-take-le begin block to.within) ∙ ap length to.passed
 
--- a game behind a gap
+-- a game after a gap
 pub piece_game : (max_depth : ℕ) (f : Bool) (block : List ℕ) (at begin end : ℕ) (parts : List Part) → LongestGapTo f block at begin → GameTo max_depth f block begin parts end
     → (more : List Piece) → ArePieces max_depth f (take end block) more (drop end block) → ArePieces max_depth f (take at block) (Game begin parts ∷ more) (drop at block)
 piece_game max_depth f block at begin end parts gap game more are = (
@@ -32,7 +32,7 @@ piece_game max_depth f block at begin end parts gap game more are = (
   drop end block,
   gap.to.parted ∙ ap (λ xs. spelled gap.to.gap ++ xs) game.parted,
   subst (IsLongestGap f (take at block) gap.to.gap) game.parted gap.longest,
-  place_behind f block at begin gap.to,
+  place_past f block at begin gap.to,
   subst (λ xs. IsGame max_depth f xs parts (drop end block)) gap.to.passed game.is_game,
   subst (λ xs. ArePieces max_depth f xs more (drop end block)) (game.passed ∙ ap (λ xs. xs ++ spelled parts) gap.to.passed) are,
 )
@@ -42,7 +42,7 @@ byte_left : (block : List ℕ) (begin : ℕ) → begin ≤ length block → begi
 byte_left block begin within not_end empty =
     not_end (let no : length (drop begin block) ≡ 0 = ap length empty in omega (arith, length-drop begin block))
 
--- behind a gap that ends before the block does, some piece is left
+-- after a gap that ends before the block does, some piece is left
 pub piece_left : (max_depth : ℕ) (f : Bool) (block : List ℕ) (at begin : ℕ) → LongestGapTo f block at begin → begin ≢ length block
     → (pieces : List Piece) → ArePieces max_depth f (take at block) pieces (drop at block) → pieces ≢ []
 piece_left max_depth f block at begin gap not_end pieces are none =
@@ -50,7 +50,7 @@ piece_left max_depth f block at begin gap not_end pieces are none =
     byte_left block begin gap.to.within not_end
     (one_gap f (take at block) gap.to.gap here.0 (drop begin block) [] (sym gap.to.parted ∙ here.1 ∙ sym (append-nil (spelled here.0))) gap.longest here.2).1
 
--- bytes behind a gap that are no game
+-- bytes after a gap that are no game
 pub piece_unreadable : (max_depth : ℕ) (f : Bool) (block : List ℕ) (at begin : ℕ) → LongestGapTo f block at begin → begin ≢ length block → NoGame max_depth f (take begin block) (drop begin block)
     → (more : List Piece) → ArePieces max_depth f (take (length block) block) more (drop (length block) block)
     → ArePieces max_depth f (take at block) (Unreadable begin (drop begin block) ∷ more) (drop at block)
@@ -60,7 +60,7 @@ piece_unreadable max_depth f block at begin gap not_end none more are =
       gap.to.gap,
       gap.to.parted,
       gap.longest,
-      place_behind f block at begin gap.to,
+      place_past f block at begin gap.to,
       byte_left block begin within not_end,
       subst (λ xs. NoGame max_depth f xs (drop begin block)) gap.to.passed none,
       nothing_left max_depth f (take (length block) block) more (subst (ArePieces max_depth f (take (length block) block) more) empty are),

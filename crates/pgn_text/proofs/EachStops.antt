@@ -6,8 +6,8 @@ use Rattle.std.proofs.Math.Seq.{take-length}
 use Rattle.pgn_text.specs.Parts.{Part, standing_of, Stands, AllStand, spelled, spelled_part}
 use Rattle.pgn_text.specs.Games.{is_result}
 use Rattle.pgn_text.specs.Steps.{State, start, step}
-use Rattle.pgn_text.specs.Stops.{IsGameFront, StopsAt}
-use Rattle.pgn_text.specs.Agreement.{Walks}
+use Rattle.pgn_text.specs.Stops.{IsGameFront, IsLongestViablePrefix}
+use Rattle.pgn_text.specs.ErrorPosition.{Walks}
 use Rattle.pgn_text.specs.PartFronts.{Follows, NoneFollows}
 use Rattle.pgn_text.proofs.OneList.{shorter}
 use Rattle.pgn_text.proofs.FoundLemmas.{part_or_none}
@@ -80,7 +80,7 @@ module _ (max_depth : ℕ) (f : Bool) where
   halt_exists before text = each_stops (suc (length text)) before start [] text (omega arith) refl tt
 
   -- each text stops somewhere, wherever it stands in a block
-  pub stop_exists : (before text : List ℕ) → (n : ℕ) × StopsAt max_depth f before text n
+  pub stop_exists : (before text : List ℕ) → (n : ℕ) × IsLongestViablePrefix max_depth f before text n
   stop_exists before text = let found = halt_exists before text in (found.0, stops max_depth f before text found.0 found.1)
 
   -- what goes on with any numbers goes on with bytes

@@ -6,7 +6,7 @@ use Rattle.std.proofs.lemmas.Bool.{both_ways, cases_lt}
 use Rattle.std.proofs.lemmas.List.{append-nil, take-append-drop, length-take-le, nil_from_length, drop-append-le, drop-drop, drop_all, take_all}
 use Rattle.pgn_text.specs.Blocks.{IsFirstBlock}
 use Rattle.pgn_text.specs.Cuts.{is_cut, NoCutBefore}
-use Rattle.pgn_text.specs.Held.{IsHeld}
+use Rattle.pgn_text.specs.Held.{IsOccupiedBy}
 use Rattle.pgn_text.specs.Limits.{block_limit, largest_offset, window_limit}
 use Rattle.pgn_text.specs.Searches.{IsNextCut, AppendsRead, FindsMore, FindsEnd, FailsFrom, GivesUp}
 use Rattle.pgn_text.specs.Tallies.{Reads}
@@ -16,7 +16,7 @@ use Rattle.pgn_text.specs.declared.blocks.ReadError.TheVariants.{Read, OutOfMemo
 use Rattle.pgn_text.proofs.BlockCuts.{cut_stays, cut_moved, no_cut_moved, no_cut_join, first_block_at_cut, first_block_at_end}
 use Rattle.pgn_text.proofs.Joined.{reads_join, reads_none}
 
--- the search has passed over all places of the block from behind its first byte to `from`. Its first bytes, so many as `lost` says,
+-- the search has passed over all places of the block from after its first byte to `from`. Its first bytes, so many as `lost` says,
 -- were given up, and the others are held from `begin` on. Of the bytes done with before it, which stand before `begin`, the first were too
 pub record Searched (done ahead held : List ℕ) (place begin lost from : ℕ) (left now : Option (List ℕ)) (moved count : ℕ) (faulted : Bool) : Type 0 where
   pub read : List ℕ
@@ -24,7 +24,7 @@ pub record Searched (done ahead held : List ℕ) (place begin lost from : ℕ) (
   pub reads : Reads left now moved count read
   pub counted : length gone ≡ lost
   pub joined : ahead ++ read ≡ gone ++ drop begin held
-  pub behind : begin < from
+  pub after : begin < from
   pub within : from ≤ length held + 1
   pub none : NoCutBefore (gone ++ drop begin held) 1 (lost + (from - begin))
   pub long : 0 < lost → (block_limit ≤ lost) × (begin + 8 ≤ length held)
@@ -39,7 +39,7 @@ pub nothing_joined : {held held' more : List ℕ} → held' ≡ held ++ more →
 nothing_joined {held} is nothing = is ∙ ap (λ t. held ++ t) nothing ∙ append-nil held
 
 -- before the first turn
-pub search_start : {held : List ℕ} {at place : ℕ} {left : Option (List ℕ)} {moved : ℕ} {faulted : Bool} → IsHeld held at place → faulted ≡ false
+pub search_start : {held : List ℕ} {at place : ℕ} {left : Option (List ℕ)} {moved : ℕ} {faulted : Bool} → IsOccupiedBy held at place → faulted ≡ false
     → Searched (take at held) (drop at held) held place at 0 (at + 1) left left moved moved faulted
 search_start {held} {at} {place} {left} {moved} h sound = record {
   read = [];
@@ -47,7 +47,7 @@ search_start {held} {at} {place} {left} {moved} h sound = record {
   reads = reads_none left moved;
   counted = refl;
   joined = append-nil (drop at held);
-  behind = omega arith;
+  after = omega arith;
   within = (let w = h.within in omega arith);
   none = λ j low high. absurd (omega arith);
   long = λ some. absurd (omega arith);
@@ -58,7 +58,7 @@ search_start {held} {at} {place} {left} {moved} h sound = record {
   front = append-nil (take at held);
 }
 
--- what was read of the block holds no event line behind its first byte
+-- what was read of the block holds no event line after its first byte
 pub record Passed (ahead held : List ℕ) (place lost : ℕ) (left now : Option (List ℕ)) (moved count : ℕ) : Type 0 where
   pub read : List ℕ
   pub gone : List ℕ
@@ -77,7 +77,7 @@ module _ {done ahead held : List ℕ} {place begin lost from : ℕ} {left now : 
       → FindsEnd done ahead held place left now moved count (record { size = lost + (cut - begin); at = cut; is_last = false })
   cut_found {cut} seen same next =
       let bytes = s.gone ++ drop begin (take cut held) in
-      let low : begin < cut = (let a = next.low in let b = s.behind in omega arith) in
+      let low : begin < cut = (let a = next.low in let b = s.after in omega arith) in
       let fits : cut + 8 ≤ length held = omega (arith, next.seen, ap length same) in
       let front : length (take cut held) ≡ cut = length-take-le cut held (omega arith) in
       let back : length (drop cut held) ≡ length held - cut = length-drop cut held in
@@ -94,7 +94,7 @@ module _ {done ahead held : List ℕ} {place begin lost from : ℕ} {left now : 
       let before : NoCutBefore (s.gone ++ drop begin held) 1 (length bytes) =
       no_cut_join (s.gone ++ drop begin held) 1 (length s.gone + (from - begin)) (length bytes)
       (λ j a b. s.none j a (let c = s.counted in omega arith))
-      (λ j a b. no_cut_moved s.gone held begin from cut s.behind (λ i x y. ap (λ t. is_cut t i) (sym same) ∙ next.before i x y) j a (omega arith)) in
+      (λ j a b. no_cut_moved s.gone held begin from cut s.after (λ i x y. ap (λ t. is_cut t i) (sym same) ∙ next.before i x y) j a (omega arith)) in
       record {
         read = s.read;
         bytes = bytes;
@@ -147,7 +147,7 @@ module _ {done ahead held : List ℕ} {place begin lost from : ℕ} {left now : 
       no_cut_join (s.gone ++ drop begin held) 1 (length s.gone + (from - begin)) (length (s.gone ++ drop begin held))
       (λ j a b. s.none j a (let c = s.counted in omega arith))
       (λ j a b.
-      no_cut_moved s.gone held begin from (length held) s.behind
+      no_cut_moved s.gone held begin from (length held) s.after
       (λ i x y. ap (λ t. is_cut t i) (sym same) ∙ none i x (let e = ap length same in omega arith)) j a (omega arith)) in
       record {
         read = s.read;
@@ -277,7 +277,7 @@ module _ {ahead held : List ℕ} {place lost : ℕ} {left now : Option (List ℕ
         reads = reads_join left now left' moved count moved' p.read appended.read p.reads appended.reads;
         counted = p.counted;
         joined = sym (append_assoc ahead p.read appended.read) ∙ ap (λ t. t ++ appended.read) p.joined ∙ sym whole;
-        behind = omega arith;
+        after = omega arith;
         within = omega arith;
         none = λ j a b.
             let seen : j + 8 ≤ length (p.gone ++ held) =

@@ -8,15 +8,15 @@ use Rattle.pgn_text.specs.TextLaws.{PiecesJoinAtEventLines, PiecesPartAtEventLin
 use Rattle.pgn_text.proofs.FrontText.{event_front}
 use Rattle.pgn_text.proofs.LineFronts.{begins_line, line_front}
 use Rattle.pgn_text.proofs.MarkedPieces.{marked_pieces_exist, one_marked_pieces}
-use Rattle.pgn_text.proofs.ResumedText.{event_line_behind}
+use Rattle.pgn_text.proofs.ResumedText.{event_line_after}
 use Rattle.pgn_text.proofs.OneList.{no_bytes}
 
--- bytes stand behind the place of an event line
+-- bytes stand after the place of an event line
 pub line_has_byte : (before after : List ℕ) → IsTrue (is_event_line before after) → after ≢ []
 line_has_byte before after line none =
     false≢true (ap begins_line (sym none) ∙ (and_parts (ends_in_line_feed before) (begins_line after) line).1)
 
--- a first block stays one where an event line follows what stood behind it
+-- a first block stays one where an event line follows what stood after it
 first_more : (block rest after : List ℕ) → IsTrue (is_event_line (block ++ rest) after) → IsFirstBlock block rest → IsFirstBlock block (rest ++ after)
 first_more block rest after line first = record { ends = λ some. ends rest line first; whole = whole }
   where
@@ -28,7 +28,7 @@ first_more block rest after line first = record { ends = λ some. ends rest line
     whole x y e some other here =
         let regroup : block ++ rest ≡ x ++ (y ++ rest) = ap (λ t. t ++ rest) e ∙ append_assoc x y rest in
         let there : IsTrue (is_event_line (y ++ rest) after) =
-        sym (event_line_behind x (y ++ rest) after (λ n. other (no_bytes y rest n))) ∙ ap (λ t. is_event_line t after) (sym regroup) ∙ line in
+        sym (event_line_after x (y ++ rest) after (λ n. other (no_bytes y rest n))) ∙ ap (λ t. is_event_line t after) (sym regroup) ∙ line in
         let feed = (and_parts (ends_in_line_feed (y ++ rest)) (begins_line after) there).0 in
         let both = and_parts (ends_in_line_feed x) (begins_line (y ++ (rest ++ after))) here in
         let long : begins_line ((y ++ rest) ++ after) ≡ true = ap begins_line (append_assoc y rest after) ∙ both.1 in
@@ -52,7 +52,7 @@ blocks_join (block ∷ next ∷ front) back before after line h k =
       ap (λ t. t ++ after) h.1 ∙ append_assoc block h.0 after,
       λ n. h.2 (no_bytes h.0 after n),
       first_more block h.0 after here h.3,
-      blocks_join (next ∷ front) back h.0 after (sym (event_line_behind block h.0 after h.2) ∙ here) h.4 k,
+      blocks_join (next ∷ front) back h.0 after (sym (event_line_after block h.0 after h.2) ∙ here) h.4 k,
     )
 
 -- and their pieces

@@ -74,7 +74,7 @@ module _ (max_depth : ℕ) (file_start : Bool) where
 -- ---- a longest gap
 
 module _ (file_start : Bool) where
-  -- a part of a gap, and a longest gap behind it
+  -- a part of a gap, and a longest gap after it
   gap_more : (before : List ℕ) (p : Part) (gap : List Part) (after rest : List ℕ)
       → is_gap_part p ≡ true → rest ≡ spelled gap ++ after → Stands (standing_of file_start before) p rest
       → IsLongestGap file_start (before ++ spelled_part p) gap after → IsLongestGap file_start before (p ∷ gap) after
@@ -164,7 +164,7 @@ module _ (max_depth : ℕ) (file_start : Bool) where
         | inr none ↦ inr (λ parts after e g. none parts after (game_reads max_depth file_start before text parts after e g))
       ]
 
-  -- behind a longest gap: the end, a game and what follows, or bytes that are no game
+  -- after a longest gap: the end, a game and what follows, or bytes that are no game
   after_gap : (fuel : ℕ) (before text : List ℕ) (gap : List Part) (after : List ℕ)
       → text ≡ spelled gap ++ after → IsLongestGap file_start before gap after → length text < suc fuel
       → ((there rest : List ℕ) → length rest < fuel → (pieces : List Piece) × ArePieces max_depth file_start there

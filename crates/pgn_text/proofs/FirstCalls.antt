@@ -5,7 +5,7 @@ use Rattle.pgn_text.specs.Left.{Left, ArePiecesLeft, IsPiece, GivesPiece}
 use Rattle.pgn_text.specs.LeftMarks.{IsMark, GivesMark}
 use Rattle.pgn_text.specs.Pieces.{ArePieces}
 use Rattle.pgn_text.specs.Pieces as spec
-use Rattle.pgn_text.specs.declared.pieces.Mark.{Mark}
+use Rattle.pgn_text.specs.declared.pieces.PieceStart.{PieceStart}
 use Rattle.pgn_text.specs.declared.pieces.Piece.{Piece}
 use Rattle.pgn_text.proofs.Existence.{pieces_exist}
 
@@ -26,7 +26,7 @@ first_piece_of max_depth block f old new piece fresh gives =
     )
 
 -- and so is a mark
-pub first_mark_of : (max_depth : ℕ) (block : List ℕ) (f : Bool) (old new : Left) (answer : Option Mark)
+pub first_mark_of : (max_depth : ℕ) (block : List ℕ) (f : Bool) (old new : Left) (answer : Option PieceStart)
     → old ≡ all_left block f → GivesMark max_depth old answer new
     → (pieces : List spec.Piece) × ArePieces max_depth f [] pieces block
     × MatchOption answer (pieces ≡ []) (λ mark. (shown : spec.Piece) × (more : List spec.Piece) × (pieces ≡ shown ∷ more) × IsMark mark shown)

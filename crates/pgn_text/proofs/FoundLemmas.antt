@@ -7,7 +7,7 @@ use Rattle.std.proofs.lemmas.Bool.{and_parts, and_from, or_parts, not-false, eqb
 use Rattle.pgn_text.specs.Bytes.{is_white, is_digit, is_name_byte, is_word_byte, is_mark, is_plain, is_not_line_feed, is_not_brace, is_empty, run_of, after_run}
 use Rattle.pgn_text.specs.Strings.{Sign, Single, Escaped, spelled_sign, is_sign, IsContents}
 use Rattle.pgn_text.specs.Parts.{Part, ByteOrderMark, Brace, Line, EscapeLine, Tag, Word, Star, Dot, Glyph, Marks, Open, Close, Standing, Stands, spelled_part, number_of}
-use Rattle.pgn_text.specs.Reading.{rest_behind, brace_front, mark_front, gap_front, with_byte, contents_front, tag_end, tag_string, tag_name, tag_front, is_glyph, glyph_front, game_front, part_front}
+use Rattle.pgn_text.specs.Reading.{rest_after, brace_front, mark_front, gap_front, with_byte, contents_front, tag_end, tag_string, tag_name, tag_front, is_glyph, glyph_front, game_front, part_front}
 use Rattle.pgn_text.proofs.Fronts.{run-append-after, list_all-run, stops-after_run}
 use Rattle.pgn_text.proofs.PartLemmas.{tag_regroup, stands-read}
 
@@ -21,17 +21,17 @@ some_if : (v : Bool) (t rest : List ℕ) → (if v then Some t else None) ≡ So
 some_if true t rest is = (refl, cc)
 some_if false t rest is = absurd (cc)
 
-pub rest_behind-is : (w : ℕ) (xs rest : List ℕ) → rest_behind w xs ≡ Some rest → xs ≡ w ∷ rest
-rest_behind-is w [] rest is = absurd (cc)
-rest_behind-is w (b ∷ t) rest is =
+pub rest_after-is : (w : ℕ) (xs rest : List ℕ) → rest_after w xs ≡ Some rest → xs ≡ w ∷ rest
+rest_after-is w [] rest is = absurd (cc)
+rest_after-is w (b ∷ t) rest is =
     let both : ((b == w) ≡ true) × (t ≡ rest) = some_if (b == w) t rest is in
     ap (λ x. x ∷ t) (eqb-true b w both.0) ∙ ap (λ xs. w ∷ xs) both.1
 
-brace_go : (place : Standing) (text : List ℕ) (o : Option (List ℕ)) → rest_behind 125 (after_run is_not_brace text) ≡ o → IsFound place (123 ∷ text) (option_map (λ rest. (Brace (run_of is_not_brace text), rest)) o)
+brace_go : (place : Standing) (text : List ℕ) (o : Option (List ℕ)) → rest_after 125 (after_run is_not_brace text) ≡ o → IsFound place (123 ∷ text) (option_map (λ rest. (Brace (run_of is_not_brace text), rest)) o)
 brace_go place text None is = tt
 brace_go place text (Some rest) is = (
   ap (λ (xs : List ℕ). 123 ∷ xs) (run-append-after is_not_brace text
-      ∙ ap (λ xs. run_of is_not_brace text ++ xs) (rest_behind-is 125 (after_run is_not_brace text) rest is)
+      ∙ ap (λ xs. run_of is_not_brace text ++ xs) (rest_after-is 125 (after_run is_not_brace text) rest is)
       ∙ sym (append_assoc (run_of is_not_brace text) (125 ∷ []) rest)),
   list_all-run is_not_brace text,
 )
@@ -50,7 +50,7 @@ mark-found place text at_start =
     (λ is. (ap (λ (xs : List ℕ). 239 ∷ xs) (begins_mark text is), at_start))
     (λ _. tt)
 
--- what was found behind a byte that is the given one
+-- what was found after a byte that is the given one
 at_byte : (place : Standing) (b w : ℕ) (rest : List ℕ) (o : Option (Part × List ℕ)) → (b == w) ≡ true → IsFound place (w ∷ rest) o → IsFound place (b ∷ rest) o
 at_byte place b w rest o is found = subst (λ x. IsFound place (x ∷ rest) o) (sym (eqb-true b w is)) found
 
@@ -70,7 +70,7 @@ pub gap-found : (place : Standing) (text : List ℕ) → IsFound place text (gap
 gap-found place [] = tt
 gap-found place (b ∷ rest) =
     cond_both (is_white b) _ _ (IsFound place (b ∷ rest)) (λ e. (refl, e)) (λ _.
-    cond_both (b == 123) _ _ (IsFound place (b ∷ rest)) (λ e. at_byte place b 123 rest (brace_front rest) e (brace_go place rest (rest_behind 125 (after_run is_not_brace rest)) refl)) (λ _.
+    cond_both (b == 123) _ _ (IsFound place (b ∷ rest)) (λ e. at_byte place b 123 rest (brace_front rest) e (brace_go place rest (rest_after 125 (after_run is_not_brace rest)) refl)) (λ _.
     cond_both (b == 59) _ _ (IsFound place (b ∷ rest)) (λ e. at_byte place b 59 rest (Some (Line (run_of is_not_line_feed rest), after_run is_not_line_feed rest)) e (line_found place rest)) (λ _.
     cond_both (b == 37) _ _ (IsFound place (b ∷ rest)) (λ e.
     cond_both place.column_one (Some (EscapeLine (run_of is_not_line_feed rest), after_run is_not_line_feed rest)) None (IsFound place (b ∷ rest))
@@ -80,7 +80,7 @@ gap-found place (b ∷ rest) =
     (λ at_start. at_byte place b 239 rest (mark_front rest) e (mark-found place rest at_start)) (λ _. tt)) (λ _.
     tt)))))
 
--- contents, behind a backslash if the first is true
+-- contents, after a backslash if the first is true
 abbrev pub IsSpelled : Bool → List ℕ → Type 0
 IsSpelled false contents = IsContents contents
 IsSpelled true contents = (signs : List Sign) × (92 ∷ contents ≡ flat_map spelled_sign signs) × IsTrue (list_all is_sign signs)
@@ -127,51 +127,51 @@ record Begun (place : Standing) (first name second : List ℕ) : Type 0 where
   names : IsTrue (list_all is_name_byte name)
   more_whites : IsTrue (list_all is_white second)
 
-tag_end-found : (place : Standing) (first name second contents : List ℕ) → Begun place first name second → IsContents contents → (text : List ℕ) (o : Option (List ℕ)) → rest_behind 93 (after_run is_white text) ≡ o
+tag_end-found : (place : Standing) (first name second contents : List ℕ) → Begun place first name second → IsContents contents → (text : List ℕ) (o : Option (List ℕ)) → rest_after 93 (after_run is_white text) ≡ o
     → IsFound place (91 ∷ (first ++ (name ++ (second ++ (34 ∷ (contents ++ (34 ∷ text))))))) (option_map (λ rest. (Tag first name second contents (run_of is_white text), rest)) o)
 tag_end-found place first name second contents begun spelt text None is = tt
 tag_end-found place first name second contents begun spelt text (Some rest) is =
     let parted : text ≡ run_of is_white text ++ (93 ∷ rest) =
-    run-append-after is_white text ∙ ap (λ xs. run_of is_white text ++ xs) (rest_behind-is 93 (after_run is_white text) rest is) in (
+    run-append-after is_white text ∙ ap (λ xs. run_of is_white text ++ xs) (rest_after-is 93 (after_run is_white text) rest is) in (
       ap (λ (xs : List ℕ). 91 ∷ (first ++ (name ++ (second ++ (34 ∷ (contents ++ (34 ∷ xs))))))) parted
           ∙ ap (λ (xs : List ℕ). 91 ∷ xs) (sym (tag_regroup first name second contents (run_of is_white text) rest)),
       (begun.whites, begun.some, begun.names, begun.more_whites, spelt, list_all-run is_white text),
     )
 
-tag_close-found : (place : Standing) (first name second contents : List ℕ) → Begun place first name second → IsContents contents → (text : List ℕ) (o : Option (List ℕ)) → rest_behind 34 text ≡ o
+tag_close-found : (place : Standing) (first name second contents : List ℕ) → Begun place first name second → IsContents contents → (text : List ℕ) (o : Option (List ℕ)) → rest_after 34 text ≡ o
     → IsFound place (91 ∷ (first ++ (name ++ (second ++ (34 ∷ (contents ++ text)))))) (option_and_then (λ rest. tag_end first name second contents rest) o)
 tag_close-found place first name second contents begun spelt text None is = tt
 tag_close-found place first name second contents begun spelt text (Some rest) is =
-    subst (λ xs. IsFound place (91 ∷ (first ++ (name ++ (second ++ (34 ∷ (contents ++ xs)))))) (tag_end first name second contents rest)) (sym (rest_behind-is 34 text rest is))
-    (tag_end-found place first name second contents begun spelt rest (rest_behind 93 (after_run is_white rest)) refl)
+    subst (λ xs. IsFound place (91 ∷ (first ++ (name ++ (second ++ (34 ∷ (contents ++ xs)))))) (tag_end first name second contents rest)) (sym (rest_after-is 34 text rest is))
+    (tag_end-found place first name second contents begun spelt rest (rest_after 93 (after_run is_white rest)) refl)
 
 tag_contents-found : (place : Standing) (first name second : List ℕ) → Begun place first name second → (text : List ℕ) (o : Option (List ℕ × List ℕ)) → IsRead false text o
-    → IsFound place (91 ∷ (first ++ (name ++ (second ++ (34 ∷ text))))) (option_and_then (λ found. option_and_then (λ rest. tag_end first name second found.0 rest) (rest_behind 34 found.1)) o)
+    → IsFound place (91 ∷ (first ++ (name ++ (second ++ (34 ∷ text))))) (option_and_then (λ found. option_and_then (λ rest. tag_end first name second found.0 rest) (rest_after 34 found.1)) o)
 tag_contents-found place first name second begun text None read = tt
 tag_contents-found place first name second begun text (Some found) (spelt, parted) =
-    subst (λ xs. IsFound place (91 ∷ (first ++ (name ++ (second ++ (34 ∷ xs))))) (option_and_then (λ rest. tag_end first name second found.0 rest) (rest_behind 34 found.1))) (sym parted)
-    (tag_close-found place first name second found.0 begun spelt found.1 (rest_behind 34 found.1) refl)
+    subst (λ xs. IsFound place (91 ∷ (first ++ (name ++ (second ++ (34 ∷ xs))))) (option_and_then (λ rest. tag_end first name second found.0 rest) (rest_after 34 found.1))) (sym parted)
+    (tag_close-found place first name second found.0 begun spelt found.1 (rest_after 34 found.1) refl)
 
-tag_string-found : (place : Standing) (first name second : List ℕ) → Begun place first name second → (text : List ℕ) (o : Option (List ℕ)) → rest_behind 34 text ≡ o
-    → IsFound place (91 ∷ (first ++ (name ++ (second ++ text)))) (option_and_then (λ behind. option_and_then (λ found. option_and_then (λ rest. tag_end first name second found.0 rest) (rest_behind 34 found.1)) (contents_front false behind)) o)
+tag_string-found : (place : Standing) (first name second : List ℕ) → Begun place first name second → (text : List ℕ) (o : Option (List ℕ)) → rest_after 34 text ≡ o
+    → IsFound place (91 ∷ (first ++ (name ++ (second ++ text)))) (option_and_then (λ after. option_and_then (λ found. option_and_then (λ rest. tag_end first name second found.0 rest) (rest_after 34 found.1)) (contents_front false after)) o)
 tag_string-found place first name second begun text None is = tt
-tag_string-found place first name second begun text (Some behind) is =
-    subst (λ xs. IsFound place (91 ∷ (first ++ (name ++ (second ++ xs)))) (option_and_then (λ found. option_and_then (λ rest. tag_end first name second found.0 rest) (rest_behind 34 found.1)) (contents_front false behind))) (sym (rest_behind-is 34 text behind is))
-    (tag_contents-found place first name second begun behind (contents_front false behind) (contents-sound false behind))
+tag_string-found place first name second begun text (Some after) is =
+    subst (λ xs. IsFound place (91 ∷ (first ++ (name ++ (second ++ xs)))) (option_and_then (λ found. option_and_then (λ rest. tag_end first name second found.0 rest) (rest_after 34 found.1)) (contents_front false after))) (sym (rest_after-is 34 text after is))
+    (tag_contents-found place first name second begun after (contents_front false after) (contents-sound false after))
 
 tag_name-found : (place : Standing) (first text : List ℕ) → IsTrue (list_all is_white first) → IsFound place (91 ∷ (first ++ text)) (tag_name first text)
 tag_name-found place first text whites =
     let name : List ℕ = run_of is_name_byte text in
-    let behind : List ℕ = after_run is_name_byte text in
-    let second : List ℕ = run_of is_white behind in
-    let string : List ℕ = after_run is_white behind in
+    let rest : List ℕ = after_run is_name_byte text in
+    let second : List ℕ = run_of is_white rest in
+    let string : List ℕ = after_run is_white rest in
     cond_both (is_empty name) None (tag_string first name second string) (IsFound place (91 ∷ (first ++ text)))
     (λ _. tt)
     (λ some. subst (λ xs. IsFound place (91 ∷ (first ++ xs)) (tag_string first name second string))
-    (sym (run-append-after is_name_byte text ∙ ap (λ xs. name ++ xs) (run-append-after is_white behind)))
+    (sym (run-append-after is_name_byte text ∙ ap (λ xs. name ++ xs) (run-append-after is_white rest)))
     (tag_string-found place first name second
-    (record { whites = whites; some = not_from_false _ some; names = list_all-run is_name_byte text; more_whites = list_all-run is_white behind })
-    string (rest_behind 34 string) refl))
+    (record { whites = whites; some = not_from_false _ some; names = list_all-run is_name_byte text; more_whites = list_all-run is_white rest })
+    string (rest_after 34 string) refl))
 
 pub tag-found : (place : Standing) (text : List ℕ) → IsFound place (91 ∷ text) (tag_front text)
 tag-found place text =

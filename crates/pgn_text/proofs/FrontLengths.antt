@@ -1,4 +1,4 @@
--- How long a front of a word and of bytes behind it is, counted byte by byte.
+-- How long a front of a word and of bytes after it is, counted byte by byte.
 use Rattle.std.proofs.Common.{◌≡◌, ℕ, suc, ◌+◌, ◌<◌, ◌≤◌, Bool, List, [], ◌∷◌, drop, length, refl, ap, inl, inr, arith}
 use Rattle.std.specs.Prelude.{◌==◌}
 use Rattle.std.proofs.Math.ListN.{drop_of_length-le}
@@ -6,7 +6,7 @@ use Rattle.std.proofs.lemmas.Bool.{cases_Bool}
 use Rattle.pgn_text.specs.PartFronts.{front_length, no_byte}
 use Rattle.pgn_text.specs.Bytes.{run_of}
 
--- the word alone, and bytes behind it, as far as the word does not stand whole
+-- the word alone, and bytes after it, as far as the word does not stand whole
 pub front_short : (test : ℕ → Bool) (word text : List ℕ) → front_length no_byte word text < length word
     → front_length test word text ≡ front_length no_byte word text
 front_short test word [] l = refl
@@ -16,7 +16,7 @@ front_short test (c ∷ word) (b ∷ text) l = elim (cases_Bool (b == c)) [
   | inr e ↦ rw e refl
 ]
 
--- where it does, the bytes behind it are counted on
+-- where it does, the bytes after it are counted on
 pub front_whole : (test : ℕ → Bool) (word text : List ℕ) → length word ≤ front_length no_byte word text
     → front_length test word text ≡ front_length no_byte word text + front_length test [] (drop (front_length no_byte word text) text)
 front_whole test word [] l = refl

@@ -128,7 +128,7 @@ event_front x y v h =
     let both = and_parts (get_or x (length x - 1) 0 == 10) (begins_line y) h in
     and_from (get_or x (length x - 1) 0 == 10) (begins_line (y ++ v)) both.0 (starts_more event_line y v both.1)
 
--- a first block stays one where fewer bytes follow, as long as the event line behind it is whole
+-- a first block stays one where fewer bytes follow, as long as the event line after it is whole
 first_front : (block u v : List ℕ) → IsFirstBlock block (u ++ v) → (u ≢ [] → begins_line (u ++ v) ≡ true → begins_line u ≡ true)
     → IsFirstBlock block u
 first_front block u v first line = record {
@@ -242,39 +242,39 @@ front_later limit max_depth offset block next more text own before piece parted 
           line = λ some h. starts_more event_line block (c ∷ front) (whole_line h);
         }
 
--- what is to be shown of the blocks behind the first
+-- what is to be shown of the blocks after the first
 abbrev FrontsOf : ℕ → ℕ → ℕ → List (List ℕ) → List ℕ → MarkedPiece → List MarkedPiece → Type 0
-FrontsOf limit max_depth offset blocks text piece behind =
-    (there : List MarkedPiece) → AreOfBlocks limit max_depth offset blocks (there ++ piece ∷ behind)
+FrontsOf limit max_depth offset blocks text piece after =
+    (there : List MarkedPiece) → AreOfBlocks limit max_depth offset blocks (there ++ piece ∷ after)
     → TextFront limit max_depth offset text there piece
 
 text_front : (limit max_depth offset : ℕ) (blocks : List (List ℕ)) (text : List ℕ) (before : List MarkedPiece)
-    (piece : MarkedPiece) (behind : List MarkedPiece)
-    → AreBlocks blocks text → AreOfBlocks limit max_depth offset blocks (before ++ piece ∷ behind)
+    (piece : MarkedPiece) (after : List MarkedPiece)
+    → AreBlocks blocks text → AreOfBlocks limit max_depth offset blocks (before ++ piece ∷ after)
     → TextFront limit max_depth offset text before piece
-text_front limit max_depth offset [] text before piece behind parted h = absurd parted
-text_front limit max_depth offset (block ∷ []) text before piece behind parted h =
-    let all : before ++ piece ∷ behind ≡ h.0 = h.2 ∙ ap (λ t. h.0 ++ t) h.4 ∙ append-nil h.0 in
+text_front limit max_depth offset [] text before piece after parted h = absurd parted
+text_front limit max_depth offset (block ∷ []) text before piece after parted h =
+    let all : before ++ piece ∷ after ≡ h.0 = h.2 ∙ ap (λ t. h.0 ++ t) h.4 ∙ append-nil h.0 in
     front_first limit max_depth offset block [] text before piece parted
-    (block_front limit max_depth offset block before piece behind (subst (AreOfBlock limit max_depth offset block) (sym all) h.3))
-text_front limit max_depth offset (block ∷ next ∷ more) text before piece behind parted h =
-    let again : FrontsOf limit max_depth (offset + length block) (next ∷ more) parted.0 piece behind =
-    λ there marks. text_front limit max_depth (offset + length block) (next ∷ more) parted.0 there piece behind parted.4 marks in
-    elim (cut_append h.0 h.1 before (piece ∷ behind) (sym h.2)) [
+    (block_front limit max_depth offset block before piece after (subst (AreOfBlock limit max_depth offset block) (sym all) h.3))
+text_front limit max_depth offset (block ∷ next ∷ more) text before piece after parted h =
+    let again : FrontsOf limit max_depth (offset + length block) (next ∷ more) parted.0 piece after =
+    λ there marks. text_front limit max_depth (offset + length block) (next ∷ more) parted.0 there piece after parted.4 marks in
+    elim (cut_append h.0 h.1 before (piece ∷ after) (sym h.2)) [
       | inl t ↦ inside again t.0 t.1 t.2
       | inr t ↦ later again t.0 h.0 t.1 t.2 h.3
     ]
   where
-    later : FrontsOf limit max_depth (offset + length block) (next ∷ more) parted.0 piece behind
-        → (there own : List MarkedPiece) → before ≡ own ++ there → h.1 ≡ there ++ piece ∷ behind
+    later : FrontsOf limit max_depth (offset + length block) (next ∷ more) parted.0 piece after
+        → (there own : List MarkedPiece) → before ≡ own ++ there → h.1 ≡ there ++ piece ∷ after
         → AreOfBlock limit max_depth offset block own → TextFront limit max_depth offset text before piece
     later again there own e f is =
         subst (λ l. TextFront limit max_depth offset text l piece) (sym e)
         (front_later limit max_depth offset block next more text own there piece parted is
         (again there (subst (AreOfBlocks limit max_depth (offset + length block) (next ∷ more)) f h.4)))
 
-    inside : FrontsOf limit max_depth (offset + length block) (next ∷ more) parted.0 piece behind
-        → (m : List MarkedPiece) → h.0 ≡ before ++ m → piece ∷ behind ≡ m ++ h.1 → TextFront limit max_depth offset text before piece
+    inside : FrontsOf limit max_depth (offset + length block) (next ∷ more) parted.0 piece after
+        → (m : List MarkedPiece) → h.0 ≡ before ++ m → piece ∷ after ≡ m ++ h.1 → TextFront limit max_depth offset text before piece
     inside again [] e f =
         later again [] before (sym (append-nil before)) (sym f)
         (subst (AreOfBlock limit max_depth offset block) (e ∙ append-nil before) h.3)
@@ -285,8 +285,8 @@ text_front limit max_depth offset (block ∷ next ∷ more) text before piece be
         (block_front limit max_depth offset block before piece m own)
 
 pub front_of_text : FrontHasThePiecesBefore
-front_of_text limit max_depth offset text before piece behind h =
-    let r = text_front limit max_depth offset h.blocks text before piece behind h.parted h.each in
+front_of_text limit max_depth offset text before piece after h =
+    let r = text_front limit max_depth offset h.blocks text before piece after h.parted h.each in
     let bytes = piece.offset - offset in
     let size : length r.front ≡ bytes = omega (arith, r.place) in
     let same : take bytes text ≡ r.front = ap (take bytes) r.cut ∙ take_at r.front r.back bytes size in record {

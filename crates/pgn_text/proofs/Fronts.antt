@@ -39,7 +39,7 @@ list_all-run test (b ∷ rest) =
     ] is in
     go (test b) refl
 
--- behind a run no byte passes
+-- after a run no byte passes
 pub stops-after_run : (test : ℕ → Bool) (xs : List ℕ) → IsTrue (stops test (after_run test xs))
 stops-after_run test [] = refl
 stops-after_run test (b ∷ rest) =

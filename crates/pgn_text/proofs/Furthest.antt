@@ -12,10 +12,10 @@ pub longest_same : (P Q : List ℕ → Type 0) (text : List ℕ) (n : ℕ) → (
 longest_same P Q text n to from l =
     record { within = l.within; here = to (take n text) l.here; most = λ k low p. l.most k low (from (take k text) p) }
 
--- behind one byte
-pub longest_behind : (P Q : List ℕ → Type 0) (c : ℕ) (rest : List ℕ) (n : ℕ) → ((x : List ℕ) → Q x → P (c ∷ x))
+-- after one byte
+pub longest_after : (P Q : List ℕ → Type 0) (c : ℕ) (rest : List ℕ) (n : ℕ) → ((x : List ℕ) → Q x → P (c ∷ x))
     → ((x : List ℕ) → P (c ∷ x) → Q x) → Longest Q rest n → Longest P (c ∷ rest) (suc n)
-longest_behind P Q c rest n to from l = record {
+longest_after P Q c rest n to from l = record {
   within = omega (arith, l.within);
   here = to (take n rest) l.here;
   most = most;
@@ -76,27 +76,27 @@ pub longest_greedy : (D : List ℕ → Bool) → ((x y : List ℕ) → D (x ++ y
 longest_greedy D closed acc [] good =
     record { within = omega arith; here = ap D (append-nil acc) ∙ good; most = λ k low p. low }
 longest_greedy D closed acc (b ∷ rest) good = elim (cases_Bool (D (acc ++ b ∷ []))) [
-  | inl more ↦ rw more (longest_behind (λ x. D (acc ++ x) ≡ true) (λ x. D ((acc ++ b ∷ []) ++ x) ≡ true) b rest
+  | inl more ↦ rw more (longest_after (λ x. D (acc ++ x) ≡ true) (λ x. D ((acc ++ b ∷ []) ++ x) ≡ true) b rest
       (greedy D (acc ++ b ∷ []) rest) (λ x q. ap D (sym (append_assoc acc (b ∷ []) x)) ∙ q)
       (λ x p. ap D (append_assoc acc (b ∷ []) x) ∙ p) (longest_greedy D closed (acc ++ b ∷ []) rest more))
   | inr bad ↦ rw bad (longest_nothing (λ x. D (acc ++ x) ≡ true) b rest (ap D (append-nil acc) ∙ good)
       (λ x p. false≢true (sym bad ∙ closed (acc ++ b ∷ []) x (ap D (append_assoc acc (b ∷ []) x) ∙ p))))
 ]
 
--- ---- a word, and behind it bytes that pass a test
+-- ---- a word, and after it bytes that pass a test
 
 pub as_far : (test : ℕ → Bool) (w text : List ℕ) → Longest (IsFrontOf test w) text (front_length test w text)
 as_far test [] [] = record { within = omega arith; here = tt; most = λ k low p. low }
 as_far test (c ∷ w) [] = record { within = omega arith; here = tt; most = λ k low p. low }
 as_far test [] (b ∷ rest) = elim (cases_Bool (test b)) [
-  | inl good ↦ rw good (longest_behind (IsFrontOf test []) (IsFrontOf test []) b rest (front_length test [] rest) (λ x q. (good, q)) (λ x p. p.1)
+  | inl good ↦ rw good (longest_after (IsFrontOf test []) (IsFrontOf test []) b rest (front_length test [] rest) (λ x q. (good, q)) (λ x p. p.1)
       (as_far test [] rest))
   | inr bad ↦ rw bad (longest_nothing (IsFrontOf test []) b rest tt (λ x p. let e = p.0 in cc))
 ]
 as_far test (c ∷ w) (b ∷ rest) = elim (cases_eq b c) [
   | inl good ↦
       let is : (b == c) ≡ true = eq-eqb b c good in
-      rw is (longest_behind (IsFrontOf test (c ∷ w)) (IsFrontOf test w) b rest (front_length test w rest) (λ x q. (good, q)) (λ x p. p.1)
+      rw is (longest_after (IsFrontOf test (c ∷ w)) (IsFrontOf test w) b rest (front_length test w rest) (λ x q. (good, q)) (λ x p. p.1)
       (as_far test w rest))
   | inr bad ↦ rw (ne_eqb b c bad) (longest_nothing (IsFrontOf test (c ∷ w)) b rest tt (λ x p. absurd (bad p.0)))
 ]

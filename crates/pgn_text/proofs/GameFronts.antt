@@ -1,4 +1,4 @@
--- Where a text stops, told from the parts that were read of it.
+-- Where a text stops, read off from the parts that were read of it.
 use Rattle.std.proofs.Common.{◌≡◌, ◌≢◌, ℕ, zero, suc, ◌+◌, ◌-◌, ◌≤◌, Bool, true, List, [], ◌∷◌, ◌++◌, IsTrue, take, drop, length, refl, sym, ap, subst, ◌∙◌, inl, inr, arith, append_assoc, append-nil, length-append}
 use Rattle.std.specs.List.{list_all}
 use Rattle.std.proofs.Math.Seq.{take-append-add}
@@ -7,8 +7,8 @@ use Rattle.std.proofs.lemmas.Bool.{and_from, cases_Bool, cases_lt, not_from_fals
 use Rattle.pgn_text.specs.Parts.{Part, ByteOrderMark, White, Brace, Line, EscapeLine, standing_of, AllStand, spelled}
 use Rattle.pgn_text.specs.Games.{is_gap_part, begins_outside_gap}
 use Rattle.pgn_text.specs.Steps.{State, start, Leads}
-use Rattle.pgn_text.specs.Stops.{IsGameFront, StopsAt}
-use Rattle.pgn_text.specs.Agreement.{Walks}
+use Rattle.pgn_text.specs.Stops.{IsGameFront, IsLongestViablePrefix}
+use Rattle.pgn_text.specs.ErrorPosition.{Walks}
 use Rattle.pgn_text.specs.PartFronts.{IsPartFront, NoneFollows}
 use Rattle.pgn_text.proofs.GameLeads.{game_leads, game_from}
 use Rattle.pgn_text.proofs.Halfway.{Reads, stands_join, stands_cut, spelled-append, one_reading}
@@ -107,14 +107,14 @@ module _ (max_depth : ℕ) (f : Bool) where
     pub furthest : (other : ℕ) → other ≤ length text → Front max_depth f before start (take other text) → other ≤ place
 
   -- so it stops there
-  pub stops : (before text : List ℕ) (place : ℕ) → Halts before text place → StopsAt max_depth f before text place
+  pub stops : (before text : List ℕ) (place : ℕ) → Halts before text place → IsLongestViablePrefix max_depth f before text place
   stops before text place h = record {
     within = h.within;
     agrees = h.agrees;
     furthest = λ other low g. h.furthest other low (front_from before (take other text) g);
   }
 
-  -- behind parts that were read, where no part may follow: as many bytes more as a part that may follow can begin with
+  -- after parts that were read, where no part may follow: as many bytes more as a part that may follow can begin with
   pub halts_in_part : (before : List ℕ) (t : State) (done : List Part) (text : List ℕ) (n : ℕ)
       → Walks max_depth start done t → AllStand f before done text
       → NoneFollows max_depth (standing_of f (before ++ spelled done)) t text → n ≤ length text
@@ -163,7 +163,7 @@ module _ (max_depth : ℕ) (f : Bool) where
         | inr short ↦ omega (arith, short)
       ]
 
-  -- a text that begins with a game, or a gap and a game, stops behind it
+  -- a text that begins with a game, or a gap and a game, stops after it
   pub halts_at_game : (before text : List ℕ) (parts : List Part) (after : List ℕ)
       → Reads max_depth f before text start parts after → Halts before text (length (spelled parts))
   halts_at_game before text parts after r = record {
@@ -215,10 +215,10 @@ module _ (max_depth : ℕ) (f : Bool) where
       → (n ≢ 0 → IsPartFront max_depth (standing_of f (before ++ spelled done)) t (take n text))
       → ((k : ℕ) → k ≢ 0 → k ≤ length text
       → IsPartFront max_depth (standing_of f (before ++ spelled done)) t (take k text) → k ≤ n)
-      → StopsAt max_depth f before (spelled done ++ text) (length (spelled done) + n)
+      → IsLongestViablePrefix max_depth f before (spelled done ++ text) (length (spelled done) + n)
   stops_in_part before t done text n w h none within goes most =
       stops before (spelled done ++ text) (length (spelled done) + n) (halts_in_part before t done text n w h none within goes most)
 
   pub stops_at_game : (before text : List ℕ) (parts : List Part) (after : List ℕ)
-      → Reads max_depth f before text start parts after → StopsAt max_depth f before text (length (spelled parts))
+      → Reads max_depth f before text start parts after → IsLongestViablePrefix max_depth f before text (length (spelled parts))
   stops_at_game before text parts after r = stops before text (length (spelled parts)) (halts_at_game before text parts after r)

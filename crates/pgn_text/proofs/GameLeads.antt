@@ -7,7 +7,7 @@ use Rattle.pgn_text.specs.Games.{is_number, is_result_word, is_move_text, is_gap
 use Rattle.pgn_text.specs.Steps.{State, start, in_movetext, step, Leads}
 use Rattle.pgn_text.proofs.Lines.{Shows, shows_start, shows_more, when_some, count_push_yes, count_push_not, depth_is}
 
--- what a game says of its parts behind `front`, beside where they stand
+-- what a game says of its parts after `front`, beside where they stand
 pub record GoesOn (max_depth : ℕ) (front parts : List Part) : Type 0 where
   pub tags_first : EachFrom (λ front part back. IsTrue (is_tag part) → IsTrue (list_all (λ p. is_tag p || is_gap_part p)
       front)) front parts
@@ -126,11 +126,11 @@ result_class p e = cc
 within : (max_depth : ℕ) (s t : State) → s ≡ t → s.depth ≤ max_depth → t.depth ≤ max_depth
 within max_depth s t e l = subst (λ (u : State). u.depth ≤ max_depth) e l
 
-word_tells : (max_depth : ℕ) (s t : State) (number result moves : Bool)
+word_says : (max_depth : ℕ) (s t : State) (number result moves : Bool)
     → cond moves (Some (record { in_tags = false; depth = s.depth; has_move = true }))
     (cond number (Some (in_movetext s)) None) ≡ Some t
     → (((number || result) || moves) ≡ true) × (s.depth ≤ max_depth → t.depth ≤ max_depth)
-word_tells max_depth s t number result true e =
+word_says max_depth s t number result true e =
     let same : record { in_tags = false; depth = s.depth; has_move = true } ≡ t = cc in (
       or_right (number || result) true refl,
       within max_depth (record {
@@ -140,20 +140,20 @@ word_tells max_depth s t number result true e =
             true;
       }) t same,
     )
-word_tells max_depth s t true result false e = (refl, within max_depth (in_movetext s) t cc)
-word_tells max_depth s t false result false e = cc
+word_says max_depth s t true result false e = (refl, within max_depth (in_movetext s) t cc)
+word_says max_depth s t false result false e = cc
 
 -- what a step says of its part, and that it keeps within the limit
-step_tells : (max_depth : ℕ) (s t : State) (p : Part) → step max_depth s p ≡ Some t
+step_says : (max_depth : ℕ) (s t : State) (p : Part) → step max_depth s p ≡ Some t
     → (is_tag p ≡ true → s.in_tags ≡ true) × (is_meant p ≡ true) × (is_open p ≡ true → s.has_move ≡ true) ×
     (s.depth ≤ max_depth → t.depth ≤ max_depth)
-step_tells max_depth s t (Tag first name second contents third) e =
+step_says max_depth s t (Tag first name second contents third) e =
     let f = when_some s.in_tags s t e in
     (λ _. f.0, refl, λ x. cc, within max_depth s t f.1)
-step_tells max_depth s t (Word text) e =
-    let f = word_tells max_depth s t (is_number text) (is_result_word text) (is_move_text text) e in
+step_says max_depth s t (Word text) e =
+    let f = word_says max_depth s t (is_number text) (is_result_word text) (is_move_text text) e in
     (λ x. cc, f.0, λ x. cc, f.1)
-step_tells max_depth s t Open e =
+step_says max_depth s t Open e =
     let f = when_some (s.has_move && nat_lt s.depth max_depth)
     (record { in_tags = false; depth = s.depth + 1; has_move = false }) t e in
     let tests = and_parts s.has_move (nat_lt s.depth max_depth) f.0 in
@@ -168,7 +168,7 @@ step_tells max_depth s t Open e =
             false;
       }) t f.1 fits,
     )
-step_tells max_depth s t Close e =
+step_says max_depth s t Close e =
     let f = when_some (nat_lt 0 s.depth) (record { in_tags = false; depth = s.depth - 1; has_move = true }) t e in (
       λ x. cc,
       refl,
@@ -176,15 +176,15 @@ step_tells max_depth s t Close e =
       λ l. within max_depth (record { in_tags = false; depth = s.depth - 1; has_move = true }) t
           f.1 (omega (arith, l)),
     )
-step_tells max_depth s t Star e = cc
-step_tells max_depth s t Dot e = (λ x. cc, refl, λ x. cc, within max_depth (in_movetext s) t cc)
-step_tells max_depth s t (Glyph digits) e = (λ x. cc, refl, λ x. cc, within max_depth (in_movetext s) t cc)
-step_tells max_depth s t (Marks marks) e = (λ x. cc, refl, λ x. cc, within max_depth (in_movetext s) t cc)
-step_tells max_depth s t ByteOrderMark e = (λ x. cc, refl, λ x. cc, within max_depth s t cc)
-step_tells max_depth s t (White b) e = (λ x. cc, refl, λ x. cc, within max_depth s t cc)
-step_tells max_depth s t (Brace text) e = (λ x. cc, refl, λ x. cc, within max_depth s t cc)
-step_tells max_depth s t (Line text) e = (λ x. cc, refl, λ x. cc, within max_depth s t cc)
-step_tells max_depth s t (EscapeLine text) e = (λ x. cc, refl, λ x. cc, within max_depth s t cc)
+step_says max_depth s t Star e = cc
+step_says max_depth s t Dot e = (λ x. cc, refl, λ x. cc, within max_depth (in_movetext s) t cc)
+step_says max_depth s t (Glyph digits) e = (λ x. cc, refl, λ x. cc, within max_depth (in_movetext s) t cc)
+step_says max_depth s t (Marks marks) e = (λ x. cc, refl, λ x. cc, within max_depth (in_movetext s) t cc)
+step_says max_depth s t ByteOrderMark e = (λ x. cc, refl, λ x. cc, within max_depth s t cc)
+step_says max_depth s t (White b) e = (λ x. cc, refl, λ x. cc, within max_depth s t cc)
+step_says max_depth s t (Brace text) e = (λ x. cc, refl, λ x. cc, within max_depth s t cc)
+step_says max_depth s t (Line text) e = (λ x. cc, refl, λ x. cc, within max_depth s t cc)
+step_says max_depth s t (EscapeLine text) e = (λ x. cc, refl, λ x. cc, within max_depth s t cc)
 
 goes_on : (max_depth : ℕ) (front parts : List Part) (s : State) → Shows front s → s.depth ≤ max_depth
     → Leads max_depth s parts → GoesOn max_depth front parts
@@ -208,17 +208,17 @@ goes_on max_depth front (p ∷ q ∷ more) s h d l = elim (cases_Bool (is_result
   | inl r ↦ let none = (MatchBool-at_true _ _ r l).1 in cc
   | inr r ↦
       let next = MatchBool-at_false _ _ r l in
-      let tells = step_tells max_depth s next.0 p next.1 in
+      let says = step_says max_depth s next.0 p next.1 in
       let rest = goes_on max_depth (front ++ p ∷ []) (q ∷ more) next.0 (shows_more max_depth front s next.0 p next.1 h)
-      (tells.3 d) next.2 in
+      (says.3 d) next.2 in
       record {
-        tags_first = (λ e. sym h.tags ∙ tells.0 e, rest.tags_first);
+        tags_first = (λ e. sym h.tags ∙ says.0 e, rest.tags_first);
         result_last = ((λ e. absurd (false≢true (sym r ∙ e)), λ e. cc), rest.result_last);
-        meant = and_from (is_meant p) (list_all is_meant (q ∷ more)) tells.1 rest.meant;
+        meant = and_from (is_meant p) (list_all is_meant (q ∷ more)) says.1 rest.meant;
         closed_were_open = (omega (arith, h.balance), rest.closed_were_open);
         depth = (rw (depth_is front s h) d, rest.depth);
         all_closed = (λ e. cc, rest.all_closed);
-        variations = (λ e. h.moved (tells.2 e), rest.variations);
+        variations = (λ e. h.moved (says.2 e), rest.variations);
       }
 ]
 

@@ -1,4 +1,4 @@
--- Gaps of a block: a gap behind which no part of a gap stands is the longest.
+-- Gaps of a block: a gap after which no part of a gap stands is the longest.
 use Rattle.std.proofs.Common.{◌≡◌, ℕ, ◌<◌, ◌≤◌, Bool, true, false, List, [], ◌∷◌, ◌++◌, length, take, drop, refl, sym, ap, ◌∙◌, subst, append_assoc, append-nil, arith, length-append}
 use Rattle.std.specs.Prelude.{IsTrue}
 use Rattle.std.specs.List.{list_all}
@@ -10,11 +10,11 @@ use Rattle.pgn_text.specs.Walk.{PartAt, GapPartAt, NoGapPartAt, GapTo, LongestGa
 use Rattle.pgn_text.proofs.PartLemmas.{one_part}
 use Rattle.pgn_text.proofs.Halfway.{stands_join, before_more, spelled-append}
 
--- each part that stands behind these bytes is none of a gap
+-- each part that stands after these bytes is none of a gap
 abbrev pub NoGapPart : Bool → List ℕ → List ℕ → Type 0
 NoGapPart f before after = (part : Part) (rest : List ℕ) → after ≡ spelled_part part ++ rest → Stands (standing_of f before) part rest → is_gap_part part ≡ false
 
--- no gap reaches further than one behind which no part of a gap stands
+-- no gap reaches further than one after which no part of a gap stands
 no_longer : (f : Bool) (before : List ℕ) (gap : List Part) (after : List ℕ) → AllStand f before gap after → NoGapPart f (before ++ spelled gap) after
     → (other : List Part) (rest : List ℕ) → spelled other ++ rest ≡ spelled gap ++ after → AllStand f before other rest → IsTrue (list_all is_gap_part other) → length (spelled other) ≤ length (spelled gap)
 no_longer f before gap after stand none [] rest same others only = omega arith
@@ -29,9 +29,9 @@ no_longer f before (q ∷ qs) after stand none (p ∷ ps) rest same others only 
     sym (append_assoc (spelled_part p) (spelled ps) rest) ∙ same ∙ append_assoc (spelled_part q) (spelled qs) after in
     let one : (p ≡ q) × (spelled ps ++ rest ≡ spelled qs ++ after) =
     one_part (standing_of f before) p q (spelled ps ++ rest) (spelled qs ++ after) others.0 stand.0 regrouped in
-    let behind : AllStand f (before ++ spelled_part q) ps rest = subst (λ x. AllStand f (before ++ spelled_part x) ps rest) one.0 others.1 in
-    let none_behind : NoGapPart f ((before ++ spelled_part q) ++ spelled qs) after = rw (← (append_assoc before (spelled_part q) (spelled qs))) at none in
-    let less : length (spelled ps) ≤ length (spelled qs) = no_longer f (before ++ spelled_part q) qs after stand.1 none_behind ps rest one.1 behind parts.1 in
+    let tail : AllStand f (before ++ spelled_part q) ps rest = subst (λ x. AllStand f (before ++ spelled_part x) ps rest) one.0 others.1 in
+    let none_further : NoGapPart f ((before ++ spelled_part q) ++ spelled qs) after = rw (← (append_assoc before (spelled_part q) (spelled qs))) at none in
+    let less : length (spelled ps) ≤ length (spelled qs) = no_longer f (before ++ spelled_part q) qs after stand.1 none_further ps rest one.1 tail parts.1 in
     let same_bytes : length (spelled_part p) ≡ length (spelled_part q) = ap (λ x. length (spelled_part x)) one.0 in
     omega (arith, length-append (spelled_part p) (spelled ps), length-append (spelled_part q) (spelled qs))
 
@@ -47,7 +47,7 @@ all_push (x ∷ xs) p all is =
     let parts : (is_gap_part x ≡ true) × (list_all is_gap_part xs ≡ true) = and_parts _ _ all in
     and_from _ _ parts.0 (all_push xs p parts.1 is)
 
--- behind one more part
+-- after one more part
 pub gap_more : (f : Bool) (block : List ℕ) (begin at end : ℕ) → GapTo f block begin at → GapPartAt f block at end → GapTo f block begin end
 gap_more f block begin at end to more =
     let found : PartAt f block at more.part end = more.found in

@@ -11,7 +11,7 @@ use Rattle.pgn_text.specs.declared.pieces.Piece.TheVariants.{Game, Unreadable}
 use Rattle.pgn_text.proofs.Cuts.{piece_game, piece_unreadable, piece_left}
 use Rattle.pgn_text.proofs.Existence.{pieces_exist}
 
--- what is left of the block behind the place
+-- what is left of the block after the place
 abbrev pub left_at : Bool → List ℕ → ℕ → Bool → Left
 left_at f block at failed = record { block = block; file_start = f; at = at; failed = failed }
 

@@ -13,7 +13,7 @@ use Rattle.pgn_text.proofs.PartLemmas.{one_part}
 pub spelled-append : (xs ys : List Part) → spelled (xs ++ ys) ≡ spelled xs ++ spelled ys
 spelled-append xs ys = flat_map-append spelled_part xs ys
 
--- the bytes before, behind one part more
+-- the bytes before, after one part more
 pub before_more : (before : List ℕ) (xs : List Part) (p : Part)
     → before ++ spelled (xs ++ p ∷ []) ≡ (before ++ spelled xs) ++ spelled_part p
 before_more before xs p = rw (spelled-append, append-nil, append_assoc) refl
@@ -151,7 +151,7 @@ module _ (max_depth : ℕ) (file_start : Bool) where
 
   -- ---- halfway through a text
 
-  -- `done` is read, and s is the state behind it: what reads on from here reads from the start with `done` in front, and each reading
+  -- `done` is read, and s is the state after it: what reads on from here reads from the start with `done` in front, and each reading
   -- from the start begins with `done`
   pub record Halfway (before text : List ℕ) (done : List Part) (s : State) (rest : List ℕ) : Type 0 where
     pub sound : (parts : List Part) (after : List ℕ)
@@ -167,18 +167,18 @@ module _ (max_depth : ℕ) (file_start : Bool) where
     complete = λ parts after h. (parts, refl, rw append-nil h);
   }
 
-  -- behind one part more
-  pub halfway_more : (before text : List ℕ) (done : List Part) (s t : State) (p : Part) (behind rest : List ℕ)
-      → Halfway before text done s behind → behind ≡ spelled_part p ++ rest
+  -- after one part more
+  pub halfway_more : (before text : List ℕ) (done : List Part) (s t : State) (p : Part) (tail rest : List ℕ)
+      → Halfway before text done s tail → tail ≡ spelled_part p ++ rest
       → Stands (standing_of file_start (before ++ spelled done)) p rest → is_result p ≡ false → step max_depth s p ≡ Some t
       → Halfway before text (done ++ p ∷ []) t rest
-  halfway_more before text done s t p behind rest h parted stands r steps =
+  halfway_more before text done s t p tail rest h parted stands r steps =
       let place = before_more before done p in record {
         sound = λ parts after k. rw (append_assoc done (p ∷ []) parts) (h.sound (p ∷ parts) after
-            (reads_more (before ++ spelled done) behind s t p rest parts after parted stands r steps (rw place at k)));
+            (reads_more (before ++ spelled done) tail s t p rest parts after parted stands r steps (rw place at k)));
         complete = λ parts after k.
             let all = h.complete parts after k in
-            let first = reads_first (before ++ spelled done) behind s p rest all.0 after parted stands all.2 in
+            let first = reads_first (before ++ spelled done) tail s p rest all.0 after parted stands all.2 in
             let next = first.goes_on r in
             let same : t ≡ next.0 = cc in (
               first.more,
@@ -188,37 +188,37 @@ module _ (max_depth : ℕ) (file_start : Bool) where
       }
 
   -- at a result outside all variations the reading ends
-  pub halfway_end : (before text : List ℕ) (done : List Part) (s : State) (p : Part) (behind rest : List ℕ)
-      → Halfway before text done s behind → behind ≡ spelled_part p ++ rest
+  pub halfway_end : (before text : List ℕ) (done : List Part) (s : State) (p : Part) (after rest : List ℕ)
+      → Halfway before text done s after → after ≡ spelled_part p ++ rest
       → Stands (standing_of file_start (before ++ spelled done)) p rest → is_result p ≡ true → s.depth ≡ 0
       → Reads before text start (done ++ p ∷ []) rest
-  halfway_end before text done s p behind rest h parted stands r zero =
-      h.sound (p ∷ []) rest (reads_end (before ++ spelled done) behind s p rest parted stands r zero)
+  halfway_end before text done s p after rest h parted stands r zero =
+      h.sound (p ∷ []) rest (reads_end (before ++ spelled done) after s p rest parted stands r zero)
 
   -- at a part that may not follow there is no reading
-  pub halfway_stuck : (before text : List ℕ) (done : List Part) (s : State) (p : Part) (behind rest : List ℕ)
-      → Halfway before text done s behind → behind ≡ spelled_part p ++ rest
+  pub halfway_stuck : (before text : List ℕ) (done : List Part) (s : State) (p : Part) (tail rest : List ℕ)
+      → Halfway before text done s tail → tail ≡ spelled_part p ++ rest
       → Stands (standing_of file_start (before ++ spelled done)) p rest → (is_result p ≡ true → s.depth ≢ 0)
       → (is_result p ≡ false → step max_depth s p ≡ None) → (parts : List Part) (after : List ℕ)
       → Reads before text start parts after → ⊥
-  halfway_stuck before text done s p behind rest h parted stands deep stuck parts after k =
+  halfway_stuck before text done s p tail rest h parted stands deep stuck parts after k =
       let all = h.complete parts after k in
-      let first = reads_first (before ++ spelled done) behind s p rest all.0 after parted stands all.2 in
+      let first = reads_first (before ++ spelled done) tail s p rest all.0 after parted stands all.2 in
       elim (cases_Bool (is_result p)) [
         | inl r ↦ deep r (first.ends r).0
         | inr r ↦ let next = first.goes_on r in let none = stuck r in cc
       ]
 
   -- where no part stands there is no reading
-  pub halfway_none : (before text : List ℕ) (done : List Part) (s : State) (behind : List ℕ)
-      → Halfway before text done s behind
-      → ((p : Part) (rest : List ℕ) → behind ≡ spelled_part p ++ rest → Stands
+  pub halfway_none : (before text : List ℕ) (done : List Part) (s : State) (tail : List ℕ)
+      → Halfway before text done s tail
+      → ((p : Part) (rest : List ℕ) → tail ≡ spelled_part p ++ rest → Stands
       (standing_of file_start (before ++ spelled done)) p rest → ⊥)
       → (parts : List Part) (after : List ℕ) → Reads before text start parts after → ⊥
-  halfway_none before text done s behind h none parts after k =
+  halfway_none before text done s tail h none parts after k =
       let all = h.complete parts after k in nothing all.0 all.2
     where
-      nothing : (more : List Part) → Reads (before ++ spelled done) behind s more after → ⊥
+      nothing : (more : List Part) → Reads (before ++ spelled done) tail s more after → ⊥
       nothing [] g = g.leads
       nothing (q ∷ more) g =
           none q (spelled more ++ after) (g.parted ∙ append_assoc (spelled_part q) (spelled more) after) g.stand.0

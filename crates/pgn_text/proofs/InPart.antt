@@ -10,8 +10,8 @@ use Rattle.pgn_text.specs.Games.{is_number, is_result_word, is_move_text, is_tag
 use Rattle.pgn_text.specs.Steps.{State, in_movetext, step}
 use Rattle.pgn_text.proofs.Classes.{is_white-word, is_word_byte-mark}
 use Rattle.pgn_text.specs.PartFronts.{Longest, Follows, IsPartFront, IsWordFront, is_glyph_front, Ends, IsTagFront}
-use Rattle.pgn_text.specs.declared.agreement.InTag.TheVariants.{BeforeName}
-use Rattle.pgn_text.proofs.Furthest.{longest_behind, longest_nothing, longest_take, greedy, longest_greedy}
+use Rattle.pgn_text.specs.declared.error_position.InTag.TheVariants.{BeforeName}
+use Rattle.pgn_text.proofs.Furthest.{longest_after, longest_nothing, longest_take, greedy, longest_greedy}
 use Rattle.pgn_text.proofs.InTag.{tag_is, tag_ends}
 use Rattle.pgn_text.proofs.InWord.{bytes_same, move_far, result_far, move_goes, result_goes}
 
@@ -97,7 +97,7 @@ module _ (max_depth : ℕ) where
   pub open_tag : (place : Standing) (s : State) (rest : List ℕ) (n : ℕ) → s.in_tags ≡ true → Longest (IsTagFront BeforeName) rest n
       → Longest (IsPartFront max_depth place s) (91 ∷ rest) (suc n)
   open_tag place s rest n in_tags l =
-      longest_behind (IsPartFront max_depth place s) (IsTagFront BeforeName) 91 rest n
+      longest_after (IsPartFront max_depth place s) (IsTagFront BeforeName) 91 rest n
       (tag_goes place s in_tags) (λ x p. from_tag place s x p.part p.more p.spelt p.stands) l
 
   -- ---- a word
@@ -271,7 +271,7 @@ module _ (max_depth : ℕ) where
   pub stray_glyph : (place : Standing) (s : State) (rest : List ℕ) (n : ℕ) → Longest (λ x. is_glyph_front x ≡ true) rest n
       → Longest (IsPartFront max_depth place s) (36 ∷ rest) (suc n)
   stray_glyph place s rest n l =
-      longest_behind (IsPartFront max_depth place s) (λ x. is_glyph_front x ≡ true) 36 rest n
+      longest_after (IsPartFront max_depth place s) (λ x. is_glyph_front x ≡ true) 36 rest n
       (glyph_fronts place s) (λ x p. from_glyph place x p.more p.part p.spelt p.stands) l
 
   -- ---- a byte with which no part that may follow begins

@@ -11,18 +11,18 @@ use Rattle.pgn_text.specs.Parts.{Part, Tag, Standing, Stands, spelled_part}
 use Rattle.pgn_text.specs.Games.{is_tag}
 use Rattle.pgn_text.proofs.Classes.{is_name_byte-white, is_white-name}
 use Rattle.pgn_text.specs.PartFronts.{Longest, next_in, Ends, IsTagFront}
-use Rattle.pgn_text.specs.declared.agreement.InTag.{InTag}
-use Rattle.pgn_text.specs.declared.agreement.InTag.TheVariants.{BeforeName, Name, BehindName, Contents, BehindBackslash, BehindString, Closed}
-use Rattle.pgn_text.proofs.Furthest.{longest_behind, longest_nothing}
+use Rattle.pgn_text.specs.declared.error_position.InTag.{InTag}
+use Rattle.pgn_text.specs.declared.error_position.InTag.TheVariants.{BeforeName, Name, AfterName, Contents, AfterBackslash, AfterString, Closed}
+use Rattle.pgn_text.proofs.Furthest.{longest_after, longest_nothing}
 
 -- each place goes on to the tag's end
 pub each_ends : (s : InTag) → IsTagFront s []
-each_ends BeforeName = (codes "A\"\"]", (Name, refl, (Contents, refl, (BehindString, refl, (Closed, refl, refl)))))
-each_ends Name = (codes "\"\"]", (Contents, refl, (BehindString, refl, (Closed, refl, refl))))
-each_ends BehindName = (codes "\"\"]", (Contents, refl, (BehindString, refl, (Closed, refl, refl))))
-each_ends Contents = (codes "\"]", (BehindString, refl, (Closed, refl, refl)))
-each_ends BehindBackslash = (codes " \"]", (Contents, refl, (BehindString, refl, (Closed, refl, refl))))
-each_ends BehindString = (codes "]", (Closed, refl, refl))
+each_ends BeforeName = (codes "A\"\"]", (Name, refl, (Contents, refl, (AfterString, refl, (Closed, refl, refl)))))
+each_ends Name = (codes "\"\"]", (Contents, refl, (AfterString, refl, (Closed, refl, refl))))
+each_ends AfterName = (codes "\"\"]", (Contents, refl, (AfterString, refl, (Closed, refl, refl))))
+each_ends Contents = (codes "\"]", (AfterString, refl, (Closed, refl, refl)))
+each_ends AfterBackslash = (codes " \"]", (Contents, refl, (AfterString, refl, (Closed, refl, refl))))
+each_ends AfterString = (codes "]", (Closed, refl, refl))
 each_ends Closed = ([], refl)
 
 -- with bytes
@@ -30,10 +30,10 @@ ends_in_bytes : (s : InTag) → IsTrue (list_all is_byte (each_ends s).0)
 unfolding each_ends
 ends_in_bytes BeforeName = refl
 ends_in_bytes Name = refl
-ends_in_bytes BehindName = refl
+ends_in_bytes AfterName = refl
 ends_in_bytes Contents = refl
-ends_in_bytes BehindBackslash = refl
-ends_in_bytes BehindString = refl
+ends_in_bytes AfterBackslash = refl
+ends_in_bytes AfterString = refl
 ends_in_bytes Closed = refl
 
 -- so each front of a tag does
@@ -57,7 +57,7 @@ tag_longest s (b ∷ rest) = go (next_in s b) refl (λ t. tag_longest t rest)
     go : (o : Option InTag) → next_in s b ≡ o → ((t : InTag) → Longest (IsTagFront t) rest (tag_far t rest))
         → Longest (IsTagFront s) (b ∷ rest) (tag_far s (b ∷ rest))
     go None e again = subst (Longest (IsTagFront s) (b ∷ rest)) (ap (λ o. one_more o (λ t. tag_far t rest)) (sym e)) (longest_nothing (IsTagFront s) b rest (each_ends s) (λ x p. let f = p.1.1 in cc))
-    go (Some t) e again = subst (Longest (IsTagFront s) (b ∷ rest)) (ap (λ o. one_more o (λ t. tag_far t rest)) (sym e)) (longest_behind (IsTagFront s) (IsTagFront t) b rest (tag_far t rest)
+    go (Some t) e again = subst (Longest (IsTagFront s) (b ∷ rest)) (ap (λ o. one_more o (λ t. tag_far t rest)) (sym e)) (longest_after (IsTagFront s) (IsTagFront t) b rest (tag_far t rest)
         (λ x q. (q.0, (t, e, q.1)))
         (λ x p. (p.0, (let same : p.1.0 ≡ t = (let f = p.1.1 in cc) in subst (λ u. Ends u (x ++ p.0)) same p.1.2)))
         (again t))
@@ -77,11 +77,11 @@ end_is : (z : List ℕ) → Ends Closed z → z ≡ []
 end_is [] h = refl
 end_is (b ∷ z) (t, e, h) = cc
 
-third_is : (z : List ℕ) → Ends BehindString z → (third : List ℕ) × (z ≡ third ++ 93 ∷ []) × IsTrue (list_all is_white third)
+third_is : (z : List ℕ) → Ends AfterString z → (third : List ℕ) × (z ≡ third ++ 93 ∷ []) × IsTrue (list_all is_white third)
 third_is [] h = cc
 third_is (b ∷ z) (t, e, h) = elim (cases_Bool (is_white b)) [
   | inl w ↦
-      let same : BehindString ≡ t = (let f = rw w at e in cc) in
+      let same : AfterString ≡ t = (let f = rw w at e in cc) in
       let more = third_is z (rw same h) in
       (b ∷ more.0, ap (λ l. b ∷ l) more.1, and_from (is_white b) (list_all is_white more.0) w more.2)
   | inr w ↦ elim (cases_Bool (b == 93)) [
@@ -92,13 +92,13 @@ third_is (b ∷ z) (t, e, h) = elim (cases_Bool (is_white b)) [
   ]
 ]
 
--- contents, or what is left of them behind a backslash
+-- contents, or what is left of them after a backslash
 abbrev SpelledIn : Bool → List ℕ → Type 0
 SpelledIn true y = IsContents (92 ∷ y)
 SpelledIn false y = IsContents y
 
 abbrev in_contents : Bool → InTag
-in_contents true = BehindBackslash
+in_contents true = AfterBackslash
 in_contents false = Contents
 
 -- one sign more
@@ -115,11 +115,11 @@ single_in b y plain quote backslash (signs, spelt, all) = (
       (and_from (not (b == 34)) (not (b == 92)) (not_from_false (b == 34) quote) (not_from_false (b == 92) backslash))) all,
 )
 
-one_byte : (b : ℕ) (z y behind : List ℕ) → z ≡ y ++ 34 ∷ behind → b ∷ z ≡ (b ∷ y) ++ 34 ∷ behind
-one_byte b z y behind e = ap (λ l. b ∷ l) e
+one_byte : (b : ℕ) (z y after : List ℕ) → z ≡ y ++ 34 ∷ after → b ∷ z ≡ (b ∷ y) ++ 34 ∷ after
+one_byte b z y after e = ap (λ l. b ∷ l) e
 
 contents_is : (escaped : Bool) (z : List ℕ) → Ends (in_contents escaped) z
-    → (y : List ℕ) × (behind : List ℕ) × (z ≡ y ++ 34 ∷ behind) × SpelledIn escaped y × Ends BehindString behind
+    → (y : List ℕ) × (after : List ℕ) × (z ≡ y ++ 34 ∷ after) × SpelledIn escaped y × Ends AfterString after
 contents_is true [] h = cc
 contents_is false [] h = cc
 contents_is true (b ∷ z) (t, e, h) = elim (cases_Bool (is_plain b)) [
@@ -136,7 +136,7 @@ contents_is true (b ∷ z) (t, e, h) = elim (cases_Bool (is_plain b)) [
 ]
 contents_is false (b ∷ z) (t, e, h) = elim (cases_Bool (b == 92)) [
   | inl k ↦
-      let same : BehindBackslash ≡ t = (let f = rw k at e in cc) in
+      let same : AfterBackslash ≡ t = (let f = rw k at e in cc) in
       let more = contents_is true z (rw same h) in (
         b ∷ more.0,
         more.1,
@@ -146,7 +146,7 @@ contents_is false (b ∷ z) (t, e, h) = elim (cases_Bool (b == 92)) [
       )
   | inr k ↦ elim (cases_Bool (b == 34)) [
     | inl q ↦
-        let same : BehindString ≡ t = (let f = rw (k, q) at e in cc) in
+        let same : AfterString ≡ t = (let f = rw (k, q) at e in cc) in
         ([], z, ap (λ c. c ∷ z) (eqb-true b 34 q), ([], refl, refl), rw same h)
     | inr q ↦ elim (cases_Bool (is_plain b)) [
       | inl p ↦
@@ -163,12 +163,12 @@ contents_is false (b ∷ z) (t, e, h) = elim (cases_Bool (b == 92)) [
   ]
 ]
 
-second_is : (z : List ℕ) → Ends BehindName z
-    → (second : List ℕ) × (behind : List ℕ) × (z ≡ second ++ 34 ∷ behind) × IsTrue (list_all is_white second) × Ends Contents behind
+second_is : (z : List ℕ) → Ends AfterName z
+    → (second : List ℕ) × (after : List ℕ) × (z ≡ second ++ 34 ∷ after) × IsTrue (list_all is_white second) × Ends Contents after
 second_is [] h = cc
 second_is (b ∷ z) (t, e, h) = elim (cases_Bool (is_white b)) [
   | inl w ↦
-      let same : BehindName ≡ t = (let f = rw w at e in cc) in
+      let same : AfterName ≡ t = (let f = rw w at e in cc) in
       let more = second_is z (rw same h) in
       (b ∷ more.0, more.1, ap (λ l. b ∷ l) more.2, and_from (is_white b) (list_all is_white more.0) w more.3, more.4)
   | inr w ↦ elim (cases_Bool (b == 34)) [
@@ -183,11 +183,11 @@ second_is (b ∷ z) (t, e, h) = elim (cases_Bool (is_white b)) [
 record NameIs (z : List ℕ) : Type 0 where
   name : List ℕ
   second : List ℕ
-  behind : List ℕ
-  is : z ≡ name ++ (second ++ 34 ∷ behind)
+  after : List ℕ
+  is : z ≡ name ++ (second ++ 34 ∷ after)
   names : IsTrue (list_all is_name_byte name)
   whites : IsTrue (list_all is_white second)
-  ends : Ends Contents behind
+  ends : Ends Contents after
 
 name_is : (z : List ℕ) → Ends Name z → NameIs z
 name_is [] h = cc
@@ -197,7 +197,7 @@ name_is (b ∷ z) (t, e, h) = elim (cases_Bool (is_name_byte b)) [
       let more = name_is z (rw same h) in record {
         name = b ∷ more.name;
         second = more.second;
-        behind = more.behind;
+        after = more.after;
         is = ap (λ l. b ∷ l) more.is;
         names = and_from (is_name_byte b) (list_all is_name_byte more.name) n more.names;
         whites = more.whites;
@@ -205,11 +205,11 @@ name_is (b ∷ z) (t, e, h) = elim (cases_Bool (is_name_byte b)) [
       }
   | inr n ↦ elim (cases_Bool (is_white b)) [
     | inl w ↦
-        let same : BehindName ≡ t = (let f = rw (n, w) at e in cc) in
+        let same : AfterName ≡ t = (let f = rw (n, w) at e in cc) in
         let more = second_is z (rw same h) in record {
           name = [];
           second = b ∷ more.0;
-          behind = more.1;
+          after = more.1;
           is = ap (λ l. b ∷ l) more.2;
           names = refl;
           whites = and_from (is_white b) (list_all is_white more.0) w more.3;
@@ -220,7 +220,7 @@ name_is (b ∷ z) (t, e, h) = elim (cases_Bool (is_name_byte b)) [
           let same : Contents ≡ t = (let f = rw (n, w, q) at e in cc) in record {
             name = [];
             second = [];
-            behind = z;
+            after = z;
             is = ap (λ c. c ∷ z) (eqb-true b 34 q);
             names = refl;
             whites = refl;
@@ -267,50 +267,50 @@ pub tag_is : (place : Standing) (z : List ℕ) → Ends BeforeName z → (p : Pa
 tag_is place z h =
     let a = first_is z h in
     let n = name_is a.back a.ends in
-    let c = contents_is false n.behind n.ends in
+    let c = contents_is false n.after n.ends in
     let d = third_is c.1 c.4 in
-    let behind : n.behind ≡ c.0 ++ 34 ∷ (d.0 ++ 93 ∷ []) = c.2 ∙ ap (λ l. c.0 ++ 34 ∷ l) d.1 in (
+    let after : n.after ≡ c.0 ++ 34 ∷ (d.0 ++ 93 ∷ []) = c.2 ∙ ap (λ l. c.0 ++ 34 ∷ l) d.1 in (
       Tag a.first (a.head ∷ n.name) n.second c.0 d.0,
       sym (ap (λ l. 91 ∷ l) (a.is ∙ ap (λ l. a.first ++ a.head ∷ l)
-          (n.is ∙ ap (λ l. n.name ++ (n.second ++ 34 ∷ l)) behind))),
+          (n.is ∙ ap (λ l. n.name ++ (n.second ++ 34 ∷ l)) after))),
       refl,
       (a.whites, refl, and_from (is_name_byte a.head) (list_all is_name_byte n.name) a.named n.names, n.whites, c.3, d.2),
     )
 
 -- ---- and a tag goes on to its end
 
-third_ends : (third : List ℕ) → IsTrue (list_all is_white third) → Ends BehindString (third ++ 93 ∷ [])
+third_ends : (third : List ℕ) → IsTrue (list_all is_white third) → Ends AfterString (third ++ 93 ∷ [])
 third_ends [] all = (Closed, refl, refl)
 third_ends (b ∷ third) all =
     let both = and_parts (is_white b) (list_all is_white third) all in
-    (BehindString, rw both.0 refl, third_ends third both.1)
+    (AfterString, rw both.0 refl, third_ends third both.1)
 
-signs_end : (signs : List Sign) (behind : List ℕ) → IsTrue (list_all is_sign signs) → Ends BehindString behind
-    → Ends Contents (flat_map spelled_sign signs ++ 34 ∷ behind)
-signs_end [] behind all h = (BehindString, refl, h)
-signs_end (Single b ∷ signs) behind all h =
+signs_end : (signs : List Sign) (after : List ℕ) → IsTrue (list_all is_sign signs) → Ends AfterString after
+    → Ends Contents (flat_map spelled_sign signs ++ 34 ∷ after)
+signs_end [] after all h = (AfterString, refl, h)
+signs_end (Single b ∷ signs) after all h =
     let both = and_parts (is_sign (Single b)) (list_all is_sign signs) all in
     let plain = and_parts (is_plain b) (not (b == 34) && not (b == 92)) both.0 in
     let others = and_parts (not (b == 34)) (not (b == 92)) plain.1 in
-    (Contents, rw (not-true _ others.1, not-true _ others.0, plain.0) refl, signs_end signs behind both.1 h)
-signs_end (Escaped b ∷ signs) behind all h =
+    (Contents, rw (not-true _ others.1, not-true _ others.0, plain.0) refl, signs_end signs after both.1 h)
+signs_end (Escaped b ∷ signs) after all h =
     let both = and_parts (is_plain b) (list_all is_sign signs) all in
-    (BehindBackslash, refl, (Contents, rw both.0 refl, signs_end signs behind both.1 h))
+    (AfterBackslash, refl, (Contents, rw both.0 refl, signs_end signs after both.1 h))
 
-second_ends : (second behind : List ℕ) → IsTrue (list_all is_white second) → Ends Contents behind
-    → Ends BehindName (second ++ 34 ∷ behind)
-second_ends [] behind all h = (Contents, refl, h)
-second_ends (b ∷ second) behind all h =
+second_ends : (second after : List ℕ) → IsTrue (list_all is_white second) → Ends Contents after
+    → Ends AfterName (second ++ 34 ∷ after)
+second_ends [] after all h = (Contents, refl, h)
+second_ends (b ∷ second) after all h =
     let both = and_parts (is_white b) (list_all is_white second) all in
-    (BehindName, rw both.0 refl, second_ends second behind both.1 h)
+    (AfterName, rw both.0 refl, second_ends second after both.1 h)
 
--- behind a name
-behind_ends : (second behind : List ℕ) → IsTrue (list_all is_white second) → Ends Contents behind
-    → Ends Name (second ++ 34 ∷ behind)
-behind_ends [] behind all h = (Contents, refl, h)
-behind_ends (b ∷ second) behind all h =
+-- after a name
+after_ends : (second after : List ℕ) → IsTrue (list_all is_white second) → Ends Contents after
+    → Ends Name (second ++ 34 ∷ after)
+after_ends [] after all h = (Contents, refl, h)
+after_ends (b ∷ second) after all h =
     let both = and_parts (is_white b) (list_all is_white second) all in
-    (BehindName, rw (is_name_byte-white b both.0, both.0) refl, second_ends second behind both.1 h)
+    (AfterName, rw (is_name_byte-white b both.0, both.0) refl, second_ends second after both.1 h)
 
 name_ends : (name rest : List ℕ) → IsTrue (list_all is_name_byte name) → Ends Name rest → Ends Name (name ++ rest)
 name_ends [] rest all h = h
@@ -333,6 +333,6 @@ pub tag_ends : (place : Standing) (first name second contents third after : List
     → Ends BeforeName (first ++ (name ++ (second ++ (34 ∷ (contents ++ (34 ∷ (third ++ 93 ∷ [])))))))
 tag_ends place first name second contents third after (whites, some, names, more_whites, (signs, spelt, all), last_whites) =
     first_ends first name _ whites some names
-    (behind_ends second _ more_whites
+    (after_ends second _ more_whites
     (subst (λ l. Ends Contents (l ++ (34 ∷ (third ++ 93 ∷ [])))) (sym spelt)
     (signs_end signs (third ++ 93 ∷ []) all (third_ends third last_whites))))

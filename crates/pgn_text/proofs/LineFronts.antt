@@ -16,7 +16,7 @@ use Rattle.pgn_text.proofs.TagLemmas.{bytes_eq-same}
 abbrev pub begins_line : List ℕ → Bool
 begins_line text = starts_with nat_eq text event_line
 
--- what begins with some bytes still does with more behind it
+-- what begins with some bytes still does with more after it
 pub starts_more : (line u v : List ℕ) → starts_with nat_eq u line ≡ true → starts_with nat_eq (u ++ v) line ≡ true
 starts_more [] u v h = refl
 starts_more (c ∷ line) [] v h = absurd (false≢true h)
@@ -127,8 +127,8 @@ gap_line file_start before (p ∷ back) after tail stand only some e =
 pub game_line : (max_depth : ℕ) (file_start : Bool) (before : List ℕ) (parts : List Part) (after a b tail : List ℕ)
     → IsGame max_depth file_start before parts after → event_line ≡ (a ++ (spelled parts ++ b)) ++ tail → ⊥
 game_line max_depth file_start before parts after a b tail g e =
-    let behind = (plain_both a (spelled parts ++ b) (plain_front (a ++ (spelled parts ++ b)) tail e)).1 in
-    plain_game max_depth file_start before parts after g (plain_both (spelled parts) b behind).0
+    let rest = (plain_both a (spelled parts ++ b) (plain_front (a ++ (spelled parts ++ b)) tail e)).1 in
+    plain_game max_depth file_start before parts after g (plain_both (spelled parts) b rest).0
 
 -- and no bytes that end in a line feed: so where a text begins with the line, each front of it that ends so has all of that line
 pub line_front : (front left : List ℕ) → ends_in_line_feed front ≡ true → begins_line (front ++ left) ≡ true → begins_line front ≡ true

@@ -54,7 +54,7 @@ cut_round a x c y d e = elim (cut_push a x c (y ∷ d) e) [ inl t ↦ nothing t.
         let same : z ≡ y = cc in
         inr (m, f ∙ ap (λ w. c ++ w ∷ m) same, cc)
 
--- ---- counts behind one more part
+-- ---- counts after one more part
 
 pub count_push_yes : (p : Part → Bool) (front : List Part) (x : Part) → p x ≡ true
     → count_by p (front ++ x ∷ []) ≡ count_by p front + 1
@@ -86,22 +86,22 @@ above_push bound earlier x later front y parted low h = λ some more e. elim (cu
 ]
 
 -- the same where a whole stretch follows
-above_join : (bound : ℕ) (earlier : List Part) (x : Part) (later : List Part) (y : Part) (behind front : List Part)
+above_join : (bound : ℕ) (earlier : List Part) (x : Part) (later : List Part) (y : Part) (after front : List Part)
     → front ≡ earlier ++ x ∷ later → bound ≤ depth_after front → Above bound earlier x later
-    → Above bound front y behind → Above bound earlier x (later ++ y ∷ behind)
+    → Above bound front y after → Above bound earlier x (later ++ y ∷ after)
 unfolding Above
-above_join bound earlier x later y behind front parted low h k =
-    λ some more e. elim (cut_append later (y ∷ behind) some more e) [
+above_join bound earlier x later y after front parted low h k =
+    λ some more e. elim (cut_append later (y ∷ after) some more e) [
       | inl t ↦ h some t.0 t.1
       | inr t ↦ rest t.0 more t.2 some t.1
     ]
   where
-    rest : (m more : List Part) → y ∷ behind ≡ m ++ more → (some : List Part) → some ≡ later ++ m
+    rest : (m more : List Part) → y ∷ after ≡ m ++ more → (some : List Part) → some ≡ later ++ m
         → bound ≤ depth_after (earlier ++ x ∷ some)
     rest [] more e some s = rw (s, append-nil, ← parted) low
     rest (z ∷ m) more e some s =
         let same : y ≡ z = cc in
-        let left : behind ≡ m ++ more = cc in
+        let left : after ≡ m ++ more = cc in
         rw (s, ← (append_assoc earlier (x ∷ later) (z ∷ m)), ← parted, ← same) (k m more left)
 
 above_less : (low bound : ℕ) (earlier : List Part) (x : Part) (later : List Part) → low ≤ bound
@@ -109,9 +109,9 @@ above_less : (low bound : ℕ) (earlier : List Part) (x : Part) (later : List Pa
 unfolding Above
 above_less low bound earlier x later le h = λ some more e. omega (arith, h some more e)
 
--- ---- a move in the line, behind one more part
+-- ---- a move in the line, after one more part
 
--- behind a part that is no parenthesis
+-- after a part that is no parenthesis
 line_kept : (front : List Part) (x : Part) → is_open x ≡ false → is_close x ≡ false → MoveInLine front
     → MoveInLine (front ++ x ∷ [])
 unfolding Above
@@ -126,7 +126,7 @@ line_kept front x o c h = let same = depth_push front x o c in record {
       (rw same h.one_line);
 }
 
--- and a move behind such a part that is no move stood before it already
+-- and a move after such a part that is no move stood before it already
 line_back : (front : List Part) (x : Part) → is_open x ≡ false → is_close x ≡ false → is_move x ≡ false
     → MoveInLine (front ++ x ∷ []) → MoveInLine front
 line_back front x o c m h = let same = depth_push front x o c in
@@ -152,7 +152,7 @@ above_end bound front x low = λ some more e. only some more e
     only [] more e = low
     only (y ∷ some) more e = cc
 
--- behind a move
+-- after a move
 line_moved : (front : List Part) (x : Part) → is_open x ≡ false → is_close x ≡ false → is_move x ≡ true
     → MoveInLine (front ++ x ∷ [])
 unfolding Above
@@ -166,7 +166,7 @@ line_moved front x o c m = record {
   one_line = above_end (depth_after (front ++ x ∷ [])) front x (le_refl _);
 }
 
--- no move is behind the `(` that begins a line
+-- no move is after the `(` that begins a line
 line_begins : (front : List Part) → depth_after (front ++ Open ∷ []) ≡ depth_after front + 1
     → MoveInLine (front ++ Open ∷ []) → ⊥
 line_begins front deeper h =
@@ -177,7 +177,7 @@ line_begins front deeper h =
 
 -- ---- what the state means
 
--- in `front` a variation begins at depth k, behind a move of its line, and from there on the depth is above k
+-- in `front` a variation begins at depth k, after a move of its line, and from there on the depth is above k
 pub record OpenedAt (front : List Part) (k : ℕ) : Type 0 where
   pub earlier : List Part
   pub later : List Part
@@ -261,7 +261,7 @@ move_more front x s t o c m tags depth moves h = let same = depth_push front x o
   opened = λ k l. opened_push front k x (omega (arith, same, depth_is front s h)) (h.opened k (omega arith));
 }
 
--- the beginning of a variation, behind a move
+-- the beginning of a variation, after a move
 open_more : (front : List Part) (s t : State) → s.has_move ≡ true → t.in_tags ≡ false → t.depth ≡ s.depth + 1
     → t.has_move ≡ false → Shows front s → Shows (front ++ Open ∷ []) t
 unfolding Above
@@ -360,7 +360,7 @@ word_more front text s t true number m e h =
 word_more front text s t false number m e h =
     movetext_more front (Word text) s t refl refl m refl (ap (λ x. Some x) (when_some number (in_movetext s) t e).1) h
 
--- the state behind one more part says what it means
+-- the state after one more part says what it means
 pub shows_more : (max_depth : ℕ) (front : List Part) (s t : State) (part : Part) → step max_depth s part ≡ Some t
     → Shows front s → Shows (front ++ part ∷ []) t
 shows_more max_depth front s t ByteOrderMark e h = kept_more front ByteOrderMark s t refl refl refl refl e h

@@ -25,7 +25,7 @@ glyph_count (first ∷ second ∷ more) = let deep = glyph_count more in omega (
 -- the one row goes on where the other ends, or it does not
 abbrev pub GoesOn : Bool → List ℕ → List Part → List Part → List ℕ → Type 0
 GoesOn f before xs ys r =
-    (next : Part) × (behind : List Part) × (after : List ℕ) × (ys ≡ xs ++ next ∷ behind) × (r ≡ spelled_part next ++ after)
+    (next : Part) × (rest : List Part) × (after : List ℕ) × (ys ≡ xs ++ next ∷ rest) × (r ≡ spelled_part next ++ after)
     × Stands (standing_of f (before ++ spelled xs)) next after
 
 pub rows : (f : Bool) (before : List ℕ) (xs ys : List Part) (r s : List ℕ) → spelled xs ++ r ≡ spelled ys ++ s
@@ -42,8 +42,8 @@ rows f before (x ∷ xs) (y ∷ ys) r s same stand other =
     further : ((more : List Part) × (xs ≡ ys ++ more)) ⊎ GoesOn f (before ++ spelled_part x) xs ys r → x ≡ y
         → ((more : List Part) × (x ∷ xs ≡ (y ∷ ys) ++ more)) ⊎ GoesOn f before (x ∷ xs) (y ∷ ys) r
     further (inl (more, is)) e = inl (more, (λ i. e i ∷ is i))
-    further (inr (next, behind, after, is, parted, stands)) e =
-        inr (next, behind, after, (λ i. sym e i ∷ is i), parted, subst (λ b. Stands (standing_of f b) next after) (append_assoc before (spelled_part x) (spelled xs)) stands)
+    further (inr (next, rest, after, is, parted, stands)) e =
+        inr (next, rest, after, (λ i. sym e i ∷ is i), parted, subst (λ b. Stands (standing_of f b) next after) (append_assoc before (spelled_part x) (spelled xs)) stands)
 
 -- ---- a block that is gone through part by part
 
@@ -101,7 +101,7 @@ module _ (f : Bool) (block : List ℕ) (begin at : ℕ) (done : List Part) (to :
         (subst (λ b. Stands (standing_of f b) on.0 on.2) (sym to.passed) on.5) (sym here.found.parted ∙ on.4)).0 in record {
           before = done;
           part = here.part;
-          behind = on.1;
+          after = on.1;
           parted = on.3 ∙ ap (λ p. done ++ p ∷ on.1) (sym same);
           has_fact = has;
           place_is = to.at_is;

@@ -49,8 +49,8 @@ piece_place max_depth file_start before [] (Unreadable at bytes) later text h =
     let all = ap length h.1 ∙ length-append (spelled h.0) bytes in
     (omega arith, omega arith)
 piece_place max_depth file_start before (Game at parts ∷ earlier) piece later text h =
-    let behind = (before ++ spelled h.0) ++ spelled parts in
-    let r = piece_place max_depth file_start behind earlier piece later h.1 h.6 in
+    let after = (before ++ spelled h.0) ++ spelled parts in
+    let r = piece_place max_depth file_start after earlier piece later h.1 h.6 in
     let some : 0 < length (spelled parts) = some_length (spelled parts) (game_has_byte max_depth file_start (before ++ spelled h.0) parts h.1 h.5) in
     let lengths = length-append (before ++ spelled h.0) (spelled parts) in
     let first = length-append before (spelled h.0) in
@@ -84,18 +84,18 @@ abbrev Bounds : ℕ → List ℕ → List MarkedPiece → MarkedPiece → Type 0
 Bounds offset text before piece = (offset + length before ≤ piece.offset) × (piece.offset < offset + length text)
 
 blocks_bounds : (limit max_depth offset : ℕ) (blocks : List (List ℕ)) (text : List ℕ) (before : List MarkedPiece)
-    (piece : MarkedPiece) (behind : List MarkedPiece)
-    → AreBlocks blocks text → AreOfBlocks limit max_depth offset blocks (before ++ piece ∷ behind) → Bounds offset text before piece
-blocks_bounds limit max_depth offset [] text before piece behind parted h = absurd parted
-blocks_bounds limit max_depth offset (block ∷ []) text before piece behind parted h =
-    let all : before ++ piece ∷ behind ≡ h.0 = h.2 ∙ ap (λ t. h.0 ++ t) h.4 ∙ append-nil h.0 in
-    let r = block_bounds limit max_depth offset block before piece behind (rw (← all) at h.3) in
+    (piece : MarkedPiece) (after : List MarkedPiece)
+    → AreBlocks blocks text → AreOfBlocks limit max_depth offset blocks (before ++ piece ∷ after) → Bounds offset text before piece
+blocks_bounds limit max_depth offset [] text before piece after parted h = absurd parted
+blocks_bounds limit max_depth offset (block ∷ []) text before piece after parted h =
+    let all : before ++ piece ∷ after ≡ h.0 = h.2 ∙ ap (λ t. h.0 ++ t) h.4 ∙ append-nil h.0 in
+    let r = block_bounds limit max_depth offset block before piece after (rw (← all) at h.3) in
     (r.0, omega (arith, r.1, ap length parted.0))
-blocks_bounds limit max_depth offset (block ∷ next ∷ more) text before piece behind parted h =
-    let again : (there : List MarkedPiece) → AreOfBlocks limit max_depth (offset + length block) (next ∷ more) (there ++ piece ∷ behind)
+blocks_bounds limit max_depth offset (block ∷ next ∷ more) text before piece after parted h =
+    let again : (there : List MarkedPiece) → AreOfBlocks limit max_depth (offset + length block) (next ∷ more) (there ++ piece ∷ after)
     → Bounds (offset + length block) parted.0 there piece =
-    λ there marks. blocks_bounds limit max_depth (offset + length block) (next ∷ more) parted.0 there piece behind parted.4 marks in
-    elim (cut_append h.0 h.1 before (piece ∷ behind) (sym h.2)) [
+    λ there marks. blocks_bounds limit max_depth (offset + length block) (next ∷ more) parted.0 there piece after parted.4 marks in
+    elim (cut_append h.0 h.1 before (piece ∷ after) (sym h.2)) [
       | inl t ↦ inside again t.0 t.1 t.2
       | inr t ↦ later again t.0 h.0 t.1 t.2 h.3
     ]
@@ -103,9 +103,9 @@ blocks_bounds limit max_depth offset (block ∷ next ∷ more) text before piece
     size : length text ≡ length block + length parted.0
     size = ap length parted.1 ∙ length-append block parted.0
 
-    later : ((there : List MarkedPiece) → AreOfBlocks limit max_depth (offset + length block) (next ∷ more) (there ++ piece ∷ behind)
+    later : ((there : List MarkedPiece) → AreOfBlocks limit max_depth (offset + length block) (next ∷ more) (there ++ piece ∷ after)
         → Bounds (offset + length block) parted.0 there piece)
-        → (there own : List MarkedPiece) → before ≡ own ++ there → h.1 ≡ there ++ piece ∷ behind
+        → (there own : List MarkedPiece) → before ≡ own ++ there → h.1 ≡ there ++ piece ∷ after
         → AreOfBlock limit max_depth offset block own → Bounds offset text before piece
     later again there own e f is =
         let r = again there (rw f at h.4) in
@@ -113,9 +113,9 @@ blocks_bounds limit max_depth offset (block ∷ next ∷ more) text before piece
         let count = ap length e ∙ length-append own there in
         (omega (arith, r.0), omega (arith, r.1, size))
 
-    inside : ((there : List MarkedPiece) → AreOfBlocks limit max_depth (offset + length block) (next ∷ more) (there ++ piece ∷ behind)
+    inside : ((there : List MarkedPiece) → AreOfBlocks limit max_depth (offset + length block) (next ∷ more) (there ++ piece ∷ after)
         → Bounds (offset + length block) parted.0 there piece)
-        → (m : List MarkedPiece) → h.0 ≡ before ++ m → piece ∷ behind ≡ m ++ h.1 → Bounds offset text before piece
+        → (m : List MarkedPiece) → h.0 ≡ before ++ m → piece ∷ after ≡ m ++ h.1 → Bounds offset text before piece
     inside again [] e f = later again [] before (sym (append-nil before)) (sym f) (rw (e, append-nil) at h.3)
     inside again (first ∷ m) e f =
         let same : first ≡ piece = cc in
@@ -123,5 +123,5 @@ blocks_bounds limit max_depth offset (block ∷ next ∷ more) text before piece
         (r.0, omega (arith, r.1, size))
 
 pub mark_bounds : PieceBeginsInItsText
-mark_bounds limit max_depth offset text before piece behind h =
-    blocks_bounds limit max_depth offset h.blocks text before piece behind h.parted h.each
+mark_bounds limit max_depth offset text before piece after h =
+    blocks_bounds limit max_depth offset h.blocks text before piece after h.parted h.each

@@ -3,7 +3,7 @@ use Rattle.std.proofs.Common.{◌≡◌, ℕ, true, false, List, [], ◌∷◌, 
 use Rattle.std.specs.Prelude.{Option, ◌||◌, bytes_eq}
 use Rattle.std.specs.List.{list_all, list_any}
 use Rattle.std.proofs.lemmas.Bool.{and_parts, and_from, cases_Bool, or_cases, or_left, or_right, false≢true, false_from_ne_true}
-use Rattle.pgn_text.specs.Agreement.{Walks}
+use Rattle.pgn_text.specs.ErrorPosition.{Walks}
 use Rattle.pgn_text.specs.Bytes.{is_word_byte}
 use Rattle.pgn_text.specs.Games.{is_number, is_result_word, is_move_text, is_result, is_meant}
 use Rattle.pgn_text.specs.PartFronts.{Follows, IsPartFront, NoneFollows}
@@ -42,7 +42,7 @@ unfolding part_or
 same_part p q rest after found e h = ap (part_or p) (sym e ∙ h)
 
 module _ (max_depth : ℕ) where
-  -- a part behind which a state follows has a meaning
+  -- a part after which a state follows has a meaning
   step_meant : (s : State) (p : Part) (t : State) → step max_depth s p ≡ Some t → is_meant p ≡ true
   step_meant s (Word text) t e = elim (or_cases (is_number text) (is_move_text text) (word_step max_depth s text t e)) [
     | inl n ↦ or_left (is_number text || is_result_word text) (is_move_text text) (or_left (is_number text) (is_result_word text) n)

@@ -19,9 +19,9 @@ cuts (x ∷ a) (z ∷ b) rest rest' e =
       | inr h ↦ inr (h.0, (let f = h.1 in cc), h.2)
     ]
 
--- behind a byte an event line does not depend on the bytes before it
-event_line_behind : (x y : ℕ) (ys after : List ℕ) → is_event_line (x ∷ y ∷ ys) after ≡ is_event_line (y ∷ ys) after
-event_line_behind x y ys after =
+-- after a byte an event line does not depend on the bytes before it
+event_line_after : (x y : ℕ) (ys after : List ℕ) → is_event_line (x ∷ y ∷ ys) after ≡ is_event_line (y ∷ ys) after
+event_line_after x y ys after =
     let place : length (x ∷ y ∷ ys) - 1 ≡ suc (length (y ∷ ys) - 1) = omega arith in
     ap (λ k. (get_or (x ∷ y ∷ ys) k 0 == 10) && starts_with nat_eq after event_line) place
 
@@ -72,17 +72,17 @@ joined x block rest none first = record { ends = ends block first; whole = whole
   where
     ends : (b : List ℕ) → IsFirstBlock b rest → rest ≢ [] → IsTrue (is_event_line (x ∷ b) rest)
     ends [] f some = absurd (some (empty_first rest f))
-    ends (y ∷ ys) f some = event_line_behind x y ys rest ∙ f.ends some
+    ends (y ∷ ys) f some = event_line_after x y ys rest ∙ f.ends some
 
     whole : (p q : List ℕ) → x ∷ block ≡ p ++ q → p ≢ [] → q ≢ [] → IsTrue (is_event_line p (q ++ rest)) → ⊥
     whole [] q e some other here = some refl
     whole (z ∷ []) q e some other here =
         let same : x ≡ z = cc in
-        let behind : block ≡ q = cc in
-        both_ways (is_event_line (x ∷ []) (block ++ rest)) none (ap (λ b. is_event_line (b ∷ []) (block ++ rest)) same ∙ ap (λ t. is_event_line (z ∷ []) (t ++ rest)) behind ∙ here)
+        let after : block ≡ q = cc in
+        both_ways (is_event_line (x ∷ []) (block ++ rest)) none (ap (λ b. is_event_line (b ∷ []) (block ++ rest)) same ∙ ap (λ t. is_event_line (z ∷ []) (t ++ rest)) after ∙ here)
     whole (z ∷ y ∷ p) q e some other here =
-        let behind : block ≡ (y ∷ p) ++ q = cc in
-        first.whole (y ∷ p) q behind (λ n. cc) other (sym (event_line_behind z y p (q ++ rest)) ∙ here)
+        let after : block ≡ (y ∷ p) ++ q = cc in
+        first.whole (y ∷ p) q after (λ n. cc) other (sym (event_line_after z y p (q ++ rest)) ∙ here)
 
 -- a byte before a text joins its first block
 more_blocks : (x : ℕ) (text : List ℕ) (blocks : List (List ℕ)) → is_event_line (x ∷ []) text ≡ false → AreBlocks blocks text

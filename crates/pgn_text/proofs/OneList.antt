@@ -24,7 +24,7 @@ pub no_bytes : {X : Type 0} (a b : List X) → a ++ b ≡ [] → a ≡ []
 no_bytes [] b e = refl
 no_bytes (x ∷ a) b e = cc
 
--- behind bytes less is left
+-- after bytes less is left
 pub shorter : (text x rest : List ℕ) (fuel : ℕ) → text ≡ x ++ rest → x ≢ [] → length text < suc fuel → length rest < fuel
 shorter text [] rest fuel e some l = absurd (some refl)
 shorter text (b ∷ x) rest fuel e some l = omega (arith, ap length e, length-append x rest)

@@ -17,7 +17,7 @@ module _ (fact : List Part → Part → Type 0)
     (parts : List Part) (begin : ℕ) where
   -- of two places the one is not further on
   not_after : (place other : ℕ) (h : IsPlaceOf fact parts begin place) (k : IsPlaceOf fact parts begin other) (more : List Part)
-      → h.before ≡ k.before ++ more → k.part ∷ k.behind ≡ more ++ h.part ∷ h.behind → place ≡ other
+      → h.before ≡ k.before ++ more → k.part ∷ k.after ≡ more ++ h.part ∷ h.after → place ≡ other
   not_after place other h k [] e f =
       h.place_is ∙ ap (λ l. begin + length (spelled l)) (e ∙ append-nil k.before) ∙ sym k.place_is
   not_after place other h k (next ∷ more) e f =
@@ -27,7 +27,7 @@ module _ (fact : List Part → Part → Type 0)
 
   one_place_of : (place other : ℕ) → IsPlaceOf fact parts begin place → IsPlaceOf fact parts begin other → place ≡ other
   one_place_of place other h k =
-      elim (cut_append h.before (h.part ∷ h.behind) k.before (k.part ∷ k.behind) (sym h.parted ∙ k.parted)) [
+      elim (cut_append h.before (h.part ∷ h.after) k.before (k.part ∷ k.after) (sym h.parted ∙ k.parted)) [
         | inl t ↦ not_after place other h k t.0 t.1 t.2
         | inr t ↦ sym (not_after other place k h t.0 t.1 t.2)
       ]

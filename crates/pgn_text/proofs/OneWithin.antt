@@ -10,8 +10,8 @@ use Rattle.pgn_text.specs.Bytes.{begins, is_not_brace}
 use Rattle.pgn_text.specs.Games.{is_open, is_result, is_meant, depth_after}
 use Rattle.pgn_text.specs.Parts.{Part, Open, Stands, standing_of, AllStand, spelled_part, spelled}
 use Rattle.pgn_text.specs.StopPlaces.{PartsThen, StandsWithin, is_open_brace, is_open_bracket, is_quote, is_before_movetext}
-use Rattle.pgn_text.specs.declared.agreement.Within.{Within}
-use Rattle.pgn_text.specs.declared.agreement.Within.TheVariants.{Comment, TagName, TagValue, Tags, Variation, MainLine, Game}
+use Rattle.pgn_text.specs.declared.error_position.Within.{Within}
+use Rattle.pgn_text.specs.declared.error_position.Within.TheVariants.{Comment, TagName, TagValue, Tags, Variation, MainLine, Game}
 use Rattle.pgn_text.proofs.Halfway.{spelled-append, stands_cut}
 use Rattle.pgn_text.proofs.Located.{rows}
 use Rattle.pgn_text.proofs.OneList.{same_fronts}
@@ -65,23 +65,23 @@ module _ (f : Bool) (block : List ℕ) (begin place : ℕ) where
   no_longer : (at at' : ℕ) (parts parts' : List Part) (front front' : List ℕ) (next : Part) (more : List Part)
       → PartsThen f block begin at place parts front → PartsThen f block begin at' place parts' front' → parts' ≡ parts ++ next ∷ more → ⊥
   no_longer at at' parts parts' front front' next more h k is =
-      let behind = drop place block in
+      let after = drop place block in
       let own = spelled_part next ++ (spelled more ++ front') in
-      let stands = (stands_cut f (take begin block) parts (next ∷ more) (front' ++ behind)
-      (subst (λ l. AllStand f (take begin block) l (front' ++ behind)) is k.stand)).1.0 in
+      let stands = (stands_cut f (take begin block) parts (next ∷ more) (front' ++ after)
+      (subst (λ l. AllStand f (take begin block) l (front' ++ after)) is k.stand)).1.0 in
       let meant = (and_parts (is_meant next) (list_all is_meant more) (and_parts (list_all is_meant parts) (list_all is_meant (next ∷ more))
       (sym (list_all-append is_meant parts (next ∷ more)) ∙ ap (list_all is_meant) (sym is) ∙ k.meant)).1).0 in
-      let bytes : spelled parts ++ (front ++ behind) ≡ spelled parts ++ (spelled (next ∷ more) ++ (front' ++ behind)) =
-      sym h.parted ∙ k.parted ∙ ap (λ l. l ++ (front' ++ behind)) (ap spelled is ∙ spelled-append parts (next ∷ more))
-      ∙ append_assoc (spelled parts) (spelled (next ∷ more)) (front' ++ behind) in
-      let back : front ++ behind ≡ own ++ behind =
-      (same_fronts (spelled parts) (front ++ behind) (spelled parts) (spelled (next ∷ more) ++ (front' ++ behind)) refl bytes).1
-      ∙ sym (append_assoc (spelled (next ∷ more)) front' behind)
-      ∙ ap (λ l. l ++ behind) (append_assoc (spelled_part next) (spelled more) front') in
-      let size : length front ≡ length own = omega (arith, ap length back, length-append front behind, length-append own behind) in
-      let parted : front ≡ own = (same_fronts front behind own behind size back).0 in
+      let bytes : spelled parts ++ (front ++ after) ≡ spelled parts ++ (spelled (next ∷ more) ++ (front' ++ after)) =
+      sym h.parted ∙ k.parted ∙ ap (λ l. l ++ (front' ++ after)) (ap spelled is ∙ spelled-append parts (next ∷ more))
+      ∙ append_assoc (spelled parts) (spelled (next ∷ more)) (front' ++ after) in
+      let back : front ++ after ≡ own ++ after =
+      (same_fronts (spelled parts) (front ++ after) (spelled parts) (spelled (next ∷ more) ++ (front' ++ after)) refl bytes).1
+      ∙ sym (append_assoc (spelled (next ∷ more)) front' after)
+      ∙ ap (λ l. l ++ after) (append_assoc (spelled_part next) (spelled more) front') in
+      let size : length front ≡ length own = omega (arith, ap length back, length-append front after, length-append own after) in
+      let parted : front ≡ own = (same_fronts front after own after size back).0 in
       false≢true (sym (h.no_more next (spelled more ++ front') parted
-      (subst (Stands (standing_of f (take begin block ++ spelled parts)) next) (sym (append_assoc (spelled more) front' behind)) stands)) ∙ meant)
+      (subst (Stands (standing_of f (take begin block ++ spelled parts)) next) (sym (append_assoc (spelled more) front' after)) stands)) ∙ meant)
 
   -- so two rows are the same
   same_row : (at at' : ℕ) (parts parts' : List Part) (front front' : List ℕ)

@@ -15,7 +15,7 @@ pub kept-or : (a b : Option (Part × List ℕ)) → option_map kept_found (optio
 kept-or None b = refl
 kept-or (Some found) b = refl
 
--- behind a word's byte, or a mark, no gap part stands
+-- after a word's byte, or a mark, no gap part stands
 pub no_gap-word : (place : Standing) (b : ℕ) (rest : List ℕ) → is_word_byte b ≡ true → gap_front place (b ∷ rest) ≡ None
 no_gap-word place b rest word =
     rw (is_white-word b word, brace-word b word, semicolon-word b word, percent-word b word, order_mark-word b word) refl
@@ -24,7 +24,7 @@ pub no_gap-mark : (place : Standing) (b : ℕ) (rest : List ℕ) → is_mark b �
 no_gap-mark place b rest mark =
     rw (is_white-mark b mark, brace-mark b mark, semicolon-mark b mark, percent-mark b mark, order_mark-mark b mark) refl
 
--- the contents of a string, read up to the quote behind them
+-- the contents of a string, read up to the quote after them
 signs-read : (signs : List Sign) (after : List ℕ) → IsTrue (list_all is_sign signs) → contents_front false (flat_map spelled_sign signs ++ (34 ∷ after)) ≡ Some (flat_map spelled_sign signs, 34 ∷ after)
 signs-read [] after all = refl
 signs-read (Single b ∷ signs) after all =
@@ -68,14 +68,14 @@ tag_front-read : (first name second contents third after : List ℕ) → IsTrue 
     → tag_front (first ++ (name ++ (second ++ (34 ∷ (contents ++ (34 ∷ (third ++ (93 ∷ after)))))))) ≡ Some (Tag first name second contents third, after)
 tag_front-read first name second contents third after whites some names more_whites spelt last_whites =
     let string : List ℕ = 34 ∷ (contents ++ (34 ∷ (third ++ (93 ∷ after)))) in
-    let behind_name : List ℕ = second ++ string in
-    let name_ends : IsTrue (stops is_name_byte behind_name) = white_stops-name second (contents ++ (34 ∷ (third ++ (93 ∷ after)))) more_whites in
-    let white_ends : IsTrue (stops is_white (name ++ behind_name)) = name_stops-white name behind_name some names in
+    let after_name : List ℕ = second ++ string in
+    let name_ends : IsTrue (stops is_name_byte after_name) = white_stops-name second (contents ++ (34 ∷ (third ++ (93 ∷ after)))) more_whites in
+    let white_ends : IsTrue (stops is_white (name ++ after_name)) = name_stops-white name after_name some names in
     rw (
-      run_of-append is_white first (name ++ behind_name) whites white_ends,
-      after_run-append is_white first (name ++ behind_name) whites white_ends,
-      run_of-append is_name_byte name behind_name names name_ends,
-      after_run-append is_name_byte name behind_name names name_ends,
+      run_of-append is_white first (name ++ after_name) whites white_ends,
+      after_run-append is_white first (name ++ after_name) whites white_ends,
+      run_of-append is_name_byte name after_name names name_ends,
+      after_run-append is_name_byte name after_name names name_ends,
       run_of-append is_white second string more_whites refl,
       after_run-append is_white second string more_whites refl,
       not-true _ some,
@@ -116,7 +116,7 @@ stands-read place (Marks (b ∷ marks)) after (some, all, ends) =
 stands-read place Open after _ = refl
 stands-read place Close after _ = refl
 
--- the found part and the text behind it
+-- the found part and the text after it
 some_pair : (p q : Part) (after rest : List ℕ) → ◌≡◌ {A = Option (Part × List ℕ)} (Some (p, after)) (Some (q, rest)) → (p ≡ q) × (after ≡ rest)
 some_pair p q after rest same =
     let found : Option (Part × List ℕ) → Part × List ℕ = λ o. elim o [ None ↦ (p, after) | Some f ↦ f ] in

@@ -1,4 +1,4 @@
--- Parts told apart by the byte at their place, and by the place behind them.
+-- Parts distinguished by the byte at their place, and by the place after them.
 use Rattle.std.proofs.Common.{◌≡◌, ℕ, suc, ◌+◌, ◌-◌, ◌<◌, ◌≤◌, Bool, true, false, List, [], ◌∷◌, ◌++◌, length, take, drop, get_or, refl, sym, ap, ◌∙◌, subst, arith, length-drop, length-append, drop-drop}
 use Rattle.std.specs.Prelude.{Option, Some, None, option_map, IsTrue}
 use Rattle.std.specs.Option.{option_or}
@@ -18,7 +18,7 @@ use Rattle.pgn_text.proofs.Places.{part_placed, kept_at, nothing_at}
 use Rattle.pgn_text.proofs.Braces.{brace_found, brace_none}
 use Rattle.memchr.specs.Find.{IsFirstByte, is_byte}
 
--- the part that is read at a place reaches to the place where what is left behind it begins
+-- the part that is read at a place reaches to the place where what is left after it begins
 placed : (f : Bool) (block : List ℕ) (at end : ℕ) (part : Part) → at ≤ length block → end ≤ length block
     → part_front (standing_of f (take at block)) (drop at block) ≡ Some (part, drop end block) → PartAt f block at part end
 placed f block at end part below within read =
@@ -113,7 +113,7 @@ no_part_at_end f block at ended part rest parted stands =
     (let none : drop at block ≡ [] = drop_all at block ended in
     let lengths : 0 ≡ length (spelled_part part) + length rest = ap length (sym none ∙ parted) ∙ length-append (spelled_part part) rest in omega arith))
 
--- what a part read at a place is, by the text behind its first byte
+-- what a part read at a place is, by the text after its first byte
 front_at : (f : Bool) (block : List ℕ) (at b : ℕ) (front : List ℕ → Option (Part × List ℕ)) → at < length block → get_or block at 0 ≡ b
     → ((place : Standing) (rest : List ℕ) → part_front place (b ∷ rest) ≡ front rest)
     → part_front (standing_of f (take at block)) (drop at block) ≡ front (drop (at + 1) block)
@@ -121,21 +121,21 @@ front_at f block at b front below is reads =
     ap (part_front (standing_of f (take at block))) (drop_more block at 0 below ∙ ap (λ x. x ∷ drop (at + 1) block) is)
     ∙ reads (standing_of f (take at block)) (drop (at + 1) block)
 
--- a part that is found behind its first byte, and what a game keeps of it
-pub kept_behind : (f : Bool) (block : List ℕ) (at b : ℕ) (front : List ℕ → Option (Part × List ℕ)) → at < length block → get_or block at 0 ≡ b
+-- a part that is found after its first byte, and what a game keeps of it
+pub kept_after : (f : Bool) (block : List ℕ) (at b : ℕ) (front : List ℕ → Option (Part × List ℕ)) → at < length block → get_or block at 0 ≡ b
     → ((place : Standing) (rest : List ℕ) → part_front place (b ∷ rest) ≡ front rest) → (token : Kept) (end : ℕ) → end ≤ length block
     → Some (token, drop end block) ≡ option_map kept_found (front (drop (at + 1) block)) → KeptAt f block at token end
-kept_behind f block at b front below is reads token end within found =
+kept_after f block at b front below is reads token end within found =
     let same : length block - length (drop end block) ≡ end = omega (arith, length-drop end block) in
     subst (KeptAt f block at token) same
     (kept_at f block at (standing_of f (take at block)) (drop at block) refl refl (omega arith) token (drop end block)
     (found ∙ sym (ap (option_map kept_found) (front_at f block at b front below is reads))))
 
 -- where none is found, none stands there
-pub none_behind : (f : Bool) (block : List ℕ) (at b : ℕ) (front : List ℕ → Option (Part × List ℕ)) → at < length block → get_or block at 0 ≡ b
+pub none_further : (f : Bool) (block : List ℕ) (at b : ℕ) (front : List ℕ → Option (Part × List ℕ)) → at < length block → get_or block at 0 ≡ b
     → ((place : Standing) (rest : List ℕ) → part_front place (b ∷ rest) ≡ front rest)
     → None ≡ option_map kept_found (front (drop (at + 1) block)) → NothingAt f block at
-none_behind f block at b front below is reads none =
+none_further f block at b front below is reads none =
     nothing_at f block at (standing_of f (take at block)) (drop at block) refl refl
     (none ∙ sym (ap (option_map kept_found) (front_at f block at b front below is reads)))
 
@@ -154,7 +154,7 @@ kept_brace f block at n text below is text_is first =
     let within : n < length text = first.0.high in
     let found : brace_front (drop (at + 1) block) ≡ Some (Brace (take n (drop (at + 1) block)), drop (n + 1) (drop (at + 1) block)) =
     brace_found (drop (at + 1) block) n (subst (λ xs. IsFirstByte (is_byte 125) xs (Some n)) text_is first) in
-    let behind : drop (n + 1) (drop (at + 1) block) ≡ drop (at + 1 + n + 1) block =
+    let after : drop (n + 1) (drop (at + 1) block) ≡ drop (at + 1 + n + 1) block =
     drop-drop (n + 1) (at + 1) block ∙ ap (λ k. drop k block) (omega arith) in
     let len : n ≡ (at + 1 + n) - (at + 1) = omega arith in
     let lengths : length text ≡ length block - (at + 1) = ap length text_is ∙ length-drop (at + 1) block in
@@ -163,14 +163,14 @@ kept_brace f block at n text below is text_is first =
       part = Brace bytes;
       found = placed f block at (at + 1 + n + 1) (Brace bytes) (omega arith) (omega arith)
           (front_at f block at 123 brace_front below is brace_read ∙ found
-          ∙ ap (λ xs. Some (Brace (take n (drop (at + 1) block)), xs)) behind
+          ∙ ap (λ xs. Some (Brace (take n (drop (at + 1) block)), xs)) after
           ∙ ap (λ k. Some (Brace (take k (drop (at + 1) block)), drop (at + 1 + n + 1) block)) len);
       keeps = refl;
     }
 
 pub no_brace : (f : Bool) (block : List ℕ) (at : ℕ) (text : List ℕ) → at < length block → get_or block at 0 ≡ 123 → text ≡ drop (at + 1) block → IsFirstByte (is_byte 125) text None → NothingAt f block at
 no_brace f block at text below is text_is nowhere =
-    none_behind f block at 123 brace_front below is brace_read
+    none_further f block at 123 brace_front below is brace_read
     (sym (ap (option_map kept_found) (brace_none (drop (at + 1) block) (subst (λ xs. IsFirstByte (is_byte 125) xs None) text_is nowhere))))
 
 -- where the block ends or a byte fails, a run stops
@@ -192,7 +192,7 @@ digits_words (x ∷ xs) all =
     let parts : (is_digit x ≡ true) × (list_all is_digit xs ≡ true) = and_parts _ _ all in
     and_from _ _ (is_digit-word x parts.0) (digits_words xs parts.1)
 
--- digits behind which no word goes on are a move number
+-- digits after which no word goes on are a move number
 pub kept_digits : (f : Bool) (block : List ℕ) (at end : ℕ) → at < length block → is_digit (get_or block at 0) ≡ true → RunTo is_digit block (at + 1) end
     → (end < length block → is_word_byte (get_or block end 0) ≡ false) → KeptAt f block at KeptNumber end
 kept_digits f block at end below digit to ends =

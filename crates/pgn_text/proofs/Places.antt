@@ -8,7 +8,7 @@ use Rattle.std.proofs.lemmas.List.{take-append-drop, length-take-le, take_at, dr
 use Rattle.pgn_text.specs.Bytes.{is_white, is_word_byte, is_mark, is_digit, is_name_byte, is_not_brace, is_empty, run_of, after_run}
 use Rattle.pgn_text.specs.Parts.{Part, Tag, Brace, Standing, Stands, spelled_part, standing_of}
 use Rattle.pgn_text.specs.Games.{is_gap_part}
-use Rattle.pgn_text.specs.Reading.{Kept, kept, kept_found, part_front, gap_front, game_front, rest_behind, tag_front, is_glyph, tag_string, tag_end, contents_front}
+use Rattle.pgn_text.specs.Reading.{Kept, kept, kept_found, part_front, gap_front, game_front, rest_after, tag_front, is_glyph, tag_string, tag_end, contents_front}
 use Rattle.pgn_text.specs.Walk.{PartAt, KeptAt, NothingAt, GapPartAt, NoGapPartAt}
 use Rattle.pgn_text.proofs.PartLemmas.{part_has_byte, stands-read}
 use Rattle.pgn_text.proofs.FoundLemmas.{IsFound, gap-found, read-stands}
@@ -25,14 +25,14 @@ part_placed f block at part rest below parted stands =
     ∙ ap (λ n. n + length rest) (length-append (take at block) (spelled_part part) ∙ ap (λ n. n + length (spelled_part part)) front) in
     let end : length (take at block ++ spelled_part part) ≡ length block - length rest =
     length-append (take at block) (spelled_part part) ∙ (omega arith) in
-    let behind : drop (length block - length rest) block ≡ rest =
+    let after : drop (length block - length rest) block ≡ rest =
     ap (drop (length block - length rest)) whole ∙ drop_at (take at block ++ spelled_part part) rest (length block - length rest) end in
     let before : take (length block - length rest) block ≡ take at block ++ spelled_part part =
     ap (take (length block - length rest)) whole ∙ take_at (take at block ++ spelled_part part) rest (length block - length rest) end in
     let has_byte : length (spelled_part part) ≡ 0 → ⊥ = λ none. part_has_byte (standing_of f (take at block)) part rest stands (nil_from_length (spelled_part part) none) in
     record {
-      parted = parted ∙ ap (λ xs. spelled_part part ++ xs) (sym behind);
-      stands = subst (Stands (standing_of f (take at block)) part) (sym behind) stands;
+      parted = parted ∙ ap (λ xs. spelled_part part ++ xs) (sym after);
+      stands = subst (Stands (standing_of f (take at block)) part) (sym after) stands;
       passed = before;
       forward = omega arith;
       within = omega arith;
@@ -68,7 +68,7 @@ kept_at f block at place text place_is text_is below token rest is =
       keeps = back.2;
     }
 
--- what is left behind a part is no longer than the block
+-- what is left after a part is no longer than the block
 pub rest_within : (f : Bool) (block : List ℕ) (at : ℕ) (place : Standing) (text : List ℕ) → text ≡ drop at block
     → (o : Option (Part × List ℕ)) → IsFound place text o → (token : Kept) (rest : List ℕ) → Some (token, rest) ≡ option_map kept_found o → length rest ≤ length block
 rest_within f block at place text text_is o found token rest is =
@@ -100,7 +100,7 @@ pub gap_kind : (place : Standing) (text : List ℕ) → IsKind true (gap_front p
 gap_kind place [] = tt
 gap_kind place (b ∷ rest) =
     cond_both (is_white b) _ _ (IsKind true) (λ _. refl) (λ _.
-    cond_both (b == 123) _ _ (IsKind true) (λ _. kind_map true (rest_behind 125 (after_run is_not_brace rest)) (λ behind. (Brace (run_of is_not_brace rest), behind)) (λ _. refl)) (λ _.
+    cond_both (b == 123) _ _ (IsKind true) (λ _. kind_map true (rest_after 125 (after_run is_not_brace rest)) (λ after. (Brace (run_of is_not_brace rest), after)) (λ _. refl)) (λ _.
     cond_both (b == 59) _ _ (IsKind true) (λ _. refl) (λ _.
     cond_both (b == 37) _ _ (IsKind true) (λ _. cond_both place.column_one _ _ (IsKind true) (λ _. refl) (λ _. tt)) (λ _.
     cond_both (b == 239) _ _ (IsKind true) (λ _. cond_both place.file_start _ _ (IsKind true) (λ _. cond_both (starts_with nat_eq rest (187 ∷ 191 ∷ [])) _ _ (IsKind true) (λ _. refl) (λ _. tt)) (λ _. tt)) (λ _.
@@ -108,15 +108,15 @@ gap_kind place (b ∷ rest) =
 
 tag_end-kind : (first name second contents text : List ℕ) → IsKind false (tag_end first name second contents text)
 tag_end-kind first name second contents text =
-    kind_map false (rest_behind 93 (after_run is_white text)) (λ rest. (Tag first name second contents (run_of is_white text), rest)) (λ _. refl)
+    kind_map false (rest_after 93 (after_run is_white text)) (λ rest. (Tag first name second contents (run_of is_white text), rest)) (λ _. refl)
 
 tag_string-kind : (first name second text : List ℕ) → IsKind false (tag_string first name second text)
 tag_string-kind first name second text =
-    kind_then false (rest_behind 34 text)
-    (λ behind. option_and_then (λ found. option_and_then (λ rest. tag_end first name second found.0 rest) (rest_behind 34 found.1)) (contents_front false behind))
-    (λ behind. kind_then_both false (contents_front false behind)
-    (λ found. option_and_then (λ rest. tag_end first name second found.0 rest) (rest_behind 34 found.1))
-    (λ found. kind_then false (rest_behind 34 found.1) (λ rest. tag_end first name second found.0 rest)
+    kind_then false (rest_after 34 text)
+    (λ after. option_and_then (λ found. option_and_then (λ rest. tag_end first name second found.0 rest) (rest_after 34 found.1)) (contents_front false after))
+    (λ after. kind_then_both false (contents_front false after)
+    (λ found. option_and_then (λ rest. tag_end first name second found.0 rest) (rest_after 34 found.1))
+    (λ found. kind_then false (rest_after 34 found.1) (λ rest. tag_end first name second found.0 rest)
     (λ rest. tag_end-kind first name second found.0 rest)))
 
 tag_kind : (text : List ℕ) → IsKind false (tag_front text)

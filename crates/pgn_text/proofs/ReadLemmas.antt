@@ -40,11 +40,11 @@ read_start max_depth f block begin state tags elements within is_start no_tags n
   elements_kept = no_elements;
 }
 
--- where a part stands, it stands behind the parts that were read
-stands_behind : (f : Bool) (before there : List ℕ) (done : List Part) (part : Part) (rest : List ℕ) → there ≡ before ++ spelled done → Stands (standing_of f there) part rest → Stands (standing_of f (before ++ spelled done)) part rest
-stands_behind f before there done part rest passed stands = subst (λ xs. Stands (standing_of f xs) part rest) passed stands
+-- where a part stands, it stands after the parts that were read
+stands_after : (f : Bool) (before there : List ℕ) (done : List Part) (part : Part) (rest : List ℕ) → there ≡ before ++ spelled done → Stands (standing_of f there) part rest → Stands (standing_of f (before ++ spelled done)) part rest
+stands_after f before there done part rest passed stands = subst (λ xs. Stands (standing_of f xs) part rest) passed stands
 
--- behind one more part
+-- after one more part
 pub read_more : (max_depth : ℕ) (f : Bool) (block : List ℕ) (begin at end : ℕ) (state next : State) (tags more_tags : List ℕ → Option (List ℕ)) (elements more_elements : List Item) (token : Kept)
     → ReadTo max_depth f block begin at state tags elements → KeptAt f block at token end → is_kept_result token ≡ false → step_kept max_depth state token ≡ Some next
     → ((wanted : List ℕ) → more_tags wanted ≡ option_or (tags wanted) (named_kept wanted token)) → more_elements ≡ elements ++ items_of_kept token
@@ -54,7 +54,7 @@ read_more max_depth f block begin at end state next tags more_tags elements more
     let no_end : is_result here.part ≡ false = is_result-kept here.part ∙ ap is_kept_result here.keeps ∙ no_result in
     let goes : step max_depth state here.part ≡ Some next = step-kept max_depth state here.part ∙ ap (step_kept max_depth state) here.keeps ∙ steps in
     let stands : Stands (standing_of f (take begin block ++ spelled read.done)) here.part (drop end block) =
-    stands_behind f (take begin block) (take at block) read.done here.part (drop end block) read.passed found.stands in
+    stands_after f (take begin block) (take at block) read.done here.part (drop end block) read.passed found.stands in
     record {
       done = read.done ++ here.part ∷ [];
       halfway = halfway_more max_depth f (take begin block) (drop begin block) read.done state next here.part (drop at block) (drop end block) read.halfway found.parted stands no_end goes;
@@ -90,7 +90,7 @@ read_stuck max_depth f block begin at end state tags elements token read here de
     let kind : is_result here.part ≡ is_kept_result token = is_result-kept here.part ∙ ap is_kept_result here.keeps in
     no_game max_depth f (take begin block) (drop begin block)
     (halfway_stuck max_depth f (take begin block) (drop begin block) read.done state here.part (drop at block) (drop end block) read.halfway found.parted
-    (stands_behind f (take begin block) (take at block) read.done here.part (drop end block) read.passed found.stands)
+    (stands_after f (take begin block) (take at block) read.done here.part (drop end block) read.passed found.stands)
     (λ is. deep (sym kind ∙ is))
     (λ is. step-kept max_depth state here.part ∙ ap (step_kept max_depth state) here.keeps ∙ stuck (sym kind ∙ is)))
 
@@ -123,7 +123,7 @@ read_end max_depth f block begin at end state tags elements token read outside h
     let result : is_result here.part ≡ true = is_result-kept here.part ∙ ap is_kept_result here.keeps ∙ is in
     let kept_is : kept here.part ≡ KeptResult = here.keeps ∙ kept_result token is in
     let stands : Stands (standing_of f (take begin block ++ spelled read.done)) here.part (drop end block) =
-    stands_behind f (take begin block) (take at block) read.done here.part (drop end block) read.passed found.stands in
+    stands_after f (take begin block) (take at block) read.done here.part (drop end block) read.passed found.stands in
     let reads : Reads max_depth f (take begin block) (drop begin block) start (read.done ++ here.part ∷ []) (drop end block) =
     halfway_end max_depth f (take begin block) (drop begin block) read.done state here.part (drop at block) (drop end block) read.halfway found.parted stands result closed in
     let elements_is : elements ≡ items_of (read.done ++ here.part ∷ []) =
@@ -190,14 +190,14 @@ kept_idle {kept_first} {kept_now} {max_depth} {f} {block} {begin} {at} {end} {st
 }
 
 -- white space, if it stands there
-pub kept_behind_white : {kept_first kept_now : (List ℕ → Option (List ℕ)) → List Item → Type 0} {max_depth : ℕ} {f : Bool} {block : List ℕ} {begin at end : ℕ} {state : State}
+pub kept_after_white : {kept_first kept_now : (List ℕ → Option (List ℕ)) → List Item → Type 0} {max_depth : ℕ} {f : Bool} {block : List ℕ} {begin at end : ℕ} {state : State}
     → KeptUpTo kept_first kept_now max_depth f block begin at state → Passes f block at KeptGap end → KeptUpTo kept_first kept_now max_depth f block begin end state
-kept_behind_white up passes = kept_idle KeptGap refl (λ wanted. refl) refl refl up passes
+kept_after_white up passes = kept_idle KeptGap refl (λ wanted. refl) refl refl up passes
 
 -- a period in the movetext, if it stands there
-pub kept_behind_dot : {kept_first kept_now : (List ℕ → Option (List ℕ)) → List Item → Type 0} {max_depth : ℕ} {f : Bool} {block : List ℕ} {begin at end : ℕ} {state : State} → state.in_tags ≡ false
+pub kept_after_dot : {kept_first kept_now : (List ℕ → Option (List ℕ)) → List Item → Type 0} {max_depth : ℕ} {f : Bool} {block : List ℕ} {begin at end : ℕ} {state : State} → state.in_tags ≡ false
     → KeptUpTo kept_first kept_now max_depth f block begin at state → Passes f block at KeptDot end → KeptUpTo kept_first kept_now max_depth f block begin end state
-kept_behind_dot {state = state} movetext up passes =
+kept_after_dot {state = state} movetext up passes =
     kept_idle KeptDot refl (λ wanted. refl) refl
     (ap (λ (b : Bool). Some (record { in_tags = b; depth = state.depth; has_move = state.has_move })) (sym movetext)) up passes
 

@@ -14,15 +14,15 @@ module _ (kept_old kept_new : (List ℕ → Option (List ℕ)) → List Item →
   -- a step over the token that stands at a place is what stands there
   step_is_reading : {f : Bool} {block : List ℕ} {at end : ℕ} {token : Kept} → KeptAt f block at token end → is_kept_result token ≡ false
       → (reading : Reading) → IsStep kept_old kept_new max_depth token end old new reading → IsReading kept_old kept_new max_depth f block at old new reading
-  step_is_reading {f} {block} {at} {end} {token} here no_result (Part behind) (ends, steps, keeps) = record {
+  step_is_reading {f} {block} {at} {end} {token} here no_result (Part after) (ends, steps, keeps) = record {
     token = token;
     here = subst (KeptAt f block at token) (sym ends) here;
     no_result = no_result;
     steps = steps;
     keeps = keeps;
   }
-  step_is_reading here no_result (Number behind) step = absurd step
-  step_is_reading here no_result (Result behind) step = absurd step
+  step_is_reading here no_result (Number after) step = absurd step
+  step_is_reading here no_result (Result after) step = absurd step
   step_is_reading {f} {block} {at} {end} {token} here no_result Stuck step =
       inr (record { token = token; end = end; here = here; deep = λ yes. absurd (cc); stuck = λ _. step })
 

@@ -1,4 +1,4 @@
--- A text read again from one of its pieces on has that piece and those behind it, with the same offsets.
+-- A text read again from one of its pieces on has that piece and those after it, with the same offsets.
 use Rattle.std.proofs.Common.{◌≡◌, ◌≢◌, ℕ, ◌+◌, ◌-◌, ◌≤◌, ◌==◌, Bool, false, ◌&&◌, List, [], ◌∷◌, ◌++◌, map, length, drop, get_or, nat_eq, refl, sym, ap, ap₂, subst, ◌∙◌, inl, inr, arith, append_assoc, length-append, drop_at, drop-drop}
 use Rattle.std.specs.List.{starts_with}
 use Rattle.std.proofs.lemmas.Bool.{ne_eqb}
@@ -31,15 +31,15 @@ last_byte x (b ∷ y) some =
     ap (λ n. get_or (x ++ b ∷ y) n 0) e ∙ get_or-append-add x (b ∷ y) (length (b ∷ y) - 1) 0
 
 -- an event line does not depend on what stands before the byte before it
-pub event_line_behind : (x y after : List ℕ) → y ≢ [] → is_event_line (x ++ y) after ≡ is_event_line y after
-event_line_behind x y after some = ap (λ b. (b == 10) && starts_with nat_eq after event_line) (last_byte x y some)
+pub event_line_after : (x y after : List ℕ) → y ≢ [] → is_event_line (x ++ y) after ≡ is_event_line y after
+event_line_after x y after some = ap (λ b. (b == 10) && starts_with nat_eq after event_line) (last_byte x y some)
 
 -- the end of a first block is a first block
 pub first_block_rest : (x y rest : List ℕ) → y ≢ [] → IsFirstBlock (x ++ y) rest → IsFirstBlock y rest
 first_block_rest x y rest some h = record {
-  ends = λ more. sym (event_line_behind x y rest some) ∙ h.ends more;
+  ends = λ more. sym (event_line_after x y rest some) ∙ h.ends more;
   whole = λ a b e f g line. h.whole (x ++ a) b (rw e (sym (append_assoc x a b))) (λ n. f (no_more x a n)) g
-      (event_line_behind x a (b ++ rest) f ∙ line);
+      (event_line_after x a (b ++ rest) f ∙ line);
 }
 
 -- and with it the blocks of what is left
@@ -146,11 +146,11 @@ pieces_from max_depth file_start before [] (Unreadable at bytes) later text begu
           same_unreadable same none;
     }
 pieces_from max_depth file_start before (Game at parts ∷ earlier) piece later text begun h =
-    let behind = (before ++ spelled h.0) ++ spelled parts in
+    let after = (before ++ spelled h.0) ++ spelled parts in
     let begun_there = begun_more file_start (before ++ spelled h.0) parts h.1 (begun_more file_start before h.0
     (spelled parts ++ h.1) begun h.3.is_gap.stand) h.5.stand in
-    let r = pieces_from max_depth file_start behind earlier piece later h.1 begun_there h.6 in
-    let regroup : before ++ text ≡ behind ++ h.1 = ap (λ l. before ++ l) h.2 ∙ sym (append_assoc before (spelled h.0)
+    let r = pieces_from max_depth file_start after earlier piece later h.1 begun_there h.6 in
+    let regroup : before ++ text ≡ after ++ h.1 = ap (λ l. before ++ l) h.2 ∙ sym (append_assoc before (spelled h.0)
     (spelled parts ++ h.1)) ∙ sym (append_assoc (before ++ spelled h.0) (spelled parts) h.1) in
     let lengths = length-append (before ++ spelled h.0) (spelled parts) in
     let from = r.from in record {
@@ -273,28 +273,28 @@ resumed_block limit max_depth offset block earlier piece later (within l pieces 
 -- ---- a whole text
 
 -- a text read again from one of its pieces on
-record ResumedFrom (limit max_depth offset : ℕ) (text : List ℕ) (piece : MarkedPiece) (behind : List MarkedPiece) : Type
+record ResumedFrom (limit max_depth offset : ℕ) (text : List ℕ) (piece : MarkedPiece) (after : List MarkedPiece) : Type
     0 where
   skipped : ℕ
   place : piece.offset ≡ offset + skipped
   blocks : List (List ℕ)
   parted : AreBlocks blocks (drop skipped text)
-  each : AreOfBlocks limit max_depth piece.offset blocks (piece ∷ behind)
+  each : AreOfBlocks limit max_depth piece.offset blocks (piece ∷ after)
 
 drop_past : {X : Type 0} (a b : List X) (n : ℕ) → drop (length a + n) (a ++ b) ≡ drop n b
 drop_past a b n = sym (drop-drop n (length a) (a ++ b)) ∙ ap (drop n) (drop_at a b (length a) refl)
 
 -- the piece stands in a later block
 in_later : (limit max_depth offset : ℕ) (block : List ℕ) (more : List (List ℕ)) (text : List ℕ)
-    (before rest : List MarkedPiece) (piece : MarkedPiece) (behind : List MarkedPiece)
+    (before rest : List MarkedPiece) (piece : MarkedPiece) (after : List MarkedPiece)
     → AreBlocks (block ∷ more) text → AreOfBlocks limit max_depth (offset + length block) more rest
-    → rest ≡ before ++ piece ∷ behind
+    → rest ≡ before ++ piece ∷ after
     → ((left : List ℕ) → AreBlocks more left → AreOfBlocks limit max_depth (offset + length block) more
-    (before ++ piece ∷ behind) → ResumedFrom limit max_depth (offset + length block) left piece behind)
-    → ResumedFrom limit max_depth offset text piece behind
-in_later limit max_depth offset block [] text before rest piece behind parted h e again =
-    absurd (not_nil before piece behind (sym e ∙ h))
-in_later limit max_depth offset block (next ∷ more) text before rest piece behind parted h e again =
+    (before ++ piece ∷ after) → ResumedFrom limit max_depth (offset + length block) left piece after)
+    → ResumedFrom limit max_depth offset text piece after
+in_later limit max_depth offset block [] text before rest piece after parted h e again =
+    absurd (not_nil before piece after (sym e ∙ h))
+in_later limit max_depth offset block (next ∷ more) text before rest piece after parted h e again =
     let r = again parted.0 parted.4 (rw e at h) in record {
       skipped = length block + r.skipped;
       place = omega (arith, r.place);
@@ -305,11 +305,11 @@ in_later limit max_depth offset block (next ∷ more) text before rest piece beh
 
 -- the piece stands in the first block
 in_first : (limit max_depth offset : ℕ) (block : List ℕ) (more : List (List ℕ)) (text : List ℕ)
-    (before : List MarkedPiece) (piece : MarkedPiece) (later rest behind : List MarkedPiece)
+    (before : List MarkedPiece) (piece : MarkedPiece) (later rest after : List MarkedPiece)
     → AreBlocks (block ∷ more) text → AreOfBlock limit max_depth offset block (before ++ piece ∷ later)
-    → AreOfBlocks limit max_depth (offset + length block) more rest → behind ≡ later ++ rest
-    → ResumedFrom limit max_depth offset text piece behind
-in_first limit max_depth offset block more text before piece later rest behind parted h k e =
+    → AreOfBlocks limit max_depth (offset + length block) more rest → after ≡ later ++ rest
+    → ResumedFrom limit max_depth offset text piece after
+in_first limit max_depth offset block more text before piece later rest after parted h k e =
     let r = resumed_block limit max_depth offset block before piece later h in
     let next : offset + length block ≡ piece.offset + length r.rest = omega (
       arith,
@@ -326,38 +326,38 @@ in_first limit max_depth offset block more text before piece later rest behind p
     }
 
 resumed_blocks : (limit max_depth offset : ℕ) (blocks : List (List ℕ)) (text : List ℕ) (before : List MarkedPiece)
-    (piece : MarkedPiece) (behind : List MarkedPiece)
-    → AreBlocks blocks text → AreOfBlocks limit max_depth offset blocks (before ++ piece ∷ behind)
-    → ResumedFrom limit max_depth offset text piece behind
-resumed_blocks limit max_depth offset [] text before piece behind parted h = absurd parted
-resumed_blocks limit max_depth offset (block ∷ more) text before piece behind parted h =
+    (piece : MarkedPiece) (after : List MarkedPiece)
+    → AreBlocks blocks text → AreOfBlocks limit max_depth offset blocks (before ++ piece ∷ after)
+    → ResumedFrom limit max_depth offset text piece after
+resumed_blocks limit max_depth offset [] text before piece after parted h = absurd parted
+resumed_blocks limit max_depth offset (block ∷ more) text before piece after parted h =
     let again = λ (there : List MarkedPiece) (left : List ℕ) (blocks : AreBlocks more left)
-    (marks : AreOfBlocks limit max_depth (offset + length block) more (there ++ piece ∷ behind)).
-    resumed_blocks limit max_depth (offset + length block) more left there piece behind blocks marks in
-    elim (cut_append h.0 h.1 before (piece ∷ behind) (sym h.2)) [
+    (marks : AreOfBlocks limit max_depth (offset + length block) more (there ++ piece ∷ after)).
+    resumed_blocks limit max_depth (offset + length block) more left there piece after blocks marks in
+    elim (cut_append h.0 h.1 before (piece ∷ after) (sym h.2)) [
       | inl t ↦ within_first again t.0 t.1 t.2
-      | inr t ↦ in_later limit max_depth offset block more text t.0 h.1 piece behind parted h.4 t.2 (again t.0)
+      | inr t ↦ in_later limit max_depth offset block more text t.0 h.1 piece after parted h.4 t.2 (again t.0)
     ]
   where
     within_first : ((there : List MarkedPiece) (left : List ℕ) → AreBlocks more left → AreOfBlocks limit max_depth
-        (offset + length block) more (there ++ piece ∷ behind) → ResumedFrom limit max_depth (offset + length block)
-        left piece behind)
-        → (m : List MarkedPiece) → h.0 ≡ before ++ m → piece ∷ behind ≡ m ++ h.1
-        → ResumedFrom limit max_depth offset text piece behind
+        (offset + length block) more (there ++ piece ∷ after) → ResumedFrom limit max_depth (offset + length block)
+        left piece after)
+        → (m : List MarkedPiece) → h.0 ≡ before ++ m → piece ∷ after ≡ m ++ h.1
+        → ResumedFrom limit max_depth offset text piece after
     within_first again [] e f =
-        in_later limit max_depth offset block more text [] h.1 piece behind parted h.4 (sym f) (again [])
+        in_later limit max_depth offset block more text [] h.1 piece after parted h.4 (sym f) (again [])
     within_first again (first ∷ m) e f =
         let same : first ≡ piece = cc in
-        let left : behind ≡ m ++ h.1 = cc in
-        in_first limit max_depth offset block more text before piece m h.1 behind parted (rw (e, same) at h.3) h.4 left
+        let left : after ≡ m ++ h.1 = cc in
+        in_first limit max_depth offset block more text before piece m h.1 after parted (rw (e, same) at h.3) h.4 left
 
 -- a text that begins at any offset, read again from one of its pieces on
 pub resumes : (limit max_depth offset : ℕ) (text : List ℕ) (before : List MarkedPiece) (piece : MarkedPiece)
-    (behind : List MarkedPiece)
-    → AreMarkedPieces limit max_depth offset text (before ++ piece ∷ behind)
-    → AreMarkedPieces limit max_depth piece.offset (drop (piece.offset - offset) text) (piece ∷ behind)
-resumes limit max_depth offset text before piece behind h =
-    let r = resumed_blocks limit max_depth offset h.blocks text before piece behind h.parted h.each in
+    (after : List MarkedPiece)
+    → AreMarkedPieces limit max_depth offset text (before ++ piece ∷ after)
+    → AreMarkedPieces limit max_depth piece.offset (drop (piece.offset - offset) text) (piece ∷ after)
+resumes limit max_depth offset text before piece after h =
+    let r = resumed_blocks limit max_depth offset h.blocks text before piece after h.parted h.each in
     let skipped : piece.offset - offset ≡ r.skipped = omega (arith, r.place) in record {
       blocks = r.blocks;
       parted = subst (λ (n : ℕ). AreBlocks r.blocks (drop n text)) (sym skipped) r.parted;
@@ -365,8 +365,8 @@ resumes limit max_depth offset text before piece behind h =
     }
 
 pub resumes_at : (limit max_depth : ℕ) → ResumesAt limit max_depth
-resumes_at limit max_depth whole before piece behind h =
-    let r = resumed_blocks limit max_depth 0 h.blocks whole before piece behind h.parted h.each in
+resumes_at limit max_depth whole before piece after h =
+    let r = resumed_blocks limit max_depth 0 h.blocks whole before piece after h.parted h.each in
     let skipped : piece.offset ≡ r.skipped = omega (arith, r.place) in record {
       blocks = r.blocks;
       parted = subst (λ (n : ℕ). AreBlocks r.blocks (drop n whole)) (sym skipped) r.parted;
@@ -375,10 +375,10 @@ resumes_at limit max_depth whole before piece behind h =
 
 -- so the list of the rest is the end of the list of the whole
 pub resumed_pieces : (limit max_depth : ℕ) (whole : List ℕ) (before : List MarkedPiece) (piece : MarkedPiece)
-    (behind others : List MarkedPiece)
-    → AreMarkedPieces limit max_depth 0 whole (before ++ piece ∷ behind)
+    (after others : List MarkedPiece)
+    → AreMarkedPieces limit max_depth 0 whole (before ++ piece ∷ after)
     → AreMarkedPieces limit max_depth piece.offset (drop piece.offset whole) others
-    → others ≡ piece ∷ behind
-resumed_pieces limit max_depth whole before piece behind others h k =
-    one_marked_pieces limit max_depth piece.offset (drop piece.offset whole) others (piece ∷ behind) k
-    (resumes_at limit max_depth whole before piece behind h)
+    → others ≡ piece ∷ after
+resumed_pieces limit max_depth whole before piece after others h k =
+    one_marked_pieces limit max_depth piece.offset (drop piece.offset whole) others (piece ∷ after) k
+    (resumes_at limit max_depth whole before piece after h)

@@ -29,7 +29,7 @@ unfolding IsClear
 clear_start file_start [] clear = clear 239 (187 ∷ 191 ∷ [])
 clear_start file_start (x ∷ before) clear = and_false file_start
 
--- ---- the place behind bytes of the piece
+-- ---- the place after bytes of the piece
 
 is_empty-append : (x : List ℕ) (b : ℕ) (bs : List ℕ) → is_empty (x ++ b ∷ bs) ≡ false
 is_empty-append [] b bs = refl
@@ -45,7 +45,7 @@ last_byte x b bs =
     let e : length (x ++ b ∷ bs) - 1 ≡ length x + (length (b ∷ bs) - 1) = omega (arith, length-append x (b ∷ bs)) in
     ap (slice_index (x ++ b ∷ bs)) e ∙ get_or-append-add x (b ∷ bs) (length (b ∷ bs) - 1) 0
 
--- behind a byte of the piece the place is the same as without what stands before the piece
+-- after a byte of the piece the place is the same as without what stands before the piece
 same_place : (file_start : Bool) (before : List ℕ) (b : ℕ) (bs : List ℕ) → IsClear file_start before
     → standing_of file_start (before ++ b ∷ bs) ≡ standing_of false (b ∷ bs)
 unfolding IsClear
@@ -59,7 +59,7 @@ same_place file_start before b bs clear =
     ) refl in
     ap₂ (λ s c. record { file_start = s; column_one = c }) starts column
 
--- parts that stand behind bytes of the piece stand there without what is before it, and the other way round
+-- parts that stand after bytes of the piece stand there without what is before it, and the other way round
 pub stand_there : (file_start : Bool) (before : List ℕ) (z : List ℕ) (parts : List Part) (after : List ℕ)
     → IsClear file_start before → z ≢ [] → AllStand file_start (before ++ z) parts after → AllStand false z parts after
 stand_there file_start before [] parts after clear some h = absurd (some refl)
@@ -180,7 +180,7 @@ no_gap_there file_start before text l =
     empty_gap false [] text (λ p rest e g h. no_gap_part file_start before text l p rest e g
     (stands_anywhere (standing_of file_start before) p rest h))
 
--- behind a longest gap the longest gap is empty
+-- after a longest gap the longest gap is empty
 pub gap_spent : (file_start : Bool) (before : List ℕ) (gap : List Part) (text : List ℕ)
     → IsLongestGap file_start before gap text → IsLongestGap file_start (before ++ spelled gap) [] text
 gap_spent file_start before gap text l = empty_gap file_start (before ++ spelled gap) text (λ p rest e g h.
@@ -228,10 +228,10 @@ other_byte : (file_start : Bool) (c : ℕ) (x : List ℕ) → (c == 239) ≡ fal
 unfolding IsClear
 other_byte file_start c x e b bs = rw e (and_false file_start)
 
--- behind a whole byte order mark too
-mark_behind : (file_start : Bool) (x : List ℕ) → IsClear file_start (239 ∷ 187 ∷ 191 ∷ x)
+-- after a whole byte order mark too
+mark_after : (file_start : Bool) (x : List ℕ) → IsClear file_start (239 ∷ 187 ∷ 191 ∷ x)
 unfolding IsClear
-mark_behind file_start x b bs = rw (bytes_eq-append x b bs) (and_false file_start)
+mark_after file_start x b bs = rw (bytes_eq-append x b bs) (and_false file_start)
 
 word_byte : (c : ℕ) → is_word_byte c ≡ true → (c == 239) ≡ false
 word_byte c e = grind (arith, nat_tests)
@@ -242,26 +242,26 @@ mark_byte c e = grind (arith, nat_tests)
 white_byte : (c : ℕ) → is_white c ≡ true → (c == 239) ≡ false
 white_byte c e = grind (arith, nat_tests)
 
--- behind a first part it is
-pub clear_behind : (file_start : Bool) (p : Part) (after x : List ℕ) → Stands (standing_of file_start []) p after
+-- after a first part it is
+pub clear_after : (file_start : Bool) (p : Part) (after x : List ℕ) → Stands (standing_of file_start []) p after
     → IsClear file_start (spelled_part p ++ x)
-clear_behind file_start ByteOrderMark after x h = mark_behind file_start x
-clear_behind file_start (White c) after x h = other_byte file_start c x (white_byte c h)
-clear_behind file_start (Brace text) after x h = other_byte file_start 123 ((text ++ 125 ∷ []) ++ x) refl
-clear_behind file_start (Line text) after x h = other_byte file_start 59 (text ++ x) refl
-clear_behind file_start (EscapeLine text) after x h = other_byte file_start 37 (text ++ x) refl
-clear_behind file_start (Tag first name second contents third) after x h = other_byte file_start 91 _ refl
-clear_behind file_start (Word []) after x h = absurd (false≢true h.0)
-clear_behind file_start (Word (c ∷ text)) after x h =
+clear_after file_start ByteOrderMark after x h = mark_after file_start x
+clear_after file_start (White c) after x h = other_byte file_start c x (white_byte c h)
+clear_after file_start (Brace text) after x h = other_byte file_start 123 ((text ++ 125 ∷ []) ++ x) refl
+clear_after file_start (Line text) after x h = other_byte file_start 59 (text ++ x) refl
+clear_after file_start (EscapeLine text) after x h = other_byte file_start 37 (text ++ x) refl
+clear_after file_start (Tag first name second contents third) after x h = other_byte file_start 91 _ refl
+clear_after file_start (Word []) after x h = absurd (false≢true h.0)
+clear_after file_start (Word (c ∷ text)) after x h =
     other_byte file_start c (text ++ x) (word_byte c (and_parts (is_word_byte c) (list_all is_word_byte text) h.1).0)
-clear_behind file_start Star after x h = other_byte file_start 42 x refl
-clear_behind file_start Dot after x h = other_byte file_start 46 x refl
-clear_behind file_start (Glyph digits) after x h = other_byte file_start 36 (digits ++ x) refl
-clear_behind file_start (Marks []) after x h = absurd (false≢true h.0)
-clear_behind file_start (Marks (c ∷ marks)) after x h =
+clear_after file_start Star after x h = other_byte file_start 42 x refl
+clear_after file_start Dot after x h = other_byte file_start 46 x refl
+clear_after file_start (Glyph digits) after x h = other_byte file_start 36 (digits ++ x) refl
+clear_after file_start (Marks []) after x h = absurd (false≢true h.0)
+clear_after file_start (Marks (c ∷ marks)) after x h =
     other_byte file_start c (marks ++ x) (mark_byte c (and_parts (is_mark c) (list_all is_mark marks) h.1).0)
-clear_behind file_start Open after x h = other_byte file_start 40 x refl
-clear_behind file_start Close after x h = other_byte file_start 41 x refl
+clear_after file_start Open after x h = other_byte file_start 40 x refl
+clear_after file_start Close after x h = other_byte file_start 41 x refl
 
 -- nothing stands before, or what stands there is clear
 pub Begun : Bool → List ℕ → Type 0
@@ -283,4 +283,4 @@ unfolding Begun
 begun_more file_start before parts after (inr clear) h = inr (clear_longer file_start before (spelled parts) clear)
 begun_more file_start before [] after (inl e) h = inl (append-nil before ∙ e)
 begun_more file_start before (p ∷ back) after (inl e) h =
-    inr (rw e (clear_behind file_start p (spelled back ++ after) (spelled back) (rw e at h.0)))
+    inr (rw e (clear_after file_start p (spelled back ++ after) (spelled back) (rw e at h.0)))

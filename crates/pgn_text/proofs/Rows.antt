@@ -40,7 +40,7 @@ third_none parts after e g = halfway_stuck 64 false [] (codes "(1. e4) *") [] st
     (halfway_start 64 false [] (codes "(1. e4) *")) refl tt (λ e. cc) (λ _. refl) parts after (game_reads 64 false []
     (codes "(1. e4) *") parts after e g)
 
--- behind a space a percent sign begins nothing
+-- after a space a percent sign begins nothing
 fourth_none : NoGame 64 true (32 ∷ []) (codes "%x *")
 fourth_none parts after e g = halfway_none 64 true (32 ∷ []) (codes "%x *") [] start (codes "%x *")
     (halfway_start 64 true (32 ∷ []) (codes "%x *"))

@@ -57,7 +57,7 @@ pub game_front : (max_depth : ℕ) (file_start : Bool) (before : List ℕ) (part
 game_front max_depth file_start before parts u v g =
     game_elsewhere max_depth file_start file_start before before parts (u ++ v) u g (all_front file_start before parts u v g.stand)
 
--- a gap before a game is the longest, whatever is behind the game: no part of a gap can stand where the game's first part does
+-- a gap before a game is the longest, whatever is after the game: no part of a gap can stand where the game's first part does
 pub gap_front : (max_depth : ℕ) (file_start : Bool) (before : List ℕ) (gap parts : List Part) (u v : List ℕ)
     → IsGap file_start before gap (spelled parts ++ (u ++ v)) → IsGame max_depth file_start (before ++ spelled gap) parts u
     → IsLongestGap file_start before gap (spelled parts ++ u)
@@ -70,7 +70,7 @@ gap_front max_depth file_start before gap (p ∷ back) u v is game =
     (sym (append_assoc (spelled_part p) (spelled back) u) ∙ e) in
     ap is_gap_part (sym same.0) ∙ not-true (is_gap_part p) game.begins)
 
--- and so is any gap where the text ends behind it
+-- and so is any gap where the text ends after it
 pub gap_end : (file_start : Bool) (before : List ℕ) (gap : List Part) (after : List ℕ) → AllStand file_start before gap after
     → IsTrue (list_all is_gap_part gap) → IsLongestGap file_start before gap []
 gap_end file_start before gap after stand only = record {

@@ -1,9 +1,9 @@
--- What a read into the room behind some bytes leaves.
+-- What a read into the room after some bytes leaves.
 use Rattle.std.proofs.Common.{◌≡◌, ℕ, ◌+◌, ◌≤◌, List, ◌++◌, length, take, sym, ap, ◌∙◌, append_assoc}
 use Rattle.std.proofs.lemmas.List.{take-take, take-append-le}
 use Rattle.std.proofs.Math.Seq.{take-append-add}
 
--- of the room behind `old` the first n bytes were filled, and the rest was cut off
+-- of the room after `old` the first n bytes were filled, and the rest was cut off
 pub spliced : (old new front filled post rest : List ℕ) (held size n : ℕ) → front ≡ old → length old ≡ held → n ≤ length filled → held + n ≤ size
     → new ≡ take (held + n) (take size ((front ++ (filled ++ post)) ++ rest)) → new ≡ old ++ take n filled
 spliced old new front filled post rest held size n is long some room cut =

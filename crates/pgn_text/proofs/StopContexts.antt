@@ -5,7 +5,7 @@ use Rattle.std.proofs.lemmas.Bool.{and_from, eqb-true}
 use Rattle.std.proofs.lemmas.List.{length-take-le, take-append-drop}
 use Rattle.std.proofs.lemmas.List.Folds.{list_all-append}
 use Rattle.std.specs.Prelude.{◌&&◌}
-use Rattle.pgn_text.specs.Agreement.{Walks, WalkedTo, BehindGame, FrontWithin}
+use Rattle.pgn_text.specs.ErrorPosition.{Walks, WalkedTo, AfterGame, FrontWithin}
 use Rattle.pgn_text.specs.Bytes.{begins, is_not_brace}
 use Rattle.pgn_text.specs.Games.{is_meant}
 use Rattle.pgn_text.specs.PartFronts.{IsPartFront, NoneFollows}
@@ -14,8 +14,8 @@ use Rattle.pgn_text.specs.Reading.{Kept, is_kept_result}
 use Rattle.pgn_text.specs.Steps.{State, start}
 use Rattle.pgn_text.specs.StopPlaces.{PartsThen, StandsWithin, is_open_brace}
 use Rattle.pgn_text.specs.Walk.{PartAt, KeptAt}
-use Rattle.pgn_text.specs.declared.agreement.Within.{Within}
-use Rattle.pgn_text.specs.declared.agreement.Within.TheVariants.{Comment, TagName, TagValue, Tags, Variation, MainLine, Game}
+use Rattle.pgn_text.specs.declared.error_position.Within.{Within}
+use Rattle.pgn_text.specs.declared.error_position.Within.TheVariants.{Comment, TagName, TagValue, Tags, Variation, MainLine, Game}
 use Rattle.pgn_text.proofs.Halfway.{stands_join, spelled-append}
 use Rattle.pgn_text.proofs.InPart.{all_take}
 use Rattle.pgn_text.proofs.Lines.{Shows, shows_start, shows_more, depth_is}
@@ -25,7 +25,7 @@ use Rattle.pgn_text.proofs.PartLemmas.{part_has_byte}
 use Rattle.pgn_text.proofs.Stuck.{brace_missing}
 use Rattle.pgn_text.proofs.StopWalk.{size, kind, stands_there}
 
--- the state behind parts is what they show
+-- the state after parts is what they show
 walks_show : (max_depth : ℕ) (front done : List Part) (s t : State) → Shows front s → Walks max_depth s done t → Shows (front ++ done) t
 walks_show max_depth front [] s t h w = rw (append-nil front, ← w) h
 walks_show max_depth front (p ∷ done) s t h w =
@@ -56,9 +56,9 @@ module _ (max_depth : ℕ) (f : Bool) (block : List ℕ) (begin : ℕ) where
       }
 
   -- the parts up to the end of one more
-  pub behind_game : (at end : ℕ) (state : State) (token : Kept) → WalkedTo max_depth f block begin at state → KeptAt f block at token end
-      → is_kept_result token ≡ true → BehindGame f block begin end
-  behind_game at end state token w here result =
+  pub after_game : (at end : ℕ) (state : State) (token : Kept) → WalkedTo max_depth f block begin at state → KeptAt f block at token end
+      → is_kept_result token ≡ true → AfterGame f block begin end
+  after_game at end state token w here result =
       let found : PartAt f block at here.part end = here.found in
       let bytes : spelled (w.done ++ here.part ∷ []) ≡ spelled w.done ++ spelled_part here.part =
       spelled-append w.done (here.part ∷ []) ∙ ap (λ l. spelled w.done ++ l) (append-nil (spelled_part here.part)) in

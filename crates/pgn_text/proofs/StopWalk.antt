@@ -1,4 +1,4 @@
--- Where a block stops, told at places of the block: what the loop of `stopped` keeps.
+-- Where a block stops, read off at places of the block: what the loop of `error_position_of` keeps.
 use Rattle.std.proofs.Common.{◌≡◌, ◌≢◌, ℕ, ◌+◌, ◌<◌, ◌≤◌, Bool, true, false, List, [], ◌∷◌, ◌++◌, Some, None, take, drop, length, sym, ap, subst, ◌∙◌, inl, inr, arith, append_assoc, append-nil, length-append}
 use Rattle.std.proofs.lemmas.Bool.{cases_Bool}
 use Rattle.std.proofs.lemmas.List.{length-take-le}
@@ -6,11 +6,11 @@ use Rattle.pgn_text.specs.Parts.{Stands, AllStand, standing_of, spelled_part, sp
 use Rattle.pgn_text.specs.Games.{is_result}
 use Rattle.pgn_text.specs.Steps.{State, start}
 use Rattle.pgn_text.specs.Reading.{Kept, is_kept_result, step_kept}
-use Rattle.pgn_text.specs.Stops.{StopsAt}
+use Rattle.pgn_text.specs.Stops.{IsLongestViablePrefix}
 use Rattle.pgn_text.specs.Walk.{PartAt, KeptAt}
 use Rattle.pgn_text.proofs.EachStops.{wrong_part}
-use Rattle.pgn_text.specs.Agreement.{WalkedTo}
-use Rattle.pgn_text.specs.Stops.{StopsBlockAt}
+use Rattle.pgn_text.specs.ErrorPosition.{WalkedTo}
+use Rattle.pgn_text.specs.Stops.{IsErrorPosition}
 use Rattle.pgn_text.specs.PartFronts.{Longest, Follows, IsPartFront, NoneFollows}
 use Rattle.pgn_text.proofs.GameFronts.{stops_in_part, stops_at_game}
 use Rattle.pgn_text.proofs.Halfway.{Reads, reads_end, stands_join, spelled-append, before_more}
@@ -70,19 +70,19 @@ module _ (max_depth : ℕ) (f : Bool) (block : List ℕ) (begin : ℕ) where
 
   pub walk_stops : (at n : ℕ) (state : State) → WalkedTo max_depth f block begin at state
       → NoneFollows max_depth (standing_of f (take at block)) state (drop at block)
-      → Longest (IsPartFront max_depth (standing_of f (take at block)) state) (drop at block) n → StopsBlockAt max_depth f block begin (at + n)
+      → Longest (IsPartFront max_depth (standing_of f (take at block)) state) (drop at block) n → IsErrorPosition max_depth f block begin (at + n)
   walk_stops at n state w nothing l =
       let here : standing_of f (take at block) ≡ standing_of f (take begin block ++ spelled w.done) = ap (standing_of f) w.passed in
       let longest = subst (λ p. Longest (IsPartFront max_depth p state) (drop at block) n) here l in (
         length (spelled w.done) + n,
         omega (arith, size at state w),
-        subst (λ t. StopsAt max_depth f (take begin block) t (length (spelled w.done) + n)) (sym w.parted)
+        subst (λ t. IsLongestViablePrefix max_depth f (take begin block) t (length (spelled w.done) + n)) (sym w.parted)
             (stops_in_part max_depth f (take begin block) state w.done (drop at block) n w.walks w.stand
             (subst (λ p. NoneFollows max_depth p state (drop at block)) here nothing) longest.within (λ _. longest.here) (λ k _ low p. longest.most k low p)),
       )
 
   pub walk_game : (at end : ℕ) (state : State) (token : Kept) → WalkedTo max_depth f block begin at state → KeptAt f block at token end
-      → is_kept_result token ≡ true → state.depth ≡ 0 → StopsBlockAt max_depth f block begin end
+      → is_kept_result token ≡ true → state.depth ≡ 0 → IsErrorPosition max_depth f block begin end
   walk_game at end state token w here result closed =
       let found : PartAt f block at here.part end = here.found in
       let bytes : spelled (w.done ++ here.part ∷ []) ≡ spelled w.done ++ spelled_part here.part =

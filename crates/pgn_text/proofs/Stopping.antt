@@ -1,4 +1,4 @@
--- Texts that agree with some game so far: what can be told of them where a reader has come some way.
+-- Texts that agree with some game so far: what can be said of them where a reader has come some way.
 use Rattle.std.proofs.Common.{◌≡◌, ◌≢◌, ℕ, zero, suc, ◌-◌, Bool, true, false, List, [], ◌∷◌, ◌++◌, Some, IsTrue, refl, sym, ap, subst, ◌∙◌, inl, inr, arith, append_assoc, append-nil}
 use Rattle.std.specs.List.{list_all}
 use Rattle.std.proofs.lemmas.Bool.{lt-ltb, MatchBool-at_true, MatchBool-at_false, and_from, cases_Bool, not_from_false}
@@ -7,8 +7,8 @@ use Rattle.pgn_text.specs.Bytes.{is_byte, is_digit, is_word_byte, is_mark, is_no
 use Rattle.pgn_text.specs.Parts.{Part, ByteOrderMark, White, Brace, Line, EscapeLine, Tag, Word, Star, Dot, Glyph, Marks, Open, Close, Standing, standing_of, Stands, AllStand, spelled, spelled_part}
 use Rattle.pgn_text.specs.Games.{is_result}
 use Rattle.pgn_text.specs.Steps.{State, step, Leads}
-use Rattle.pgn_text.specs.Stops.{StopsAt}
-use Rattle.pgn_text.specs.Agreement.{Walks}
+use Rattle.pgn_text.specs.Stops.{IsLongestViablePrefix}
+use Rattle.pgn_text.specs.ErrorPosition.{Walks}
 use Rattle.pgn_text.specs.PartFronts.{Follows, IsPartFront, NoneFollows}
 use Rattle.pgn_text.proofs.Halfway.{Reads, reads_more, reads_end, reads_first}
 use Rattle.pgn_text.proofs.ByteFronts.{InBytes, part_bytes}
@@ -17,12 +17,12 @@ use Rattle.pgn_text.proofs.Lines.{cut_append}
 -- ---- laws
 
 -- a text stops at one place
-pub one_stop : (max_depth : ℕ) (f : Bool) (before text : List ℕ) (a b : ℕ) → StopsAt max_depth f before text a
-    → StopsAt max_depth f before text b → a ≡ b
+pub one_stop : (max_depth : ℕ) (f : Bool) (before text : List ℕ) (a b : ℕ) → IsLongestViablePrefix max_depth f before text a
+    → IsLongestViablePrefix max_depth f before text b → a ≡ b
 one_stop max_depth f before text a b h k =
     omega (arith, h.furthest b k.within k.agrees, k.furthest a h.within h.agrees)
 
--- ---- other bytes behind a part
+-- ---- other bytes after a part
 
 -- what ends at one text ends at the other too
 abbrev pub Instead : List ℕ → List ℕ → Type 0
@@ -116,7 +116,7 @@ module _ (max_depth : ℕ) (f : Bool) where
 
   -- ---- fronts of readings
 
-  -- with some more bytes behind them these are read from the state on
+  -- with some more bytes after them these are read from the state on
   pub record Front (before : List ℕ) (s : State) (front : List ℕ) : Type 0 where
     pub more : List ℕ
     pub parts : List Part
@@ -151,7 +151,7 @@ module _ (max_depth : ℕ) (f : Bool) where
       (rw same at next.2) in
       (deep.0, rw (append_assoc before (spelled_part p) (spelled back)) at deep.1)
 
-  -- behind parts that were read: nothing more is still a front
+  -- after parts that were read: nothing more is still a front
   pub front_here : (before : List ℕ) (s t : State) (done : List Part) (rest : List ℕ)
       → Walks max_depth s done t → AllStand f before done rest → ByteFront before s (spelled done)
   front_here before s t done rest w h =
@@ -228,9 +228,9 @@ module _ (max_depth : ℕ) (f : Bool) where
       ]
 
   -- where no part may follow, the front of a reading is the front of a part
-  pub front_in_part : (before : List ℕ) (s : State) (x behind : List ℕ) → x ≢ []
-      → NoneFollows max_depth (standing_of f before) s (x ++ behind) → Front before s x → IsPartFront max_depth (standing_of f before) s x
-  front_in_part before s x behind some none k = first k.parts k.reads
+  pub front_in_part : (before : List ℕ) (s : State) (x after : List ℕ) → x ≢ []
+      → NoneFollows max_depth (standing_of f before) s (x ++ after) → Front before s x → IsPartFront max_depth (standing_of f before) s x
+  front_in_part before s x after some none k = first k.parts k.reads
     where
       first : (parts : List Part) → Reads max_depth f before (x ++ k.more) s parts [] → IsPartFront max_depth (standing_of f before) s x
       first [] r = absurd r.leads
@@ -257,8 +257,8 @@ module _ (max_depth : ℕ) (f : Bool) where
             follows = follows_first s p back r.leads;
           }
           past p back r (c ∷ m) e g =
-              absurd (none p ((c ∷ m) ++ behind)
-              (ap (λ l. l ++ behind) e ∙ append_assoc (spelled_part p) (c ∷ m) behind)
-              (stands_instead (standing_of f before) p ((c ∷ m) ++ k.more) ((c ∷ m) ++ behind) (instead_same c (m ++ k.more) (m ++ behind))
+              absurd (none p ((c ∷ m) ++ after)
+              (ap (λ l. l ++ after) e ∙ append_assoc (spelled_part p) (c ∷ m) after)
+              (stands_instead (standing_of f before) p ((c ∷ m) ++ k.more) ((c ∷ m) ++ after) (instead_same c (m ++ k.more) (m ++ after))
               (subst (λ l. Stands (standing_of f before) p l) g r.stand.0))
               (follows_first s p back r.leads))

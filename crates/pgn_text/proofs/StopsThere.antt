@@ -8,8 +8,8 @@ use Rattle.pgn_text.specs.Parts.{Part, ByteOrderMark, White, Brace, Line, Escape
 use Rattle.pgn_text.specs.Games.{is_gap_part, IsGame}
 use Rattle.pgn_text.specs.Gaps.{IsGap, IsLongestGap}
 use Rattle.pgn_text.specs.Pieces.{Piece, Game, Unreadable, ArePieces}
-use Rattle.pgn_text.specs.Stops.{IsGameFront, StopsAt}
-use Rattle.pgn_text.proofs.ByteFronts.{bytes_behind}
+use Rattle.pgn_text.specs.Stops.{IsGameFront, IsLongestViablePrefix}
+use Rattle.pgn_text.proofs.ByteFronts.{bytes_after}
 use Rattle.pgn_text.proofs.Fronts.{run-append-after, list_all-run, stops-after_run}
 use Rattle.pgn_text.proofs.PartLemmas.{part_has_byte}
 use Rattle.pgn_text.proofs.ShorterText.{game_elsewhere}
@@ -78,7 +78,7 @@ module _ (max_depth : ℕ) (f : Bool) (before : List ℕ) (clear : IsClear f bef
       → IsGameFront max_depth f before front → IsGameFront max_depth false [] front
   front_at_mark text [] rest l e h = record {
     more = spelled h.parts;
-    bytes = bytes_behind (spelled h.gap) (spelled h.parts) h.more h.parted h.bytes;
+    bytes = bytes_after (spelled h.gap) (spelled h.parts) h.more h.parted h.bytes;
     gap = [];
     parts = h.parts;
     parted = refl;
@@ -118,7 +118,7 @@ module _ (max_depth : ℕ) (f : Bool) (before : List ℕ) (clear : IsClear f bef
             (stand_back f before (spelled (q ∷ gap)) parts [] clear (some_bytes (spelled_part q) (spelled gap) some) game.stand);
       }
 
-  stops_at_mark : (text : List ℕ) (n : ℕ) → IsLongestGap f before [] text → StopsAt max_depth f before text n → StopsAt max_depth false [] text n
+  stops_at_mark : (text : List ℕ) (n : ℕ) → IsLongestGap f before [] text → IsLongestViablePrefix max_depth f before text n → IsLongestViablePrefix max_depth false [] text n
   stops_at_mark text n l h = record {
     within = h.within;
     agrees = front_at_mark text (take n text) (drop n text) l (sym (take-append-drop n text)) h.agrees;
@@ -130,40 +130,40 @@ module _ (max_depth : ℕ) (f : Bool) (before : List ℕ) (clear : IsClear f bef
 
 -- the bytes by themselves, with those that stand before them left out
 left_alone : (max_depth offset : ℕ) (there bytes : List ℕ) (n : ℕ) → Begun (offset == 0) there
-    → IsLongestGap (offset == 0) there [] bytes → StopsAt max_depth (offset == 0) there bytes n
-    → StopsAt max_depth ((offset + length there) == 0) [] bytes n
+    → IsLongestGap (offset == 0) there [] bytes → IsLongestViablePrefix max_depth (offset == 0) there bytes n
+    → IsLongestViablePrefix max_depth ((offset + length there) == 0) [] bytes n
 left_alone max_depth offset [] bytes n begun l h =
     let same : offset ≡ offset + 0 = omega arith in
-    subst (λ (m : ℕ). StopsAt max_depth (m == 0) [] bytes n) same h
+    subst (λ (m : ℕ). IsLongestViablePrefix max_depth (m == 0) [] bytes n) same h
 left_alone max_depth offset (b ∷ bs) bytes n begun l h =
     let later : ((offset + length (b ∷ bs)) == 0) ≡ false = ne_eqb (offset + length (b ∷ bs)) 0 (λ e. omega (arith, e)) in
     let clear = begun_clear (offset == 0) (b ∷ bs) begun (λ e. cc) in
-    subst (λ (f : Bool). StopsAt max_depth f [] bytes n) (sym later) (stops_at_mark max_depth (offset == 0) (b ∷ bs) clear bytes n l h)
+    subst (λ (f : Bool). IsLongestViablePrefix max_depth f [] bytes n) (sym later) (stops_at_mark max_depth (offset == 0) (b ∷ bs) clear bytes n l h)
 
-stops_behind : (max_depth offset : ℕ) (before : List ℕ) (earlier : List Piece) (at : ℕ) (bytes : List ℕ) (later : List Piece) (text : List ℕ) (n : ℕ)
+stops_after : (max_depth offset : ℕ) (before : List ℕ) (earlier : List Piece) (at : ℕ) (bytes : List ℕ) (later : List Piece) (text : List ℕ) (n : ℕ)
     → Begun (offset == 0) before → ArePieces max_depth (offset == 0) before (earlier ++ Unreadable at bytes ∷ later) text
-    → StopsAt max_depth (offset == 0) (take at (before ++ text)) (drop at (before ++ text)) n
-    → StopsAt max_depth ((offset + at) == 0) [] bytes n
-stops_behind max_depth offset before [] at bytes later text n begun h stops =
+    → IsLongestViablePrefix max_depth (offset == 0) (take at (before ++ text)) (drop at (before ++ text)) n
+    → IsLongestViablePrefix max_depth ((offset + at) == 0) [] bytes n
+stops_after max_depth offset before [] at bytes later text n begun h stops =
     let there = before ++ spelled h.0 in
     let parted : before ++ text ≡ there ++ bytes = ap (λ l. before ++ l) h.1 ∙ sym (append_assoc before (spelled h.0) bytes) in
     let front : take at (before ++ text) ≡ there = ap (take at) parted ∙ take_at there bytes at (sym h.3) in
     let rest : drop at (before ++ text) ≡ bytes = ap (drop at) parted ∙ drop_at there bytes at (sym h.3) in
     let begun_there = begun_more (offset == 0) before h.0 bytes begun h.2.is_gap.stand in
-    subst (λ (m : ℕ). StopsAt max_depth ((offset + m) == 0) [] bytes n) (sym h.3)
+    subst (λ (m : ℕ). IsLongestViablePrefix max_depth ((offset + m) == 0) [] bytes n) (sym h.3)
     (left_alone max_depth offset there bytes n begun_there (gap_spent (offset == 0) before h.0 bytes h.2) (rw (front, rest) at stops))
-stops_behind max_depth offset before (Game place parts ∷ earlier) at bytes later text n begun h stops =
-    let behind = (before ++ spelled h.0) ++ spelled parts in
+stops_after max_depth offset before (Game place parts ∷ earlier) at bytes later text n begun h stops =
+    let after = (before ++ spelled h.0) ++ spelled parts in
     let begun_there = begun_more (offset == 0) (before ++ spelled h.0) parts h.1 (begun_more (offset == 0) before h.0
     (spelled parts ++ h.1) begun h.3.is_gap.stand) h.5.stand in
-    let regroup : before ++ text ≡ behind ++ h.1 = ap (λ l. before ++ l) h.2 ∙ sym (append_assoc before (spelled h.0)
+    let regroup : before ++ text ≡ after ++ h.1 = ap (λ l. before ++ l) h.2 ∙ sym (append_assoc before (spelled h.0)
     (spelled parts ++ h.1)) ∙ sym (append_assoc (before ++ spelled h.0) (spelled parts) h.1) in
-    stops_behind max_depth offset behind earlier at bytes later h.1 n begun_there h.6 (rw regroup at stops)
-stops_behind max_depth offset before (Unreadable place own ∷ earlier) at bytes later text n begun h stops =
+    stops_after max_depth offset after earlier at bytes later h.1 n begun_there h.6 (rw regroup at stops)
+stops_after max_depth offset before (Unreadable place own ∷ earlier) at bytes later text n begun h stops =
     absurd (not_nil earlier (Unreadable at bytes) later h.6)
 
 -- an unreadable piece of a block that begins at the offset
 pub stops_alone : (max_depth offset : ℕ) (block : List ℕ) (earlier : List Piece) (at : ℕ) (bytes : List ℕ) (later : List Piece) (n : ℕ)
     → ArePieces max_depth (offset == 0) [] (earlier ++ Unreadable at bytes ∷ later) block
-    → StopsAt max_depth (offset == 0) (take at block) (drop at block) n → StopsAt max_depth ((offset + at) == 0) [] bytes n
-stops_alone max_depth offset block earlier at bytes later n = stops_behind max_depth offset [] earlier at bytes later block n (begun_start (offset == 0))
+    → IsLongestViablePrefix max_depth (offset == 0) (take at block) (drop at block) n → IsLongestViablePrefix max_depth ((offset + at) == 0) [] bytes n
+stops_alone max_depth offset block earlier at bytes later n = stops_after max_depth offset [] earlier at bytes later block n (begun_start (offset == 0))

@@ -3,8 +3,8 @@ use Rattle.std.proofs.Common.{◌≡◌, ℕ, zero, suc, ◌<◌, Bool, true, fa
 use Rattle.std.specs.Bool.{beq}
 use Rattle.std.proofs.lemmas.Bool.{cases_eq}
 use Rattle.pgn_text.specs.Tokens.{test_of, flag_of}
-use Rattle.pgn_text.specs.declared.class.Class.{Class}
-use Rattle.pgn_text.specs.declared.class.Class.TheVariants.{White, Digit, Letter, Name, Word, Mark, Single}
+use Rattle.pgn_text.specs.declared.class.ByteClass.{ByteClass}
+use Rattle.pgn_text.specs.declared.class.ByteClass.TheVariants.{White, Digit, Letter, Name, Word, Mark, Single}
 use Rattle.pgn_text.specs.declared.class.TheConstants.{CLASSES}
 
 -- the two tests agree below n
@@ -30,7 +30,7 @@ abbrev pub has_flag : List ℕ → ℕ → ℕ → Bool
 has_flag table flag b = not (nat_eq (bit_and (get_or table b 0) flag) 0)
 
 -- at each byte the table says what the class's test says
-agree : (class : Class) → agree_below (has_flag CLASSES (flag_of class)) (test_of class) 256 ≡ true
+agree : (class : ByteClass) → agree_below (has_flag CLASSES (flag_of class)) (test_of class) 256 ≡ true
 unfolding agree_below
 agree White = refl
 agree Digit = refl
@@ -40,5 +40,5 @@ agree Word = refl
 agree Mark = refl
 agree Single = refl
 
-pub by_table : (class : Class) (b : ℕ) → b < 256 → has_flag CLASSES (flag_of class) b ≡ test_of class b
+pub by_table : (class : ByteClass) (b : ℕ) → b < 256 → has_flag CLASSES (flag_of class) b ≡ test_of class b
 by_table class b below = agree_at (has_flag CLASSES (flag_of class)) (test_of class) 256 (agree class) b below

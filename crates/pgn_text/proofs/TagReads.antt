@@ -5,7 +5,7 @@ use Rattle.std.proofs.lemmas.Bool.{ne_eqb}
 use Rattle.std.proofs.lemmas.List.{length-take-le}
 use Rattle.pgn_text.specs.Bytes.{is_white, is_name_byte, is_empty, run_of}
 use Rattle.pgn_text.specs.Parts.{Tag}
-use Rattle.pgn_text.specs.Reading.{KeptTag, kept_found, rest_behind, tag_front, tag_name, tag_string}
+use Rattle.pgn_text.specs.Reading.{KeptTag, kept_found, rest_after, tag_front, tag_name, tag_string}
 use Rattle.pgn_text.specs.Tokens.{RunTo, ContentsTo}
 use Rattle.pgn_text.proofs.Runs.{is_empty_length}
 
@@ -22,7 +22,7 @@ pub record NamedTo (block : List ℕ) (begin start end opening : ℕ) : Type 0 w
   pub some : start ≢ end
   pub second : RunTo is_white block end opening
 
--- what is read of a tag behind its name
+-- what is read of a tag after its name
 named_string : (block : List ℕ) (begin start end opening : ℕ) → NamedTo block begin start end opening
     → tag_front (drop begin block) ≡ tag_string (run_of is_white (drop begin block)) (run_of is_name_byte (drop start block)) (run_of is_white (drop end block)) (drop opening block)
 named_string block begin start end opening to =
@@ -34,8 +34,8 @@ named_string block begin start end opening to =
     ∙ rw (some, sym to.name.rest, sym to.second.rest) refl
 
 -- a whole tag
-pub whole_tag : {block : List ℕ} {begin start end opening closing last : ℕ} → NamedTo block begin start end opening → rest_behind 34 (drop opening block) ≡ Some (drop (opening + 1) block)
-    → ContentsTo block (opening + 1) closing → rest_behind 34 (drop closing block) ≡ Some (drop (closing + 1) block) → RunTo is_white block (closing + 1) last → rest_behind 93 (drop last block) ≡ Some (drop (last + 1) block)
+pub whole_tag : {block : List ℕ} {begin start end opening closing last : ℕ} → NamedTo block begin start end opening → rest_after 34 (drop opening block) ≡ Some (drop (opening + 1) block)
+    → ContentsTo block (opening + 1) closing → rest_after 34 (drop closing block) ≡ Some (drop (closing + 1) block) → RunTo is_white block (closing + 1) last → rest_after 93 (drop last block) ≡ Some (drop (last + 1) block)
     → Some (KeptTag (take (end - start) (drop start block)) (take (closing - (opening + 1)) (drop (opening + 1) block)), drop (last + 1) block) ≡ option_map kept_found (tag_front (drop begin block))
 whole_tag {block} {begin} {start} {end} {opening} {closing} {last} to quote contents end_quote third bracket =
     let found : tag_front (drop begin block)

@@ -33,8 +33,8 @@ is_contents-some text front rest r read is =
       (λ yes. let none : rest ≡ [] = nil_from_length rest (eqb-true _ _ (sym is ∙ yes)) in
           subst IsContents (sym (sound.1 ∙ ap (λ xs. front ++ xs) none ∙ append-nil front)) sound.0),
       (λ contents. let whole : Some (front, rest) ≡ Some (text, []) = read ∙ contents-whole text contents in
-          let behind : Option (List ℕ × List ℕ) → List ℕ = λ o. elim o [ None ↦ rest | Some found ↦ found.1 ] in
-          is ∙ ap (λ xs. length xs == 0) (ap behind whole)),
+          let after : Option (List ℕ × List ℕ) → List ℕ = λ o. elim o [ None ↦ rest | Some found ↦ found.1 ] in
+          is ∙ ap (λ xs. length xs == 0) (ap after whole)),
     )
 
 -- the same where they end at a place

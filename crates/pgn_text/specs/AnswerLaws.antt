@@ -11,8 +11,8 @@ use Rattle.pgn_text.specs.Windows.{Window, IsCutOff, HoldsTheRest, FailsAfter}
 use Rattle.pgn_text.specs.Left.{Left, ArePiecesLeft, GivesPiece}
 use Rattle.pgn_text.specs.PartPlaces.{IsElementPlace, IsTagPlace}
 use Rattle.pgn_text.specs.StopPlaces.{StandsWithin}
-use Rattle.pgn_text.specs.declared.agreement.Within.{Within}
-use Rattle.pgn_text.specs.declared.agreement.Within.TheVariants.{Comment}
+use Rattle.pgn_text.specs.declared.error_position.Within.{Within}
+use Rattle.pgn_text.specs.declared.error_position.Within.TheVariants.{Comment}
 use Rattle.pgn_text.specs.declared.blocks.ReadError.{ReadError}
 use Rattle.pgn_text.specs.declared.blocks.ReadError.TheVariants.{Read, InputTooLong}
 use Rattle.pgn_text.specs.declared.pieces.Piece.{Piece}

@@ -29,7 +29,7 @@ is_word_byte b = is_name_byte b || ((b == 43 || b == 35) || (b == 61 || b == 58)
 abbrev pub is_mark : ℕ → Bool
 is_mark b = b == 33 || b == 63
 
--- a mark of check or mate behind a castling word: + or #
+-- a mark of check or mate after a castling word: + or #
 abbrev pub is_check_mark : ℕ → Bool
 is_check_mark b = b == 43 || b == 35
 

@@ -3,7 +3,7 @@ use Rattle.std.specs.Prelude.{◌≡◌, ℕ, ◌-◌, ◌<◌, ◌≤◌, Bool,
 use Rattle.std.specs.List.{starts_with}
 use Rattle.pgn_text.specs.Blocks.{event_line}
 
--- an event line begins at the place, which is behind some byte
+-- an event line begins at the place, which is after some byte
 abbrev pub is_cut : List ℕ → ℕ → Bool
 is_cut text at = (get_or text (at - 1) 0 == 10) && starts_with nat_eq (drop at text) event_line
 

@@ -69,16 +69,16 @@ abbrev pub is_meant : Part → Bool
 is_meant (Word text) = is_number text || is_result_word text || is_move_text text
 is_meant _ = true
 
--- P holds of each element, given those before it (`front` and more) and those behind it
+-- P holds of each element, given those before it (`front` and more) and those after it
 abbrev pub EachFrom : {X : Type 0} → (List X → X → List X → Type 0) → List X → List X → Type 0
 EachFrom P front [] = Unit {0}
 EachFrom P front (x ∷ back) = P front x back × EachFrom P (front ++ x ∷ []) back
 
--- P holds of each element, given those before it and those behind it
+-- P holds of each element, given those before it and those after it
 abbrev pub Each : {X : Type 0} → (List X → X → List X → Type 0) → List X → Type 0
 Each P xs = EachFrom P [] xs
 
--- how many variations are open behind these parts
+-- how many variations are open after these parts
 abbrev pub depth_after : List Part → ℕ
 depth_after front = count_by is_open front - count_by is_close front
 

@@ -9,7 +9,7 @@ use Rattle.pgn_text.specs.Blocks.{AreBlocks}
 use Rattle.pgn_text.specs.GameTexts.{GameText, IsGameText, ShowsGame}
 use Rattle.pgn_text.specs.Marks.{MarkedPiece, is_readable, AreOfBlock, AreMarkedPieces, ResumesAt}
 
--- at any place of a block at most one game begins: its parts and what is left behind it are settled
+-- at any place of a block at most one game begins: its parts and what is left after it are settled
 abbrev pub AtMostOneGame : Type 0
 AtMostOneGame =
     (max_depth : ℕ) (file_start : Bool) (before text : List ℕ) (parts others : List Part) (after rest : List ℕ)
@@ -59,8 +59,8 @@ ResumesAnywhere = (limit max_depth : ℕ) → ResumesAt limit max_depth
 -- the text in front of a piece has exactly the pieces before that one, as if no more bytes followed; the text begins at any offset
 abbrev pub FrontHasThePiecesBefore : Type 0
 FrontHasThePiecesBefore =
-    (limit max_depth offset : ℕ) (text : List ℕ) (before : List MarkedPiece) (piece : MarkedPiece) (behind : List MarkedPiece)
-    → AreMarkedPieces limit max_depth offset text (before ++ piece ∷ behind)
+    (limit max_depth offset : ℕ) (text : List ℕ) (before : List MarkedPiece) (piece : MarkedPiece) (after : List MarkedPiece)
+    → AreMarkedPieces limit max_depth offset text (before ++ piece ∷ after)
     → AreMarkedPieces limit max_depth offset (take (piece.offset - offset) text) before
 
 -- a block whose pieces are all games under some limits has the same pieces under larger ones

@@ -30,7 +30,7 @@ abbrev pub piece_place : Piece → ℕ
 piece_place (Game raw) = raw.at
 piece_place (Unreadable place) = place
 
--- a call gave the first of the pieces left: whatever pieces are left behind it, with it in front they are those that were left before
+-- a call gave the first of the pieces left: whatever pieces are left after it, with it in front they are those that were left before
 pub record TakesPiece (max_depth : ℕ) (old new : Left) (piece : Piece) : Type 0 where
   pub shown : spec.Piece
   pub is : IsPiece piece shown
@@ -42,7 +42,7 @@ pub record TakesPiece (max_depth : ℕ) (old new : Left) (piece : Piece) : Type 
   pub completes : (more : List spec.Piece) → ArePiecesLeft max_depth new more → ArePiecesLeft max_depth old (shown ∷ more)
 
 -- what a call of `next` did, by its answer. The end comes where no piece is left, and on each call after an error; an error comes only
--- where memory was refused for a piece that is left: it and those behind it are not given
+-- where memory was refused for a piece that is left: it and those after it are not given
 abbrev pub GivesPiece : ℕ → Left → Option (Result Piece AllocError) → Left → Type 0
 GivesPiece max_depth old None new = ((old.failed ≡ true) ⊎ ArePiecesLeft max_depth old []) × (new ≡ old)
 GivesPiece max_depth old (Some (Ok piece)) new = TakesPiece max_depth old new piece

@@ -24,9 +24,9 @@ pub mod PartPlaces
 pub mod AnswerLaws
 -- Private words: functions on lists that the code equals, and what its loops keep. No public contract cites them.
 pub mod TagOrder
-pub mod Agreement
+pub mod ErrorPosition
 pub mod Cuts
-pub mod Drafts
+pub mod GameBuilders
 pub mod Held
 pub mod PartFronts
 pub mod Phases

@@ -55,9 +55,9 @@ pub record AreMarkedPieces (limit max_depth offset : ℕ) (text : List ℕ) (mar
   pub parted : AreBlocks blocks text
   pub each : AreOfBlocks limit max_depth offset blocks marks
 
--- a text read again from one of its pieces on has that piece and those behind it, with the same offsets
+-- a text read again from one of its pieces on has that piece and those after it, with the same offsets
 abbrev pub ResumesAt : ℕ → ℕ → Type 0
 ResumesAt limit max_depth =
-    (whole : List ℕ) (before : List MarkedPiece) (piece : MarkedPiece) (behind : List MarkedPiece)
-    → AreMarkedPieces limit max_depth 0 whole (before ++ piece ∷ behind)
-    → AreMarkedPieces limit max_depth piece.offset (drop piece.offset whole) (piece ∷ behind)
+    (whole : List ℕ) (before : List MarkedPiece) (piece : MarkedPiece) (after : List MarkedPiece)
+    → AreMarkedPieces limit max_depth 0 whole (before ++ piece ∷ after)
+    → AreMarkedPieces limit max_depth piece.offset (drop piece.offset whole) (piece ∷ after)

@@ -1,12 +1,12 @@
--- Fronts of parts: what the functions of `agreement` answer where no whole part follows.
+-- Fronts of parts: what the functions of `error_position` answer where no whole part follows.
 use Rattle.std.specs.Prelude.{◌≡◌, ℕ, suc, Bool, true, false, ◌&&◌, ◌==◌, ◌≤◌, ◌⊎◌, nat_le, if◌then◌else◌, List, [], ◌∷◌, ◌++◌, length, take, codes, Option, Some, None}
 use Rattle.std.specs.List.{list_all}
 use Rattle.pgn_text.specs.Bytes.{is_white, is_digit, is_name_byte, is_check_mark, is_plain}
 use Rattle.pgn_text.specs.Parts.{Part, Standing, Stands, spelled_part, number_of}
 use Rattle.pgn_text.specs.Games.{is_result}
 use Rattle.pgn_text.specs.Steps.{State, step}
-use Rattle.pgn_text.specs.declared.agreement.InTag.{InTag}
-use Rattle.pgn_text.specs.declared.agreement.InTag.TheVariants.{BeforeName, Name, BehindName, Contents, BehindBackslash, BehindString, Closed}
+use Rattle.pgn_text.specs.declared.error_position.InTag.{InTag}
+use Rattle.pgn_text.specs.declared.error_position.InTag.TheVariants.{BeforeName, Name, AfterName, Contents, AfterBackslash, AfterString, Closed}
 
 -- so many of the text's first bytes have the property, and no more
 pub record Longest (P : List ℕ → Type 0) (text : List ℕ) (n : ℕ) : Type 0 where
@@ -36,7 +36,7 @@ NoneFollows max_depth place s text =
 abbrev pub no_byte : ℕ → Bool
 no_byte b = false
 
--- the bytes are a front of the word and of bytes behind it that pass the test
+-- the bytes are a front of the word and of bytes after it that pass the test
 abbrev pub IsFrontOf : (ℕ → Bool) → List ℕ → List ℕ → Type 0
 IsFrontOf test word [] = Unit {0}
 IsFrontOf test [] (b ∷ x) = (test b ≡ true) × IsFrontOf test [] x
@@ -65,16 +65,16 @@ IsWordFront closed x = IsMoveFront x ⊎ ((closed ≡ true) × IsResultFront x)
 abbrev pub is_glyph_front : List ℕ → Bool
 is_glyph_front x = list_all is_digit x && (nat_le (length x) 3 && nat_le (number_of x) 255)
 
--- where in a tag the place behind one byte more is, if a tag may have it there
+-- where in a tag the place after one byte more is, if a tag may have it there
 abbrev pub next_in : InTag → ℕ → Option InTag
 next_in BeforeName b = if is_white b then Some BeforeName else (if is_name_byte b then Some Name else None)
 next_in Name b =
-    if is_name_byte b then Some Name else (if is_white b then Some BehindName else (if b == 34 then Some Contents else None))
-next_in BehindName b = if is_white b then Some BehindName else (if b == 34 then Some Contents else None)
+    if is_name_byte b then Some Name else (if is_white b then Some AfterName else (if b == 34 then Some Contents else None))
+next_in AfterName b = if is_white b then Some AfterName else (if b == 34 then Some Contents else None)
 next_in Contents b =
-    if b == 92 then Some BehindBackslash else (if b == 34 then Some BehindString else (if is_plain b then Some Contents else None))
-next_in BehindBackslash b = if is_plain b then Some Contents else None
-next_in BehindString b = if is_white b then Some BehindString else (if b == 93 then Some Closed else None)
+    if b == 92 then Some AfterBackslash else (if b == 34 then Some AfterString else (if is_plain b then Some Contents else None))
+next_in AfterBackslash b = if is_plain b then Some Contents else None
+next_in AfterString b = if is_white b then Some AfterString else (if b == 93 then Some Closed else None)
 next_in Closed b = None
 
 -- the bytes go on from there to the tag's end

@@ -3,12 +3,12 @@ use Rattle.std.specs.Prelude.{◌≡◌, ℕ, ◌+◌, ◌<◌, ◌≤◌, Bool,
 use Rattle.pgn_text.specs.Parts.{Part, AllStand, spelled}
 use Rattle.pgn_text.specs.Games.{items_of, items_of_part, first_tag}
 
--- one of the parts has the fact, given those before it, and the place is behind all that stands before it
+-- one of the parts has the fact, given those before it, and the place is after all that stands before it
 pub record IsPlaceOf (fact : List Part → Part → Type 0) (parts : List Part) (begin place : ℕ) : Type 0 where
   pub before : List Part
   pub part : Part
-  pub behind : List Part
-  pub parted : parts ≡ before ++ part ∷ behind
+  pub after : List Part
+  pub parted : parts ≡ before ++ part ∷ after
   pub has_fact : fact before part
   pub place_is : place ≡ begin + length (spelled before)
 

@@ -26,7 +26,7 @@ pub data Part : Type 0 where
   Dot : Part
   -- a numeric annotation glyph: a dollar sign and digits (PGN 8.2.4)
   Glyph : List ℕ → Part
-  -- a run of exclamation and question marks behind a move (PGN 8.2.3.8)
+  -- a run of exclamation and question marks after a move (PGN 8.2.3.8)
   Marks : List ℕ → Part
   -- the parentheses of a variation (PGN 8.2.5)
   Open : Part
@@ -53,7 +53,7 @@ spelled_part Close = 41 ∷ []
 abbrev pub spelled : List Part → List ℕ
 spelled parts = flat_map spelled_part parts
 
--- the number that digits write, behind a number already read
+-- the number that digits write, after a number already read
 abbrev pub number_from : ℕ → List ℕ → ℕ
 number_from n [] = n
 number_from n (d ∷ digits) = number_from (10 * n + (d - 48)) digits
@@ -62,7 +62,7 @@ number_from n (d ∷ digits) = number_from (10 * n + (d - 48)) digits
 abbrev pub number_of : List ℕ → ℕ
 number_of digits = number_from 0 digits
 
--- the place behind these bytes of a block is in column one: behind a line feed, or at the start of the file or behind a byte order
+-- the place after these bytes of a block is in column one: after a line feed, or at the start of the file or after a byte order
 -- mark there (`file_start` says that the block is at the start of the file)
 abbrev pub is_column_one : Bool → List ℕ → Bool
 is_column_one file_start before =
@@ -76,7 +76,7 @@ pub record Standing : Type 0 where
   -- in column one
   pub column_one : Bool
 
--- how a part stands behind these bytes of a block
+-- how a part stands after these bytes of a block
 abbrev pub standing_of : Bool → List ℕ → Standing
 standing_of file_start before = record { file_start = file_start && is_empty before; column_one = is_column_one file_start before }
 

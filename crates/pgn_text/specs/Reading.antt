@@ -13,14 +13,14 @@ abbrev pub is_single : ℕ → Bool
 is_single b = is_plain b && (not (b == 34) && not (b == 92))
 
 -- what follows the wanted byte, if the text begins with it
-abbrev pub rest_behind : ℕ → List ℕ → Option (List ℕ)
-rest_behind wanted [] = None
-rest_behind wanted (b ∷ rest) = if b == wanted then Some rest else None
+abbrev pub rest_after : ℕ → List ℕ → Option (List ℕ)
+rest_after wanted [] = None
+rest_after wanted (b ∷ rest) = if b == wanted then Some rest else None
 
 -- the comment at whose opening brace the text begins, which was taken off
 abbrev pub brace_front : List ℕ → Option (Part × List ℕ)
 brace_front text =
-    option_map (λ rest. (Brace (run_of is_not_brace text), rest)) (rest_behind 125 (after_run is_not_brace text))
+    option_map (λ rest. (Brace (run_of is_not_brace text), rest)) (rest_after 125 (after_run is_not_brace text))
 
 -- the byte order mark whose first byte was taken off
 abbrev pub mark_front : List ℕ → Option (Part × List ℕ)
@@ -51,16 +51,16 @@ contents_front false (b ∷ rest) =
     else (if b == 34 || not (is_plain b) then Some ([], b ∷ rest)
     else option_map (with_byte b) (contents_front false rest))
 
--- the end of a tag, behind the quote that ends its string
+-- the end of a tag, after the quote that ends its string
 abbrev pub tag_end : List ℕ → List ℕ → List ℕ → List ℕ → List ℕ → Option (Part × List ℕ)
 tag_end first name second contents text =
-    option_map (λ rest. (Tag first name second contents (run_of is_white text), rest)) (rest_behind 93 (after_run is_white text))
+    option_map (λ rest. (Tag first name second contents (run_of is_white text), rest)) (rest_after 93 (after_run is_white text))
 
 -- a tag's string and its end
 abbrev pub tag_string : List ℕ → List ℕ → List ℕ → List ℕ → Option (Part × List ℕ)
 tag_string first name second text =
-    option_and_then (λ behind. option_and_then (λ found. option_and_then (λ rest. tag_end first name second found.0 rest)
-    (rest_behind 34 found.1)) (contents_front false behind)) (rest_behind 34 text)
+    option_and_then (λ after. option_and_then (λ found. option_and_then (λ rest. tag_end first name second found.0 rest)
+    (rest_after 34 found.1)) (contents_front false after)) (rest_after 34 text)
 
 -- a tag from its name on
 abbrev pub tag_name : List ℕ → List ℕ → Option (Part × List ℕ)
@@ -138,7 +138,7 @@ kept (Marks marks) = KeptMarks marks
 kept Open = KeptOpen
 kept Close = KeptClose
 
--- what a game keeps of a part that was found, and the text behind it
+-- what a game keeps of a part that was found, and the text after it
 abbrev pub kept_found : Part × List ℕ → Kept × List ℕ
 kept_found found = (kept found.0, found.1)
 
@@ -147,7 +147,7 @@ abbrev pub is_kept_result : Kept → Bool
 is_kept_result KeptResult = true
 is_kept_result _ = false
 
--- the state behind a part, by what a game keeps of the part
+-- the state after a part, by what a game keeps of the part
 abbrev pub step_kept : ℕ → State → Kept → Option State
 step_kept max_depth state KeptGap = Some state
 step_kept max_depth state (KeptComment text) = Some state

@@ -46,7 +46,7 @@ IsReading kept_old kept_new max_depth file_start block at old new Stuck = Nothin
 
 -- the token is kept, and read up to the place, if it may follow
 abbrev pub IsStep : ((List ℕ → Option (List ℕ)) → List Item → Type 0) → ((List ℕ → Option (List ℕ)) → List Item → Type 0) → ℕ → Kept → ℕ → State → State → Reading → Type 0
-IsStep kept_old kept_new max_depth token end old new (Part behind) = (behind ≡ end) × (step_kept max_depth old token ≡ Some new) × AddsToken kept_old kept_new token
-IsStep kept_old kept_new max_depth token end old new (Number behind) = ⊥
-IsStep kept_old kept_new max_depth token end old new (Result behind) = ⊥
+IsStep kept_old kept_new max_depth token end old new (Part after) = (after ≡ end) × (step_kept max_depth old token ≡ Some new) × AddsToken kept_old kept_new token
+IsStep kept_old kept_new max_depth token end old new (Number after) = ⊥
+IsStep kept_old kept_new max_depth token end old new (Result after) = ⊥
 IsStep kept_old kept_new max_depth token end old new Stuck = step_kept max_depth old token ≡ None

@@ -20,7 +20,7 @@ start = record { in_tags = true; depth = 0; has_move = false }
 abbrev pub in_movetext : State → State
 in_movetext state = record state { in_tags = false }
 
--- the state behind a part that is no result, if it may stand there
+-- the state after a part that is no result, if it may stand there
 abbrev pub step : ℕ → State → Part → Option State
 step max_depth state ByteOrderMark = Some state
 step max_depth state (White b) = Some state

@@ -4,8 +4,8 @@ use Rattle.std.specs.List.{list_all, list_any}
 use Rattle.pgn_text.specs.Bytes.{is_white, is_name_byte, is_not_brace, begins, run_of, after_run}
 use Rattle.pgn_text.specs.Parts.{Part, Stands, AllStand, standing_of, spelled_part, spelled}
 use Rattle.pgn_text.specs.Games.{is_gap_part, is_tag, is_result, is_meant, depth_after}
-use Rattle.pgn_text.specs.declared.agreement.Within.{Within}
-use Rattle.pgn_text.specs.declared.agreement.Within.TheVariants.{Comment, TagName, TagValue, Tags, Variation, MainLine, Game}
+use Rattle.pgn_text.specs.declared.error_position.Within.{Within}
+use Rattle.pgn_text.specs.declared.error_position.Within.TheVariants.{Comment, TagName, TagValue, Tags, Variation, MainLine, Game}
 
 -- an opening brace
 abbrev pub is_open_brace : ℕ → Bool
@@ -56,7 +56,7 @@ StandsWithin f block begin place (Comment at) =
 StandsWithin f block begin place (TagName at) =
     (parts : List Part) × (front : List ℕ) × PartsThen f block begin at place parts front
     × IsTrue (begins is_open_bracket front) × (list_any is_quote front ≡ false)
--- in a tag that begins at the place `at`, within its string or behind it
+-- in a tag that begins at the place `at`, within its string or after it
 StandsWithin f block begin place (TagValue at) =
     (parts : List Part) × (front : List ℕ) × PartsThen f block begin at place parts front
     × IsTrue (begins is_open_bracket front) × (list_any is_quote front ≡ true)
@@ -70,6 +70,6 @@ StandsWithin f block begin place Tags =
 StandsWithin f block begin place MainLine =
     (parts : List Part) × PartsThenOther f block begin place parts × (depth_after parts ≡ 0)
     × (list_all is_before_movetext parts ≡ false)
--- behind a game
+-- after a game
 StandsWithin f block begin place Game =
     (parts : List Part) × (result : Part) × PartsThen f block begin place place (parts ++ result ∷ []) [] × IsTrue (is_result result)

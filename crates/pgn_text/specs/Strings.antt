@@ -3,7 +3,7 @@ use Rattle.std.specs.Prelude.{◌≡◌, ℕ, Bool, not, ◌&&◌, ◌||◌, ◌
 use Rattle.std.specs.List.{list_all}
 use Rattle.pgn_text.specs.Bytes.{is_plain}
 
--- what the contents are made of: a byte by itself, or a byte behind a backslash
+-- what the contents are made of: a byte by itself, or a byte after a backslash
 pub data Sign : Type 0 where
   Single : ℕ → Sign
   Escaped : ℕ → Sign
@@ -13,7 +13,7 @@ abbrev pub spelled_sign : Sign → List ℕ
 spelled_sign (Single b) = b ∷ []
 spelled_sign (Escaped b) = 92 ∷ b ∷ []
 
--- a byte by itself is a plain byte other than the quote and the backslash; behind a backslash any plain byte may stand
+-- a byte by itself is a plain byte other than the quote and the backslash; after a backslash any plain byte may stand
 abbrev pub is_sign : Sign → Bool
 is_sign (Single b) = is_plain b && (not (b == 34) && not (b == 92))
 is_sign (Escaped b) = is_plain b

@@ -6,8 +6,8 @@ use Rattle.pgn_text.specs.Marks.{MarkedPiece, AreMarkedPieces}
 -- each piece begins within its text, and before it stand no more pieces than bytes
 abbrev pub PieceBeginsInItsText : Type 0
 PieceBeginsInItsText =
-    (limit max_depth offset : ℕ) (text : List ℕ) (before : List MarkedPiece) (piece : MarkedPiece) (behind : List MarkedPiece)
-    → AreMarkedPieces limit max_depth offset text (before ++ piece ∷ behind)
+    (limit max_depth offset : ℕ) (text : List ℕ) (before : List MarkedPiece) (piece : MarkedPiece) (after : List MarkedPiece)
+    → AreMarkedPieces limit max_depth offset text (before ++ piece ∷ after)
     → (offset + length before ≤ piece.offset) × (piece.offset < offset + length text)
 
 -- the pieces before an event line and those from it on are together the pieces of the text

@@ -5,15 +5,15 @@ use Rattle.pgn_text.specs.Bytes.{is_white, is_digit, is_letter, is_name_byte, is
 use Rattle.pgn_text.specs.Parts.{Standing as StandingOf}
 use Rattle.pgn_text.specs.Reading.{is_single, contents_front, Kept, KeptGap, KeptComment, KeptTag, KeptMove, KeptNumber, KeptResult, KeptStray, KeptDot, KeptGlyph, KeptMarks, KeptOpen, KeptClose}
 use Rattle.pgn_text.specs.Steps.{State}
-use Rattle.pgn_text.specs.declared.class.Class.{Class}
-use Rattle.pgn_text.specs.declared.class.Class.TheVariants.{White, Digit, Letter, Name, Word, Mark, Single}
+use Rattle.pgn_text.specs.declared.class.ByteClass.{ByteClass}
+use Rattle.pgn_text.specs.declared.class.ByteClass.TheVariants.{White, Digit, Letter, Name, Word, Mark, Single}
 use Rattle.pgn_text.specs.declared.progress.Progress.{Progress}
 use Rattle.pgn_text.specs.declared.scan.Standing.{Standing}
 use Rattle.pgn_text.specs.declared.token.Token.{Token}
 use Rattle.pgn_text.specs.declared.token.Token.TheVariants.{Gap, Comment, Tag, Move, Number, Result, Stray, Dot, Glyph, Marks, Open, Close}
 
 -- the test of a class
-abbrev pub test_of : Class → ℕ → Bool
+abbrev pub test_of : ByteClass → ℕ → Bool
 test_of White = is_white
 test_of Digit = is_digit
 test_of Letter = is_letter
@@ -23,7 +23,7 @@ test_of Mark = is_mark
 test_of Single = is_single
 
 -- the flag of a class
-abbrev pub flag_of : Class → ℕ
+abbrev pub flag_of : ByteClass → ℕ
 flag_of White = 1
 flag_of Digit = 8
 flag_of Letter = 4
@@ -45,7 +45,7 @@ pub record ContentsTo (block : List ℕ) (from end : ℕ) : Type 0 where
   pub forward : from ≤ end
   pub within : end ≤ length block
 
--- the place behind the longest contents of a string from a place on, or none
+-- the place after the longest contents of a string from a place on, or none
 abbrev pub EndsContents : List ℕ → ℕ → Option ℕ → Type 0
 EndsContents block from found = MatchOption found (contents_front false (drop from block) ≡ None) (λ end. ContentsTo block from end)
 
@@ -64,15 +64,15 @@ token_of (Marks marks) = KeptMarks marks.now
 token_of Open = KeptOpen
 token_of Close = KeptClose
 
--- what a token keeps of a part that was found, and the text behind it
+-- what a token keeps of a part that was found, and the text after it
 abbrev pub found_of : Token × Bor (List ℕ) → Kept × List ℕ
 found_of found = (token_of found.0, found.1.now)
 
--- what a game keeps of a tag that was found in a block, by its name, its contents and the place behind it, and the text behind it
+-- what a game keeps of a tag that was found in a block, by its name, its contents and the place after it, and the text after it
 abbrev pub tag_of : List ℕ → Bor (List ℕ) × Bor (List ℕ) × ℕ → Kept × List ℕ
 tag_of block found = (KeptTag found.0.now found.1.now, drop found.2 block)
 
--- what a game keeps of a glyph that was found in a block, by its number and the place behind it, and the text behind it
+-- what a game keeps of a glyph that was found in a block, by its number and the place after it, and the text after it
 abbrev pub glyph_of : List ℕ → ℕ × ℕ → Kept × List ℕ
 glyph_of block found = (KeptGlyph found.0, drop found.1 block)
 
@@ -80,7 +80,7 @@ glyph_of block found = (KeptGlyph found.0, drop found.1 block)
 abbrev pub standing_view : Standing → StandingOf
 standing_view place = record { file_start = place.file_start; column_one = place.column_one }
 
--- the list behind a slice
+-- the list after a slice
 abbrev pub now_of : Bor (List ℕ) → List ℕ
 now_of text = text.now
 

@@ -4,7 +4,7 @@ ghost use Rattle.std.specs.Borrow.{sem};
 ghost use Rattle.std.specs.Io.BufRead.{Rests};
 ghost use Rattle.std.specs.Io.KnownBytes.{IsAtEnd};
 ghost use Rattle.pgn_text.specs.Cuts.{is_cut};
-ghost use Rattle.pgn_text.specs.Held.{IsHeld};
+ghost use Rattle.pgn_text.specs.Held.{IsOccupiedBy};
 ghost use Rattle.pgn_text.specs.Limits.{block_limit, largest_offset, window_limit};
 ghost use Rattle.pgn_text.specs.Phases.{is_failed, is_ended, is_over};
 ghost use Rattle.pgn_text.specs.Searches.{FindsCut, FindsMore, FindsEnd, FailsFrom, GivesUp, StepGives};
@@ -21,7 +21,7 @@ use std::io::Read;
 use std::marker::Model;
 use thiserror::Error;
 
-/// A line feed, and directly behind it what begins a block.
+/// A line feed, and directly after it what begins a block.
 const CUT: &[u8; 9] = b"\n[Event \"";
 
 /// How many bytes begin a block.
@@ -104,7 +104,7 @@ pub struct Blocks {
 impl Model for Blocks {
     ghost use Rattle.std.specs.Prelude.{take, drop};
     ghost use Rattle.pgn_text.specs.Phases.{is_failed, is_ended, is_over};
-    ghost use Rattle.pgn_text.specs.Held.{IsHeld};
+    ghost use Rattle.pgn_text.specs.Held.{IsOccupiedBy};
     ghost use Rattle.pgn_text.specs.Windows.{Window};
 
     ghost Value = { Window };
@@ -118,7 +118,7 @@ impl Model for Blocks {
       over = is_over b.phase;
     } };
 
-    ghost invariant = { λ b. IsHeld b.buf b.at b.place };
+    ghost invariant = { λ b. IsOccupiedBy b.buf b.at b.place };
 }
 
 impl Blocks {
@@ -145,7 +145,7 @@ impl Blocks {
 
     /// The next block of the text, or `None` at its end, which stays.
     ///
-    /// More is read only where no event line is held behind the block's first byte, and each growth
+    /// More is read only where no event line is held after the block's first byte, and each growth
     /// is made before the read that needs it. After an error no block follows.
     pub fn next<R: Read>(&mut self, input: &mut Tally<R>) -> Result<Option<Block<'_>>, ReadError>
         ensures failed { IsErrOf result ReadError.Failed
@@ -193,7 +193,7 @@ impl Blocks {
             Ok(end) => {
                 self.place += end.size;
                 self.at = end.at;
-                self.phase = phase_behind(end.is_last);
+                self.phase = phase_after(end.is_last);
                 Ok(end.size)
             }
             Err(error) => {
@@ -224,8 +224,8 @@ impl Blocks {
     }
 }
 
-/// How far reading has come behind a block.
-fn phase_behind(is_last: bool) -> Phase
+/// How far reading has come after a block.
+fn phase_after(is_last: bool) -> Phase
     ensures { (is_ended result ≡ is_last) × (is_failed result ≡ false) × (is_over result ≡ false) }
 {
     if is_last {
@@ -237,7 +237,7 @@ fn phase_behind(is_last: bool) -> Phase
 
 /// The first place from `from` on where an event line begins.
 fn find_cut(bytes: &[u8], from: usize) -> Option<usize>
-    requires behind_some { 0 < from }
+    requires after_some { 0 < from }
     requires within { from ≤ length bytes.now + 1 }
     ensures { FindsCut bytes.now from result }
 {
@@ -265,7 +265,7 @@ fn is_more<R: Read>(input: &mut Tally<R>) -> Result<bool, ReadError>
 }
 
 /// How many of the first bytes held are given up before the next read, where `lost` bytes of the block that begins at `begin`
-/// were given up already and no event line is held behind its first byte.
+/// were given up already and no event line is held after its first byte.
 fn given_up(held: usize, begin: usize, lost: u64) -> usize
     requires within { (begin ≤ held) × (lost + held < 2 ^ 64) }
     requires long { 0 < lost → (block_limit ≤ lost) × (begin + 8 ≤ held) }
@@ -286,7 +286,7 @@ fn find_end<R: Read>(
     place: u64,
     input: &mut Tally<R>,
 ) -> Result<BlockEnd, ReadError>
-    requires held { IsHeld buf.old at place }
+    requires held { IsOccupiedBy buf.old at place }
     requires sound { input.old.faulted ≡ false }
     ensures ok { IfOk result (FindsEnd (take at buf.old) (drop at buf.old) buf.new place
         (R.remaining input.old.inner) (R.remaining input.new.inner)

@@ -1,4 +1,4 @@
-//! Bytes that are held, with room behind them for those that a read gives.
+//! Bytes that are held, with room after them for those that a read gives.
 ghost use Rattle.std.specs.Prelude.{◌≡◌, ◌≢◌, ◌↔◌, ℕ, ◌+◌, ◌^◌, ◌<◌, ◌≤◌, true, false, List, [], ◌++◌, length, take, drop, vec_len, IfOk, IfErr, IsErrOf, OnOk};
 ghost use Rattle.pgn_text.specs.Searches.{AppendsRead};
 ghost use Rattle.pgn_text.specs.Tallies.{Reads};
@@ -10,7 +10,7 @@ use std::alloc::{AllocError, Global};
 use std::io::Read;
 use std::marker::Model;
 
-/// Bytes in a row. The room behind them is kept when bytes are given up, so that each of its places is filled with zeros once.
+/// Bytes in a row. The room after them is kept when bytes are given up, so that each of its places is filled with zeros once.
 #[derive(Drop)]
 pub(crate) struct Buffer {
     /// The bytes, and room for more.
@@ -72,7 +72,7 @@ impl Buffer {
         }
     }
 
-    /// Reads at most `count` bytes behind those that there are, and says how many came.
+    /// Reads at most `count` bytes after those that there are, and says how many came.
     pub(crate) fn read_more<R: Read>(
         &mut self,
         count: usize,

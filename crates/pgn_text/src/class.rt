@@ -6,7 +6,7 @@ ghost use Rattle.pgn_text.specs.Tokens.{flag_of, test_of, RunTo};
 
 /// A class of bytes.
 #[derive(Clone, Copy)]
-pub(crate) enum Class {
+pub(crate) enum ByteClass {
     White,
     Digit,
     Letter,
@@ -55,23 +55,23 @@ static CLASSES: [u8; 256] = [
 
 /// The class's flag.
 #[inline(always)]
-fn flag(class: Class) -> u8
+fn flag(class: ByteClass) -> u8
     ensures { result ≡ flag_of class }
 {
     match class {
-        Class::White => 1,
-        Class::Word => 2,
-        Class::Letter => 4,
-        Class::Digit => 8,
-        Class::Name => 16,
-        Class::Mark => 32,
-        Class::Single => 64,
+        ByteClass::White => 1,
+        ByteClass::Word => 2,
+        ByteClass::Letter => 4,
+        ByteClass::Digit => 8,
+        ByteClass::Name => 16,
+        ByteClass::Mark => 32,
+        ByteClass::Single => 64,
     }
 }
 
 /// Whether the byte belongs to the class.
 #[inline(always)]
-pub(crate) fn is_in(class: Class, byte: u8) -> bool
+pub(crate) fn is_in(class: ByteClass, byte: u8) -> bool
     ensures { result ≡ test_of class byte }
 {
     CLASSES[byte as usize] & flag(class) != 0
@@ -87,7 +87,7 @@ pub(crate) fn is_plain(byte: u8) -> bool
 
 /// The longest front of the text within the class, and what follows it.
 #[inline(always)]
-pub(crate) fn run(class: Class, text: &[u8]) -> (&[u8], &[u8])
+pub(crate) fn run(class: ByteClass, text: &[u8]) -> (&[u8], &[u8])
     ensures front { result.0.now ≡ run_of (test_of class) text.now }
     ensures rest { result.1.now ≡ after_run (test_of class) text.now }
 {
@@ -97,7 +97,7 @@ pub(crate) fn run(class: Class, text: &[u8]) -> (&[u8], &[u8])
 
 /// The first place from there on whose byte is outside the class, or the end.
 #[inline(always)]
-pub(crate) fn run_end(class: Class, block: &[u8], from: usize) -> usize
+pub(crate) fn run_end(class: ByteClass, block: &[u8], from: usize) -> usize
     requires { from ≤ length block.now }
     ensures { RunTo (test_of class) block.now from result }
 {

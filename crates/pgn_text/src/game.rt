@@ -14,9 +14,9 @@ ghost use Rattle.pgn_text.specs.Readings.{IsReading, IsStep};
 ghost use Rattle.pgn_text.specs.Tokens.{state_of, token_of};
 ghost use Rattle.pgn_text.specs.Walk.{GameTo, GameRead, NoGapPartAt};
 
-use crate::class::{Class, is_in, run_end};
-use crate::draft::Draft;
-use crate::place::{behind_dot, behind_white, comment_at, number_at, part_at};
+use crate::class::{ByteClass, is_in, run_end};
+use crate::game_builder::GameBuilder;
+use crate::place::{after_dot, after_white, comment_at, number_at, part_at};
 use crate::progress::Progress;
 use crate::scan::glyph_at;
 use crate::tag::tag_at;
@@ -93,7 +93,7 @@ impl<'a> RawGame<'a> {
 
     /// Each game that is handed out has its tags in the order of their names, which are made of the bytes of names, each the contents of a
     /// string; its variations are paired, and its result is one of the four.
-    pub fn known(&self)
+    pub fn invariant(&self)
         ensures { IsGameText self.now }
     {
         let _ = &self.tags;
@@ -108,7 +108,7 @@ impl<'a> RawGame<'a> {
 }
 
 /// What is kept of the parts of a game.
-trait Keeper<'a>: Drop {
+trait Visitor<'a>: Drop {
     type Error;
 
     ghost use Rattle.std.specs.Prelude.{ℕ, List, ◌++◌, Option, OnOk};
@@ -126,12 +126,12 @@ trait Keeper<'a>: Drop {
 
 /// Keeps nothing: for what asks only where a game ends.
 #[derive(Drop)]
-struct Nothing {}
+struct Discard {}
 
-impl<'a> Keeper<'a> for Nothing {
+impl<'a> Visitor<'a> for Discard {
     type Error = Infallible;
 
-    ghost kept = { λ keeper tags items. Unit {0} };
+    ghost kept = { λ visitor tags items. Unit {0} };
 
     #[inline(always)]
     fn keep(&mut self, _token: Token<'a>) -> Result<(), Infallible> {
@@ -139,12 +139,12 @@ impl<'a> Keeper<'a> for Nothing {
     }
 }
 
-impl<'a> Keeper<'a> for Draft<'a> {
-    ghost use Rattle.pgn_text.specs.Drafts.{IsDraftOf};
+impl<'a> Visitor<'a> for GameBuilder<'a> {
+    ghost use Rattle.pgn_text.specs.GameBuilders.{IsBuilderOf};
 
     type Error = AllocError;
 
-    ghost kept = { IsDraftOf };
+    ghost kept = { IsBuilderOf };
 
     #[inline(always)]
     fn keep(&mut self, token: Token<'a>) -> Result<(), AllocError> {
@@ -154,69 +154,69 @@ impl<'a> Keeper<'a> for Draft<'a> {
 
 /// What stands at a place of a game.
 enum Reading {
-    /// A part that may stand there, and the place behind it.
+    /// A part that may stand there, and the place after it.
     Part(usize),
-    /// A move number, and the place behind it.
+    /// A move number, and the place after it.
     Number(usize),
-    /// The result that ends the game, and the place behind it.
+    /// The result that ends the game, and the place after it.
     Result(usize),
     /// Nothing that may stand there.
     Stuck,
 }
 
-/// Keeps the part and steps behind it, if it may stand there.
+/// Keeps the part and steps after it, if it may stand there.
 #[inline(always)]
-fn step_behind<'a, K: Keeper<'a>>(
+fn step_after<'a, K: Visitor<'a>>(
     token: Token<'a>,
     end: usize,
     progress: &mut Progress,
-    keeper: &mut K,
+    visitor: &mut K,
 ) -> Result<Reading, K::Error>
-    ensures { IfOk result (λ reading. IsStep (K.kept keeper.old) (K.kept keeper.new) depth_limit (token_of token.entry) end (state_of progress.old) (state_of progress.new) reading) }
+    ensures { IfOk result (λ reading. IsStep (K.kept visitor.old) (K.kept visitor.new) depth_limit (token_of token.entry) end (state_of progress.old) (state_of progress.new) reading) }
 {
     if !progress.step(token) {
         return Ok(Reading::Stuck);
     }
-    keeper.keep(token)?;
+    visitor.keep(token)?;
     Ok(Reading::Part(end))
 }
 
 /// Reads the brace comment at the place of the block.
 #[inline(always)]
-fn read_comment<'a, K: Keeper<'a>>(
+fn read_comment<'a, K: Visitor<'a>>(
     block: &'a [u8],
     at: usize,
     progress: &mut Progress,
-    keeper: &mut K,
+    visitor: &mut K,
 ) -> Result<Reading, K::Error>
     requires place { at < length block.now }
     requires brace { get_or block.now at 0 ≡ 123 }
-    ensures { IfOk result (λ reading. (file_start : Bool) → IsReading (K.kept keeper.old) (K.kept keeper.new) depth_limit file_start block.now at (state_of progress.old) (state_of progress.new) reading) }
+    ensures { IfOk result (λ reading. (file_start : Bool) → IsReading (K.kept visitor.old) (K.kept visitor.new) depth_limit file_start block.now at (state_of progress.old) (state_of progress.new) reading) }
 {
     match comment_at(block, at) {
-        Some((comment, end)) => step_behind(Token::Comment(comment), end, progress, keeper),
+        Some((comment, end)) => step_after(Token::Comment(comment), end, progress, visitor),
         None => Ok(Reading::Stuck),
     }
 }
 
 /// Reads the tag at the place of the block.
 #[inline(always)]
-fn read_tag<'a, K: Keeper<'a>>(
+fn read_tag<'a, K: Visitor<'a>>(
     block: &'a [u8],
     at: usize,
     progress: &mut Progress,
-    keeper: &mut K,
+    visitor: &mut K,
 ) -> Result<Reading, K::Error>
     requires place { at < length block.now }
     requires bracket { get_or block.now at 0 ≡ 91 }
-    ensures { IfOk result (λ reading. (file_start : Bool) → IsReading (K.kept keeper.old) (K.kept keeper.new) depth_limit file_start block.now at (state_of progress.old) (state_of progress.new) reading) }
+    ensures { IfOk result (λ reading. (file_start : Bool) → IsReading (K.kept visitor.old) (K.kept visitor.new) depth_limit file_start block.now at (state_of progress.old) (state_of progress.new) reading) }
 {
     match tag_at(block, at + 1) {
-        Some((name, contents, end)) => step_behind(
+        Some((name, contents, end)) => step_after(
             Token::Tag { name, contents },
             end,
             progress,
-            keeper,
+            visitor,
         ),
         None => Ok(Reading::Stuck),
     }
@@ -224,39 +224,39 @@ fn read_tag<'a, K: Keeper<'a>>(
 
 /// Reads the glyph at the place of the block.
 #[inline(always)]
-fn read_glyph<'a, K: Keeper<'a>>(
+fn read_glyph<'a, K: Visitor<'a>>(
     block: &'a [u8],
     at: usize,
     progress: &mut Progress,
-    keeper: &mut K,
+    visitor: &mut K,
 ) -> Result<Reading, K::Error>
     requires place { at < length block.now }
     requires dollar { get_or block.now at 0 ≡ 36 }
-    ensures { IfOk result (λ reading. (file_start : Bool) → IsReading (K.kept keeper.old) (K.kept keeper.new) depth_limit file_start block.now at (state_of progress.old) (state_of progress.new) reading) }
+    ensures { IfOk result (λ reading. (file_start : Bool) → IsReading (K.kept visitor.old) (K.kept visitor.new) depth_limit file_start block.now at (state_of progress.old) (state_of progress.new) reading) }
 {
     match glyph_at(block, at + 1) {
-        Some((number, end)) => step_behind(Token::Glyph(number), end, progress, keeper),
+        Some((number, end)) => step_after(Token::Glyph(number), end, progress, visitor),
         None => Ok(Reading::Stuck),
     }
 }
 
 /// Reads the part at the place of the block, of whatever kind.
 #[inline(always)]
-fn read_other<'a, K: Keeper<'a>>(
+fn read_other<'a, K: Visitor<'a>>(
     block: &'a [u8],
     at: usize,
     file_start: bool,
     progress: &mut Progress,
-    keeper: &mut K,
+    visitor: &mut K,
 ) -> Result<Reading, K::Error>
     requires { at ≤ length block.now }
-    ensures { IfOk result (λ reading. IsReading (K.kept keeper.old) (K.kept keeper.new) depth_limit file_start block.now at (state_of progress.old) (state_of progress.new) reading) }
+    ensures { IfOk result (λ reading. IsReading (K.kept visitor.old) (K.kept visitor.new) depth_limit file_start block.now at (state_of progress.old) (state_of progress.new) reading) }
 {
     let Some((token, end)) = part_at(block, at, file_start) else {
         return Ok(Reading::Stuck);
     };
     if !token.is_result() {
-        return step_behind(token, end, progress, keeper);
+        return step_after(token, end, progress, visitor);
     }
     if progress.is_closed() {
         Ok(Reading::Result(end))
@@ -267,62 +267,62 @@ fn read_other<'a, K: Keeper<'a>>(
 
 /// Reads the part at the place of the block; the frequent kinds by their first byte.
 #[inline(always)]
-fn read_part<'a, K: Keeper<'a>>(
+fn read_part<'a, K: Visitor<'a>>(
     block: &'a [u8],
     at: usize,
     file_start: bool,
     progress: &mut Progress,
-    keeper: &mut K,
+    visitor: &mut K,
 ) -> Result<Reading, K::Error>
     requires { at < length block.now }
-    ensures { IfOk result (λ reading. IsReading (K.kept keeper.old) (K.kept keeper.new) depth_limit file_start block.now at (state_of progress.old) (state_of progress.new) reading) }
+    ensures { IfOk result (λ reading. IsReading (K.kept visitor.old) (K.kept visitor.new) depth_limit file_start block.now at (state_of progress.old) (state_of progress.new) reading) }
 {
     let byte = block[at];
-    if is_in(Class::Letter, byte) {
-        let end = run_end(Class::Word, block, at + 1);
-        return step_behind(Token::Move(&block[at..end]), end, progress, keeper);
+    if is_in(ByteClass::Letter, byte) {
+        let end = run_end(ByteClass::Word, block, at + 1);
+        return step_after(Token::Move(&block[at..end]), end, progress, visitor);
     }
-    if is_in(Class::White, byte) {
-        return step_behind(Token::Gap, at + 1, progress, keeper);
+    if is_in(ByteClass::White, byte) {
+        return step_after(Token::Gap, at + 1, progress, visitor);
     }
     if let Some(end) = number_at(block, at) {
         progress.enter_movetext();
-        keeper.keep(Token::Number)?;
+        visitor.keep(Token::Number)?;
         return Ok(Reading::Number(end));
     }
-    if is_in(Class::Mark, byte) {
-        let end = run_end(Class::Mark, block, at + 1);
-        return step_behind(Token::Marks(&block[at..end]), end, progress, keeper);
+    if is_in(ByteClass::Mark, byte) {
+        let end = run_end(ByteClass::Mark, block, at + 1);
+        return step_after(Token::Marks(&block[at..end]), end, progress, visitor);
     }
     match byte {
-        b'.' => step_behind(Token::Dot, at + 1, progress, keeper),
-        b'(' => step_behind(Token::Open, at + 1, progress, keeper),
-        b')' => step_behind(Token::Close, at + 1, progress, keeper),
-        b'{' => read_comment(block, at, progress, keeper),
-        b'[' => read_tag(block, at, progress, keeper),
-        b'$' => read_glyph(block, at, progress, keeper),
-        _ => read_other(block, at, file_start, progress, keeper),
+        b'.' => step_after(Token::Dot, at + 1, progress, visitor),
+        b'(' => step_after(Token::Open, at + 1, progress, visitor),
+        b')' => step_after(Token::Close, at + 1, progress, visitor),
+        b'{' => read_comment(block, at, progress, visitor),
+        b'[' => read_tag(block, at, progress, visitor),
+        b'$' => read_glyph(block, at, progress, visitor),
+        _ => read_other(block, at, file_start, progress, visitor),
     }
 }
 
-/// Reads the game at the place of the block, if one begins there: the places of its result and behind it.
+/// Reads the game at the place of the block, if one begins there: the places of its result and after it.
 #[inline(always)]
-fn read_parts<'a, K: Keeper<'a>>(
+fn read_parts<'a, K: Visitor<'a>>(
     block: &'a [u8],
     begin: usize,
     file_start: bool,
-    keeper: &mut K,
+    visitor: &mut K,
 ) -> Result<Option<(usize, usize)>, K::Error>
     requires place { begin ≤ length block.now }
     requires outside { NoGapPartAt file_start block.now begin }
-    ensures { IfOk result (λ read. MatchOption read (NoGame depth_limit file_start (take begin block.now) (drop begin block.now)) (λ found. (tags : List ℕ → Option (List ℕ)) × (items : List Item) × GameRead depth_limit file_start block.now begin found.0 found.1 tags items × (K.kept keeper.old (λ wanted. None) [] → K.kept keeper.new tags items))) }
+    ensures { IfOk result (λ read. MatchOption read (NoGame depth_limit file_start (take begin block.now) (drop begin block.now)) (λ found. (tags : List ℕ → Option (List ℕ)) × (items : List Item) × GameRead depth_limit file_start block.now begin found.0 found.1 tags items × (K.kept visitor.old (λ wanted. None) [] → K.kept visitor.new tags items))) }
 {
     let mut progress = Progress::start();
     let mut at = begin;
     while at < block.len() {
-        match read_part(block, at, file_start, &mut progress, keeper)? {
-            Reading::Part(end) => at = behind_white(block, end),
-            Reading::Number(end) => at = behind_white(block, behind_dot(block, end)),
+        match read_part(block, at, file_start, &mut progress, visitor)? {
+            Reading::Part(end) => at = after_white(block, end),
+            Reading::Number(end) => at = after_white(block, after_dot(block, end)),
             Reading::Result(end) => return Ok(Some((at, end))),
             Reading::Stuck => return Ok(None),
         }
@@ -330,7 +330,7 @@ fn read_parts<'a, K: Keeper<'a>>(
     Ok(None)
 }
 
-/// The game at the place of the block, and the place behind it, if a game begins there.
+/// The game at the place of the block, and the place after it, if a game begins there.
 pub(crate) fn read_game<'a>(
     alloc: Global,
     block: &'a [u8],
@@ -341,11 +341,11 @@ pub(crate) fn read_game<'a>(
     requires outside { NoGapPartAt file_start block.now begin }
     ensures { IfOk result (λ read. MatchOption read (NoGame depth_limit file_start (take begin block.now) (drop begin block.now)) (λ found. (parts : List Part) × GameTo depth_limit file_start block.now begin parts found.1 × ShowsGame found.0 begin parts)) }
 {
-    let mut draft = Draft::new(alloc)?;
-    let Some((at, end)) = read_parts(block, begin, file_start, &mut draft)? else {
+    let mut game_builder = GameBuilder::new(alloc)?;
+    let Some((at, end)) = read_parts(block, begin, file_start, &mut game_builder)? else {
         return Ok(None);
     };
-    let Draft { tags, elements } = draft;
+    let GameBuilder { tags, elements } = game_builder;
     let game = RawGame {
         at: begin,
         text: &block[begin..end],
@@ -356,13 +356,13 @@ pub(crate) fn read_game<'a>(
     Ok(Some((game, end)))
 }
 
-/// The place behind the game that begins at the place of the block, if one begins there.
+/// The place after the game that begins at the place of the block, if one begins there.
 pub(crate) fn game_end(block: &[u8], begin: usize, file_start: bool) -> Option<usize>
     requires place { begin ≤ length block.now }
     requires outside { NoGapPartAt file_start block.now begin }
     ensures { MatchOption result (NoGame depth_limit file_start (take begin block.now) (drop begin block.now)) (λ end. (parts : List Part) × GameTo depth_limit file_start block.now begin parts end) }
 {
-    match read_parts(block, begin, file_start, &mut Nothing {}) {
+    match read_parts(block, begin, file_start, &mut Discard {}) {
         Ok(Some((_, end))) => Some(end),
         Ok(None) => None,
         Err(never) => match never {},

@@ -1,6 +1,6 @@
 //! What holds of every text, whatever reads it. Each law is the contract of a function that does nothing.
 
-ghost use Rattle.pgn_text.specs.StopLaws.{EachTextStopsOnce, FrontsOfGameFronts, StopsBehindGame, StopsBehindChange, UnreadableStopsAlone};
+ghost use Rattle.pgn_text.specs.StopLaws.{EachTextStopsOnce, FrontsOfGameFronts, StopsAfterGame, StopsAfterChange, UnreadableStopsAlone};
 ghost use Rattle.pgn_text.specs.Laws.{AtMostOneGame, GameHasAGameText, GameTextIsOne, TextHasOneParting, BlockHasOneList, TextHasOneList, ResumesAnywhere, FrontHasThePiecesBefore, BlockKeepsPieces, TextKeepsPieces};
 ghost use Rattle.pgn_text.specs.TextLaws.{PieceBeginsInItsText, PiecesJoinAtEventLines, PiecesPartAtEventLines};
 ghost use Rattle.pgn_text.specs.AnswerLaws.{OneElementPlace, OneTagPlace, StandsInOneThing, CommentIsOpen, EndsWhereNothingIsLeft, EndsAfterAnError, FailsBeforeNoEventLine, DoneWithTheBlock};
@@ -32,7 +32,7 @@ pub fn event_lines()
     ensures part { PiecesPartAtEventLines }
 {}
 
-/// A reading that begins again at a piece of a text gives that piece and those behind it, with the same offsets.
+/// A reading that begins again at a piece of a text gives that piece and those after it, with the same offsets.
 pub fn resumption()
     ensures { ResumesAnywhere }
 {}
@@ -48,13 +48,13 @@ pub fn old_marks()
     ensures text { TextKeepsPieces }
 {}
 
-/// Each text agrees with games up to one place: behind its game, if it begins with one, and never before a change that was made in one.
+/// Each text agrees with games up to one place: after its game, if it begins with one, and never before a change that was made in one.
 /// Bytes of a block that are no game agree with games as far by themselves as in the block.
 pub fn one_stop()
     ensures once { EachTextStopsOnce }
     ensures fronts { FrontsOfGameFronts }
-    ensures game { StopsBehindGame }
-    ensures change { StopsBehindChange }
+    ensures game { StopsAfterGame }
+    ensures change { StopsAfterChange }
     ensures alone { UnreadableStopsAlone }
 {}
 

@@ -3,12 +3,12 @@
 //! The module `memory` has a proved example of each call over a reader, a writer or a block.
 #![tactic(auto)]
 
-mod agreement;
 mod blocks;
 mod buffer;
 mod class;
-mod draft;
+mod error_position;
 mod game;
+mod game_builder;
 pub mod laws;
 mod limits;
 mod locate;
@@ -24,13 +24,13 @@ mod tally;
 mod token;
 mod unquoted;
 
-pub use agreement::{Stop, Within, stopped, stopped_within, tag_name_at};
 pub use blocks::{Block, Blocks, Body, ReadError};
+pub use error_position::{Stop, Within, error_position_of, locate_error, tag_name_at};
 pub use game::{Element, RawGame};
 pub use limits::{BLOCK_LIMIT, LARGEST_OFFSET, MAX_DEPTH};
 pub use locate::{element_place, tag_place};
 pub use pieces::start::{games, marks};
-pub use pieces::{Games, Mark, Marks, Piece};
+pub use pieces::{Games, Marks, Piece, PieceStart};
 pub use quoted::{is_contents, value};
 pub use skip::Skip;
 pub use tally::Tally;

@@ -11,7 +11,7 @@ ghost use Rattle.pgn_text.specs.Windows.{Shows};
 
 use crate::blocks::{Blocks, Body, ReadError};
 use crate::pieces::start::{games, marks};
-use crate::pieces::{Mark, Piece};
+use crate::pieces::{Piece, PieceStart};
 use crate::tally::Tally;
 use std::alloc::{AllocError, Global};
 use std::io;
@@ -102,7 +102,7 @@ pub fn first_piece<'a>(
 }
 
 /// Where the first piece of a block begins, and what it is, if it has one.
-pub fn first_mark(block: &[u8], file_start: bool) -> Option<Mark>
+pub fn first_mark(block: &[u8], file_start: bool) -> Option<PieceStart>
     ensures { (pieces : List spec.Piece) × ArePieces depth_limit file_start [] pieces block.now
         × MatchOption result (pieces ≡ []) (λ mark. (shown : spec.Piece) × (more : List spec.Piece)
         × (pieces ≡ shown ∷ more) × IsMark mark shown) }

@@ -93,7 +93,7 @@ impl<'a> Iterator for Games<'a> {
 
 /// Where a piece of a block begins, and what it is.
 #[derive(Clone, Copy, Debug, PartialEq, Eq)]
-pub enum Mark {
+pub enum PieceStart {
     /// A game begins at this place.
     Game(usize),
     /// Bytes from this place to the block's end, of which no front is a game.
@@ -137,13 +137,13 @@ impl<'a> Iterator for Marks<'a> {
     ghost use Rattle.pgn_text.specs.LeftMarks.{GivesMark};
     ghost use Rattle.pgn_text.specs.Limits.{depth_limit};
 
-    type Item = Mark;
+    type Item = PieceStart;
 
     ghost next_gives = { GivesMark depth_limit };
 
     ghost remaining = { λ marks. at_most (length marks.block - marks.at) };
 
-    fn next(&mut self) -> Option<Mark> {
+    fn next(&mut self) -> Option<PieceStart> {
         let begin = gap_end(self.block, self.at, self.file_start);
         if begin == self.block.len() {
             return None;
@@ -151,11 +151,11 @@ impl<'a> Iterator for Marks<'a> {
         match game_end(self.block, begin, self.file_start) {
             Some(end) => {
                 self.at = end;
-                Some(Mark::Game(begin))
+                Some(PieceStart::Game(begin))
             }
             None => {
                 self.at = self.block.len();
-                Some(Mark::Unreadable(begin))
+                Some(PieceStart::Unreadable(begin))
             }
         }
     }

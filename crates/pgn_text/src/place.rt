@@ -6,14 +6,14 @@ ghost use Rattle.pgn_text.specs.Reading.{KeptComment, KeptDot, KeptGap, KeptNumb
 ghost use Rattle.pgn_text.specs.Tokens.{standing_view, token_of};
 ghost use Rattle.pgn_text.specs.Walk.{KeptAt, Passes, NothingAt, GapPartAt, NoGapPartAt, LongestGapTo};
 
-use crate::class::{Class, is_in, run_end};
+use crate::class::{ByteClass, is_in, run_end};
 use crate::scan::{Found, Standing, gap_part, part};
 use crate::token::Token;
 use memchr::memchr;
 
 const BYTE_ORDER_MARK: [u8; 3] = [0xEF, 0xBB, 0xBF];
 
-/// Whether the place behind these bytes of a block is in column one.
+/// Whether the place after these bytes of a block is in column one.
 #[inline(always)]
 fn is_column_one(before: &[u8], file_start: bool) -> bool
     ensures { result ≡ is_in_column_one file_start before.now }
@@ -36,25 +36,25 @@ fn standing_at(block: &[u8], at: usize, file_start: bool) -> Standing
     }
 }
 
-/// The place behind the move number at the place of the block, if one stands there.
+/// The place after the move number at the place of the block, if one stands there.
 #[inline(always)]
 pub(crate) fn number_at(block: &[u8], at: usize) -> Option<usize>
     requires { at < length block.now }
     ensures { MatchOption result (Unit {0}) (λ end. (file_start : Bool) → KeptAt file_start block.now at KeptNumber end) }
 {
-    if !is_in(Class::Digit, block[at]) {
+    if !is_in(ByteClass::Digit, block[at]) {
         return None;
     }
-    let end = run_end(Class::Digit, block, at + 1);
-    if end < block.len() && is_in(Class::Word, block[end]) {
+    let end = run_end(ByteClass::Digit, block, at + 1);
+    if end < block.len() && is_in(ByteClass::Word, block[end]) {
         return None;
     }
     Some(end)
 }
 
-/// The place behind the period at the place of the block, or the place itself where none stands there.
+/// The place after the period at the place of the block, or the place itself where none stands there.
 #[inline(always)]
-pub(crate) fn behind_dot(block: &[u8], at: usize) -> usize
+pub(crate) fn after_dot(block: &[u8], at: usize) -> usize
     requires { at ≤ length block.now }
     ensures passed { (file_start : Bool) → Passes file_start block.now at KeptDot result }
     ensures forward { at ≤ result }
@@ -67,22 +67,22 @@ pub(crate) fn behind_dot(block: &[u8], at: usize) -> usize
     }
 }
 
-/// The place behind the byte of white space at the place of the block, or the place itself where none stands there.
+/// The place after the byte of white space at the place of the block, or the place itself where none stands there.
 #[inline(always)]
-pub(crate) fn behind_white(block: &[u8], at: usize) -> usize
+pub(crate) fn after_white(block: &[u8], at: usize) -> usize
     requires { at ≤ length block.now }
     ensures passed { (file_start : Bool) → Passes file_start block.now at KeptGap result }
     ensures forward { at ≤ result }
     ensures within { result ≤ length block.now }
 {
-    if at < block.len() && is_in(Class::White, block[at]) {
+    if at < block.len() && is_in(ByteClass::White, block[at]) {
         at + 1
     } else {
         at
     }
 }
 
-/// The bytes of the brace comment at the place of the block, and the place behind it.
+/// The bytes of the brace comment at the place of the block, and the place after it.
 #[inline(always)]
 pub(crate) fn comment_at(block: &[u8], at: usize) -> Option<(&[u8], usize)>
     requires place { at < length block.now }
@@ -96,7 +96,7 @@ pub(crate) fn comment_at(block: &[u8], at: usize) -> Option<(&[u8], usize)>
     Some((&block[at + 1..end], end + 1))
 }
 
-/// The part at the place of the block, and the place behind it.
+/// The part at the place of the block, and the place after it.
 pub(crate) fn part_at(block: &[u8], at: usize, file_start: bool) -> Option<(Token<'_>, usize)>
     requires { at ≤ length block.now }
     ensures { MatchOption result (NothingAt file_start block.now at) (λ found. KeptAt file_start block.now at (token_of found.0) found.1) }
@@ -107,13 +107,13 @@ pub(crate) fn part_at(block: &[u8], at: usize, file_start: bool) -> Option<(Toke
     Some((token, block.len() - rest.len()))
 }
 
-/// The place behind the part of a gap at the place of the block.
+/// The place after the part of a gap at the place of the block.
 #[inline(always)]
 fn gap_part_at(block: &[u8], at: usize, file_start: bool) -> Option<usize>
     requires { at ≤ length block.now }
     ensures { MatchOption result (NoGapPartAt file_start block.now at) (λ end. GapPartAt file_start block.now at end) }
 {
-    if at < block.len() && is_in(Class::White, block[at]) {
+    if at < block.len() && is_in(ByteClass::White, block[at]) {
         return Some(at + 1);
     }
     let Some((_, rest)) = gap_part(&block[at..], standing_at(block, at, file_start)) else {
@@ -122,7 +122,7 @@ fn gap_part_at(block: &[u8], at: usize, file_start: bool) -> Option<usize>
     Some(block.len() - rest.len())
 }
 
-/// The place behind the longest gap at the place of the block.
+/// The place after the longest gap at the place of the block.
 pub(crate) fn gap_end(block: &[u8], begin: usize, file_start: bool) -> usize
     requires { begin ≤ length block.now }
     ensures { LongestGapTo file_start block.now begin result }

@@ -41,7 +41,7 @@ impl Progress {
         self.depth == 0
     }
 
-    /// Goes on behind a part of the movetext that is no move.
+    /// Goes on after a part of the movetext that is no move.
     #[inline(always)]
     pub(crate) fn enter_movetext(&mut self)
         ensures { state_of self.new ≡ in_movetext (state_of self.old) }
@@ -49,7 +49,7 @@ impl Progress {
         self.in_tags = false;
     }
 
-    /// Goes on behind a move.
+    /// Goes on after a move.
     #[inline(always)]
     pub(crate) fn pass_move(&mut self)
         ensures { state_of self.new ≡ record { in_tags = false; depth = self.old.depth; has_move = true } }
@@ -73,7 +73,7 @@ impl Progress {
         }
     }
 
-    /// Goes on behind a variation, if one may end here.
+    /// Goes on after a variation, if one may end here.
     #[inline(always)]
     pub(crate) fn close(&mut self) -> bool
         ensures { Steps result (state_of self.new) (step_kept depth_limit (state_of self.old) KeptClose) }
@@ -88,7 +88,7 @@ impl Progress {
         }
     }
 
-    /// Goes on behind the part, if it may stand here. A result is no such part.
+    /// Goes on after the part, if it may stand here. A result is no such part.
     #[inline(always)]
     pub(crate) fn step(&mut self, token: Token<'_>) -> bool
         ensures { Steps result (state_of self.new) (step_kept depth_limit (state_of self.old) (token_of token.entry)) }

@@ -4,22 +4,22 @@ ghost use Rattle.std.specs.Prelude.{◌↔◌, ◌≤◌, List, length, IsTrue};
 ghost use Rattle.pgn_text.specs.Tokens.{EndsContents};
 ghost use Rattle.pgn_text.specs.Strings.{Sign, IsContents, HasValue};
 
-use crate::class::{Class, is_plain, run_end};
+use crate::class::{ByteClass, is_plain, run_end};
 use crate::unquoted::Value;
 
-/// The place behind the longest contents of a string at the place of the block. There is none where the block ends, or a byte comes that
-/// no string has, directly behind a backslash that stands by itself.
+/// The place after the longest contents of a string at the place of the block. There is none where the block ends, or a byte comes that
+/// no string has, directly after a backslash that stands by itself.
 #[inline(always)]
 pub(crate) fn contents_end(block: &[u8], begin: usize) -> Option<usize>
     requires { begin ≤ length block.now }
     ensures { EndsContents block.now begin result }
 {
-    let mut at = run_end(Class::Single, block, begin);
+    let mut at = run_end(ByteClass::Single, block, begin);
     while at < block.len() && block[at] == b'\\' {
         if at + 1 == block.len() || !is_plain(block[at + 1]) {
             return None;
         }
-        at = run_end(Class::Single, block, at + 2);
+        at = run_end(ByteClass::Single, block, at + 2);
     }
     Some(at)
 }

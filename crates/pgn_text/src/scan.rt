@@ -3,10 +3,10 @@
 ghost use Rattle.std.specs.Prelude.{◌≡◌, ◌≤◌, length, drop, if◌then◌else◌, option_map, IfSome, Some, None};
 ghost use Rattle.pgn_text.specs.Bytes.{is_not_line_feed, run_of, after_run};
 ghost use Rattle.pgn_text.specs.Parts.{EscapeLine, Line, number_of};
-ghost use Rattle.pgn_text.specs.Reading.{rest_behind, brace_front, mark_front, gap_front, tag_front, is_glyph, glyph_front, game_front, part_front, kept_found};
+ghost use Rattle.pgn_text.specs.Reading.{rest_after, brace_front, mark_front, gap_front, tag_front, is_glyph, glyph_front, game_front, part_front, kept_found};
 ghost use Rattle.pgn_text.specs.Tokens.{found_of, glyph_of, now_of, standing_view};
 
-use crate::class::{Class, is_in, run, run_end};
+use crate::class::{ByteClass, is_in, run, run_end};
 use crate::tag::tag_at;
 use crate::token::{Token, word_token};
 use memchr::memchr;
@@ -20,13 +20,13 @@ pub(crate) struct Standing {
     pub(crate) column_one: bool,
 }
 
-/// A part and the text behind it.
+/// A part and the text after it.
 pub(crate) type Found<'a> = (Token<'a>, &'a [u8]);
 
-/// The text behind the byte, if the text begins with it.
+/// The text after the byte, if the text begins with it.
 #[inline(always)]
-pub(crate) fn behind(byte: u8, text: &[u8]) -> Option<&[u8]>
-    ensures { option_map now_of result ≡ rest_behind byte text.now }
+pub(crate) fn after(byte: u8, text: &[u8]) -> Option<&[u8]>
+    ensures { option_map now_of result ≡ rest_after byte text.now }
 {
     let Some((first, rest)) = text.split_first() else {
         return None;
@@ -143,14 +143,14 @@ fn glyph_number(digits: &[u8]) -> Option<u8>
     u8::try_from(number).ok()
 }
 
-/// The glyph whose dollar sign stands before the place of the block: its number, and the place behind it.
+/// The glyph whose dollar sign stands before the place of the block: its number, and the place after it.
 #[inline(always)]
 pub(crate) fn glyph_at(block: &[u8], begin: usize) -> Option<(u8, usize)>
     requires { begin ≤ length block.now }
     ensures found { option_map (glyph_of block.now) result ≡ option_map kept_found (glyph_front (drop begin block.now)) }
     ensures within { IfSome result (λ found. found.1 ≤ length block.now) }
 {
-    let end = run_end(Class::Digit, block, begin);
+    let end = run_end(ByteClass::Digit, block, begin);
     let Some(number) = glyph_number(&block[begin..end]) else {
         return None;
     };
@@ -177,14 +177,14 @@ pub(crate) fn game_part(text: &[u8]) -> Option<Found<'_>>
         return None;
     };
     match *first {
-        byte if is_in(Class::Word, byte) => {
-            let (word, rest) = run(Class::Word, text);
+        byte if is_in(ByteClass::Word, byte) => {
+            let (word, rest) = run(ByteClass::Word, text);
             Some((word_token(word), rest))
         }
         b'.' => Some((Token::Dot, rest)),
         b'$' => glyph(rest),
         b'!' | b'?' => {
-            let (marks, rest) = run(Class::Mark, text);
+            let (marks, rest) = run(ByteClass::Mark, text);
             Some((Token::Marks(marks), rest))
         }
         b'(' => Some((Token::Open, rest)),

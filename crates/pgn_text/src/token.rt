@@ -7,7 +7,7 @@ ghost use Rattle.pgn_text.specs.Games.{is_zero_castling as is_zero_castling_word
 ghost use Rattle.pgn_text.specs.Reading.{is_kept_result, kept_word};
 ghost use Rattle.pgn_text.specs.Tokens.{token_of};
 
-use crate::class::{Class, is_in};
+use crate::class::{ByteClass, is_in};
 
 /// A part of a text, without what no game keeps of it.
 #[derive(Clone, Copy)]
@@ -82,7 +82,7 @@ fn is_move_text(word: &[u8]) -> bool
 fn are_digits(text: &[u8]) -> bool
     ensures { result ≡ list_all is_digit text.now }
 {
-    text.iter().all(|byte| is_in(Class::Digit, *byte))
+    text.iter().all(|byte| is_in(ByteClass::Digit, *byte))
 }
 
 /// Whether the word has digits only.

@@ -36,10 +36,10 @@ impl<'a> Iterator for Value<'a> {
     fn next(&mut self) -> Option<u8> {
         let (first, rest) = self.rest.split_first()?;
         if *first == b'\\'
-            && let Some((second, behind)) = rest.split_first()
+            && let Some((second, after)) = rest.split_first()
             && (*second == b'"' || *second == b'\\')
         {
-            self.rest = behind;
+            self.rest = after;
             return Some(*second);
         }
         self.rest = rest;

@@ -1,5 +1,5 @@
 //! The games that `--others` and `--faulty` choose, and games as they stand.
-use crate::runs::{FAULT_BETWEEN, LOST_BRACE, Row, Shelf, holds, run_words};
+use crate::runs::{FAULT_BETWEEN, LOST_BRACE, Row, Shelf, holds, run_arguments};
 use std::alloc::{AllocError, Global};
 use std::test::Fail;
 use test_support::{Page, TWO_GAMES, first_game};
@@ -263,10 +263,10 @@ fn choices_give_their_bytes(rt: HostRuntime) -> Result<(), Fail> {
 }
 
 /// Whether a run with these arguments and criteria that look for mate writes this text of a mate and a game without one.
-fn is_chosen(alloc: Global, words: &[&str], wanted: &[u8]) -> Result<bool, AllocError> {
+fn is_chosen(alloc: Global, arguments: &[&str], wanted: &[u8]) -> Result<bool, AllocError> {
     let text = b"1. f3 e5 2. g4 Qh4# 0-1\n\n1. e4 *\n";
     let mut shelf = Shelf::with_criteria(text, b"mate\n");
-    let end = run_words(alloc, words, &mut shelf, Page::new(), Page::new())?;
+    let end = run_arguments(alloc, arguments, &mut shelf, Page::new(), Page::new())?;
     Ok(end.is(wanted, b"", 0))
 }
 
@@ -283,8 +283,8 @@ fn criteria_choose_games(rt: HostRuntime) -> Result<(), Fail> {
         ),
         (&["--criteria", "wanted.txt", "--faulty"], b""),
     ];
-    for (words, wanted) in rows {
-        assert!(rt; is_chosen(rt.alloc(), words, wanted)?, "{words:?}");
+    for (arguments, wanted) in rows {
+        assert!(rt; is_chosen(rt.alloc(), arguments, wanted)?, "{arguments:?}");
     }
     Ok(())
 }

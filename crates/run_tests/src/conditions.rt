@@ -1,5 +1,5 @@
 //! Lines of criteria as arguments, alone and after a file of criteria.
-use crate::runs::{Ending, Shelf, run_words};
+use crate::runs::{Ending, Shelf, run_arguments};
 use std::alloc::{AllocError, Global};
 use std::test::Fail;
 use test_support::{Page, TWO_GAMES};
@@ -444,9 +444,9 @@ const DENIED: [Found; 6] = [
 
 #[test]
 fn denied_lines_find_the_rest(rt: HostRuntime) -> Result<(), Fail> {
-    for &(words, criteria, text, wanted) in &DENIED {
-        let (end, _) = run_with(rt.alloc(), words, criteria, text)?;
-        assert!(rt; end.is(wanted, b"", 0), "{words:?} behind {criteria:?}");
+    for &(arguments, criteria, text, wanted) in &DENIED {
+        let (end, _) = run_with(rt.alloc(), arguments, criteria, text)?;
+        assert!(rt; end.is(wanted, b"", 0), "{arguments:?} after {criteria:?}");
     }
     Ok(())
 }
@@ -465,8 +465,8 @@ const BAD_DENIALS: [&str; 7] = [
 #[test]
 fn bad_denials_are_refused_by_their_number(rt: HostRuntime) -> Result<(), Fail> {
     for line in &BAD_DENIALS {
-        let words = ["--list", "--criteria", "wanted.txt", "--where", *line];
-        let (end, opened) = run_with(rt.alloc(), &words, b"not check\n", E4_E5)?;
+        let arguments = ["--list", "--criteria", "wanted.txt", "--where", *line];
+        let (end, opened) = run_with(rt.alloc(), &arguments, b"not check\n", E4_E5)?;
         assert!(rt; end.is(b"", LINE_2, 2) && opened == 0, "{line:?}");
     }
     Ok(())
@@ -475,42 +475,42 @@ fn bad_denials_are_refused_by_their_number(rt: HostRuntime) -> Result<(), Fail> 
 /// Runs the program with criteria in `wanted.txt`: how it ends, and how often games were opened.
 fn run_with(
     alloc: Global,
-    words: &[&str],
+    arguments: &[&str],
     criteria: &[u8],
     text: &[u8],
 ) -> Result<(Ending, u32), AllocError> {
     let mut shelf = Shelf::with_criteria(text, criteria);
-    let end = run_words(alloc, words, &mut shelf, Page::new(), Page::new())?;
+    let end = run_arguments(alloc, arguments, &mut shelf, Page::new(), Page::new())?;
     Ok((end, shelf.opened))
 }
 
 #[test]
 fn lines_in_arguments_are_criteria(rt: HostRuntime) -> Result<(), Fail> {
-    for &(words, criteria, text, wanted) in &FOUND {
-        let (end, _) = run_with(rt.alloc(), words, criteria, text)?;
-        assert!(rt; end.is(wanted, b"", 0), "{words:?} behind {criteria:?}");
+    for &(arguments, criteria, text, wanted) in &FOUND {
+        let (end, _) = run_with(rt.alloc(), arguments, criteria, text)?;
+        assert!(rt; end.is(wanted, b"", 0), "{arguments:?} after {criteria:?}");
     }
     Ok(())
 }
 
 #[test]
 fn bad_lines_are_refused_before_the_games_are_opened(rt: HostRuntime) -> Result<(), Fail> {
-    for &(words, criteria, line) in &REFUSED {
-        let (end, opened) = run_with(rt.alloc(), words, criteria, E4_E5)?;
+    for &(arguments, criteria, line) in &REFUSED {
+        let (end, opened) = run_with(rt.alloc(), arguments, criteria, E4_E5)?;
         assert!(rt;
             end.is(b"", line, 2) && opened == 0,
-            "{words:?} behind {criteria:?}"
+            "{arguments:?} after {criteria:?}"
         );
     }
     Ok(())
 }
 
 /// How a run with the line `mate` ends, after a file of so many line feeds and these bytes after them.
-fn run_behind(alloc: Global, feeds: usize, last: &[u8]) -> Result<Ending, AllocError> {
+fn run_after(alloc: Global, feeds: usize, last: &[u8]) -> Result<Ending, AllocError> {
     let mut criteria = vec![in alloc; b'\n'; feeds]?;
     criteria.extend_from_slice(last)?;
-    let words = ["--list", "--criteria", "wanted.txt", "--where", "mate"];
-    let (end, _) = run_with(alloc, &words, &criteria, FOOLS_MATE)?;
+    let arguments = ["--list", "--criteria", "wanted.txt", "--where", "mate"];
+    let (end, _) = run_with(alloc, &arguments, &criteria, FOOLS_MATE)?;
     Ok(end)
 }
 
@@ -519,21 +519,24 @@ fn file_and_lines_have_at_most_65536_bytes(rt: HostRuntime) -> Result<(), Fail> 
     let found = b"1@0 4\n";
     let too_long = b"pgn-extract: criteria too long\n";
     // `mate` and its line feed are 5 bytes, and a line feed before them is one more.
-    assert!(rt; run_behind(rt.alloc(), 65531, b"")?.is(found, b"", 0));
-    assert!(rt; run_behind(rt.alloc(), 65532, b"")?.is(b"", too_long, 2));
-    assert!(rt; run_behind(rt.alloc(), 65526, b"mate")?.is(found, b"", 0));
-    assert!(rt; run_behind(rt.alloc(), 65527, b"mate")?.is(b"", too_long, 2));
-    assert!(rt; run_behind(rt.alloc(), 99999, b"mate")?.is(b"", too_long, 2));
+    assert!(rt; run_after(rt.alloc(), 65531, b"")?.is(found, b"", 0));
+    assert!(rt; run_after(rt.alloc(), 65532, b"")?.is(b"", too_long, 2));
+    assert!(rt; run_after(rt.alloc(), 65526, b"mate")?.is(found, b"", 0));
+    assert!(rt; run_after(rt.alloc(), 65527, b"mate")?.is(b"", too_long, 2));
+    assert!(rt; run_after(rt.alloc(), 99999, b"mate")?.is(b"", too_long, 2));
     Ok(())
 }
 
 #[test]
 fn an_option_is_no_line(rt: HostRuntime) -> Result<(), Fail> {
     let rows: [&[&str]; 2] = [&["--list", "--where"], &["--where", "--list"]];
-    for words in rows {
-        let (end, opened) = run_with(rt.alloc(), words, b"", E4_E5)?;
-        let is_told = end.out.text().is_empty() && end.err.text().starts_with(b"error: ");
-        assert!(rt; end.status == 2 && is_told && opened == 0, "{words:?}");
+    for arguments in rows {
+        let (end, opened) = run_with(rt.alloc(), arguments, b"", E4_E5)?;
+        let is_reported = end.out.text().is_empty() && end.err.text().starts_with(b"error: ");
+        assert!(rt;
+            end.status == 2 && is_reported && opened == 0,
+            "{arguments:?}"
+        );
     }
     Ok(())
 }
@@ -558,8 +561,8 @@ fn explained(alloc: Global, row: &Complaint) -> Result<Vec<u8>, AllocError> {
 #[test]
 fn refused_lines_are_explained(rt: HostRuntime) -> Result<(), Fail> {
     for row in &EXPLAINED {
-        let words = ["--explain", "--list", "--where", row.0];
-        let (end, opened) = run_with(rt.alloc(), &words, b"", E4_E5)?;
+        let arguments = ["--explain", "--list", "--where", row.0];
+        let (end, opened) = run_with(rt.alloc(), &arguments, b"", E4_E5)?;
         let text = explained(rt.alloc(), row)?;
         assert!(rt; end.is(b"", &text, 2) && opened == 0, "{:?}", row.0);
     }
@@ -578,8 +581,8 @@ fn a_text_to_be_contained_has_at_most_255_bytes(rt: HostRuntime) -> Result<(), F
     let text =
         b"pgn-extract: criteria line 1\n  tag White has \"xxxxxxxxxxxxxxxxxx\n                \
         ^ tag: a text of at most 255 bytes after has\n";
-    let words = ["--explain", "--list", "--where", CONTAINED];
-    let (end, opened) = run_with(rt.alloc(), &words, b"", E4_E5)?;
+    let arguments = ["--explain", "--list", "--where", CONTAINED];
+    let (end, opened) = run_with(rt.alloc(), &arguments, b"", E4_E5)?;
     assert!(rt; end.is(b"", text, 2) && opened == 0);
     Ok(())
 }

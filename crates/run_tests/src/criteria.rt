@@ -1,5 +1,5 @@
 //! Criteria, bounds on plies and the first entry of each game.
-use crate::runs::{Ending, FAULT_BETWEEN, LOST_BRACE, Row, Shelf, holds, run_words};
+use crate::runs::{Ending, FAULT_BETWEEN, LOST_BRACE, Row, Shelf, holds, run_arguments};
 use std::alloc::{AllocError, Global};
 use std::test::Fail;
 use test_support::{Page, TWO_GAMES};
@@ -12,7 +12,7 @@ const NO_MOVE_LEFT: &[u8] = b"[FEN \"7k/5Q2/8/8/8/8/8/K7 b - - 0 1\"]\n\n*";
 
 const ALL_THREE: &[u8] = b"1@0 0\n1@0 1\n1@0 2\n";
 
-const BEHIND_FIRST: &[u8] = b"1@0 1\n1@0 2\n";
+const AFTER_FIRST: &[u8] = b"1@0 1\n1@0 2\n";
 
 const AT_0: &[u8] = b"1@0 0\n";
 
@@ -30,7 +30,7 @@ const INDEX: &[&str] = &["--index", "--criteria", "wanted.txt"];
 
 const FIRST: &[&str] = &["--list", "--criteria", "wanted.txt", "--first"];
 
-/// A worked row with criteria: the words, the criteria, the input, the output, standard error and the status.
+/// A worked row with criteria: the arguments, the criteria, the input, the output, standard error and the status.
 type Wanted = (
     &'static [&'static str],
     &'static [u8],
@@ -99,15 +99,8 @@ const MEETS: [Wanted; 27] = [
     (LIST, b"moves e4 *", b"1. e4 *\n1. d4 *", b"", b"", 0),
     (LIST, b"moves Nb1xd2e", E4_E5, b"", b"", 0),
     (LIST, b"material KP8 v KP*", E4_E5, b"", b"", 0),
-    (LIST, b"fen */*/*/*/4P*/*/*/*", E4_E5, BEHIND_FIRST, b"", 0),
-    (
-        LIST,
-        b"fen */*/*/*/*/*/*1PPP/*",
-        E4_E5,
-        BEHIND_FIRST,
-        b"",
-        0,
-    ),
+    (LIST, b"fen */*/*/*/4P*/*/*/*", E4_E5, AFTER_FIRST, b"", 0),
+    (LIST, b"fen */*/*/*/*/*/*1PPP/*", E4_E5, AFTER_FIRST, b"", 0),
     (
         LIST,
         b"fen rnbqkbnr/pppppppp/8/8/8/8/PPPPPPPP/RNBQKBNR",
@@ -250,7 +243,7 @@ const BOUNDED: [Row; 13] = [
         b"",
         0,
     ),
-    (&["--list", "--min-ply", "1"], E4_E5, BEHIND_FIRST, b"", 0),
+    (&["--list", "--min-ply", "1"], E4_E5, AFTER_FIRST, b"", 0),
     (&["--list", "--max-ply", "0"], E4_E5, AT_0, b"", 0),
     (&["--list", "--min-ply", "3"], E4_E5, b"", b"", 0),
     (
@@ -302,19 +295,19 @@ const BOUNDED: [Row; 13] = [
 /// Runs the program with a file of criteria.
 fn run_with(
     alloc: Global,
-    words: &[&str],
+    arguments: &[&str],
     criteria: &[u8],
     text: &[u8],
 ) -> Result<(Ending, u32), AllocError> {
     let mut shelf = Shelf::with_criteria(text, criteria);
-    let end = run_words(alloc, words, &mut shelf, Page::new(), Page::new())?;
+    let end = run_arguments(alloc, arguments, &mut shelf, Page::new(), Page::new())?;
     Ok((end, shelf.opened))
 }
 
 /// Whether the program does what the row says, and opens no games where it refuses.
 fn does(alloc: Global, row: &Wanted) -> Result<bool, AllocError> {
-    let (words, criteria, text, out, err, status) = row;
-    let (end, opened) = run_with(alloc, words, criteria, text)?;
+    let (arguments, criteria, text, out, err, status) = row;
+    let (end, opened) = run_with(alloc, arguments, criteria, text)?;
     Ok(end.is(out, err, *status) && (*status < 2 || opened == 0))
 }
 
@@ -373,8 +366,8 @@ fn criteria_have_at_most_65536_bytes(rt: HostRuntime) -> Result<(), Fail> {
 /// Whether clap refuses a bound, with a text of its own and nothing opened.
 fn is_refused(alloc: Global, option: &str, bound: &str) -> Result<bool, AllocError> {
     let (end, opened) = run_with(alloc, &["--list", option, bound], b"", E4_E5)?;
-    let is_told = end.out.text().is_empty() && end.err.text().starts_with(b"error: ");
-    Ok(end.status == 2 && is_told && opened == 0)
+    let is_reported = end.out.text().is_empty() && end.err.text().starts_with(b"error: ");
+    Ok(end.status == 2 && is_reported && opened == 0)
 }
 
 #[test]

@@ -117,10 +117,10 @@ fn leads(fen: &[u8], word: &[u8], after: Option<&str>) -> bool {
 
 #[test]
 fn a_word_leads_to_a_position(rt: HostRuntime) -> Result<(), Fail> {
-    let usual = b"rnbqkbnr/pppppppp/8/8/8/8/PPPPPPPP/RNBQKBNR w KQkq - 0 1";
+    let initial = b"rnbqkbnr/pppppppp/8/8/8/8/PPPPPPPP/RNBQKBNR w KQkq - 0 1";
     let after = "rnbqkbnr/pppppppp/8/8/4P3/8/PPPP1PPP/RNBQKBNR b KQkq e3 0 1";
-    assert!(rt; leads(usual, b"e4", Some(after)));
-    assert!(rt; leads(usual, b"e5", None));
+    assert!(rt; leads(initial, b"e4", Some(after)));
+    assert!(rt; leads(initial, b"e5", None));
     assert!(rt; leads(b"8/8", b"e4", None));
     Ok(())
 }

@@ -1,4 +1,4 @@
-//! What `--explain` says behind the line of a faulty game.
+//! What `--explain` says after the line of a faulty game.
 use crate::runs::{Row, holds, run_over};
 use std::alloc::{AllocError, Global};
 use std::test::Fail;
@@ -6,7 +6,7 @@ use std::test::Fail;
 /// The line of a text that is unreadable from its first byte on.
 const UNREADABLE: &[u8] = b"pgn-extract: game 1@0: unreadable\n";
 
-/// Whether the text is unreadable from its first byte on, and this note stands behind its line.
+/// Whether the text is unreadable from its first byte on, and this note stands after its line.
 fn is_noted(alloc: Global, text: &[u8], note: &[u8]) -> Result<bool, AllocError> {
     let mut wanted = Vec::from_slice(alloc, UNREADABLE)?;
     wanted.extend_from_slice(note)?;
@@ -133,7 +133,7 @@ fn a_note_names_the_place_and_what_stands_there(rt: HostRuntime) -> Result<(), F
 /// Two blocks, the second of which ends in a comment.
 const OPEN_COMMENT: &[u8] = b"[Event \"A\"]\n\n1. e4 *\n\n[Event \"B\"]\n\n1. d4\n{x\n";
 
-/// What stands behind bytes that were not read, in each mode, and behind what can be played or not.
+/// What stands after bytes that were not read, in each mode, and after what can be played or not.
 const ROWS: [Row; 6] = [
     (
         &["--index", "--explain"],
@@ -180,7 +180,7 @@ const ROWS: [Row; 6] = [
 ];
 
 #[test]
-fn notes_stand_behind_the_lines_of_each_mode(rt: HostRuntime) -> Result<(), Fail> {
+fn notes_stand_after_the_lines_of_each_mode(rt: HostRuntime) -> Result<(), Fail> {
     for row in &ROWS {
         assert!(rt; holds(rt.alloc(), row)?, "{:?} {:?}", row.0, row.1);
     }
@@ -206,14 +206,14 @@ fn notes_are_made_of_large_texts(rt: HostRuntime) -> Result<(), Fail> {
 /// A game with a word that is refused in a variation, and then one in its main line.
 const TWO_REFUSED: &[u8] = b"1. e4 e5 (1... Ke7) 2. Ke3 *";
 
-/// Whether the words report on the text just this, and write nothing.
+/// Whether the arguments report on the text just this, and write nothing.
 fn is_reported(
     alloc: Global,
-    words: &[&str],
+    arguments: &[&str],
     text: &[u8],
     report: &[u8],
 ) -> Result<bool, AllocError> {
-    let end = run_over(alloc, words, text)?;
+    let end = run_over(alloc, arguments, text)?;
     Ok(end.is(b"", report, 1))
 }
 
@@ -324,8 +324,11 @@ const REASONS: [(&[&str], &[u8], &[u8]); 20] = [
 
 #[test]
 fn a_note_says_why_a_word_is_refused(rt: HostRuntime) -> Result<(), Fail> {
-    for &(words, text, report) in &REASONS {
-        assert!(rt; is_reported(rt.alloc(), words, text, report)?, "{text:?}");
+    for &(arguments, text, report) in &REASONS {
+        assert!(rt;
+            is_reported(rt.alloc(), arguments, text, report)?,
+            "{text:?}"
+        );
     }
     Ok(())
 }

@@ -5,7 +5,7 @@ use std::alloc::{AllocError, Global};
 use std::test::Fail;
 use test_support::TWO_GAMES;
 
-/// Words, a text of one game, and the lines of its movetext in the export.
+/// Arguments, a text of one game, and the lines of its movetext in the export.
 type Movetext = (&'static [&'static str], &'static [u8], &'static [u8]);
 
 const MOVETEXTS: [Movetext; 40] = [
@@ -172,9 +172,9 @@ fn movetext_of(text: &[u8]) -> Option<&[u8]> {
 
 /// Whether the export of the row's game has its movetext, and the export of that is the same text.
 fn is_exported(alloc: Global, row: &Movetext) -> Result<bool, AllocError> {
-    let (words, text, movetext) = row;
-    let end = run_over(alloc, words, text)?;
-    let again = run_over(alloc, words, end.out.text())?;
+    let (arguments, text, movetext) = row;
+    let end = run_over(alloc, arguments, text)?;
+    let again = run_over(alloc, arguments, end.out.text())?;
     Ok(
         movetext_of(end.out.text()) == Some(*movetext)
             && end.is(again.out.text(), b"", 0)

@@ -1,7 +1,7 @@
 //! Reads and writes that fail, and readers that give few bytes at a time.
 ghost use Rattle.std.specs.Prelude.{◌≤◌, ◌^◌, IfOk};
 
-use crate::runs::{FAULT_BETWEEN, LOST_BRACE, Shelf, run_words};
+use crate::runs::{FAULT_BETWEEN, LOST_BRACE, Shelf, run_arguments};
 use crate::trials::Trial;
 use pgn_criteria::Criteria;
 use pgn_extract::{Fields, Form, Mode, Select, Settings};
@@ -91,7 +91,7 @@ const MODES: [(Mode, &str, &[u8], &[u8]); 3] = [
     ),
 ];
 
-/// Whether a run over the two games, with a read fault behind their first bytes, once or from then on, leaves what complete blocks give: the first game
+/// Whether a run over the two games, with a read fault after their first bytes, once or from then on, leaves what complete blocks give: the first game
 /// from the 30th byte on, for there the second event line is whole.
 fn leaves_complete_blocks(alloc: Global, settings: &Settings, first: &[u8], len: usize) -> bool
     requires number { (1 ≤ settings.now.number) × (settings.now.number ≤ 2 ^ 62) }
@@ -129,14 +129,20 @@ fn a_read_fault_leaves_the_complete_blocks(rt: HostRuntime) -> Result<(), Fail> 
 
 #[test]
 fn the_program_reports_a_read_fault(rt: HostRuntime) -> Result<(), Fail> {
-    for &(_, word, first, _) in &MODES {
+    for &(_, argument, first, _) in &MODES {
         for len in 0..=43usize {
             let wanted = if len < 30 { b"".as_slice() } else { first };
             let mut shelf = Shelf::failing(front_of_two_games(len));
-            let end = run_words(rt.alloc(), &[word], &mut shelf, Page::new(), Page::new())?;
+            let end = run_arguments(
+                rt.alloc(),
+                &[argument],
+                &mut shelf,
+                Page::new(),
+                Page::new(),
+            )?;
             assert!(rt;
                 end.is(wanted, b"pgn-extract: read failed\n", 3),
-                "{word} at {len}"
+                "{argument} at {len}"
             );
         }
     }
@@ -168,16 +174,16 @@ fn ends_at_a_skip(alloc: Global, settings: &Settings, fails: Fails) -> bool
 }
 
 /// Whether the program over an input that fails at skips reports that a read failed.
-fn reports_a_skip_fault(alloc: Global, word: &str) -> Result<bool, AllocError> {
-    let words = [word, "--summary", "--from", "2@22", "--until", "3@43"];
+fn reports_a_skip_fault(alloc: Global, argument: &str) -> Result<bool, AllocError> {
+    let arguments = [argument, "--summary", "--from", "2@22", "--until", "3@43"];
     let mut shelf = Shelf::failing_skip(TWO_GAMES);
-    let end = run_words(alloc, &words, &mut shelf, Page::new(), Page::new())?;
+    let end = run_arguments(alloc, &arguments, &mut shelf, Page::new(), Page::new())?;
     Ok(end.is(b"", b"pgn-extract: read failed\n", 3))
 }
 
 #[test]
 fn bytes_are_passed_over(rt: HostRuntime) -> Result<(), Fail> {
-    for &(mode, word, first, whole) in &MODES {
+    for &(mode, argument, first, whole) in &MODES {
         let left = whole.get(first.len()..).unwrap_or(b"");
         let settings = rest(mode);
         let holds = reads_what_is_left(rt.alloc(), &settings, left, 0)
@@ -186,7 +192,7 @@ fn bytes_are_passed_over(rt: HostRuntime) -> Result<(), Fail> {
             && reads_what_is_left(rt.alloc(), &settings, left, u64::MAX)
             && ends_at_a_skip(rt.alloc(), &settings, Fails::Always)
             && ends_at_a_skip(rt.alloc(), &settings, Fails::Once)
-            && reports_a_skip_fault(rt.alloc(), word)?;
+            && reports_a_skip_fault(rt.alloc(), argument)?;
         assert!(rt; holds, "{mode:?}");
     }
     Ok(())
@@ -200,8 +206,8 @@ const WRITE_FAULTS: [(Fails, bool); 4] = [
     (Fails::Once, true),
 ];
 
-/// Whether an output that takes `room` bytes in small pieces, and then fails, holds just the first of the whole text's bytes, and nothing is read behind the
-/// fault: the first read gives the two games, and a second one, behind what the first game gives, the end.
+/// Whether an output that takes `room` bytes in small pieces, and then fails, holds just the first of the whole text's bytes, and nothing is read after the
+/// fault: the first read gives the two games, and a second one, after what the first game gives, the end.
 fn leaves_a_front(
     alloc: Global,
     settings: &Settings,
@@ -269,7 +275,7 @@ fn a_fault_among_criteria_leaves_as_much(rt: HostRuntime) -> Result<(), Fail> {
     Ok(())
 }
 
-/// Whether standard error that takes `room` bytes in small pieces, and then fails, holds just the first bytes of the fault line, beside this output, and behind the
+/// Whether standard error that takes `room` bytes in small pieces, and then fails, holds just the first bytes of the fault line, beside this output, and after the
 /// fault nothing is read, written or flushed: there are so many reads.
 fn leaves_a_front_of_a_fault(
     alloc: Global,
@@ -344,15 +350,15 @@ fn a_fault_of_the_last_flush_is_a_write_fault(rt: HostRuntime) -> Result<(), Fai
 fn the_program_reports_a_write_fault(rt: HostRuntime) -> Result<(), Fail> {
     let mut shelf = Shelf::new(TWO_GAMES);
     let page = Page::failing(5, 2);
-    let end = run_words(rt.alloc(), &["--index"], &mut shelf, page, Page::new())?;
+    let end = run_arguments(rt.alloc(), &["--index"], &mut shelf, page, Page::new())?;
     assert!(rt; end.is_unflushed(b"1@0\n2", b"pgn-extract: write failed\n", 3));
     Ok(())
 }
 
-/// Whether standard error that takes `room` bytes of the summary, and then fails, holds just these, beside the whole output: behind the fault nothing is written.
+/// Whether standard error that takes `room` bytes of the summary, and then fails, holds just these, beside the whole output: after the fault nothing is written.
 fn leaves_a_front_of_the_summary(
     alloc: Global,
-    word: &str,
+    argument: &str,
     whole: &[u8],
     room: usize,
 ) -> Result<bool, AllocError> {
@@ -360,7 +366,13 @@ fn leaves_a_front_of_the_summary(
     for &(fails, takes_nothing) in &WRITE_FAULTS {
         let page = Page::faulty(room, 3, fails, takes_nothing);
         let mut shelf = Shelf::new(TWO_GAMES);
-        let end = run_words(alloc, &[word, "--summary"], &mut shelf, Page::new(), page)?;
+        let end = run_arguments(
+            alloc,
+            &[argument, "--summary"],
+            &mut shelf,
+            Page::new(),
+            page,
+        )?;
         let is_front = end.out.text() == whole
             && end.out.is_flushed()
             && end.err.text() == line.get(..room).unwrap_or(b"")
@@ -372,13 +384,19 @@ fn leaves_a_front_of_the_summary(
     Ok(true)
 }
 
-/// Whether no summary stands behind a run whose input or output failed.
+/// Whether no summary stands after a run whose input or output failed.
 fn fails_without_a_summary(alloc: Global) -> Result<bool, AllocError> {
-    let words = ["--index", "--summary"];
+    let arguments = ["--index", "--summary"];
     let mut shelf = Shelf::failing(TWO_GAMES);
-    let read = run_words(alloc, &words, &mut shelf, Page::new(), Page::new())?;
+    let read = run_arguments(alloc, &arguments, &mut shelf, Page::new(), Page::new())?;
     let mut shelf = Shelf::new(TWO_GAMES);
-    let write = run_words(alloc, &words, &mut shelf, Page::failing(5, 2), Page::new())?;
+    let write = run_arguments(
+        alloc,
+        &arguments,
+        &mut shelf,
+        Page::failing(5, 2),
+        Page::new(),
+    )?;
     Ok(
         read.is(b"1@0\n", b"pgn-extract: read failed\n", 3)
             && write.is_unflushed(b"1@0\n2", b"pgn-extract: write failed\n", 3),
@@ -386,11 +404,11 @@ fn fails_without_a_summary(alloc: Global) -> Result<bool, AllocError> {
 }
 
 #[test]
-fn a_summary_stands_whole_behind_a_whole_run(rt: HostRuntime) -> Result<(), Fail> {
-    for &(_, word, _, whole) in &MODES {
+fn a_summary_stands_whole_after_a_whole_run(rt: HostRuntime) -> Result<(), Fail> {
+    for &(_, argument, _, whole) in &MODES {
         for room in 0..39usize {
-            let holds = leaves_a_front_of_the_summary(rt.alloc(), word, whole, room)?;
-            assert!(rt; holds, "{word} at {room}");
+            let holds = leaves_a_front_of_the_summary(rt.alloc(), argument, whole, room)?;
+            assert!(rt; holds, "{argument} at {room}");
         }
     }
     assert!(rt; fails_without_a_summary(rt.alloc())?);
@@ -419,7 +437,7 @@ fn a_summary_counts_games_and_faulty_ones(rt: HostRuntime) -> Result<(), Fail> {
 #[test]
 fn the_pieces_that_a_reader_gives_change_nothing(rt: HostRuntime) -> Result<(), Fail> {
     for &(mode, _, _, whole) in &MODES {
-        // 23 to 29 cut the second event line behind each of its first seven bytes.
+        // 23 to 29 cut the second event line after each of its first seven bytes.
         for piece in [1, 7, 8, 23, 24, 25, 26, 27, 28, 29, 8192usize] {
             let reader = Pieces::new(TWO_GAMES, piece);
             let trial = Trial::new(rt.alloc(), &all(mode), reader, Page::new(), Page::new());
@@ -488,7 +506,7 @@ fn texts_are_listed_in_pieces(rt: HostRuntime) -> Result<(), Fail> {
 }
 
 #[test]
-fn a_game_behind_many_spaces_is_listed_in_pieces(rt: HostRuntime) -> Result<(), Fail> {
+fn a_game_after_many_spaces_is_listed_in_pieces(rt: HostRuntime) -> Result<(), Fail> {
     let mut text = Vec::from_slice(rt.alloc(), b"[Event \"A\"]\n\n1. e4 *")?;
     text.resize(1_048_575, b' ')?;
     text.extend_from_slice(b"\n[Event \"B\"]\n\n1. d4 *\n")?;

@@ -1,5 +1,5 @@
 //! Several files, each of which is read as if it were the only one, and their names on lines.
-use crate::runs::{Ending, FAULT_BETWEEN, run_words};
+use crate::runs::{Ending, FAULT_BETWEEN, run_arguments};
 use pgn_extract::Files;
 use std::alloc::{AllocError, Global};
 use std::io;
@@ -45,14 +45,14 @@ impl Files for Folder {
 /// The arguments, the output, standard error and the status.
 type Row = (&'static [&'static str], &'static [u8], &'static [u8], u8);
 
-fn run_there(alloc: Global, words: &[&str]) -> Result<Ending, AllocError> {
-    run_words(alloc, words, &mut Folder, Page::new(), Page::new())
+fn run_there(alloc: Global, arguments: &[&str]) -> Result<Ending, AllocError> {
+    run_arguments(alloc, arguments, &mut Folder, Page::new(), Page::new())
 }
 
 /// Whether the program does what the row says.
 fn holds(alloc: Global, row: &Row) -> Result<bool, AllocError> {
-    let (words, out, err, status) = row;
-    Ok(run_there(alloc, words)?.is(out, err, *status))
+    let (arguments, out, err, status) = row;
+    Ok(run_there(alloc, arguments)?.is(out, err, *status))
 }
 
 /// Files of which nothing touches the next.
@@ -419,11 +419,11 @@ fn marks_take_one_file(rt: HostRuntime) -> Result<(), Fail> {
 
 #[test]
 fn a_write_that_fails_in_the_second_file_ends_the_run(rt: HostRuntime) -> Result<(), Fail> {
-    let words = ["--index", "marked.pgn", "two.pgn", "absent.pgn"];
+    let arguments = ["--index", "marked.pgn", "two.pgn", "absent.pgn"];
     let whole = b"marked.pgn:1@3\ntwo.pgn:1@0\ntwo.pgn:2@22\n".as_slice();
     for room in 15..whole.len() {
         let page = Page::failing(room, 3);
-        let end = run_words(rt.alloc(), &words, &mut Folder, page, Page::new())?;
+        let end = run_arguments(rt.alloc(), &arguments, &mut Folder, page, Page::new())?;
         let front = whole.get(..room).unwrap_or(b"");
         let is_front = end.out.text() == front
             && end.err.text() == b"pgn-extract: two.pgn: write failed\n".as_slice()
@@ -435,7 +435,7 @@ fn a_write_that_fails_in_the_second_file_ends_the_run(rt: HostRuntime) -> Result
 
 #[test]
 fn a_line_that_cannot_be_written_ends_the_run(rt: HostRuntime) -> Result<(), Fail> {
-    let words = [
+    let arguments = [
         "--index",
         "--summary",
         "marked.pgn",
@@ -446,7 +446,7 @@ fn a_line_that_cannot_be_written_ends_the_run(rt: HostRuntime) -> Result<(), Fai
         b"pgn-extract: marked.pgn: 1 game, 0 of them faulty\npgn-extract: cannot open input: absent.pgn: No such file or directory\n".as_slice();
     for room in 0..lines.len() {
         let page = Page::failing(room, 5);
-        let end = run_words(rt.alloc(), &words, &mut Folder, Page::new(), page)?;
+        let end = run_arguments(rt.alloc(), &arguments, &mut Folder, Page::new(), page)?;
         let is_front = end.out.text() == b"marked.pgn:1@3\n".as_slice()
             && end.err.text() == lines.get(..room).unwrap_or(b"")
             && !end.err.calls.again;

@@ -156,7 +156,7 @@ fn a_block_of_the_limit_is_read(rt: HostRuntime) -> Result<(), Fail> {
 }
 
 #[test]
-fn a_game_behind_many_spaces_has_its_offset(rt: HostRuntime) -> Result<(), Fail> {
+fn a_game_after_many_spaces_has_its_offset(rt: HostRuntime) -> Result<(), Fail> {
     let text = spaced_games(rt.alloc(), 1_048_555)?;
     let rows: [(&str, &[u8]); 2] = [
         ("--list", b"1@0 0\n1@0 1\n2@1048576 0\n2@1048576 1\n"),

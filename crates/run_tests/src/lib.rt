@@ -2,6 +2,8 @@
 #![tactic(auto)]
 
 #[cfg(test)]
+mod arguments;
+#[cfg(test)]
 mod choices;
 #[cfg(test)]
 mod conditions;
@@ -27,5 +29,3 @@ mod moves;
 mod runs;
 #[cfg(test)]
 mod trials;
-#[cfg(test)]
-mod words;

@@ -1,5 +1,5 @@
 //! The listing of worked files.
-use crate::runs::{FAULT_BETWEEN, Row, Shelf, holds, words_behind_name};
+use crate::runs::{FAULT_BETWEEN, Row, Shelf, arguments_after_name, holds};
 use pgn_extract::program;
 use pgn_text::Tally;
 use std::alloc::Global;
@@ -309,8 +309,8 @@ fn a_long_word_is_reported_whole(rt: HostRuntime) -> Result<(), Fail> {
     let mut err = Tally::new(Roll {
         bytes: Vec::new(alloc),
     });
-    let words = words_behind_name(alloc, &["--list"])?;
-    let status = program(alloc, words, &mut Shelf::new(&text), &mut out, &mut err);
+    let arguments = arguments_after_name(alloc, &["--list"])?;
+    let status = program(alloc, arguments, &mut Shelf::new(&text), &mut out, &mut err);
     let is_whole = status == 1
         && out.into_inner().text().is_empty()
         && err.into_inner().bytes.as_slice() == wanted.as_slice();

@@ -25,12 +25,13 @@ const PROMOTIONS: &[u8] = b"[FEN \"2r4k/1P6/8/8/8/8/p7/6K1 w - - 0 40\"]\n\n40. 
 /// A capture en passant.
 const PASSING: &[u8] = b"[FEN \"4k3/8/8/8/4p3/8/3P4/4K3 w - - 0 1\"]\n\n1. d4 exd3 *\n";
 
-/// The usual position as the value of FEN tags: the second leaves the counts out.
-const USUAL: &[u8] =
+/// The initial position as the value of FEN tags: the second leaves the counts out.
+const INITIAL: &[u8] =
     b"[FEN \"rnbqkbnr/pppppppp/8/8/8/8/PPPPPPPP/RNBQKBNR w KQkq - 0 1\"]\n\n1. e4 *\n\n[FEN \"rnbqkbnr/pppppppp/8/8/8/8/PPPPPPPP/RNBQKBNR w KQkq -\"]\n\n*\n";
 
-/// The usual men, with one right less.
-const UNUSUAL: &[u8] = b"[FEN \"rnbqkbnr/pppppppp/8/8/8/8/PPPPPPPP/RNBQKBNR w KQk - 0 1\"]\n\n*\n";
+/// The initial men, with one right less.
+const UNINITIAL: &[u8] =
+    b"[FEN \"rnbqkbnr/pppppppp/8/8/8/8/PPPPPPPP/RNBQKBNR w KQk - 0 1\"]\n\n*\n";
 
 const NONE_OF_THESE: &[u8] =
     b"pgn-extract: --moves and --uci go with none of --list, --index, --faulty and --as-is\n";
@@ -133,10 +134,10 @@ const ROWS: [Row; 26] = [
         b"",
         0,
     ),
-    (&["--moves"], USUAL, b"1@0 - e4\n2@75 -\n", b"", 0),
+    (&["--moves"], INITIAL, b"1@0 - e4\n2@75 -\n", b"", 0),
     (
         &["--uci"],
-        UNUSUAL,
+        UNINITIAL,
         b"1@0 rnbqkbnr/pppppppp/8/8/8/8/PPPPPPPP/RNBQKBNR_w_KQk_-_0_1\n",
         b"",
         0,

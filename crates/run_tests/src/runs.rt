@@ -129,19 +129,19 @@ impl Ending {
 }
 
 /// The program's name, and these arguments after it.
-pub fn words_behind_name(alloc: Global, words: &[&str]) -> Result<Vec<String>, AllocError> {
+pub fn arguments_after_name(alloc: Global, arguments: &[&str]) -> Result<Vec<String>, AllocError> {
     let mut list = Vec::new(alloc);
     list.push(String::from_str(alloc, "pgn-extract")?)?;
-    for word in words {
-        list.push(String::from_str(alloc, word)?)?;
+    for argument in arguments {
+        list.push(String::from_str(alloc, argument)?)?;
     }
     Ok(list)
 }
 
 /// Runs the program with these arguments after its name.
-pub fn run_words<F: Files>(
+pub fn run_arguments<F: Files>(
     alloc: Global,
-    words: &[&str],
+    arguments: &[&str],
     files: &mut F,
     out: Page,
     err: Page,
@@ -149,7 +149,7 @@ pub fn run_words<F: Files>(
 where
     F::Input: Drop,
 {
-    let list = words_behind_name(alloc, words)?;
+    let list = arguments_after_name(alloc, arguments)?;
     let mut out = Tally::new(out);
     let mut err = Tally::new(err);
     let status = program(alloc, list, files, &mut out, &mut err);
@@ -161,10 +161,10 @@ where
 }
 
 /// Runs the program over a text on sound pages.
-pub fn run_over(alloc: Global, words: &[&str], text: &[u8]) -> Result<Ending, AllocError> {
-    run_words(
+pub fn run_over(alloc: Global, arguments: &[&str], text: &[u8]) -> Result<Ending, AllocError> {
+    run_arguments(
         alloc,
-        words,
+        arguments,
         &mut Shelf::new(text),
         Page::new(),
         Page::new(),
@@ -185,10 +185,10 @@ const PASSES: [u64; 3] = [0, 1, u64::MAX];
 
 /// Whether the program does what the row says, over inputs of each kind.
 pub fn holds(alloc: Global, row: &Row) -> Result<bool, AllocError> {
-    let (words, text, out, err, status) = row;
+    let (arguments, text, out, err, status) = row;
     for passes in PASSES {
         let mut shelf = Shelf::seeking(text, passes);
-        let end = run_words(alloc, words, &mut shelf, Page::new(), Page::new())?;
+        let end = run_arguments(alloc, arguments, &mut shelf, Page::new(), Page::new())?;
         if !end.is(out, err, *status) {
             return Ok(false);
         }

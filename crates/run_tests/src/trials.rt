@@ -6,7 +6,7 @@ use pgn_text::Tally;
 use std::alloc::Global;
 use test_support::{Page, Pieces};
 
-/// What a run over memory came to: its answer, which of input, output and standard error have failed, how often each was called, whether one was called again behind its fault, and what the writers hold.
+/// What a run over memory came to: its answer, which of input, output and standard error have failed, how often each was called, whether one was called again after its fault, and what the writers hold.
 #[derive(Drop)]
 pub struct Trial {
     pub answer: Result<Summary, RunError>,

@@ -87,7 +87,7 @@ fn at_the_largest_offset(rt: HostRuntime) -> Result<(), Fail> {
 
 #[test]
 fn however_the_reader_cuts(rt: HostRuntime) -> Result<(), Fail> {
-    // The second event line begins at 22, so 23 to 29 end behind each of its first seven bytes.
+    // The second event line begins at 22, so 23 to 29 end after each of its first seven bytes.
     for size in [1, 2, 3, 7, 8, 23, 24, 25, 26, 27, 28, 29, 8192] {
         let reader = Pieces::new(TWO_GAMES, size);
         let wanted = "7+22 29+21 end end ";
@@ -100,7 +100,7 @@ fn however_the_reader_cuts(rt: HostRuntime) -> Result<(), Fail> {
 }
 
 #[test]
-fn a_fault_comes_behind_the_complete_blocks(rt: HostRuntime) -> Result<(), Fail> {
+fn a_fault_comes_after_the_complete_blocks(rt: HostRuntime) -> Result<(), Fail> {
     let rows = [
         (0, "Read Failed "),
         (21, "Read Failed "),
@@ -152,10 +152,10 @@ fn blocks_at_the_limit(rt: HostRuntime) -> Result<(), Fail> {
     Ok(())
 }
 
-/// The first bytes of a block of the limit: a read of them alone makes later ones of 8,192 bytes end seven bytes behind the block.
+/// The first bytes of a block of the limit: a read of them alone makes later ones of 8,192 bytes end seven bytes after the block.
 const SEVEN_SPACES: &[u8] = b"       ";
 
-/// The block's other bytes, and more behind it than the window takes.
+/// The block's other bytes, and more after it than the window takes.
 fn limit_and_more(alloc: Global) -> Result<Vec<u8>, AllocError> {
     let mut text = vec![in alloc; b' '; 16_777_208]?;
     text.extend_from_slice(b"\n[Event \"A\"")?;

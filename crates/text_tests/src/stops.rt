@@ -1,5 +1,5 @@
 //! Texts with the place where they stop agreeing with games.
-use pgn_text::{Within, stopped, stopped_within};
+use pgn_text::{Within, error_position_of, locate_error};
 use std::alloc::{AllocError, Global};
 use std::test::Fail;
 
@@ -7,16 +7,16 @@ const LARGE: usize = 1_048_576;
 
 /// Whether the bytes of the block from `begin` on stop agreeing with games at the place.
 fn stops_at(block: &[u8], begin: usize, file_start: bool, place: usize) -> bool {
-    begin <= block.len() && stopped(block, begin, file_start) == place
+    begin <= block.len() && error_position_of(block, begin, file_start) == place
 }
 
 /// Whether the bytes of the whole block stop agreeing with games at the place, which stands in this.
 fn stops_within(block: &[u8], place: usize, within: Within) -> bool {
-    let stop = stopped_within(block, 0, true);
+    let stop = locate_error(block, 0, true);
     stop.place == place && stop.within == within && stops_at(block, 0, true, place)
 }
 
-/// Whether the front, with many times the bytes behind it, stops agreeing with games at the place.
+/// Whether the front, with many times the bytes after it, stops agreeing with games at the place.
 fn repeated_stops_at(
     alloc: Global,
     front: &[u8],
@@ -125,7 +125,7 @@ const LATER_STOPS: [(&[u8], usize, bool, usize); 8] = [
 ];
 
 #[test]
-fn texts_stop_behind_other_bytes(rt: HostRuntime) -> Result<(), Fail> {
+fn texts_stop_after_other_bytes(rt: HostRuntime) -> Result<(), Fail> {
     for &(block, begin, file_start, place) in &LATER_STOPS {
         assert!(rt; stops_at(block, begin, file_start, place), "{block:?}");
     }

@@ -31,7 +31,7 @@ fn flushes_once() -> bool {
     first && known && second && out.faulted() && out.flushed()
 }
 
-/// Whether a skip that fails once is answered with the error, and those behind it pass over bytes, which count as those that are read.
+/// Whether a skip that fails once is answered with the error, and those after it pass over bytes, which count as those that are read.
 fn skips_once() -> bool {
     let mut input = Tally::new(Pieces::failing_skip(b"vwxyz", 2, Fails::Once));
     let mut buf = [0u8; 8];

@@ -1,16 +1,16 @@
 //! The board over words of 64 bits.
 ghost use Rattle.std.specs.Prelude.{◌≡◌, ◌↔◌, ◌⊎◌, ◌<◌, IsTrue, None, replicate};
 ghost use Rattle.chess.specs.Squares.{IsOnBoard, index_of};
-ghost use Rattle.chess.specs.Placements.{Placement, with_man, man_at, IsHeld, IsEmpty};
+ghost use Rattle.chess.specs.Placements.{Placement, with_man, man_at, IsOccupiedBy, IsEmpty};
 ghost use Rattle.chess.specs.Attacks.{IsAttacked};
 ghost use Rattle.chess.specs.BitWords.{AreApart, AreLeft, IsWordOf, IsCleared, IsBitSet, IsSlid, IsMan, IsRunner, IsHitBy, IsHitStraight, IsHitDiagonal, words_men, man_in, man_of_row, number_of_kind, row_of};
-ghost use Rattle.chess.specs.Sights.{IsInSight};
-ghost use Rattle.chess.specs.Start.{usual_men};
+ghost use Rattle.chess.specs.PseudoAttacks.{IsPseudoAttack};
+ghost use Rattle.chess.specs.Start.{initial_men};
 ghost use Rattle.chess.specs.CellFacts.{on_board-men_of};
 ghost use Rattle.chess.specs.declared.board.man.Kind.TheVariants.{King, Knight, Pawn};
 
-use crate::board::fills::{reached, word_of};
-use crate::board::sights::{has_unblocked, hitters_of, sighting};
+use crate::board::attack_tables::{attackers_of, has_unblocked, pseudo_attacks_on};
+use crate::board::fills::{attacks_from, word_of};
 use crate::board::{Board, Kind, Man, Side, Square, SquareSet};
 
 /// A board of twelve words: the squares of each of White's kinds, in the order of `Kind`, then of Black's. A square's bit is its place in the order
@@ -28,9 +28,9 @@ impl Board for Bits {
         Bits { words: no_words() }
     }
 
-    fn usual() -> Self {
+    fn initial() -> Self {
         Bits {
-            words: usual_words(),
+            words: initial_words(),
         }
     }
 
@@ -43,8 +43,8 @@ impl Board for Bits {
     }
 
     #[inline(always)]
-    fn carry(&mut self, man: Option<Man>, from: Square, taken: Square, to: Square) {
-        carried(&mut self.words, man, from, taken, to);
+    fn move_piece(&mut self, man: Option<Man>, from: Square, taken: Square, to: Square) {
+        move_piece_words(&mut self.words, man, from, taken, to);
     }
 
     #[inline(always)]
@@ -53,8 +53,8 @@ impl Board for Bits {
     }
 
     #[inline(always)]
-    fn is_held(&self, side: Side, square: Square) -> bool {
-        held(&self.words, side) & word_of(square) != 0
+    fn is_occupied_by(&self, side: Side, square: Square) -> bool {
+        occupied_by(&self.words, side) & word_of(square) != 0
     }
 
     fn attacked(&self, square: Square, side: Side) -> bool {
@@ -77,7 +77,7 @@ impl Board for Bits {
 
     fn reach(&self, square: Square) -> SquareSet {
         match man_on(&self.words, square) {
-            Some(man) => SquareSet::of_word(reached(man, square, unoccupied(&self.words))),
+            Some(man) => SquareSet::of_word(attacks_from(man, square, unoccupied(&self.words))),
             None => SquareSet::new(),
         }
     }
@@ -87,9 +87,9 @@ impl Board for Bits {
     }
 
     #[inline(always)]
-    fn hitters(&self, man: Man, target: Square, among: SquareSet) -> SquareSet {
+    fn attackers_from(&self, man: Man, target: Square, among: SquareSet) -> SquareSet {
         let own = squares_with(&self.words, man.side, man.kind) & among.word();
-        hitters_of(man, target, own, occupied(&self.words))
+        attackers_of(man, target, own, occupied(&self.words))
     }
 
     ghost on_board = { λ b s man here. on_board-men_of (man_in b.words) s man here };
@@ -104,8 +104,8 @@ fn no_words() -> [u64; 12]
 }
 
 /// The words of the men where they stand as games usually begin.
-fn usual_words() -> [u64; 12]
-    ensures men { words_men result ≡ usual_men }
+fn initial_words() -> [u64; 12]
+    ensures men { words_men result ≡ initial_men }
     ensures apart { AreApart result }
 {
     [
@@ -218,7 +218,13 @@ fn place(words: &mut [u64; 12], square: Square, man: Option<Man>)
 /// Takes the men off two squares, and puts the man, or none, on a third. No other square changes. A man who takes none goes by his own
 /// word alone.
 #[inline(always)]
-fn carried(words: &mut [u64; 12], man: Option<Man>, from: Square, taken: Square, to: Square)
+fn move_piece_words(
+    words: &mut [u64; 12],
+    man: Option<Man>,
+    from: Square,
+    taken: Square,
+    to: Square,
+)
     requires { AreApart words.old }
     ensures apart { AreApart words.new }
     ensures men { words_men words.new ≡ with_man (with_man (with_man (words_men words.old) taken None) from None) to man }
@@ -270,9 +276,9 @@ fn occupied(words: &[u64; 12]) -> u64
 
 /// The squares on which men of the side stand.
 #[inline(always)]
-fn held(words: &[u64; 12], side: Side) -> u64
+fn occupied_by(words: &[u64; 12], side: Side) -> u64
     requires { AreApart words.now }
-    ensures { IsWordOf (IsHeld (words_men words.now) side) result }
+    ensures { IsWordOf (IsOccupiedBy (words_men words.now) side) result }
 {
     squares_with(words, side, Kind::King)
         | squares_with(words, side, Kind::Queen)
@@ -313,20 +319,20 @@ fn squares_of_runners(words: &[u64; 12], side: Side, kind: Kind) -> u64
 fn seers(words: &[u64; 12], man: Man, square: Square, left: u64) -> u64
     requires { AreApart words.now }
     ensures { (p : Placement) → AreLeft (words_men words.now) p man.side left
-        → IsWordOf (λ s. IsMan p man.side man.kind s × IsInSight man.side man.kind s square) result }
+        → IsWordOf (λ s. IsMan p man.side man.kind s × IsPseudoAttack man.side man.kind s square) result }
 {
-    left & squares_with(words, man.side, man.kind) & sighting(man, square)
+    left & squares_with(words, man.side, man.kind) & pseudo_attacks_on(man, square)
 }
 
 /// The squares of the side's queens, and of another kind of its men, of those left, from which that kind attacks the square on the empty
 /// board.
 #[inline(always)]
-fn runners_in_sight(words: &[u64; 12], square: Square, side: Side, kind: Kind, left: u64) -> u64
+fn sliders_in_line(words: &[u64; 12], square: Square, side: Side, kind: Kind, left: u64) -> u64
     requires { AreApart words.now }
     ensures { (p : Placement) → AreLeft (words_men words.now) p side left
-        → IsWordOf (λ s. IsRunner p side kind s × IsInSight side kind s square) result }
+        → IsWordOf (λ s. IsRunner p side kind s × IsPseudoAttack side kind s square) result }
 {
-    left & squares_of_runners(words, side, kind) & sighting(Man { side, kind }, square)
+    left & squares_of_runners(words, side, kind) & pseudo_attacks_on(Man { side, kind }, square)
 }
 
 /// Whether a knight, a king or a pawn of the side, of those left, attacks the square.
@@ -379,8 +385,8 @@ fn is_hit_along_line(
     ensures { (p : Placement) → AreLeft (words_men words.now) p side left → IsWordOf (λ s. ¬ IsEmpty p s) occupied
         → IsTrue result ↔ (IsHitStraight p side square ⊎ IsHitDiagonal p side square) }
 {
-    let seen = runners_in_sight(words, square, side, Kind::Rook, left)
-        | runners_in_sight(words, square, side, Kind::Bishop, left);
+    let seen = sliders_in_line(words, square, side, Kind::Rook, left)
+        | sliders_in_line(words, square, side, Kind::Bishop, left);
     if seen == 0 {
         return false;
     }

@@ -135,7 +135,7 @@ fn diagonal_runs(square: Square, empty: u64) -> u64
 }
 
 /// The squares that a man like this attacks (Laws 3.2 to 3.8).
-pub(crate) fn reached(man: Man, square: Square, empty: u64) -> u64
+pub(crate) fn attacks_from(man: Man, square: Square, empty: u64) -> u64
     ensures { (p : Placement) → IsWordOf (IsEmpty p) empty → IsWordOf (Reaches p man.side man.kind square) result }
 {
     match man.kind {

@@ -4,12 +4,12 @@ ghost use Rattle.chess.specs.declared.board.direction.Direction.{Direction};
 ghost use Rattle.chess.specs.Squares.{IsStraight, gap};
 ghost use Rattle.chess.specs.Placements.{man_at};
 ghost use Rattle.chess.specs.Attacks.{IsOnRay, IsClearFor, IsNear, IsJump, IsPawnHit, Reaches, IsForward};
-ghost use Rattle.chess.specs.Sights.{IsHitFrom};
-ghost use Rattle.chess.specs.Sets.{HoldsExactly, IsHitter};
+ghost use Rattle.chess.specs.PseudoAttacks.{IsHitFrom};
+ghost use Rattle.chess.specs.Sets.{HoldsExactly, IsAttacker};
 ghost use Rattle.chess.specs.Cells.{cells_men, cell_of};
 ghost use Rattle.chess.specs.CellFacts.{on_board-men_of};
 
-use crate::board::usual::usual_man;
+use crate::board::initial::initial_man;
 use crate::board::{Board, Direction, Kind, Man, Side, Square, SquareSet};
 
 /// A board of 64 cells, in the order a1, b1 to h1, a2 and so on.
@@ -26,11 +26,11 @@ impl Board for Mailbox {
         Mailbox { cells: no_cells() }
     }
 
-    fn usual() -> Self {
+    fn initial() -> Self {
         let mut board = Mailbox::empty();
         for index in 0u8..64 {
             let square = Square::of_index(index);
-            board.put(square, usual_man(square));
+            board.put(square, initial_man(square));
         }
         board
     }
@@ -43,7 +43,7 @@ impl Board for Mailbox {
         self.cells[square.index() as usize] = man;
     }
 
-    fn carry(&mut self, man: Option<Man>, from: Square, taken: Square, to: Square) {
+    fn move_piece(&mut self, man: Option<Man>, from: Square, taken: Square, to: Square) {
         self.put(taken, None);
         self.put(from, None);
         self.put(to, man);
@@ -53,7 +53,7 @@ impl Board for Mailbox {
         self.man(square).is_none()
     }
 
-    fn is_held(&self, side: Side, square: Square) -> bool {
+    fn is_occupied_by(&self, side: Side, square: Square) -> bool {
         match self.man(square) {
             Some(man) => man.side == side,
             None => false,
@@ -78,13 +78,13 @@ impl Board for Mailbox {
         to: Square,
     ) -> bool {
         let mut after = *self;
-        after.carry(Some(man), from, taken, to);
+        after.move_piece(Some(man), from, taken, to);
         after.attacked(square, man.side.opposite())
     }
 
     fn reach(&self, square: Square) -> SquareSet {
         match self.man(square) {
-            Some(man) => self.reached(man, square),
+            Some(man) => self.attacks_from(man, square),
             None => SquareSet::new(),
         }
     }
@@ -98,11 +98,11 @@ impl Board for Mailbox {
         set
     }
 
-    fn hitters(&self, man: Man, target: Square, among: SquareSet) -> SquareSet {
+    fn attackers_from(&self, man: Man, target: Square, among: SquareSet) -> SquareSet {
         let mut set = SquareSet::new();
         for index in 0u8..64 {
             let square = Square::of_index(index);
-            set.insert_if(square, self.is_hitter(man, square, target, &among));
+            set.insert_if(square, self.is_attacker(man, square, target, &among));
         }
         set
     }
@@ -167,10 +167,10 @@ impl Mailbox {
     }
 
     /// Whether that man stands on the square, one of those given, and attacks the target.
-    fn is_hitter(&self, man: Man, square: Square, target: Square, among: &SquareSet) -> bool
-        ensures { IsTrue result ↔ IsHitter (cells_men self.now.cells) man target among.now square }
+    fn is_attacker(&self, man: Man, square: Square, target: Square, among: &SquareSet) -> bool
+        ensures { IsTrue result ↔ IsAttacker (cells_men self.now.cells) man target among.now square }
     {
-        among.has(square) && self.holds(square, man) && self.reaches(man, square, target)
+        among.has(square) && self.holds(square, man) && self.does_attack(man, square, target)
     }
 
     /// Whether no man stands on the squares that are fewer than so many steps ahead.
@@ -239,7 +239,7 @@ impl Mailbox {
     }
 
     /// Whether a man like this on the first square attacks the second.
-    fn reaches(&self, man: Man, from: Square, to: Square) -> bool
+    fn does_attack(&self, man: Man, from: Square, to: Square) -> bool
         ensures { IsTrue result ↔ Reaches (cells_men self.now.cells) man.side man.kind from to }
     {
         match man.kind {
@@ -253,13 +253,13 @@ impl Mailbox {
     }
 
     /// The squares that a man like this attacks from the square.
-    fn reached(&self, man: Man, from: Square) -> SquareSet
+    fn attacks_from(&self, man: Man, from: Square) -> SquareSet
         ensures { HoldsExactly (Reaches (cells_men self.now.cells) man.side man.kind from) result }
     {
         let mut set = SquareSet::new();
         for index in 0u8..64 {
             let target = Square::of_index(index);
-            set.insert_if(target, self.reaches(man, from, target));
+            set.insert_if(target, self.does_attack(man, from, target));
         }
         set
     }
@@ -269,7 +269,7 @@ impl Mailbox {
         ensures { IsTrue result ↔ IsHitFrom (cells_men self.now.cells) side from to }
     {
         match self.man(from) {
-            Some(man) => man.side == side && self.reaches(man, from, to),
+            Some(man) => man.side == side && self.does_attack(man, from, to),
             None => false,
         }
     }

@@ -94,7 +94,7 @@ impl Square {
     }
 
     /// Every square is on the board, however it was come by: a caller that asks knows it. Nothing is done.
-    pub(crate) fn known(self)
+    pub(crate) fn invariant(self)
         ensures { IsOnBoard self }
     {
         let _ = self.index;

@@ -8,14 +8,14 @@ use crate::fen::FenError;
 use crate::position::Position;
 
 mod fields;
-mod given;
-mod kept;
+mod parse;
 mod ranks;
+mod validate;
 
 use fields::next_field;
-use given::{read_counts, read_en_passant, read_rights, read_side};
-use kept::{has_edge_pawn, kept_en_passant, kept_rights, only_king};
+use parse::{read_counts, read_en_passant, read_rights, read_side};
 use ranks::read_men;
+use validate::{has_edge_pawn, kept_en_passant, kept_rights, only_king};
 
 /// The first four fields of a text, and what follows them.
 #[derive(Drop)]

@@ -3,17 +3,17 @@ ghost use Rattle.std.specs.Prelude.{◌≡◌, ◌≢◌, ◌↔◌, IfOk, OnErr
 ghost use Rattle.chess.specs.Moves.{after, IsLegal};
 ghost use Rattle.chess.specs.San.{IsNamed, IsOnlyNamed};
 ghost use Rattle.chess.specs.SanAnswers.{IsAnswer, IsPlayed};
-ghost use Rattle.chess.specs.SanWords.{said_by, IsMoveSaid, IsReadSaid, IsAble};
+ghost use Rattle.chess.specs.SanWords.{said_by, IsMoveSaid, IsReadSaid, IsCandidate};
 ghost use Rattle.chess.specs.Sets.{HoldsExactly};
 ghost use Rattle.chess.specs.declared.moves.Move.{Move};
 ghost use Rattle.chess.specs.declared.move_text.SanError.{SanError};
 
 use crate::board::{Board, Kind, Man, SquareSet};
 use crate::move_text::SanError;
-use crate::move_text::read::able::{able_pawns, able_pieces};
+use crate::move_text::read::candidates::{candidate_pawns, candidate_pieces};
 use crate::move_text::read::only_named;
-use crate::move_text::read::said::{
-    SaidMove, before_mark, begins_castling, pawn_takes, plainly_said, read_said,
+use crate::move_text::read::parse::{
+    ParsedSan, before_mark, begins_castling, parse_san, pawn_takes, plainly_said,
 };
 use crate::moves::Move;
 use crate::position::Position;
@@ -30,7 +30,7 @@ pub fn play_word<B: Board>(position: &mut Position<B>, text: &[u8]) -> Result<Mo
     only_played(position, text)
 }
 
-/// Plays the only legal move that the text names: the most frequent forms are told by their length and played at once.
+/// Plays the only legal move that the text names: the most frequent forms are recognized by their length and played at once.
 #[inline(always)]
 fn only_played<B: Board>(position: &mut Position<B>, text: &[u8]) -> Result<Move, SanError>
     ensures answer { IsAnswer (IsNamed position.old text.now) result }
@@ -69,7 +69,7 @@ fn play_read<B: Board>(position: &mut Position<B>, text: &[u8]) -> Result<Move, 
     if begins_castling(text) {
         return play_found(position, text);
     }
-    let Some(said) = read_said(text) else {
+    let Some(said) = parse_san(text) else {
         return Err(SanError::None);
     };
     play_said(position, text, &said)
@@ -80,37 +80,37 @@ fn play_read<B: Board>(position: &mut Position<B>, text: &[u8]) -> Result<Move, 
 fn play_said<B: Board>(
     position: &mut Position<B>,
     text: &[u8],
-    said: &SaidMove,
+    said: &ParsedSan,
 ) -> Result<Move, SanError>
     requires { IsReadSaid text.now (Some said.now) }
     ensures answer { IsAnswer (IsNamed position.old text.now) result }
     ensures played { IsPlayed position.old position.new result }
 {
     if said.kind() == Kind::Pawn {
-        let able = able_pawns(position, said);
-        return play_able(position, text, said, able);
+        let candidates = candidate_pawns(position, said);
+        return play_candidate(position, text, said, candidates);
     }
-    let able = able_pieces(position, said);
-    play_able(position, text, said, able)
+    let candidates = candidate_pieces(position, said);
+    play_candidate(position, text, said, candidates)
 }
 
-/// Plays the only legal move that the text names, where the men are known that may make it: one alone is carried at once.
+/// Plays the only legal move that the text names, where the men are known that may make it: one alone is moved at once.
 #[inline(always)]
-fn play_able<B: Board>(
+fn play_candidate<B: Board>(
     position: &mut Position<B>,
     text: &[u8],
-    said: &SaidMove,
-    mut able: SquareSet,
+    said: &ParsedSan,
+    mut candidates: SquareSet,
 ) -> Result<Move, SanError>
     requires read { IsReadSaid text.now (Some said.now) }
-    requires able { HoldsExactly (IsAble position.old (said_by said.now)) able }
+    requires candidates { HoldsExactly (IsCandidate position.old (said_by said.now)) candidates }
     ensures answer { IsAnswer (IsNamed position.old text.now) result }
     ensures played { IsPlayed position.old position.new result }
 {
-    let Some(from) = able.take_first() else {
+    let Some(from) = candidates.take_first() else {
         return Err(SanError::None);
     };
-    if able.has_some() {
+    if candidates.has_some() {
         return play_found(position, text);
     }
     let man = Man {

@@ -1,7 +1,7 @@
 //! Moves named by their texts (PGN 8.2.3).
 ghost use Rattle.std.specs.Prelude.{◌≡◌, ◌≢◌, ◌↔◌, IfOk, IsErrOf, MatchOption};
 ghost use Rattle.chess.specs.San.{IsNamed, IsOnlyNamed, kind_said};
-ghost use Rattle.chess.specs.SanWords.{castling_on, said_by, move_from, CanGoSaid, IsNext, HasNone, IsCastlingOn, IsMoveSaid, IsAble};
+ghost use Rattle.chess.specs.SanWords.{castling_on, said_by, move_from, CanGoSaid, IsNext, HasNone, IsCastlingOn, IsMoveSaid, IsCandidate};
 ghost use Rattle.chess.specs.Sets.{HoldsExactly};
 ghost use Rattle.chess.specs.SanAnswers.{IsAnswer};
 ghost use Rattle.chess.specs.declared.moves.Move.{Move};
@@ -13,11 +13,11 @@ use crate::moves::Move;
 use crate::moves::castling::{king_arrives, king_leaves};
 use crate::position::Position;
 
-pub(crate) mod able;
-pub(crate) mod said;
+pub(crate) mod candidates;
+pub(crate) mod parse;
 
-use able::{able_men, able_pawns, able_pieces};
-use said::{SaidMove, before_mark, castling, pawn_takes, plainly_said, read_said};
+use candidates::{candidate_origins, candidate_pawns, candidate_pieces};
+use parse::{ParsedSan, before_mark, castling, parse_san, pawn_takes, plainly_said};
 
 /// The only legal move that the text names. No memory is needed.
 pub fn resolve<B: Board>(position: &Position<B>, text: &[u8]) -> Result<Move, SanError>
@@ -28,7 +28,7 @@ pub fn resolve<B: Board>(position: &Position<B>, text: &[u8]) -> Result<Move, Sa
     only_named(position, text)
 }
 
-/// The only legal move that the text names: what `resolve` answers, as one fact of the answer. The most frequent forms are told by their
+/// The only legal move that the text names: what `resolve` answers, as one fact of the answer. The most frequent forms are recognized by their
 /// length.
 pub(crate) fn only_named<B: Board>(position: &Position<B>, text: &[u8]) -> Result<Move, SanError>
     ensures { IsAnswer (IsNamed position.now text.now) result }
@@ -65,7 +65,7 @@ fn named_read<B: Board>(position: &Position<B>, text: &[u8]) -> Result<Move, San
     if let Some(wing) = castling(text) {
         return castled(position, wing);
     }
-    let Some(said) = read_said(text) else {
+    let Some(said) = parse_san(text) else {
         return Err(SanError::None);
     };
     moved(position, &said)
@@ -96,15 +96,15 @@ pub(crate) fn castling_move(side: Side, wing: Wing) -> Move
 
 /// The only legal move that agrees with what is said: pawns and pieces apart, so that each has code of its own.
 #[inline(always)]
-fn moved<B: Board>(position: &Position<B>, said: &SaidMove) -> Result<Move, SanError>
+fn moved<B: Board>(position: &Position<B>, said: &ParsedSan) -> Result<Move, SanError>
     ensures { IsAnswer (IsMoveSaid position.now (said_by said.now)) result }
 {
     if said.kind() == Kind::Pawn {
-        let able = able_pawns(position, said);
-        return moved_by(position, said, able);
+        let candidates = candidate_pawns(position, said);
+        return moved_by(position, said, candidates);
     }
-    let able = able_pieces(position, said);
-    moved_by(position, said, able)
+    let candidates = candidate_pieces(position, said);
+    moved_by(position, said, candidates)
 }
 
 /// The only legal move that agrees with what is said, where the men are known that may make it: one alone is only asked whether his king
@@ -112,16 +112,16 @@ fn moved<B: Board>(position: &Position<B>, said: &SaidMove) -> Result<Move, SanE
 #[inline(always)]
 fn moved_by<B: Board>(
     position: &Position<B>,
-    said: &SaidMove,
-    mut able: SquareSet,
+    said: &ParsedSan,
+    mut candidates: SquareSet,
 ) -> Result<Move, SanError>
-    requires { HoldsExactly (IsAble position.now (said_by said.now)) able }
+    requires { HoldsExactly (IsCandidate position.now (said_by said.now)) candidates }
     ensures { IsAnswer (IsMoveSaid position.now (said_by said.now)) result }
 {
-    let Some(from) = able.take_first() else {
+    let Some(from) = candidates.take_first() else {
         return Err(SanError::None);
     };
-    if able.has_some() {
+    if candidates.has_some() {
         return moved_among(position, said);
     }
     let man = Man {
@@ -137,10 +137,10 @@ fn moved_by<B: Board>(
 
 /// The only legal move that agrees with what is said, where several men may make it whether or not their king is then attacked.
 #[cold]
-fn moved_among<B: Board>(position: &Position<B>, said: &SaidMove) -> Result<Move, SanError>
+fn moved_among<B: Board>(position: &Position<B>, said: &ParsedSan) -> Result<Move, SanError>
     ensures { IsAnswer (IsMoveSaid position.now (said_by said.now)) result }
 {
-    let Some((from, rest)) = next_origin(position, said, able_men(position, said)) else {
+    let Some((from, rest)) = next_origin(position, said, candidate_origins(position, said)) else {
         return Err(SanError::None);
     };
     if next_origin(position, said, rest).is_some() {
@@ -149,10 +149,10 @@ fn moved_among<B: Board>(position: &Position<B>, said: &SaidMove) -> Result<Move
     Ok(said.from(from))
 }
 
-/// The first square of the set from which the move that is said is legal, and the squares behind it.
+/// The first square of the set from which the move that is said is legal, and the squares after it.
 fn next_origin<B: Board>(
     position: &Position<B>,
-    said: &SaidMove,
+    said: &ParsedSan,
     squares: SquareSet,
 ) -> Option<(Square, SquareSet)>
     ensures { MatchOption result (HasNone (CanGoSaid position.now (said_by said.now)) squares)
@@ -167,7 +167,7 @@ fn next_origin<B: Board>(
     None
 }
 
-impl SaidMove {
+impl ParsedSan {
     /// The kind of man that is spoken of: a pawn without a letter.
     pub(crate) fn kind(&self) -> Kind
         ensures { result ≡ kind_said self.now.letter }

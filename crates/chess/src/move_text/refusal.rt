@@ -6,9 +6,9 @@ ghost use Rattle.chess.specs.RefusalWords.{IsCastlingRefusal, IsSaidRefusal, IsF
 ghost use Rattle.chess.specs.declared.moves.Move.{Move};
 
 use crate::board::{Board, Kind, Square, Wing};
-use crate::move_text::read::able::able_men;
+use crate::move_text::read::candidates::candidate_origins;
 use crate::move_text::read::castling_move;
-use crate::move_text::read::said::{SaidMove, castling, read_said};
+use crate::move_text::read::parse::{ParsedSan, castling, parse_san};
 use crate::moves::Move;
 use crate::moves::castling::king_leaves;
 use crate::moves::pseudo_legal::promotes;
@@ -39,10 +39,10 @@ pub fn why_unnamed<B: Board>(position: &Position<B>, text: &[u8]) -> Refusal
     if let Some(wing) = castling(text) {
         return castling_refusal(position, wing);
     }
-    let Some(said) = read_said(text) else {
+    let Some(said) = parse_san(text) else {
         return Refusal::NoMoveText;
     };
-    position.known();
+    position.invariant();
     said_refusal(position, &said)
 }
 
@@ -57,24 +57,24 @@ fn castling_refusal<B: Board>(position: &Position<B>, wing: Wing) -> Refusal
 }
 
 /// Why no legal move agrees with what is said.
-fn said_refusal<B: Board>(position: &Position<B>, said: &SaidMove) -> Refusal
+fn said_refusal<B: Board>(position: &Position<B>, said: &ParsedSan) -> Refusal
     ensures { IsSaidRefusal position.now (said_by said.now) result }
 {
-    if able_men(position, said).has_some() {
+    if candidate_origins(position, said).has_some() {
         return Refusal::LeavesKingAttacked;
     }
-    let fitting = SaidMove {
+    let fitting = ParsedSan {
         promote: fitting_promotion(position, said),
         ..*said
     };
-    if able_men(position, &fitting).has_some() {
+    if candidate_origins(position, &fitting).has_some() {
         return Refusal::WrongPromotion;
     }
     Refusal::NoneCan
 }
 
 /// A promotion, or none, that the rules ask of the man spoken of on the square that it comes to.
-fn fitting_promotion<B: Board>(position: &Position<B>, said: &SaidMove) -> Option<Kind>
+fn fitting_promotion<B: Board>(position: &Position<B>, said: &ParsedSan) -> Option<Kind>
     ensures { IsFitting position.now (said_by said.now) result }
 {
     let queen = Some(Kind::Queen);
@@ -91,7 +91,7 @@ pub fn named_from<B: Board>(position: &Position<B>, text: &[u8], from: Square) -
     if let Some(wing) = castling(text) {
         return castled_from(position, wing, from);
     }
-    let Some(said) = read_said(text) else {
+    let Some(said) = parse_san(text) else {
         return None;
     };
     moved_from(position, &said, from)
@@ -112,11 +112,11 @@ fn castled_from<B: Board>(position: &Position<B>, wing: Wing, from: Square) -> O
 }
 
 /// The move from the square that agrees with what is said, if it is legal.
-fn moved_from<B: Board>(position: &Position<B>, said: &SaidMove, from: Square) -> Option<Move>
+fn moved_from<B: Board>(position: &Position<B>, said: &ParsedSan, from: Square) -> Option<Move>
     ensures { IsFrom (IsMoveSaid position.now (said_by said.now)) from result }
 {
-    let able = able_men(position, said);
-    if !able.has(from) {
+    let candidates = candidate_origins(position, said);
+    if !candidates.has(from) {
         return None;
     }
     if !position.is_legal(said.from(from)) {

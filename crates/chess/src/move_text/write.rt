@@ -34,7 +34,7 @@ pub fn play_san<B: Board>(position: &mut Position<B>, m: Move) -> ArrayString<8>
     ensures names { IsOnlyNamed position.old result.bytes m }
     ensures played { position.new ≡ after position.old m }
 {
-    position.known();
+    position.invariant();
     play_written(position, m)
 }
 
@@ -62,7 +62,7 @@ fn is_mover<B: Board>(position: &Position<B>, m: &Move, kind: Kind) -> bool
         side: position.side(),
         kind,
     };
-    m.from.known();
+    m.from.invariant();
     position.squares_of(man).has(m.from)
 }
 
@@ -253,12 +253,12 @@ fn men_alike<B: Board>(position: &Position<B>, m: &Move, man: Man) -> SquareSet
     ensures each { HasEach (IsRival position.now m.now) result }
     ensures alike { AreOf position.now.men man result }
 {
-    position.known();
+    position.invariant();
     let mut among = SquareSet::all();
     among.remove(m.from);
     match man.kind {
         Kind::Pawn => position.squares_of(man),
-        _ => position.hitters(man, m.to, among),
+        _ => position.attackers_from(man, m.to, among),
     }
 }
 

@@ -1,6 +1,6 @@
 //! Legal moves (Laws 3.9.2, 3.8.2.2), the squares that they reach, and whether there is one.
 ghost use Rattle.std.specs.Prelude.{◌↔◌, IsTrue, Some, None};
-ghost use Rattle.chess.specs.Attacks.{IsInReach};
+ghost use Rattle.chess.specs.Attacks.{IsAttackedFrom};
 ghost use Rattle.chess.specs.Positions.{IsCheck, IsOnlyKing};
 ghost use Rattle.chess.specs.Moves.{IsBarred, IsUnbarred, men_after, IsPseudoLegal, IsLegal, CanGo, HasMove};
 ghost use Rattle.chess.specs.MoveWords.{CanGoPlainly, CanPromote, CanCastle, CanLeave, CanMove, HasEach, IsPawnGoal, IsCastlingGoal};
@@ -67,13 +67,13 @@ impl<B: Board> Position<B> {
     #[inline(always)]
     fn king_steps(&self, king: Square, to: Square) -> bool
         requires king { IsOnlyKing self.now.men self.now.turn king }
-        requires near { IsInReach self.now.men king to }
+        requires near { IsAttackedFrom self.now.men king to }
         ensures { IsTrue result → IsLegal self.now (record { from = king; to = to; promote = None; castle = None }) }
     {
-        king.known();
-        to.known();
+        king.invariant();
+        to.invariant();
         let side = self.side();
-        if self.is_held(side, to) {
+        if self.is_occupied_by(side, to) {
             return false;
         }
         let man = Man {
@@ -94,7 +94,7 @@ impl<B: Board> Position<B> {
         ensures { IsTrue result → HasMove self.now }
     {
         let king = self.king(self.side());
-        let mut left = self.reach(king);
+        let mut left = self.attacks_from(king);
         while let Some(to) = left.take_first() {
             if self.king_steps(king, to) {
                 return true;
@@ -226,17 +226,17 @@ impl<B: Board> Position<B> {
         match man.kind {
             Kind::Pawn => self.pawn_candidates(from),
             Kind::King => self.king_candidates(from),
-            Kind::Queen | Kind::Rook | Kind::Bishop | Kind::Knight => self.reach(from),
+            Kind::Queen | Kind::Rook | Kind::Bishop | Kind::Knight => self.attacks_from(from),
         }
     }
 
     /// The squares that the man on the square attacks, and those one and two ranks forward.
     fn pawn_candidates(&self, from: Square) -> SquareSet
-        ensures hits { HasEach (λ t. IsInReach self.now.men from t) result }
+        ensures attacks { HasEach (λ t. IsAttackedFrom self.now.men from t) result }
         ensures steps { HasEach (λ t. IsPawnGoal self.now from t) result }
     {
-        from.known();
-        let mut squares = self.reach(from);
+        from.invariant();
+        let mut squares = self.attacks_from(from);
         let side = self.side();
         let Some(next) = square_ahead(side, from) else {
             return squares;
@@ -251,10 +251,10 @@ impl<B: Board> Position<B> {
 
     /// The squares that the man on the square attacks, and those to which the king castles.
     fn king_candidates(&self, from: Square) -> SquareSet
-        ensures hits { HasEach (λ t. IsInReach self.now.men from t) result }
+        ensures attacks { HasEach (λ t. IsAttackedFrom self.now.men from t) result }
         ensures castling { HasEach (λ t. IsCastlingGoal self.now t) result }
     {
-        let mut squares = self.reach(from);
+        let mut squares = self.attacks_from(from);
         let side = self.side();
         squares.insert(king_arrives(side, Wing::KingSide));
         squares.insert(king_arrives(side, Wing::QueenSide));

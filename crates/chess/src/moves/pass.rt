@@ -16,7 +16,7 @@ impl<B: Board> Position<B> {
             (IsCheck self.now.men self.now.turn)
             (λ next. (IsCheck self.now.men self.now.turn → ⊥) × (next ≡ passed self.now)) }
     {
-        self.known();
+        self.invariant();
         if self.in_check() {
             return None;
         }

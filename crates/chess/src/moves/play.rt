@@ -53,7 +53,7 @@ impl<B: Board> Position<B> {
         requires { man ≡ man_at self.now.men m.now.from }
         ensures { result ≡ is_en_passant self.now m.now }
     {
-        self.passes(m.to) && m.from.file() != m.to.file() && is_pawn(man)
+        self.is_en_passant_target(m.to) && m.from.file() != m.to.file() && is_pawn(man)
     }
 
     /// The square of the man that the move of that man takes, if it takes one.
@@ -107,7 +107,7 @@ impl<B: Board> Position<B> {
     {
         let side = self.side();
         let mut board = self.board();
-        board.carry(self.arriving(man, m), m.from, self.taken_by(man, m), m.to);
+        board.move_piece(self.arriving(man, m), m.from, self.taken_by(man, m), m.to);
         if let Some(wing) = m.castle {
             board.put(rook_leaves(side, wing), None);
             board.put(
@@ -215,7 +215,7 @@ impl<B: Board> Position<B> {
         requires { IsPseudoLegal self.now m.now }
         ensures { IsOnlyKing (men_after self.now m.now) side result }
     {
-        self.known();
+        self.invariant();
         let king = self.king(side);
         if king.is(m.from) { m.to } else { king }
     }
@@ -263,7 +263,7 @@ impl<B: Board> Position<B> {
         requires board { B.men board ≡ men_after self.old m.now }
         ensures { self.new ≡ after self.old m.now }
     {
-        self.known();
+        self.invariant();
         let turn = self.turn_after();
         let rights = self.rights_after(m);
         let en_passant = self.en_passant_after(man, m);
@@ -304,7 +304,7 @@ impl<B: Board> Position<B> {
         requires plain { m.now.castle ≡ None }
         ensures { IsTrue result ↔ IsCheck (men_after self.now m.now) self.now.turn }
     {
-        self.known();
+        self.invariant();
         let king = self.king_after(m, self.side());
         let taken = self.taken_by(Some(man), m);
         let arriving = self.becoming(man, m);
@@ -337,7 +337,7 @@ impl<B: Board> Position<B> {
         requires plain { m.now.castle ≡ None }
         ensures { self.new ≡ after self.old m.now }
     {
-        self.known();
+        self.invariant();
         let turn = self.turn_after();
         let rights = self.rights_after(m);
         let en_passant = self.en_passant_after(Some(man), m);
@@ -347,7 +347,7 @@ impl<B: Board> Position<B> {
         let black_king = self.king_after(m, Side::Black);
         let taken = self.taken_by(Some(man), m);
         let arriving = self.becoming(man, m);
-        self.board.carry(Some(arriving), m.from, taken, m.to);
+        self.board.move_piece(Some(arriving), m.from, taken, m.to);
         self.turn = turn;
         self.rights = rights;
         self.en_passant = en_passant;
@@ -365,7 +365,7 @@ impl<B: Board> Position<B> {
     {
         let mut next = self.copy();
         next.make(&m);
-        next.known();
+        next.invariant();
         next
     }
 }

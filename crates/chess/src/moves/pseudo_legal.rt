@@ -41,7 +41,7 @@ pub(crate) fn promotes(side: Side, to: Square, promote: Option<Kind>) -> bool
 
 impl<B: Board> Position<B> {
     /// Whether the man of that kind that stands on `from` attacks `to`.
-    fn hits(&self, kind: Kind, from: Square, to: Square) -> bool
+    fn attacks(&self, kind: Kind, from: Square, to: Square) -> bool
         requires { IsMover self.now kind from }
         ensures { IsTrue result ↔ Reaches self.now.men self.now.turn kind from to }
     {
@@ -49,7 +49,7 @@ impl<B: Board> Position<B> {
             side: self.side(),
             kind,
         };
-        self.hitters(man, to, SquareSet::all()).has(from)
+        self.attackers_from(man, to, SquareSet::all()).has(from)
     }
 
     /// Whether a pawn steps so, one square forward.
@@ -81,8 +81,8 @@ impl<B: Board> Position<B> {
         requires { IsMover self.now Kind.Pawn from }
         ensures { IsTrue result ↔ IsPawnCapture self.now from to }
     {
-        self.hits(Kind::Pawn, from, to)
-            && (self.is_held(self.side().opposite(), to) || self.passes(to))
+        self.attacks(Kind::Pawn, from, to)
+            && (self.is_occupied_by(self.side().opposite(), to) || self.is_en_passant_target(to))
     }
 
     /// Whether the pawn on `from` goes so.
@@ -127,7 +127,7 @@ impl<B: Board> Position<B> {
         ensures { IsTrue result ↔ IsKingMove self.now m.now m.now.castle }
     {
         match m.castle {
-            None => self.hits(Kind::King, m.from, m.to),
+            None => self.attacks(Kind::King, m.from, m.to),
             Some(wing) => self.castles(wing, m),
         }
     }
@@ -137,7 +137,7 @@ impl<B: Board> Position<B> {
         requires { IsMover self.now kind m.now.from }
         ensures { IsTrue result ↔ IsPlainMove self.now m.now kind }
     {
-        m.castle.is_none() && m.promote.is_none() && self.hits(kind, m.from, m.to)
+        m.castle.is_none() && m.promote.is_none() && self.attacks(kind, m.from, m.to)
     }
 
     /// Whether the man of that kind on `m.from` goes so.
@@ -163,11 +163,11 @@ impl<B: Board> Position<B> {
         let Some(man) = self.at(m.from) else {
             return false;
         };
-        if man.side != self.side() || self.is_held(self.side(), m.to) {
+        if man.side != self.side() || self.is_occupied_by(self.side(), m.to) {
             return false;
         }
-        m.from.known();
-        m.to.known();
+        m.from.invariant();
+        m.to.invariant();
         self.goes(man.kind, m)
     }
 }

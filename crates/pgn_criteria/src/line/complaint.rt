@@ -7,7 +7,7 @@ use super::result::is_result;
 use super::tag::{are_names, contents_of, relation_of};
 use crate::cut::next_part;
 use crate::rank::next_item;
-use crate::words::{behind_blanks, split_first, split_word};
+use crate::words::{after_blanks, split_first, split_word};
 
 /// Where a line stops being of the language, and what is expected there.
 #[derive(Clone, Copy, Debug, PartialEq, Eq)]
@@ -121,7 +121,7 @@ const QUESTIONS: [(&[u8], &str); 18] = [
 ];
 
 /// Two words without the bytes that both begin with.
-fn behind_common<'a>(one: &'a [u8], other: &'a [u8]) -> (&'a [u8], &'a [u8]) {
+fn after_common<'a>(one: &'a [u8], other: &'a [u8]) -> (&'a [u8], &'a [u8]) {
     let mut left = one;
     let mut right = other;
     while let [first, more @ ..] = left
@@ -150,7 +150,7 @@ fn before_common<'a>(one: &'a [u8], other: &'a [u8]) -> (&'a [u8], &'a [u8]) {
 
 /// Whether one word is the other but for one byte that is wrong, missing or too much, or two that are exchanged.
 fn is_near(word: &[u8], key: &[u8]) -> bool {
-    let (word, key) = behind_common(word, key);
+    let (word, key) = after_common(word, key);
     let (word, key) = before_common(word, key);
     match (word, key) {
         ([] | [_], [] | [_]) => true,
@@ -162,8 +162,8 @@ fn is_near(word: &[u8], key: &[u8]) -> bool {
 /// What stands right after a key word that a text begins with, if it is a digit or a comparison: a blank is missing.
 fn glued_to_key(text: &[u8]) -> Option<&[u8]> {
     for &(key, _) in &QUESTIONS {
-        let (rest, missing) = behind_common(text, key);
-        if missing.is_empty() && (has_digit(rest) || behind_signs(rest).len() < rest.len()) {
+        let (rest, missing) = after_common(text, key);
+        if missing.is_empty() && (has_digit(rest) || after_signs(rest).len() < rest.len()) {
             return Some(rest);
         }
     }
@@ -187,10 +187,10 @@ fn rank_stop(rank: &[u8]) -> Option<usize> {
     }
     let mut rest = rank;
     while !rest.is_empty() {
-        let Some((_, behind)) = next_item(rest) else {
+        let Some((_, after)) = next_item(rest) else {
             return Some(rest.len());
         };
-        rest = behind;
+        rest = after;
     }
     None
 }
@@ -199,15 +199,15 @@ fn rank_stop(rank: &[u8]) -> Option<usize> {
 fn pattern_stop(pattern: &[u8]) -> Stop {
     let mut rest = pattern;
     for _ in 0u8..8 {
-        let (rank, behind) = next_part(b'/', rest);
+        let (rank, after) = next_part(b'/', rest);
         if let Some(left) = rank_stop(rank) {
             let before = rank.len().saturating_sub(left);
             return item_stop(&rest[before.min(rest.len())..]);
         }
-        let Some(behind) = behind else {
+        let Some(after) = after else {
             return Stop::before(b"".as_slice(), FEWER_RANKS);
         };
-        rest = behind;
+        rest = after;
     }
     Stop::before(rest, MORE_RANKS)
 }
@@ -224,11 +224,11 @@ fn item_stop(rest: &[u8]) -> Stop {
 fn moves_stop(words: &[u8]) -> Stop {
     let mut rest = words;
     for _ in 0..words.len() {
-        let (word, behind) = split_word(rest);
+        let (word, after) = split_word(rest);
         if !is_move_word(word) {
             return Stop::before(rest, MOVE);
         }
-        rest = behind_blanks(behind);
+        rest = after_blanks(after);
     }
     Stop::before(rest, MOVE)
 }
@@ -263,7 +263,7 @@ fn tag_stop(text: &[u8]) -> Stop {
 }
 
 /// A text without the signs of comparisons that it begins with.
-fn behind_signs(text: &[u8]) -> &[u8] {
+fn after_signs(text: &[u8]) -> &[u8] {
     let mut rest = text;
     while let [b'<' | b'=' | b'>', more @ ..] = rest {
         rest = more;
@@ -291,7 +291,7 @@ fn plies_stop(text: &[u8], comparison: &'static str, count: &'static str) -> Sto
     if comparison_of(operator).is_some() {
         return count_stop(digits, count);
     }
-    let rest = behind_signs(text);
+    let rest = after_signs(text);
     if rest.len() < text.len() && has_digit(rest) {
         return Stop::before(rest, BLANK);
     }
@@ -401,7 +401,7 @@ fn claim_stop(text: &[u8]) -> Stop {
 pub fn complaint_of(line: &[u8]) -> Complaint {
     let text = core_of(line);
     let stop = condition_stop(text);
-    let indent = line.len().saturating_sub(behind_blanks(line).len());
+    let indent = line.len().saturating_sub(after_blanks(line).len());
     let within = text.len().saturating_sub(stop.left);
     Complaint {
         at: indent.saturating_add(within),

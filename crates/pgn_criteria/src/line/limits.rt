@@ -4,12 +4,12 @@ ghost use Rattle.chess.specs.Fen.{has_byte};
 ghost use Rattle.chess.specs.Letters.{kind_letter};
 ghost use Rattle.chess.specs.declared.board.man.Kind.{Kind};
 ghost use Rattle.pgn_criteria.specs.Lines.{SpellsClaim, SpellsLimits};
-ghost use Rattle.pgn_criteria.specs.Reading.{AreEntries, digit_limit, first_limit, limit_behind};
+ghost use Rattle.pgn_criteria.specs.Reading.{AreEntries, digit_limit, first_limit, limit_after};
 ghost use Rattle.pgn_criteria.specs.declared.material.Limits.{Limits};
 ghost use Rattle.pgn_criteria.specs.declared.condition.Claim.TheVariants.{Material};
 
 use crate::material::{Limit, Limits};
-use crate::words::{behind_key, split_first};
+use crate::words::{after_key, split_first};
 use chess::Kind;
 
 /// The limit of that number that begins the text, and what follows it.
@@ -25,7 +25,7 @@ fn digit_limit(number: u8, text: &[u8]) -> (Limit, &[u8])
     }
 }
 
-/// The limit that begins the text behind the letter of a kind, and what follows it.
+/// The limit that begins the text after the letter of a kind, and what follows it.
 fn first_limit(text: &[u8]) -> (Limit, &[u8])
     ensures limit { result.0 ≡ (first_limit text.now).0 }
     ensures rest { result.1.now ≡ (first_limit text.now).1 }
@@ -79,11 +79,11 @@ fn are_entries(text: &[u8]) -> bool
     ensures { IsTrue result ↔ AreEntries text.now }
 {
     let mut rest = text;
-    while let [letter, behind @ ..] = rest {
+    while let [letter, after @ ..] = rest {
         let Some(_) = kind_of(*letter) else {
             return false;
         };
-        let (_, more) = first_limit(behind);
+        let (_, more) = first_limit(after);
         if has_byte(*letter, more) {
             return false;
         }
@@ -94,15 +94,15 @@ fn are_entries(text: &[u8]) -> bool
 
 /// The limit that the entries of a text give to the kind.
 fn limit_in(text: &[u8], kind: Kind) -> Limit
-    ensures { result ≡ limit_behind (kind_letter kind) text.now }
+    ensures { result ≡ limit_after (kind_letter kind) text.now }
 {
     let letter = letter_of(kind);
     let mut rest = text;
-    while let [first, behind @ ..] = rest {
+    while let [first, after @ ..] = rest {
         if *first == letter {
-            return first_limit(behind).0;
+            return first_limit(after).0;
         }
-        rest = behind;
+        rest = after;
     }
     Limit::Exactly(0)
 }
@@ -131,9 +131,9 @@ pub(super) fn limits_of(text: &[u8]) -> Option<Limits>
 pub(super) fn material_of(text: &[u8]) -> Option<(Limits, Limits)>
     ensures { MatchOption result ((white black : Limits) → SpellsClaim text.now (Material white black) → ⊥) (λ found. SpellsClaim text.now (Material found.0 found.1)) }
 {
-    let rest = behind_key(text, b"material")?;
+    let rest = after_key(text, b"material")?;
     let (white, rest) = split_first(rest);
-    let black = behind_key(rest, b"v")?;
+    let black = after_key(rest, b"v")?;
     let white = limits_of(white)?;
     let black = limits_of(black)?;
     Some((white, black))

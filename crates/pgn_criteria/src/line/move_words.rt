@@ -4,7 +4,7 @@ ghost use Rattle.std.specs.List.{list_all};
 ghost use Rattle.pgn_criteria.specs.Lines.{SpellsClaim, is_move_byte, IsMoveWord, IsMoveLike, AreMoveWords};
 ghost use Rattle.pgn_criteria.specs.declared.condition.Claim.TheVariants.{Moves, Next, Played};
 
-use crate::words::{behind_blanks, behind_key, split_word};
+use crate::words::{after_blanks, after_key, split_word};
 
 /// Whether the byte may stand in the word of a move.
 fn is_move_byte(byte: u8) -> bool
@@ -39,14 +39,14 @@ fn are_move_words(text: &[u8]) -> bool
 {
     let mut rest = text;
     loop {
-        let (word, behind) = split_word(rest);
+        let (word, after) = split_word(rest);
         if !is_move_word(word) {
             return false;
         }
-        if behind.is_empty() {
+        if after.is_empty() {
             return true;
         }
-        rest = behind_blanks(behind);
+        rest = after_blanks(after);
     }
 }
 
@@ -54,7 +54,7 @@ fn are_move_words(text: &[u8]) -> bool
 pub(super) fn moves_of(text: &[u8]) -> Option<&[u8]>
     ensures { MatchOption result ((words : List ℕ) → SpellsClaim text.now (Moves words) → ⊥) (λ words. SpellsClaim text.now (Moves words.now)) }
 {
-    let words = behind_key(text, b"moves")?;
+    let words = after_key(text, b"moves")?;
     if are_move_words(words) {
         Some(words)
     } else {
@@ -90,7 +90,7 @@ pub(super) fn is_move_like(word: &[u8]) -> bool
 pub(super) fn next_of(text: &[u8]) -> Option<&[u8]>
     ensures { MatchOption result ((word : List ℕ) → SpellsClaim text.now (Next word) → ⊥) (λ word. SpellsClaim text.now (Next word.now)) }
 {
-    let word = behind_key(text, b"next")?;
+    let word = after_key(text, b"next")?;
     if is_move_like(word) { Some(word) } else { None }
 }
 
@@ -98,6 +98,6 @@ pub(super) fn next_of(text: &[u8]) -> Option<&[u8]>
 pub(super) fn played_of(text: &[u8]) -> Option<&[u8]>
     ensures { MatchOption result ((word : List ℕ) → SpellsClaim text.now (Played word) → ⊥) (λ word. SpellsClaim text.now (Played word.now)) }
 {
-    let word = behind_key(text, b"played")?;
+    let word = after_key(text, b"played")?;
     if is_move_like(word) { Some(word) } else { None }
 }

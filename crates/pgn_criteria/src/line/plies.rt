@@ -7,7 +7,7 @@ ghost use Rattle.pgn_criteria.specs.declared.compare.Comparison.{Comparison};
 ghost use Rattle.pgn_criteria.specs.declared.condition.Claim.TheVariants.{Plies, For, Count};
 
 use crate::compare::Comparison;
-use crate::words::{behind_key, split_first};
+use crate::words::{after_key, split_first};
 
 /// The comparison that is written so.
 pub(super) fn comparison_of(text: &[u8]) -> Option<Comparison>
@@ -33,12 +33,12 @@ pub(super) fn count_of(text: &[u8]) -> Option<u32>
     }
     let mut count = 0u32;
     let mut rest = text;
-    while let [digit, behind @ ..] = rest {
+    while let [digit, after @ ..] = rest {
         if *digit < b'0' || *digit > b'9' {
             return None;
         }
         count = 10 * count + (*digit - b'0') as u32;
-        rest = behind;
+        rest = after;
     }
     Some(count)
 }
@@ -48,7 +48,7 @@ fn compared_of(text: &[u8], key: &[u8]) -> Option<(Comparison, u32)>
     requires { IsTrue (list_all (λ b. nat_le 33 b) key.now) }
     ensures { MatchOption result ((comparison : Comparison) (count : ℕ) → SpellsCompared key.now text.now comparison count → ⊥) (λ found. SpellsCompared key.now text.now found.0 found.1) }
 {
-    let rest = behind_key(text, key)?;
+    let rest = after_key(text, key)?;
     let (operator, digits) = split_first(rest);
     let comparison = comparison_of(operator)?;
     let count = count_of(digits)?;
@@ -73,7 +73,7 @@ pub(super) fn counted_of(text: &[u8]) -> Option<(Comparison, u32)>
 pub(super) fn for_of(text: &[u8]) -> Option<u32>
     ensures { MatchOption result ((count : ℕ) → SpellsClaim text.now (For count) → ⊥) (λ count. SpellsClaim text.now (For count)) }
 {
-    let digits = behind_key(text, b"for")?;
+    let digits = after_key(text, b"for")?;
     let count = count_of(digits)?;
     if count == 0 { None } else { Some(count) }
 }

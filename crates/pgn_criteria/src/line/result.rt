@@ -4,7 +4,7 @@ ghost use Rattle.pgn_text.specs.GameTexts.{IsResult};
 ghost use Rattle.pgn_criteria.specs.Lines.{SpellsClaim};
 ghost use Rattle.pgn_criteria.specs.declared.condition.Claim.TheVariants.{Result};
 
-use crate::words::behind_key;
+use crate::words::after_key;
 
 /// Whether the text is a result of a game.
 pub(super) fn is_result(text: &[u8]) -> bool
@@ -20,6 +20,6 @@ pub(super) fn is_result(text: &[u8]) -> bool
 pub(super) fn result_of(text: &[u8]) -> Option<&[u8]>
     ensures { MatchOption result ((own : List ℕ) → SpellsClaim text.now (Result own) → ⊥) (λ own. SpellsClaim text.now (Result own.now)) }
 {
-    let own = behind_key(text, b"result")?;
+    let own = after_key(text, b"result")?;
     if is_result(own) { Some(own) } else { None }
 }

@@ -12,7 +12,7 @@ ghost use Rattle.pgn_criteria.specs.declared.condition.Claim.TheVariants.{Tag};
 use crate::compare::Relation;
 use crate::condition::Claim;
 use crate::cut::next_part;
-use crate::words::{behind_key, split_first};
+use crate::words::{after_key, split_first};
 use pgn_text::is_contents;
 
 /// The relation that is written so.
@@ -59,14 +59,14 @@ pub(super) fn are_names(text: &[u8]) -> bool
 {
     let mut rest = text;
     loop {
-        let (name, behind) = next_part(b'|', rest);
+        let (name, after) = next_part(b'|', rest);
         if !is_name(name) {
             return false;
         }
-        let Some(behind) = behind else {
+        let Some(after) = after else {
             return true;
         };
-        rest = behind;
+        rest = after;
     }
 }
 
@@ -94,7 +94,7 @@ pub(super) fn can_be_compared(relation: Relation, contents: &[u8]) -> bool
 pub(super) fn tag_of(text: &[u8]) -> Option<Claim<&[u8]>>
     ensures { MatchOption result ((names contents : List ℕ) (relation : Relation) → SpellsClaim text.now (Tag names relation contents) → ⊥) (λ found. SpellsClaim text.now (claim_seen (λ bytes. bytes.now) found)) }
 {
-    let rest = behind_key(text, b"tag")?;
+    let rest = after_key(text, b"tag")?;
     let (names, rest) = split_first(rest);
     if !are_names(names) {
         return None;

@@ -1,17 +1,17 @@
 //! The fields and the ranks of a text in Forsyth-Edwards notation.
 ghost use Rattle.std.specs.Prelude.{◌≡◌, ◌∷◌, ◌≤◌, [], length, MatchOption};
 ghost use Rattle.chess.specs.Fen.{fields_of, parted_at};
-ghost use Rattle.chess.specs.Runs.{run_of, after_run, behind_all};
+ghost use Rattle.chess.specs.Runs.{run_of, after_run, after_all};
 
 /// The text from the first separator on.
 fn from_separator(separator: u8, text: &[u8]) -> &[u8]
     ensures { result.now ≡ after_run separator text.now }
 {
     let mut rest = text;
-    while let [first, behind @ ..] = rest
+    while let [first, after @ ..] = rest
         && *first != separator
     {
-        rest = behind;
+        rest = after;
     }
     rest
 }
@@ -25,15 +25,15 @@ fn split_run(separator: u8, text: &[u8]) -> (&[u8], &[u8])
     (&text[..text.len() - rest.len()], rest)
 }
 
-/// The text behind the separators that it begins with.
-fn behind_separators(separator: u8, text: &[u8]) -> &[u8]
-    ensures { result.now ≡ behind_all separator text.now }
+/// The text after the separators that it begins with.
+fn after_separators(separator: u8, text: &[u8]) -> &[u8]
+    ensures { result.now ≡ after_all separator text.now }
 {
     let mut rest = text;
-    while let [first, behind @ ..] = rest
+    while let [first, after @ ..] = rest
         && *first == separator
     {
-        rest = behind;
+        rest = after;
     }
     rest
 }
@@ -42,7 +42,7 @@ fn behind_separators(separator: u8, text: &[u8]) -> &[u8]
 pub(crate) fn next_field(text: &[u8]) -> Option<(&[u8], &[u8])>
     ensures { MatchOption result (fields_of text.now ≡ []) (λ found. fields_of text.now ≡ found.0.now ∷ fields_of found.1.now) }
 {
-    let rest = behind_separators(b' ', text);
+    let rest = after_separators(b' ', text);
     if rest.is_empty() {
         return None;
     }
@@ -55,7 +55,7 @@ pub(crate) fn next_rank(text: &[u8]) -> (&[u8], Option<&[u8]>)
 {
     let (rank, rest) = split_run(b'/', text);
     match rest {
-        [_, behind @ ..] => (rank, Some(behind)),
+        [_, after @ ..] => (rank, Some(after)),
         [] => (rank, None),
     }
 }

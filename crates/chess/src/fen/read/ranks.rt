@@ -48,14 +48,14 @@ fn read_row(text: &[u8]) -> Option<[Option<Man>; 8]>
     let mut squares = [None; 8];
     let mut file = 0;
     let mut rest = text;
-    while let [byte, behind @ ..] = rest {
+    while let [byte, after @ ..] = rest {
         let (man, count) = squares_spelled(*byte)?;
         if file + count > 8 {
             return None;
         }
         squares[file] = man;
         file += count;
-        rest = behind;
+        rest = after;
     }
     if file < 8 { None } else { Some(squares) }
 }

@@ -7,8 +7,8 @@ use Rattle.pgn_criteria.proofs.alternative.plan_one.Goals as goal
 pub returns-then-condition : goal.returns-then-condition
 returns-then-condition c =
     let condition = c.args.condition.now in
-    planned_claim c.add_other.result c.args.plan.now c.add_other.new.self condition.is_denied true (claim_seen (λ text. text.items) condition.claim) (Fen c.in-Fen.pattern.items)
-    c.if-condition.true (ap (claim_seen (λ text. text.items)) c.in-Fen.is) refl (rw c.deref.ensures.value at c.add_other.ensures)
+    planned_claim c.add_denied.result c.args.plan.now c.add_denied.new.self condition.is_denied true (claim_seen (λ text. text.items) condition.claim) (Fen c.in-Fen.pattern.items)
+    c.if-condition.true (ap (claim_seen (λ text. text.items)) c.in-Fen.is) refl (rw c.deref.ensures.value at c.add_denied.ensures)
 
 pub returns-else-condition : goal.returns-else-condition
 returns-else-condition c =

@@ -1,7 +1,7 @@
 use Rattle.std.proofs.Common.{◌≡◌, ap, sym, ◌∙◌, arith}
 use Rattle.pgn_text.specs.Reading.{value_of}
 use Rattle.pgn_text.proofs.Values.{one_value}
-use Rattle.pgn_criteria.specs.Numbers.{number_behind}
+use Rattle.pgn_criteria.specs.Numbers.{number_after}
 use Rattle.pgn_criteria.proofs.NumberFacts.{number_found, tenfold, digit_small}
 use Rattle.pgn_criteria.proofs.compare.number_of.Goals as goal
 
@@ -12,7 +12,7 @@ loop-byte-init c =
     record {
       few = omega arith;
       small = omega arith;
-      rest = ap (number_behind 0 0) same ∙ number_found (value_of c.args.contents.now);
+      rest = ap (number_after 0 0) same ∙ number_found (value_of c.args.contents.now);
     }
 
 pub overflow_mul-number : goal.overflow_mul-number

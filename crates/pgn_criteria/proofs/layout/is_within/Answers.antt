@@ -6,6 +6,6 @@ pub returns : goal.returns
 unfolding KindWithin
 returns c =
     let man : Man = record { side = c.args.side; kind = c.args.kind } in (
-      λ told s here. c.is_within.ensures.0 told s ((c.squares_of.ensures s).1 (c.known.ensures.on_board s man here, here)),
+      λ reports s here. c.is_within.ensures.0 reports s ((c.squares_of.ensures s).1 (c.invariant.ensures.on_board s man here, here)),
       λ within. c.is_within.ensures.1 (λ s here. within s ((c.squares_of.ensures s).0 here).1),
     )

@@ -1,9 +1,9 @@
 use Rattle.std.proofs.Common.{◌≡◌, length, reverse}
-use Rattle.pgn_criteria.specs.Reading.{behind_blanks}
+use Rattle.pgn_criteria.specs.Reading.{after_blanks}
 use Rattle.pgn_criteria.proofs.line.before_blanks.Given as goal
 
 abbrev pub invariant-loop-rest : goal.invariant-loop-rest
-invariant-loop-rest l = behind_blanks (reverse l.rest) ≡ behind_blanks (reverse l.text)
+invariant-loop-rest l = after_blanks (reverse l.rest) ≡ after_blanks (reverse l.text)
 
 abbrev pub decreases-loop-rest : goal.decreases-loop-rest
 decreases-loop-rest l = length l.rest

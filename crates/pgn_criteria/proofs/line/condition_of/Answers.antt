@@ -2,7 +2,7 @@ use Rattle.std.proofs.Common.{◌≡◌, ◌≢◌, ℕ, Bool, true, false, List
 use Rattle.std.specs.Prelude.{codes, Option, Some, None, MatchOption}
 use Rattle.pgn_criteria.specs.Lines.{SpellsTaken, SpellsTurned, SpellsCondition}
 use Rattle.pgn_criteria.specs.Mirrors.{can_be_mirrored}
-use Rattle.pgn_criteria.specs.Reading.{run_of, behind_word}
+use Rattle.pgn_criteria.specs.Reading.{run_of, after_word}
 use Rattle.pgn_criteria.specs.Stages.{seen, claim_seen}
 use Rattle.pgn_criteria.specs.declared.condition.Condition.{Condition}
 use Rattle.pgn_criteria.specs.declared.condition.Claim.{Claim}
@@ -10,13 +10,13 @@ use Rattle.pgn_criteria.proofs.ConditionFacts.{either_read, either_spelled, take
 use Rattle.pgn_criteria.proofs.line.condition_of.Goals as goal
 
 -- what follows `either` is the condition, or there is none
-turned : {T : Type 0} (bytes : T → List ℕ) (text own : List ℕ) (found : Option (Condition T)) → run_of text ≡ codes "either" → own ≡ behind_word text
+turned : {T : Type 0} (bytes : T → List ℕ) (text own : List ℕ) (found : Option (Condition T)) → run_of text ≡ codes "either" → own ≡ after_word text
     → MatchOption found ((denied : Bool) (claim : Claim (List ℕ)) → IsTrue (can_be_mirrored claim) → SpellsTaken own denied claim → ⊥)
     (λ f. (f.is_either ≡ true) × IsTrue (can_be_mirrored (claim_seen bytes f.claim)) × SpellsTaken own f.is_denied (claim_seen bytes f.claim))
     → MatchOption found ((condition : Condition (List ℕ)) → SpellsCondition text condition → ⊥) (λ f. SpellsCondition text (seen bytes f))
-turned bytes text own (Some f) run is told =
+turned bytes text own (Some f) run is reports =
     let claim = claim_seen bytes f.claim in
-    subst (λ e. SpellsTurned text e f.is_denied claim) (sym told.0) (either_spelled text own f.is_denied claim run is told.1 told.2)
+    subst (λ e. SpellsTurned text e f.is_denied claim) (sym reports.0) (either_spelled text own f.is_denied claim run is reports.1 reports.2)
 turned bytes text own None run is none = λ condition. by condition.is_either condition.is_denied condition.claim
   where
     by : (either denied : Bool) (claim : Claim (List ℕ)) → SpellsTurned text either denied claim → ⊥
@@ -28,7 +28,7 @@ plain : {T : Type 0} (bytes : T → List ℕ) (text : List ℕ) (found : Option 
     → MatchOption found ((denied : Bool) (claim : Claim (List ℕ)) → SpellsTaken text denied claim → ⊥)
     (λ f. (f.is_either ≡ false) × SpellsTaken text f.is_denied (claim_seen bytes f.claim))
     → MatchOption found ((condition : Condition (List ℕ)) → SpellsCondition text condition → ⊥) (λ f. SpellsCondition text (seen bytes f))
-plain bytes text (Some f) other told = subst (λ e. SpellsTurned text e f.is_denied (claim_seen bytes f.claim)) (sym told.0) told.1
+plain bytes text (Some f) other reports = subst (λ e. SpellsTurned text e f.is_denied (claim_seen bytes f.claim)) (sym reports.0) reports.1
 plain bytes text None other none = λ condition. by condition.is_either condition.is_denied condition.claim
   where
     by : (either denied : Bool) (claim : Claim (List ℕ)) → SpellsTurned text either denied claim → ⊥

@@ -1,12 +1,12 @@
 use Rattle.std.proofs.Common.{◌≡◌, ℕ, List, sym, subst}
 use Rattle.std.specs.Prelude.{codes, Option, Some, None, MatchOption}
 use Rattle.pgn_criteria.specs.Lines.{SpellsFen, SpellsClaim}
-use Rattle.pgn_criteria.specs.Reading.{run_of, behind_word}
+use Rattle.pgn_criteria.specs.Reading.{run_of, after_word}
 use Rattle.pgn_criteria.specs.declared.condition.Claim.TheVariants.{Fen, Flip}
 use Rattle.pgn_criteria.proofs.FenFacts.{flip_read, flip_spelled}
 use Rattle.pgn_criteria.proofs.line.flip_of.Goals as goal
 
-flips : {T : Type 0} (bytes : T → List ℕ) (text own : List ℕ) (found : Option T) → run_of text ≡ codes "flip" → own ≡ behind_word text
+flips : {T : Type 0} (bytes : T → List ℕ) (text own : List ℕ) (found : Option T) → run_of text ≡ codes "flip" → own ≡ after_word text
     → MatchOption found ((pattern : List ℕ) → SpellsClaim own (Fen pattern) → ⊥) (λ pattern. SpellsClaim own (Fen (bytes pattern)))
     → MatchOption found ((pattern : List ℕ) → SpellsClaim text (Flip pattern) → ⊥) (λ pattern. SpellsClaim text (Flip (bytes pattern)))
 flips bytes text own (Some pattern) run is spells = flip_spelled text own (bytes pattern) run is spells

@@ -1,14 +1,14 @@
 use Rattle.std.proofs.Common.{◌≡◌, ◌≢◌, ℕ, Bool, true, false, List, IsTrue, refl, sym, subst}
 use Rattle.std.specs.Prelude.{codes}
 use Rattle.pgn_criteria.specs.Lines.{SpellsClaim, SpellsTaken, can_be_denied}
-use Rattle.pgn_criteria.specs.Reading.{run_of, behind_word}
+use Rattle.pgn_criteria.specs.Reading.{run_of, after_word}
 use Rattle.pgn_criteria.specs.Stages.{claim_seen}
 use Rattle.pgn_criteria.specs.declared.condition.Claim.{Claim}
 use Rattle.pgn_criteria.proofs.ClaimFacts.{claim_not, not_read, not_spelled}
 use Rattle.pgn_criteria.proofs.line.taken_of.Goals as goal
 
 -- what follows `not` is no claim that can be denied, or the text does not begin with it and is no claim
-none_denied : (text own : List ℕ) → run_of text ≡ codes "not" → own ≡ behind_word text
+none_denied : (text own : List ℕ) → run_of text ≡ codes "not" → own ≡ after_word text
     → ((claim : Claim (List ℕ)) → IsTrue (can_be_denied claim) → SpellsClaim own claim → ⊥)
     → (denied : Bool) (claim : Claim (List ℕ)) → SpellsTaken text denied claim → ⊥
 none_denied text own run is none denied claim = by denied claim

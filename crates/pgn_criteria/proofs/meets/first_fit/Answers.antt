@@ -23,7 +23,7 @@ pub returns-else-plies : goal.returns-else-plies
 returns-else-plies c n low high fits =
     elim (cases_lt n c.loop-plies.plies) [
       | inl before ↦ c.loop-plies.invariant.none n low before fits
-      | inr behind ↦ let within = slice_get_within c.args.replayed.now.positions n fits.0 fits.1 in absurd (omega (arith, c.plies.ensures.positions))
+      | inr after ↦ let within = slice_get_within c.args.replayed.now.positions n fits.0 fits.1 in absurd (omega (arith, c.plies.ensures.positions))
     ]
 
 pub returns-after-loop-plies : goal.returns-after-loop-plies

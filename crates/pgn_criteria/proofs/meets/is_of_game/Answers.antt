@@ -3,25 +3,25 @@ use Rattle.std.specs.Bool.{beq}
 use Rattle.chess.specs.Fen.{parted_at}
 use Rattle.pgn_criteria.specs.Meeting.{heading_of, Heading, HasOneOf}
 use Rattle.pgn_criteria.specs.Stages.{SaysOfGame, claim_seen}
-use Rattle.pgn_criteria.proofs.MeetFacts.{taken_told}
+use Rattle.pgn_criteria.proofs.MeetFacts.{reports_taken}
 use Rattle.pgn_criteria.proofs.meets.is_of_game.Goals as goal
 
 pub returns-in-Tag : goal.returns-in-Tag
 returns-in-Tag c =
     let heading : Heading = heading_of c.args.game.now in
     let denied = c.args.condition.now.is_denied in
-    let told : IsTrue c.has_one_of.result ↔ HasOneOf heading c.in-Tag.relation c.in-Tag.contents.items (parted_at 124 c.in-Tag.names.items) =
+    let reports : IsTrue c.has_one_of.result ↔ HasOneOf heading c.in-Tag.relation c.in-Tag.contents.items (parted_at 124 c.in-Tag.names.items) =
     subst (λ (x : List ℕ). IsTrue c.has_one_of.result ↔ HasOneOf heading c.in-Tag.relation x (parted_at 124 c.in-Tag.names.items)) c.deref-in-Tag.ensures.value
     (subst (λ (x : List ℕ). IsTrue c.has_one_of.result ↔ HasOneOf heading c.in-Tag.relation c.deref-in-Tag.result.now (parted_at 124 x)) c.deref.ensures.value
     c.has_one_of.ensures) in
     subst (λ k. IsTrue (not (beq c.has_one_of.result denied)) ↔ SaysOfGame heading c.args.replayed.now denied (claim_seen (λ text. text.items) k)) (sym c.in-Tag.is)
-    (taken_told denied c.has_one_of.result told)
+    (reports_taken denied c.has_one_of.result reports)
 
 pub returns-in-Result : goal.returns-in-Result
 returns-in-Result c =
     let heading : Heading = heading_of c.args.game.now in
     let denied = c.args.condition.now.is_denied in
-    let told : IsTrue c.ends_with.result ↔ (heading.result ≡ c.in-Result.result.items) =
+    let reports : IsTrue c.ends_with.result ↔ (heading.result ≡ c.in-Result.result.items) =
     subst (λ (x : List ℕ). IsTrue c.ends_with.result ↔ (heading.result ≡ x)) c.deref-in-Result.ensures.value c.ends_with.ensures in
     subst (λ k. IsTrue (not (beq c.ends_with.result denied)) ↔ SaysOfGame heading c.args.replayed.now denied (claim_seen (λ text. text.items) k)) (sym c.in-Result.is)
-    (taken_told denied c.ends_with.result told)
+    (reports_taken denied c.ends_with.result reports)

@@ -8,7 +8,7 @@ use Rattle.pgn_criteria.specs.declared.line.Meaning.TheVariants.{Or}
 use Rattle.pgn_criteria.proofs.ParseFacts.{or_added}
 use Rattle.pgn_criteria.proofs.parse.add_line.Goals as goal
 
--- an alternative pushed behind others, and none begun
+-- an alternative pushed after others, and none begun
 or_pushed : {C : Type 0} (view : C → Condition (List ℕ)) (done new : List (List (Condition (List ℕ)))) (own : List (Condition (List ℕ))) (last begun : Vec C Global)
     → new ≡ done ++ (own ∷ []) → own ≡ map view last.items → begun.items ≡ [] → (more : List (Meaning (List ℕ)))
     → with_open new (map view begun.items) (alternatives_of more) ≡ with_open done (map view last.items) (alternatives_of (Or ∷ more))

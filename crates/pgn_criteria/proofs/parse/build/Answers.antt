@@ -17,18 +17,18 @@ loop-last-init c =
 pub loop-last-smaller : goal.loop-last-smaller
 loop-last-smaller c =
     let parts = rw c.in-Some.is at c.next_part.ensures in
-    rest_shorter c.loop-last.rest.now c.next_part.result.0.now c.in-Some.behind.now parts
+    rest_shorter c.loop-last.rest.now c.next_part.result.0.now c.in-Some.after.now parts
 
 pub add_line-requires : goal.add_line-requires
 add_line-requires c =
     built_next c.args.text.now c.loop-last.rest.now c.next_part.result.0.now c.loop-last.alternatives.items (conditions c.loop-last.last) c.loop-last.invariant
-    (first_part (λ behind. behind.now) c.loop-last.rest.now c.next_part.result.0.now c.next_part.result.1 c.next_part.ensures)
+    (first_part (λ after. after.now) c.loop-last.rest.now c.next_part.result.0.now c.next_part.result.1 c.next_part.ensures)
 
 pub loop-last-preserved : goal.loop-last-preserved
 loop-last-preserved c =
     let parts = rw c.in-Some.is at c.next_part.ensures in
     let added = c.in_ok-add_line.ensures in
-    built_more c.args.text.now c.loop-last.rest.now c.next_part.result.0.now c.in-Some.behind.now c.loop-last.alternatives.items (conditions c.loop-last.last)
+    built_more c.args.text.now c.loop-last.rest.now c.next_part.result.0.now c.in-Some.after.now c.loop-last.alternatives.items (conditions c.loop-last.last)
     c.add_line.new.alternatives.items (conditions c.add_line.new.last) c.loop-last.invariant (record { own = added.0; is = added.1; same = added.2 }) parts
 
 pub returns-in_default : goal.returns-in_default

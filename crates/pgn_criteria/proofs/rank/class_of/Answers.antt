@@ -1,9 +1,9 @@
 use Rattle.std.proofs.Common.{◌∷◌, ◌++◌, [], sym, subst}
 use Rattle.pgn_criteria.specs.Patterns.{AreMen}
 use Rattle.pgn_criteria.specs.Items.{Reads}
-use Rattle.pgn_criteria.specs.declared.rank.Class.TheVariants.{Among, Other}
+use Rattle.pgn_criteria.specs.declared.rank.SquareTest.TheVariants.{Among, Other}
 use Rattle.pgn_criteria.specs.declared.rank.Item.TheVariants.{Run}
-use Rattle.pgn_criteria.proofs.SetFacts.{among_read, other_read, no_set, same_behind}
+use Rattle.pgn_criteria.proofs.SetFacts.{among_read, other_read, no_set, same_after}
 use Rattle.pgn_criteria.proofs.rank.class_of.Goals as goal
 
 pub returns-then-are_men : goal.returns-then-are_men
@@ -20,7 +20,7 @@ pub returns-then-not-are_men : goal.returns-then-not-are_men
 returns-then-not-are_men c =
     no_set c.args.inside.now (λ are. let t = c.are_men.ensures.1 are in absurd (cc (t, c.if-are_men.false)))
     (λ letters is are.
-    let same = same_behind letters c.in_ok-letters.letters.now c.args.inside.now is c.in_ok-letters.ensures in
+    let same = same_after letters c.in_ok-letters.letters.now c.args.inside.now is c.in_ok-letters.ensures in
     let t = c.are_men-2.ensures.1 (subst AreMen same are) in
     absurd (cc (t, c.if-not-are_men.true)))
 

@@ -18,15 +18,15 @@ returns-in_default c =
 pub returns-then-reached-eq0 : goal.returns-then-reached-eq0
 returns-then-reached-eq0 c =
     let whole = CanBeSplit (items_of c.args.items.now) c.args.squares.now in
-    none_fails c.args.squares.now c.step-reached.result (items_of c.in-Some.behind.now) whole c.if-reached-eq0.true
-    (item_kept c.args.squares.now c.loop-rest.reached c.step-reached.result c.loop-rest.rest.now c.in-Some.behind.now c.in-Some.item whole c.in-Some.ensures.next
+    none_fails c.args.squares.now c.step-reached.result (items_of c.in-Some.after.now) whole c.if-reached-eq0.true
+    (item_kept c.args.squares.now c.loop-rest.reached c.step-reached.result c.loop-rest.rest.now c.in-Some.after.now c.in-Some.item whole c.in-Some.ensures.next
     c.step-reached.ensures.goes_on c.loop-rest.invariant.goes_on)
 
 pub loop-rest-preserved : goal.loop-rest-preserved
 loop-rest-preserved c = record {
   low = c.step-reached.ensures.low;
   goes_on =
-      item_kept c.args.squares.now c.loop-rest.reached c.step-reached.result c.loop-rest.rest.now c.in-Some.behind.now c.in-Some.item
+      item_kept c.args.squares.now c.loop-rest.reached c.step-reached.result c.loop-rest.rest.now c.in-Some.after.now c.in-Some.item
       (CanBeSplit (items_of c.args.items.now) c.args.squares.now) c.in-Some.ensures.next c.step-reached.ensures.goes_on c.loop-rest.invariant.goes_on;
 }
 

@@ -4,7 +4,7 @@ use Rattle.chess.proofs.RestFacts.{first_and_rest, no_bytes}
 use Rattle.pgn_criteria.specs.Items.{IsItem}
 use Rattle.pgn_criteria.specs.Items.{Reads}
 use Rattle.pgn_criteria.specs.declared.rank.Item.TheVariants.{Run}
-use Rattle.pgn_criteria.proofs.SetFacts.{open_fails, set_next, set_fails, behind_shorter}
+use Rattle.pgn_criteria.proofs.SetFacts.{open_fails, set_next, set_fails, after_shorter}
 use Rattle.pgn_criteria.proofs.rank.next_set.Goals as goal
 
 pub returns-in_default-clause-next : goal.returns-in_default-clause-next
@@ -25,4 +25,4 @@ returns-clause-next c =
     (subst (λ run. Reads (91 ∷ (run ++ 93 ∷ [])) (Run c.in_ok-class.class 1)) c.split_run.ensures.run c.in_ok-class.ensures)
 
 pub returns-clause-shorter : goal.returns-clause-shorter
-returns-clause-shorter c = behind_shorter c.args.text.now c.split_run.result.1.now c.split_run.ensures.rest c.in-len1-up.len_at_least
+returns-clause-shorter c = after_shorter c.args.text.now c.split_run.result.1.now c.split_run.ensures.rest c.in-len1-up.len_at_least

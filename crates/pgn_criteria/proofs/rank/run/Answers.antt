@@ -9,7 +9,7 @@ loop-step-preserved c = record {
   low = c.advance-now.ensures.low;
   goes_on = λ items.
       let left : c.args.count - c.loop-step.step ≡ (c.args.count - (c.loop-step.step + 1)) + 1 = omega arith in
-      let one = run_more c.args.class c.args.squares.now c.loop-step.now c.advance-now.result (c.args.count - c.loop-step.step) (c.args.count - (c.loop-step.step + 1)) items c.told-squares left c.advance-now.ensures.behind in
+      let one = run_more c.args.class c.args.squares.now c.loop-step.now c.advance-now.result (c.args.count - c.loop-step.step) (c.args.count - (c.loop-step.step + 1)) items c.told-squares left c.advance-now.ensures.after in
       let all = c.loop-step.invariant.goes_on items in
       (λ goes. all.0 (one.0 goes), λ goes. one.1 (all.1 goes));
 }

@@ -10,13 +10,13 @@ use Rattle.pgn_criteria.proofs.rank.size_of.Goals as goal
 pub loop-rest-preserved : goal.loop-rest-preserved
 loop-rest-preserved c = record {
   small = omega arith;
-  sized = λ left told own split.
+  sized = λ left reports own split.
       let next = c.in_ok-count.ensures.next in
-      let behind = c.in_ok-count.field-0.1.now in
+      let after = c.in_ok-count.field-0.1.now in
       let count = c.in-Run-default.count in
       let taken = count_taken next.text c.in_ok-count.field-0.0 c.in-Run-default.field-0-0 count next.reads c.in-Run-default.is-0 in
       let all : (some : List (Option Man)) → CanBeSplit (items_of c.loop-rest.rest.now) some → length some ≡ count + left = λ some parted.
-      size_more next.text count (items_of behind) left taken told some (subst (λ x. CanBeSplit x some) next.cut parted) in
+      size_more next.text count (items_of after) left taken reports some (subst (λ x. CanBeSplit x some) next.cut parted) in
       let sum : c.loop-rest.size + (count + left) ≡ c.loop-rest.size + count + left = omega arith in
       c.loop-rest.invariant.sized (count + left) all own split ∙ sum;
 }

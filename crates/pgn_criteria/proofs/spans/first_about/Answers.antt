@@ -2,7 +2,7 @@ use Rattle.std.proofs.Common.{◌≡◌, subst, inl, inr, arith}
 use Rattle.std.proofs.lemmas.Bool.{cases_lt}
 use Rattle.std.proofs.lemmas.Option.{slice_get_within}
 use Rattle.pgn_criteria.specs.Stages.{FitsAt, FitsAbout}
-use Rattle.pgn_criteria.proofs.SpanFacts.{about_told, run_known}
+use Rattle.pgn_criteria.proofs.SpanFacts.{reports_about, run_known}
 use Rattle.pgn_criteria.proofs.spans.first_about.Goals as goal
 
 pub loop-plies-preserved : goal.loop-plies-preserved
@@ -10,14 +10,14 @@ loop-plies-preserved c =
     let replay = c.args.replayed.now in
     let own = c.args.alternative.now in
     let at = c.loop-plies.plies in
-    let told = about_told replay own at c.run_on-run.result c.many_of-many.result c.run_on-run.ensures c.many_of-many.ensures in
+    let reports = reports_about replay own at c.run_on-run.result c.many_of-many.result c.run_on-run.ensures c.many_of-many.ensures in
     record {
       from = omega (arith, c.loop-plies.invariant.from);
       none = λ n low less fits. elim (cases_lt n at) [
         | inl before ↦ c.loop-plies.invariant.none n low before fits
         | inr up ↦
             let same : n ≡ at = omega (arith, up, less) in
-            let t = c.stands_about.ensures.1 (told.1 (subst (FitsAbout replay own) same fits)) in
+            let t = c.stands_about.ensures.1 (reports.1 (subst (FitsAbout replay own) same fits)) in
             absurd (cc (t, c.if-stands_about.false))
       ];
       known = run_known (FitsAt replay own) at c.run_on-run.result c.checked_sub-known.result c.run_on-run.ensures c.checked_sub-known.ensures;
@@ -28,16 +28,16 @@ returns-then-stands_about c =
     let replay = c.args.replayed.now in
     let own = c.args.alternative.now in
     let at = c.loop-plies.plies in
-    let told = about_told replay own at c.run_on-run.result c.many_of-many.result c.run_on-run.ensures c.many_of-many.ensures in
-    (c.loop-plies.invariant.from, c.loop-plies-test.true, told.0 (c.stands_about.ensures.0 c.if-stands_about.true), c.loop-plies.invariant.none)
+    let reports = reports_about replay own at c.run_on-run.result c.many_of-many.result c.run_on-run.ensures c.many_of-many.ensures in
+    (c.loop-plies.invariant.from, c.loop-plies-test.true, reports.0 (c.stands_about.ensures.0 c.if-stands_about.true), c.loop-plies.invariant.none)
 
 pub returns-else-plies : goal.returns-else-plies
 returns-else-plies c n low high fits =
     elim (cases_lt n c.loop-plies.plies) [
       | inl before ↦ c.loop-plies.invariant.none n low before fits
-      | inr behind ↦
+      | inr after ↦
           let within = slice_get_within c.args.replayed.now.positions n fits.0.0 fits.0.1 in
-          absurd (omega (arith, within, behind, c.if-plies.false, c.plies.ensures.positions))
+          absurd (omega (arith, within, after, c.if-plies.false, c.plies.ensures.positions))
     ]
 
 pub returns-after-loop-plies : goal.returns-after-loop-plies

@@ -1,4 +1,4 @@
-use Rattle.pgn_criteria.proofs.SpanFacts.{about_told, no_spans_hold}
+use Rattle.pgn_criteria.proofs.SpanFacts.{reports_about, no_spans_hold}
 use Rattle.pgn_criteria.specs.Stages.{FitsAt}
 use Rattle.pgn_criteria.proofs.spans.fits_about.Goals as goal
 
@@ -9,6 +9,6 @@ returns-then-is_free_of_spans c =
 
 pub returns : goal.returns
 returns c =
-    let told =
-    about_told c.args.replayed.now c.args.alternative.now c.args.plies c.run_from-run.result c.many_of-many.result c.run_from-run.ensures c.many_of-many.ensures in
-    (λ t. told.0 (c.stands_about.ensures.0 t), λ fits. c.stands_about.ensures.1 (told.1 fits))
+    let reports =
+    reports_about c.args.replayed.now c.args.alternative.now c.args.plies c.run_from-run.result c.many_of-many.result c.run_from-run.ensures c.many_of-many.ensures in
+    (λ t. reports.0 (c.stands_about.ensures.0 t), λ fits. c.stands_about.ensures.1 (reports.1 fits))

@@ -18,7 +18,7 @@ returns-then-takes_all c =
     let game = c.args.game.now in
     MatchResult-weaker c.put_text.result c.put_text.ensures
     (λ _ put. (put.0, put.1, put.2, all_written aim c.args.context.own.number c.args.context.own.offset game put.0 put.2 (c.takes_all.ensures c.if-takes_all.true) put.1 put.3, put.4))
-    (λ fault told. told)
+    (λ fault reports. reports)
 
 pub returns-in-Faulty : goal.returns-in-Faulty
 returns-in-Faulty c =
@@ -30,4 +30,4 @@ returns-in-Faulty c =
     let checked = rw c.written_lines.ensures at c.check_lines.ensures in
     MatchResult-weaker c.check_lines.result checked
     (λ _ sound. (sound.0, sound.1, [], inr (none (HasEntry aim (heading_of game) sound.0), refl), sym (append-nil old)))
-    (λ fault told. IfSome_then (fault_of fault) told leaves)
+    (λ fault reports. IfSome_then (fault_of fault) reports leaves)

@@ -22,4 +22,4 @@ returns-in-AsItStands c =
     MatchResult-weaker c.put_as_is.result c.put_as_is.ensures
     (λ _ put. game_put (aim_of c.args.context.settings.now) c.args.context.own.number c.args.context.own.offset c.args.game.now c.args.text.now.items c.put_as_is.new.text.items
     c.in-AsItStands.is put.0 put.1)
-    (λ fault told. told)
+    (λ fault reports. reports)

@@ -4,14 +4,14 @@ use Rattle.pgn_text.proofs.MarkBounds.{mark_bounds}
 use Rattle.pgn_extract.proofs.laws.marks.Goals as goal
 
 pub returns : goal.returns
-returns c limit max_depth text before piece behind each =
-    let bounds = mark_bounds limit max_depth 0 text before piece behind each in
+returns c limit max_depth text before piece after each =
+    let bounds = mark_bounds limit max_depth 0 text before piece after each in
     let few = bounds.0 in
     let less = bounds.1 in record {
       among = record {
         before = before;
         piece = piece;
-        behind = behind;
+        after = after;
         parted = refl;
         numbered = refl;
         placed = refl;

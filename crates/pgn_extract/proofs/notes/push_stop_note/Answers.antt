@@ -9,10 +9,10 @@ returns c =
     (λ last. (
       _,
       record {
-        place = c.stopped_within-stop.result.place;
-        within = c.stopped_within-stop.result.within;
-        stops = c.stopped_within-stop.ensures.place;
-        stands = c.stopped_within-stop.ensures.within;
+        place = c.locate_error-stop.result.place;
+        within = c.locate_error-stop.result.within;
+        stops = c.locate_error-stop.ensures.place;
+        stands = c.locate_error-stop.ensures.within;
         says = refl;
       },
       note_joined _ _ _ _ _ _ _ _ _ _ _ c.in_ok-extend_from_slice.ensures.items c.in_ok-push_place.ensures c.in_ok-push_stopper.ensures c.in_ok-push_context.ensures

@@ -5,13 +5,13 @@ use Rattle.pgn_text.specs.Elements.{item_of}
 use Rattle.pgn_game.specs.MainLines.{main_words, IsMainLine}
 use Rattle.pgn_game.specs.Faults.{Fault}
 use Rattle.pgn_game.specs.LineWalks.{Runs, Stops, RunsOn, StopsOn, MainOn, AreWithin, first_level}
-use Rattle.pgn_game.specs.declared.turn.Turn.{Turn}
+use Rattle.pgn_game.specs.declared.line_move.LineMove.{LineMove}
 use Rattle.pgn_game.proofs.all_lines.play_elements.Given as goal
 
 abbrev pub invariant-loop-element : goal.invariant-loop-element
 invariant-loop-element l =
     record {
-      runs : (turns : List Turn) → RunsOn l.walk (map item_of (drop l.element-index l.elements)) turns
+      runs : (turns : List LineMove) → RunsOn l.walk (map item_of (drop l.element-index l.elements)) turns
           → Runs (map item_of l.elements) (first_level l.fn.start) [] turns;
       stops : (fault : Fault) → StopsOn l.walk (map item_of (drop l.element-index l.elements)) fault
           → Stops (map item_of l.elements) (first_level l.fn.start) [] fault;

@@ -2,7 +2,7 @@ use Rattle.std.proofs.Common.{◌≡◌, ◌++◌, ◌∷◌, length, ap, sym, �
 use Rattle.std.proofs.lemmas.List.{append-nil, append_assoc, length-map}
 use Rattle.pgn_game.specs.Comments.{unbraced}
 use Rattle.pgn_game.specs.CommentWords.{closing}
-use Rattle.pgn_game.specs.Pens.{behind_tokens}
+use Rattle.pgn_game.specs.Pens.{after_tokens}
 use Rattle.pgn_game.proofs.comment.put_word.Goals as goal
 
 pub returns-else-is_last-clause-text : goal.returns-else-is_last-clause-text
@@ -20,6 +20,6 @@ returns-else-is_last-clause-text c more =
     let whole : c.push_unbraced.new.out.items ≡ c.start.new.out.items ++ (front ++ bare) =
     c.in_ok-push_unbraced.ensures.text ∙ ap (λ x. x ++ bare) c.in_ok-push_front.ensures.text
     ∙ append_assoc c.start.new.out.items front bare in
-    subst (λ t. c.push_unbraced.new.out.items ++ behind_tokens new.width new.begun new.column more
-    ≡ c.args.out.now.items ++ behind_tokens old.width old.begun old.column (t ∷ more)) (sym plain)
-    (ap (λ x. x ++ behind_tokens new.width new.begun new.column more) whole ∙ laid)
+    subst (λ t. c.push_unbraced.new.out.items ++ after_tokens new.width new.begun new.column more
+    ≡ c.args.out.now.items ++ after_tokens old.width old.begun old.column (t ∷ more)) (sym plain)
+    (ap (λ x. x ++ after_tokens new.width new.begun new.column more) whole ∙ laid)

@@ -14,13 +14,13 @@ why_refused-why-requires c =
     let walk = c.args.walk.now in
     let word = c.in-Move.word.now in
     let fault = c.in-Err.fault in
-    let told = refused_here walk word (fault_of fault)
+    let reports = refused_here walk word (fault_of fault)
     (λ none. false≢true (sym c.if-not-is_out_of_memory.true ∙ c.is_out_of_memory.ensures.1 none))
     (λ items. subst (λ e. IfSome (fault_of fault) (StopsOn walk (item_of e ∷ items))) c.in-Move.is (c.in-Err.ensures.stuck items)) in (
       walk.line.plies,
-      told.0,
-      subst (λ b. IsRefusedTurn b c.position-position.result walk.line.plies word told.0) (sym c.is_inside-inside.ensures)
-          (subst (λ s. IsRefusedTurn (is_inside walk.outer.items) s walk.line.plies word told.0) (sym c.position-position.ensures) told.1),
+      reports.0,
+      subst (λ b. IsRefusedTurn b c.position-position.result walk.line.plies word reports.0) (sym c.is_inside-inside.ensures)
+          (subst (λ s. IsRefusedTurn (is_inside walk.outer.items) s walk.line.plies word reports.0) (sym c.position-position.ensures) reports.1),
     )
 
 pub returns-in-Move : goal.returns-in-Move

@@ -48,5 +48,5 @@ returns-clause-fault c =
     IfErr-weaker c.push_moves.result
     (λ fault. IfSome (fault_of fault) (IsMoveFault start 0 (main_words (map item_of c.elements.result.now) 0)))
     (λ fault. IfSome (fault_of fault) (IsFault Main (tag_in fen_tag game.tags) game.elements))
-    (λ fault told. IfSome_then (fault_of fault) told (λ f has. inr (start, is_start, subst (λ (items : List Item). IsMoveFault start 0 (main_words items 0) f) c.elements.ensures.elements has)))
+    (λ fault reports. IfSome_then (fault_of fault) reports (λ f has. inr (start, is_start, subst (λ (items : List Item). IsMoveFault start 0 (main_words items 0) f) c.elements.ensures.elements has)))
     c.push_moves.ensures.fault

@@ -2,7 +2,7 @@ use Rattle.std.proofs.Common.{◌∷◌, ◌++◌, [], false, reverse, refl, sub
 use Rattle.std.proofs.lemmas.Option.{IfSome_then}
 use Rattle.std.proofs.lemmas.Result.{err_from_is_err_and}
 use Rattle.pgn_game.specs.MovetextWalks.{Draws, HaltsOn, shown_items}
-use Rattle.pgn_game.specs.Pens.{HasPut, behind_tokens}
+use Rattle.pgn_game.specs.Pens.{HasPut, after_tokens}
 use Rattle.pgn_game.proofs.PenFacts.{put_both}
 use Rattle.pgn_game.proofs.MovetextFacts.{laid_first, begun_draws, begun_halts, short_begun, pen_writes}
 use Rattle.pgn_game.proofs.MovetextLines.{drawn_tokens, written_fault}
@@ -34,7 +34,7 @@ returns-clause-text c =
     (subst (λ items. Draws (shown_items style.variations 0 items) style first.line (reverse first.outer.items) done.0) c.elements.ensures.elements done.2) in
     let line = drawn_tokens style now game.elements done.0 c.elements.ensures.paired draws in (
       tokens,
-      behind_tokens style.width false 0 tokens,
+      after_tokens style.width false 0 tokens,
       (line.0, done.0, line.1, line.2, refl),
       laid_first style.width tokens,
       pen_writes first.pen c.put.new.self style.width c.args.out.now.items c.put.new.out.items c.finish.new.out.items tokens

@@ -52,4 +52,4 @@ returns-in-All c =
     (sym c.in-All.is)
     (MatchResult-weaker c.check_all_lines.result c.check_all_lines.ensures
     (λ _ turned. played_sound fen start items turned.0 is_start (subst (λ (xs : List Item). ArePlayed start xs turned.0) elements turned.1))
-    (λ fault told. IfSome_then (fault_of fault) told (λ f met. inr (start, is_start, subst (λ (xs : List Item). HaveFault start xs f) elements met))))
+    (λ fault reports. IfSome_then (fault_of fault) reports (λ f met. inr (start, is_start, subst (λ (xs : List Item). HaveFault start xs f) elements met))))

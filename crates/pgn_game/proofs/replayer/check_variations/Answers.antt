@@ -9,4 +9,4 @@ pub returns-then-is_flat : goal.returns-then-is_flat
 returns-then-is_flat c =
     let raw = c.args.raw.now in
     let flat = subst IsFlat c.elements.ensures.elements (c.is_flat.ensures c.if-is_flat.true) in
-    flat_sound (tag_in fen_tag raw.tags) raw.elements c.known.ensures.paired flat c.requires
+    flat_sound (tag_in fen_tag raw.tags) raw.elements c.invariant.ensures.paired flat c.requires

@@ -23,5 +23,5 @@ returns c =
       },
       count,
     ))
-    (λ fault told. IfSome_then (fault_of fault) told
+    (λ fault reports. IfSome_then (fault_of fault) reports
     (λ f met. inr (start, is_start, subst (λ items. IsMoveFault start 0 (main_words items 0) f) c.elements.ensures.elements met)))

@@ -24,7 +24,7 @@ returns-in-Main c =
       line = subst (λ items. IsMainLine start (main_words items 0) replayed.positions replayed.played) c.elements.ensures.elements line.0;
       turns = line.1;
     })
-    (λ fault told. IfSome_then (fault_of fault) told
+    (λ fault reports. IfSome_then (fault_of fault) reports
     (λ f met. inr (start, is_start, subst (λ items. IsMoveFault start 0 (main_words items 0) f) c.elements.ensures.elements met))))
 
 pub returns-in-All : goal.returns-in-All
@@ -42,5 +42,5 @@ returns-in-All c =
       line = subst (λ items. IsMainLine start (main_words items 0) replayed.positions replayed.played) elements line.0;
       turns = subst (λ items. ArePlayed start items replayed.turns) elements line.1;
     })
-    (λ fault told. IfSome_then (fault_of fault) told
+    (λ fault reports. IfSome_then (fault_of fault) reports
     (λ f met. inr (start, is_start, subst (λ items. HaveFault start items f) elements met))))

@@ -19,5 +19,5 @@ returns c =
       is_start = is_start;
       line = subst (λ items. IsBeginning start (main_words items 0) c.args.most opening) c.elements.ensures.elements line;
     })
-    (λ fault told. IfSome_then (fault_of fault) told
+    (λ fault reports. IfSome_then (fault_of fault) reports
     (λ f met. inr (start, is_start, subst (λ items. IsMoveFault start 0 (main_words items 0) f) c.elements.ensures.elements met)))

@@ -11,7 +11,7 @@ given_position-requires c = c.requires fen_tag c.in-Some.contents.now.now (tag_f
 
 pub returns-in-Some : goal.returns-in-Some
 returns-in-Some c =
-    subst (λ fen. MatchResult c.given_position.result (IsStart fen) (λ fault. IfSome (fault_of fault) (λ told. IsBadStart fen × (told ≡ BadStart))))
+    subst (λ fen. MatchResult c.given_position.result (IsStart fen) (λ fault. IfSome (fault_of fault) (λ reports. IsBadStart fen × (reports ≡ BadStart))))
     (sym (tag_found c.args.tags.now fen_tag (Some c.in-Some.contents.now) c.in-Some.ensures.value)) c.given_position.ensures
 
 pub returns-in-None : goal.returns-in-None

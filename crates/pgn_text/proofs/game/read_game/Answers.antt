@@ -2,7 +2,7 @@ use Rattle.std.proofs.Common.{◌≡◌, ℕ, List, map, take, drop, sym, ap, su
 use Rattle.std.specs.List.{list_all}
 use Rattle.std.specs.Prelude.{Some, IsTrue}
 use Rattle.pgn_text.specs.Bytes.{is_name_byte}
-use Rattle.pgn_text.specs.Drafts.{IsDraftOf}
+use Rattle.pgn_text.specs.GameBuilders.{IsBuilderOf}
 use Rattle.pgn_text.specs.Elements.{item_of, tags_of}
 use Rattle.pgn_text.specs.GameTexts.{IsPaired, IsResult, tag_in}
 use Rattle.pgn_text.specs.Strings.{IsContents}
@@ -19,15 +19,15 @@ pub invariant_of-game : goal.invariant_of-game
 invariant_of-game c =
     let found = rw c.in-Some.is at c.in_ok-at.ensures in
     let read : GameRead depth_limit c.args.file_start c.args.block.now c.args.begin c.in-Some.at c.in-Some.end found.0 found.1 = found.2 in
-    let held : IsDraftOf c.read_parts.new.keeper found.0 found.1 =
-    found.3 (record { ordered = c.in_ok-draft.ensures.ordered; each = c.in_ok-draft.ensures.tags; elements = ap (map item_of) c.in_ok-draft.ensures.elements }) in
+    let held : IsBuilderOf c.read_parts.new.visitor found.0 found.1 =
+    found.3 (record { ordered = c.in_ok-game_builder.ensures.ordered; each = c.in_ok-game_builder.ensures.tags; elements = ap (map item_of) c.in_ok-game_builder.ensures.elements }) in
     let block = c.args.block.now in
     let after = drop c.in-Some.end block in
-    let found_first : (name contents : List ℕ) → tag_in name (tags_of c.read_parts.new.keeper.tags) ≡ Some contents → IsContents contents × IsTrue (list_all is_name_byte name) =
+    let found_first : (name contents : List ℕ) → tag_in name (tags_of c.read_parts.new.visitor.tags) ≡ Some contents → IsContents contents × IsTrue (list_all is_name_byte name) =
     λ name contents is. first_string name contents c.args.file_start (take c.args.begin block) read.parts after read.game.is_game.stand
-    (sym (tag_in-tags_of c.read_parts.new.keeper.tags name ∙ held.each name ∙ read.tags_kept name) ∙ is) in
+    (sym (tag_in-tags_of c.read_parts.new.visitor.tags name ∙ held.each name ∙ read.tags_kept name) ∙ is) in
     record {
-      ordered = tags_ascend c.read_parts.new.keeper.tags.entries held.ordered;
+      ordered = tags_ascend c.read_parts.new.visitor.tags.entries held.ordered;
       strings = λ name contents is. (found_first name contents is).0;
       names = λ name contents is. (found_first name contents is).1;
       paired = subst (IsPaired 0) (sym held.elements) read.paired;
@@ -38,14 +38,14 @@ pub returns : goal.returns
 returns c =
     let found = rw c.in-Some.is at c.in_ok-at.ensures in
     let read : GameRead depth_limit c.args.file_start c.args.block.now c.args.begin c.in-Some.at c.in-Some.end found.0 found.1 = found.2 in
-    let held : IsDraftOf c.read_parts.new.keeper found.0 found.1 =
-    found.3 (record { ordered = c.in_ok-draft.ensures.ordered; each = c.in_ok-draft.ensures.tags; elements = ap (map item_of) c.in_ok-draft.ensures.elements }) in (
+    let held : IsBuilderOf c.read_parts.new.visitor found.0 found.1 =
+    found.3 (record { ordered = c.in_ok-game_builder.ensures.ordered; each = c.in_ok-game_builder.ensures.tags; elements = ap (map item_of) c.in_ok-game_builder.ensures.elements }) in (
       read.parts,
       read.game,
       record {
         place = refl;
         text = bytes_of_game depth_limit c.args.file_start c.args.block.now c.args.begin c.in-Some.end read.parts read.game;
-        tags = λ wanted. tag_in-tags_of c.read_parts.new.keeper.tags wanted ∙ held.each wanted ∙ read.tags_kept wanted;
+        tags = λ wanted. tag_in-tags_of c.read_parts.new.visitor.tags wanted ∙ held.each wanted ∙ read.tags_kept wanted;
         elements = held.elements ∙ read.elements_kept;
         result = read.result;
       },

@@ -2,23 +2,23 @@ use Rattle.std.proofs.Common.{inl, arith}
 use Rattle.pgn_text.specs.Tokens.{state_of}
 use Rattle.pgn_text.specs.Limits.{depth_limit}
 use Rattle.pgn_text.proofs.PartsAt.{no_part_at_end}
-use Rattle.pgn_text.proofs.ReadLemmas.{kept_start, kept_more, kept_behind_white, kept_behind_dot, kept_stuck, kept_end}
+use Rattle.pgn_text.proofs.ReadLemmas.{kept_start, kept_more, kept_after_white, kept_after_dot, kept_stuck, kept_end}
 use Rattle.pgn_text.proofs.game.read_parts.Goals as goal
 
 pub loop-at-init : goal.loop-at-init
 loop-at-init g c =
-    kept_start (g.K.Keeper.kept c.args.keeper.now) depth_limit c.args.file_start c.args.block.now c.args.begin (state_of c.start-progress.result)
+    kept_start (g.K.Visitor.kept c.args.visitor.now) depth_limit c.args.file_start c.args.block.now c.args.begin (state_of c.start-progress.result)
     c.requires.place c.start-progress.ensures
 
 pub loop-at-preserved-in-Part : goal.loop-at-preserved-in-Part
 loop-at-preserved-in-Part g c =
-    kept_behind_white (kept_more c.loop-at.invariant (rw c.in-Part.is at c.in_ok-end.ensures)) (c.behind_white-at.ensures.passed c.args.file_start)
+    kept_after_white (kept_more c.loop-at.invariant (rw c.in-Part.is at c.in_ok-end.ensures)) (c.after_white-at.ensures.passed c.args.file_start)
 
 pub loop-at-preserved : goal.loop-at-preserved
 loop-at-preserved g c =
     let number = rw c.in-Number.is at c.in_ok-end.ensures in
-    kept_behind_white (kept_behind_dot number.1 (kept_more c.loop-at.invariant number.0) (c.behind_dot.ensures.passed c.args.file_start))
-    (c.behind_white-at-in-Number.ensures.passed c.args.file_start)
+    kept_after_white (kept_after_dot number.1 (kept_more c.loop-at.invariant number.0) (c.after_dot.ensures.passed c.args.file_start))
+    (c.after_white-at-in-Number.ensures.passed c.args.file_start)
 
 pub returns-in-Result : goal.returns-in-Result
 returns-in-Result g c = kept_end c.loop-at.invariant c.requires.outside (rw c.in-Result.is at c.in_ok-end.ensures)

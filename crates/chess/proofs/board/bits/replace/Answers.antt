@@ -3,7 +3,7 @@ use Rattle.chess.specs.Squares.{index_of}
 use Rattle.chess.specs.Placements.{with_man}
 use Rattle.chess.specs.BitWords.{words_men, IsCleared}
 use Rattle.chess.proofs.BitFacts.{put_none, put_some}
-use Rattle.chess.proofs.CarryFacts.{without, cleared_last, carried_apart, carried_men}
+use Rattle.chess.proofs.MovePieceFacts.{without, cleared_last, moved_apart, moved_men}
 use Rattle.chess.proofs.board.bits.replace.Goals as goal
 
 pub returns-in_default-clause-men : goal.returns-in_default-clause-men
@@ -13,7 +13,7 @@ returns-in_default-clause-men c =
     cleared_last old c.clear.new.words c.args.taken c.args.from c.args.to c.told-words c.word_of.ensures.on_board c.word_of-2.ensures.on_board
     (subst (IsCleared old c.clear.new.words)
     (λ i. bit_or (bit_or (c.word_of.ensures.word i) (c.word_of-2.ensures.word i)) (c.word_of-3.ensures.word i)) c.clear.ensures) in
-    carried_men old c.clear.new.words c.args.taken c.args.from c.args.to None c.told-words c.word_of.ensures.on_board c.word_of-2.ensures.on_board
+    moved_men old c.clear.new.words c.args.taken c.args.from c.args.to None c.told-words c.word_of.ensures.on_board c.word_of-2.ensures.on_board
     c.word_of-3.ensures.on_board c.requires
     (put_none (without (without old c.args.taken) c.args.from) c.clear.new.words (index_of c.args.to) cleared)
     ∙ ap (with_man (with_man (with_man (words_men old) c.args.taken None) c.args.from None) c.args.to) (sym c.in_default.is)
@@ -25,7 +25,7 @@ returns-clause-apart c =
     cleared_last old c.clear.new.words c.args.taken c.args.from c.args.to c.told-words c.word_of.ensures.on_board c.word_of-2.ensures.on_board
     (subst (IsCleared old c.clear.new.words)
     (λ i. bit_or (bit_or (c.word_of.ensures.word i) (c.word_of-2.ensures.word i)) (c.word_of-3.ensures.word i)) c.clear.ensures) in
-    carried_apart old c.set.new.words c.args.taken c.args.from c.args.to (Some c.in-Some.man) c.told-words c.word_of.ensures.on_board
+    moved_apart old c.set.new.words c.args.taken c.args.from c.args.to (Some c.in-Some.man) c.told-words c.word_of.ensures.on_board
     c.word_of-2.ensures.on_board c.requires
     (put_some (without (without old c.args.taken) c.args.from) c.clear.new.words c.set.new.words (index_of c.args.to) c.in-Some.man cleared c.set.ensures)
 
@@ -36,7 +36,7 @@ returns-clause-men c =
     cleared_last old c.clear.new.words c.args.taken c.args.from c.args.to c.told-words c.word_of.ensures.on_board c.word_of-2.ensures.on_board
     (subst (IsCleared old c.clear.new.words)
     (λ i. bit_or (bit_or (c.word_of.ensures.word i) (c.word_of-2.ensures.word i)) (c.word_of-3.ensures.word i)) c.clear.ensures) in
-    carried_men old c.set.new.words c.args.taken c.args.from c.args.to (Some c.in-Some.man) c.told-words c.word_of.ensures.on_board
+    moved_men old c.set.new.words c.args.taken c.args.from c.args.to (Some c.in-Some.man) c.told-words c.word_of.ensures.on_board
     c.word_of-2.ensures.on_board c.word_of-3.ensures.on_board c.requires
     (put_some (without (without old c.args.taken) c.args.from) c.clear.new.words c.set.new.words (index_of c.args.to) c.in-Some.man cleared c.set.ensures)
     ∙ ap (with_man (with_man (with_man (words_men old) c.args.taken None) c.args.from None) c.args.to) (sym c.in-Some.is)

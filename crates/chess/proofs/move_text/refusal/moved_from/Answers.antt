@@ -5,7 +5,7 @@ use Rattle.chess.specs.SanWords.{said_by, CanGoSaid, IsMoveSaid}
 use Rattle.chess.specs.Sets.{is_in}
 use Rattle.chess.specs.Refusals.{IsFrom}
 use Rattle.chess.specs.declared.moves.Move.{Move}
-use Rattle.chess.proofs.NamedFacts.{said_able, said_legal, said_on}
+use Rattle.chess.proofs.NamedFacts.{said_candidate, said_legal, said_on}
 use Rattle.chess.proofs.PlaceFacts.{true_not_false}
 use Rattle.chess.proofs.RefusalFacts.{said_here}
 use Rattle.chess.proofs.move_text.refusal.moved_from.Goals as goal
@@ -14,8 +14,8 @@ pub returns-then-not-has : goal.returns-then-not-has
 returns-then-not-has g c m here holds =
     let P = c.args.position.now in
     let said = said_by c.args.said.now in
-    let able = (c.able_men-able.ensures m.from).1 (said_on P said m holds, said_able P said m holds) in
-    true_not_false c.has.result (c.has.ensures ∙ subst (λ s. is_in c.able_men-able.result s ≡ true) here able) c.if-not-has.true
+    let candidates = (c.candidate_origins-candidates.ensures m.from).1 (said_on P said m holds, said_candidate P said m holds) in
+    true_not_false c.has.result (c.has.ensures ∙ subst (λ s. is_in c.candidate_origins-candidates.result s ≡ true) here candidates) c.if-not-has.true
 
 pub returns-then-not-is_legal : goal.returns-then-not-is_legal
 returns-then-not-is_legal g c m here holds =
@@ -28,6 +28,6 @@ pub returns : goal.returns
 returns g c =
     let P = c.args.position.now in
     let said = said_by c.args.said.now in
-    let able = ((c.able_men-able.ensures c.args.from).0 (sym c.has.ensures ∙ c.if-not-has.false)).1 in
+    let candidates = ((c.candidate_origins-candidates.ensures c.args.from).0 (sym c.has.ensures ∙ c.if-not-has.false)).1 in
     subst (λ (m : Move). IsFrom (IsMoveSaid P said) c.args.from (Some m)) (sym c.from-2.ensures)
-    (said_here P said c.args.from able (subst (IsLegal P) c.from.ensures (c.is_legal.ensures.0 c.if-not-is_legal.false)))
+    (said_here P said c.args.from candidates (subst (IsLegal P) c.from.ensures (c.is_legal.ensures.0 c.if-not-is_legal.false)))

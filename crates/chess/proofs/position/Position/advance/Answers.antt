@@ -11,10 +11,10 @@ invariant_of-self g c =
     let P = c.args.self.now in
     let m = c.args.m.now in
     let old : g.B.Board.men c.self.inside.board ≡ P.men = ap (λ (Q : State). Q.men) c.self.view_is in
-    let men : g.B.Board.men c.carry.new.self ≡ men_after P m =
-    c.carry.ensures ∙ men_plainly P m c.becoming-arriving.result c.taken_by-taken.result (g.B.Board.men c.self.inside.board) c.requires.plain old c.becoming-arriving.ensures c.taken_by-taken.ensures in
+    let men : g.B.Board.men c.move_piece.new.self ≡ men_after P m =
+    c.move_piece.ensures ∙ men_plainly P m c.becoming-arriving.result c.taken_by-taken.result (g.B.Board.men c.self.inside.board) c.requires.plain old c.becoming-arriving.ensures c.taken_by-taken.ensures in
     let shown : record {
-      men = g.B.Board.men c.carry.new.self;
+      men = g.B.Board.men c.move_piece.new.self;
       turn = c.turn_after-turn.result;
       rights = c.rights_after-rights.result;
       en_passant = c.en_passant_after-en_passant.result;
@@ -32,7 +32,7 @@ invariant_of-self g c =
     } in
     subst (λ (Q : State). IsKept Q c.king_after-white_king.result c.king_after-black_king.result) (sym shown)
     (record {
-      sound = after_sound P m (record { sound = c.known.ensures; rules = c.requires.legal.pseudo_legal }) c.requires.legal.safe;
+      sound = after_sound P m (record { sound = c.invariant.ensures; rules = c.requires.legal.pseudo_legal }) c.requires.legal.safe;
       white = c.king_after-white_king.ensures;
       black = c.king_after-black_king.ensures;
     })

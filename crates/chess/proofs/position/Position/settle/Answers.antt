@@ -28,7 +28,7 @@ invariant_of-self g c =
     } in
     subst (λ (Q : State). IsKept Q c.king_after-white_king.result c.king_after-black_king.result) (sym shown)
     (record {
-      sound = after_sound P m (record { sound = c.known.ensures; rules = c.requires.legal.pseudo_legal }) c.requires.legal.safe;
+      sound = after_sound P m (record { sound = c.invariant.ensures; rules = c.requires.legal.pseudo_legal }) c.requires.legal.safe;
       white = c.king_after-white_king.ensures;
       black = c.king_after-black_king.ensures;
     })

@@ -3,22 +3,22 @@ use Rattle.chess.specs.Squares.{Place}
 use Rattle.chess.specs.Placements.{Placement}
 use Rattle.chess.specs.Positions.{State, IsSound, king_from}
 use Rattle.chess.specs.Codes.{IsKept}
-use Rattle.chess.specs.Start.{usual}
+use Rattle.chess.specs.Start.{initial}
 use Rattle.chess.specs.declared.board.man.Side.TheVariants.{White}
-use Rattle.chess.proofs.StartFacts.{usual_kept}
+use Rattle.chess.proofs.StartFacts.{initial_kept}
 use Rattle.chess.proofs.position.Position.start.Goals as goal
 
--- the usual position with that placement
+-- the initial position with that placement
 with_men : Placement → State
-with_men men = record usual { men = men }
+with_men men = record initial { men = men }
 
 pub invariant_of-result : goal.invariant_of-result
 unfolding with_men
 invariant_of-result g c =
-    subst (λ (men : Placement). IsKept (with_men men) c.at.result c.at-2.result) (sym c.usual.ensures)
-    (subst (λ (k : Place). IsKept usual k c.at-2.result) (sym c.at.ensures.square)
-    (subst (λ (k : Place). IsKept usual (king_from White) k) (sym c.at-2.ensures.square) usual_kept))
+    subst (λ (men : Placement). IsKept (with_men men) c.at.result c.at-2.result) (sym c.initial.ensures)
+    (subst (λ (k : Place). IsKept initial k c.at-2.result) (sym c.at.ensures.square)
+    (subst (λ (k : Place). IsKept initial (king_from White) k) (sym c.at-2.ensures.square) initial_kept))
 
 pub returns-clause-sound : goal.returns-clause-sound
 unfolding with_men
-returns-clause-sound g c = subst (λ (men : Placement). IsSound (with_men men)) (sym c.usual.ensures) usual_kept.sound
+returns-clause-sound g c = subst (λ (men : Placement). IsSound (with_men men)) (sym c.initial.ensures) initial_kept.sound

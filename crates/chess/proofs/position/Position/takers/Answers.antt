@@ -1,17 +1,17 @@
 use Rattle.std.proofs.Common.{◌≡◌, inl, inr, ap, sym, subst, ◌∙◌, true}
-use Rattle.chess.specs.Placements.{opposite, IsHeld}
+use Rattle.chess.specs.Placements.{opposite, IsOccupiedBy}
 use Rattle.chess.specs.MoveWords.{IsTaker}
 use Rattle.chess.specs.Sets.{is_in}
 use Rattle.chess.proofs.PlaceFacts.{true_not_false}
-use Rattle.chess.proofs.AbleFacts.{none_hold}
+use Rattle.chess.proofs.CandidateFacts.{none_hold}
 use Rattle.chess.proofs.position.Position.takers.Goals as goal
 
-pub returns-then-not-passes : goal.returns-then-not-passes
-returns-then-not-passes g c =
+pub returns-then-not-is_en_passant_target : goal.returns-then-not-is_en_passant_target
+returns-then-not-is_en_passant_target g c =
     let P = c.args.self.now in
     let side = c.opposite.ensures ∙ ap opposite c.side.ensures in
     none_hold (λ s. (is_in c.args.among s ≡ true) × IsTaker P c.args.to s) c.new.result c.new.ensures
     (λ s on taker. elim taker.1.1.1 [
-      | inl held ↦ true_not_false c.is_held.result (c.is_held.ensures.1 (subst (λ a. IsHeld P.men a c.args.to) (sym side) held)) c.if-not-is_held.true
-      | inr passes ↦ true_not_false c.passes.result (c.passes.ensures.fact.1 passes) c.if-not-passes.true
+      | inl held ↦ true_not_false c.is_occupied_by.result (c.is_occupied_by.ensures.1 (subst (λ a. IsOccupiedBy P.men a c.args.to) (sym side) held)) c.if-not-is_occupied_by.true
+      | inr passes ↦ true_not_false c.is_en_passant_target.result (c.is_en_passant_target.ensures.fact.1 passes) c.if-not-is_en_passant_target.true
     ])

@@ -24,9 +24,9 @@ returns-else-self c =
       | then-is_met w ↦
           let P = c.args.position.now in
           let rest = w.rest_is_met.ensures.0 (sym w.value-is ∙ c.if-rest_is_met.true) in
-          let told = rw (c.deref.ensures.value, c.self.view_is) at c.are_of_stage.ensures in (
-            λ t. (stages_parted P c.args.self.now).1 (told.0 t, rest),
-            λ all. told.1 ((stages_parted P c.args.self.now).0 all).0,
+          let reports = rw (c.deref.ensures.value, c.self.view_is) at c.are_of_stage.ensures in (
+            λ t. (stages_parted P c.args.self.now).1 (reports.0 t, rest),
+            λ all. reports.1 ((stages_parted P c.args.self.now).0 all).0,
           )
       | else-is_met w ↦ absurd (cc (w.value-is, c.if-rest_is_met.true))
     ]

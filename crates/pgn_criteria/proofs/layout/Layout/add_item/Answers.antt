@@ -14,14 +14,14 @@ returns-in_ok-add_run-in-Some-Run-default c =
     let taken = c.args.taken in
     let some = c.in-Some-Run-default in
     let items = c.args.items.now in
-    let behind = some.behind.now in
-    let next = subst (λ (i : Item). IsNextItem items i behind) some.field-0-0-is some.ensures.next in (
+    let after = some.after.now in
+    let next = subst (λ (i : Item). IsNextItem items i after) some.field-0-0-is some.ensures.next in (
       omega arith,
       some.ensures.shorter,
       lays_step (λ P. CanBeSplit (items_of items) (drop taken (row P.men rank))) (λ P. CanBeSplit (items_of items) (drop taken (row P.men rank)))
-          (λ P. EachFrom P.men some.class rank taken 0 some.count) (λ P. CanBeSplit (items_of behind) (drop (taken + some.count) (row P.men rank)))
+          (λ P. EachFrom P.men some.class rank taken 0 some.count) (λ P. CanBeSplit (items_of after) (drop (taken + some.count) (row P.men rank)))
           c.args.self.now c.args.self.now c.add_run.new.self true true true (lays_start (λ P. CanBeSplit (items_of items) (drop taken (row P.men rank))) c.args.self.now)
-          c.in_ok-add_run-in-Some-Run-default.ensures (λ P. next_run P.men rank taken some.count items behind some.class next (omega arith)) (λ t. (refl, refl)),
+          c.in_ok-add_run-in-Some-Run-default.ensures (λ P. next_run P.men rank taken some.count items after some.class next (omega arith)) (λ t. (refl, refl)),
     )
 
 pub returns-else-size-taken : goal.returns-else-size-taken
@@ -31,12 +31,12 @@ returns-else-size-taken c =
     let size = c.in-Some.size in
     let some = c.in-Some-Many-default in
     let items = c.args.items.now in
-    let behind = some.behind.now in
-    let next = subst (λ (i : Item). IsNextItem items i behind) some.field-0-0-is some.ensures.next in (
+    let after = some.after.now in
+    let next = subst (λ (i : Item). IsNextItem items i after) some.field-0-0-is some.ensures.next in (
       omega arith,
       some.ensures.shorter,
       lays_same (λ P. CanBeSplit (items_of items) (drop taken (row P.men rank))) (λ P. CanBeSplit (items_of items) (drop taken (row P.men rank)))
-          (λ P. CanBeSplit (items_of behind) (drop (8 - size) (row P.men rank))) c.args.self.now c.args.self.now true
+          (λ P. CanBeSplit (items_of after) (drop (8 - size) (row P.men rank))) c.args.self.now c.args.self.now true
           (lays_start (λ P. CanBeSplit (items_of items) (drop taken (row P.men rank))) c.args.self.now)
-          (λ P. next_many P.men rank taken size items behind next c.in-Some.ensures.small (omega arith) c.in-Some.ensures.size),
+          (λ P. next_many P.men rank taken size items after next c.in-Some.ensures.small (omega arith) c.in-Some.ensures.size),
     )

@@ -31,9 +31,9 @@ loop-step-preserved c =
     let rest = c.loop-step.rest.now in
     let parts = rw c.in-Some.is at c.next_part.ensures in
     lays_step (λ P. FitsPattern P.men c.args.pattern.now) (λ P. FitRanks P.men (8 - step) (parted_at 47 rest)) (λ P. CanBeSplit (items_of items) (row P.men (8 - step)))
-    (λ P. FitRanks P.men (8 - (step + 1)) (parted_at 47 c.in-Some.behind.now))
+    (λ P. FitRanks P.men (8 - (step + 1)) (parted_at 47 c.in-Some.after.now))
     c.args.self.now c.loop-step.self c.add_rank.new.self c.loop-step.is_all c.in_ok-is_all.is_all c.if-branch.is_all c.loop-step.invariant c.in_ok-is_all.ensures
-    (λ P. next_rank P.men rest items c.in-Some.behind.now step c.loop-step-test.true parts)
+    (λ P. next_rank P.men rest items c.in-Some.after.now step c.loop-step-test.true parts)
     (λ t. elim c.if-branch.branch [
       | then-branch w ↦ let both : c.loop-step.is_all ≡ true = cc (w.is_all-is, t) in (both, w.if-branch.true)
       | else-branch w ↦ absurd (cc (w.is_all-is, t))

@@ -26,9 +26,9 @@ returns-else-is_empty c =
         λ s here.
             elim (man_at men s) as (λ o. man_at men s ≡ o → man_at men s ≡ None) [
               | None ↦ λ is. is
-              | Some man ↦ λ is. absurd ((c.requires s (c.known.ensures.on_board s man is)).0 (c.are_within.ensures.0 t man.side man.kind s is) here)
+              | Some man ↦ λ is. absurd ((c.requires s (c.invariant.ensures.on_board s man is)).0 (c.are_within.ensures.0 t man.side man.kind s is) here)
             ] refl,
       ),
       λ laid. c.are_within.ensures.1 (λ side kind s is.
-          (c.requires s (c.known.ensures.on_board s (record { side = side; kind = kind }) is)).1 (λ here. some_not_none (man_at men s) (record { side = side; kind = kind }) (laid.2 s here) is)),
+          (c.requires s (c.invariant.ensures.on_board s (record { side = side; kind = kind }) is)).1 (λ here. some_not_none (man_at men s) (record { side = side; kind = kind }) (laid.2 s here) is)),
     )

@@ -6,7 +6,7 @@ use Rattle.chess.specs.Letters.{kind_letter}
 use Rattle.chess.specs.declared.board.man.Kind.{Kind}
 use Rattle.chess.specs.declared.board.man.Kind.TheVariants.{King, Queen, Rook, Bishop, Knight, Pawn}
 use Rattle.pgn_criteria.specs.Materials.{limit_of}
-use Rattle.pgn_criteria.specs.Reading.{limit_behind}
+use Rattle.pgn_criteria.specs.Reading.{limit_after}
 use Rattle.pgn_criteria.specs.declared.material.Limits.{Limits}
 use Rattle.pgn_criteria.proofs.LimitFacts.{limits_some, limits_entries, limits_spelled}
 use Rattle.pgn_criteria.proofs.line.limits.limits_of.Goals as goal
@@ -20,10 +20,10 @@ returns-then-not-are_entries c limits spells =
     let t = c.are_entries.ensures.1 (limits_entries c.args.text.now limits spells) in absurd (cc (t, c.if-not-are_entries.true))
 
 -- six limits are those of the six kinds
-by_kind : (text : List ℕ) (limits : Limits) → limits.king ≡ limit_behind (kind_letter King) text → limits.queen ≡ limit_behind (kind_letter Queen) text
-    → limits.rook ≡ limit_behind (kind_letter Rook) text → limits.bishop ≡ limit_behind (kind_letter Bishop) text
-    → limits.knight ≡ limit_behind (kind_letter Knight) text → limits.pawn ≡ limit_behind (kind_letter Pawn) text
-    → (kind : Kind) → limit_of limits kind ≡ limit_behind (kind_letter kind) text
+by_kind : (text : List ℕ) (limits : Limits) → limits.king ≡ limit_after (kind_letter King) text → limits.queen ≡ limit_after (kind_letter Queen) text
+    → limits.rook ≡ limit_after (kind_letter Rook) text → limits.bishop ≡ limit_after (kind_letter Bishop) text
+    → limits.knight ≡ limit_after (kind_letter Knight) text → limits.pawn ≡ limit_after (kind_letter Pawn) text
+    → (kind : Kind) → limit_of limits kind ≡ limit_after (kind_letter kind) text
 by_kind text limits king queen rook bishop knight pawn King = king
 by_kind text limits king queen rook bishop knight pawn Queen = queen
 by_kind text limits king queen rook bishop knight pawn Rook = rook

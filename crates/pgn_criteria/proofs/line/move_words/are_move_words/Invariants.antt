@@ -2,8 +2,8 @@ use Rattle.std.proofs.Common.{◌↔◌, length}
 use Rattle.pgn_criteria.specs.Lines.{AreMoveWords}
 use Rattle.pgn_criteria.proofs.line.move_words.are_move_words.Given as goal
 
-abbrev pub invariant-loop-behind : goal.invariant-loop-behind
-invariant-loop-behind l = AreMoveWords l.rest ↔ AreMoveWords l.text
+abbrev pub invariant-loop-after : goal.invariant-loop-after
+invariant-loop-after l = AreMoveWords l.rest ↔ AreMoveWords l.text
 
-abbrev pub decreases-loop-behind : goal.decreases-loop-behind
-decreases-loop-behind l = length l.rest
+abbrev pub decreases-loop-after : goal.decreases-loop-after
+decreases-loop-after l = length l.rest

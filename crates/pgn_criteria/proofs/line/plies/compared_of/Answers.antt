@@ -1,6 +1,6 @@
 use Rattle.std.proofs.Common.{◌≡◌, ap, sym, ◌∙◌, subst}
 use Rattle.pgn_criteria.specs.Lines.{SpellsCount}
-use Rattle.pgn_criteria.specs.Reading.{run_of, behind_word}
+use Rattle.pgn_criteria.specs.Reading.{run_of, after_word}
 use Rattle.pgn_criteria.proofs.PliesFacts.{compared_read, compared_spelled}
 use Rattle.pgn_criteria.proofs.line.plies.compared_of.Goals as goal
 
@@ -18,12 +18,12 @@ pub returns-in_err-count : goal.returns-in_err-count
 returns-in_err-count c =
     rw c.from_residual-in_err-count.ensures λ comparison count spells.
     let read = compared_read c.args.key.now c.args.text.now comparison count c.requires spells in
-    let rest : behind_word (behind_word c.args.text.now) ≡ c.split_first.result.1.now = ap behind_word (sym c.in_ok-rest.ensures.1) ∙ sym c.split_first.ensures.rest in
+    let rest : after_word (after_word c.args.text.now) ≡ c.split_first.result.1.now = ap after_word (sym c.in_ok-rest.ensures.1) ∙ sym c.split_first.ensures.rest in
     c.in_err-count.ensures count (subst (λ x. SpellsCount x count) rest read.count_is)
 
 pub returns : goal.returns
 returns c =
-    let rest : c.split_first.result.1.now ≡ behind_word (behind_word c.args.text.now) = c.split_first.ensures.rest ∙ ap behind_word c.in_ok-rest.ensures.1 in
+    let rest : c.split_first.result.1.now ≡ after_word (after_word c.args.text.now) = c.split_first.ensures.rest ∙ ap after_word c.in_ok-rest.ensures.1 in
     compared_spelled c.args.key.now c.args.text.now c.in_ok-comparison.comparison c.in_ok-count.count
     (record {
       key_is = c.in_ok-rest.ensures.0;

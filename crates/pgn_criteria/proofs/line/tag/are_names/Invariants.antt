@@ -3,8 +3,8 @@ use Rattle.chess.specs.Fen.{parted_at}
 use Rattle.pgn_criteria.specs.Lines.{AreNames}
 use Rattle.pgn_criteria.proofs.line.tag.are_names.Given as goal
 
-abbrev pub invariant-loop-behind : goal.invariant-loop-behind
-invariant-loop-behind l = AreNames (parted_at 124 l.rest) ↔ AreNames (parted_at 124 l.text)
+abbrev pub invariant-loop-after : goal.invariant-loop-after
+invariant-loop-after l = AreNames (parted_at 124 l.rest) ↔ AreNames (parted_at 124 l.text)
 
-abbrev pub decreases-loop-behind : goal.decreases-loop-behind
-decreases-loop-behind l = length (parted_at 124 l.rest)
+abbrev pub decreases-loop-after : goal.decreases-loop-after
+decreases-loop-after l = length (parted_at 124 l.rest)

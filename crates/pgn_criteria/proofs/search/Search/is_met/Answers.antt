@@ -3,7 +3,7 @@ use Rattle.std.proofs.Math.Seq.{drop-length}
 use Rattle.pgn_criteria.specs.Meeting.{SomeHold}
 use Rattle.pgn_criteria.specs.Stages.{on_positions}
 use Rattle.pgn_criteria.proofs.MeetFacts.{some_found, some_left, alternatives_from}
-use Rattle.pgn_criteria.proofs.StageFacts.{told_positions}
+use Rattle.pgn_criteria.proofs.StageFacts.{reports_positions}
 use Rattle.pgn_criteria.proofs.search.Search.is_met.Goals as goal
 
 pub returns-then-is_met : goal.returns-then-is_met
@@ -14,7 +14,7 @@ returns-then-is_met c heading replay ply =
     let P = c.args.position.now in
     some_found heading replay ply P (map (λ a. on_positions a.now) (drop i all)) (map (λ a. on_positions a.now) (drop (i + 1) all)) (on_positions own.now) c.is_met.result c.args.self.now
     (ap (map (λ a. on_positions a.now)) (alternatives_from all i own c.loop-alternative-test.true c.alternative-item.is)) c.if-is_met.true
-    (told_positions heading replay ply P own.now c.is_met.result c.is_met.ensures) (c.loop-alternative.invariant heading replay ply)
+    (reports_positions heading replay ply P own.now c.is_met.result c.is_met.ensures) (c.loop-alternative.invariant heading replay ply)
 
 pub loop-alternative-preserved : goal.loop-alternative-preserved
 loop-alternative-preserved c heading replay ply =
@@ -24,7 +24,7 @@ loop-alternative-preserved c heading replay ply =
     let P = c.args.position.now in
     some_left heading replay ply P (map (λ a. on_positions a.now) (drop i all)) (map (λ a. on_positions a.now) (drop (i + 1) all)) (on_positions own.now) c.is_met.result c.args.self.now
     (ap (map (λ a. on_positions a.now)) (alternatives_from all i own c.loop-alternative-test.true c.alternative-item.is)) c.if-is_met.false
-    (told_positions heading replay ply P own.now c.is_met.result c.is_met.ensures) (c.loop-alternative.invariant heading replay ply)
+    (reports_positions heading replay ply P own.now c.is_met.result c.is_met.ensures) (c.loop-alternative.invariant heading replay ply)
 
 pub returns : goal.returns
 returns c heading replay ply =

@@ -34,12 +34,12 @@ loop-ply-preserved c =
     let is_met = c.index.result.now in
     let here : slice_get c.in_ok-met.met.items ply ≡ Some is_met =
     slice_get-get_or c.in_ok-met.met.items ply is_met (omega (arith, c.len.ensures, c.loop-ply-test.true)) ∙ ap Some (sym c.index.ensures) in
-    let told : IsTrue is_met ↔ IsMet c.args.self.now.settings.now.criteria (heading_of game) kept ply =
-    subst (λ (o : Option (List (List (Condition (List ℕ))))). IsTrue is_met ↔ IsMet o (heading_of game) kept ply) (sym c.requires.criteria) (c.in_ok-met.ensures.told ply is_met here) in
+    let reports : IsTrue is_met ↔ IsMet c.args.self.now.settings.now.criteria (heading_of game) kept ply =
+    subst (λ (o : Option (List (List (Condition (List ℕ))))). IsTrue is_met ↔ IsMet o (heading_of game) kept ply) (sym c.requires.criteria) (c.in_ok-met.ensures.reports ply is_met here) in
     record {
       within = omega (arith, c.len.ensures, c.loop-ply-test.true);
       looked = looks_on c.loop-ply.invariant.looked (omega (arith, c.in_ok-met.ensures.each, c.len.ensures, c.loop-ply-test.true))
-          (λ before P rest parts count so_far. c.in_ok-is_open.ensures game (Main, c.requires.is_replay) told before P rest parts count c.args.text.now.items so_far);
+          (λ before P rest parts count so_far. c.in_ok-is_open.ensures game (Main, c.requires.is_replay) reports before P rest parts count c.args.text.now.items so_far);
     }
 
 pub returns : goal.returns

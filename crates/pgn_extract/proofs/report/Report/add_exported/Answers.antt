@@ -11,7 +11,7 @@ use Rattle.pgn_extract.proofs.report.Report.add_exported.Goals as goal
 pub returns-in-Ok : goal.returns-in-Ok
 returns-in-Ok c =
     let put = c.in-Ok.ensures in
-    exported_replay (aim_of c.args.context.settings.now) c.known.ensures put.0 put.2 put.1 put.3 (record { output = put.4; faults = refl; games = refl; faulty = refl })
+    exported_replay (aim_of c.args.context.settings.now) c.invariant.ensures put.0 put.2 put.1 put.3 (record { output = put.4; faults = refl; games = refl; faulty = refl })
 
 pub returns-in_ok-push_faulty-in-Err : goal.returns-in_ok-push_faulty-in-Err
 returns-in_ok-push_faulty-in-Err c =

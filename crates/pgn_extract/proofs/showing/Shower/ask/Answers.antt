@@ -22,9 +22,9 @@ returns-then-ply-self-2 c game asks before played text to so_far =
       | then-ply-self-2-via-then-ply-self-2 w ↦ λ replay own rest is wanted.
           let low = wanted.0 in let count = to.count in omega (arith, count, c.plies-ply.ensures, w.if-ply-self-2.true, low)
       | then-ply-self-2-via-else-ply-self-2+then-not-is_met w ↦
-          let told : (tags : Heading) (replay : Replay) (ply : ℕ) → IsTrue w.is_met.result ↔ SomeHold tags replay ply P (asked_of c.args.self.now.search) =
+          let reports : (tags : Heading) (replay : Replay) (ply : ℕ) → IsTrue w.is_met.result ↔ SomeHold tags replay ply P (asked_of c.args.self.now.search) =
           λ tags replay ply. subst (λ p. IsTrue w.is_met.result ↔ SomeHold tags replay ply p (asked_of c.args.self.now.search)) w.position.ensures (w.is_met.ensures tags replay ply) in
-          not_wanted (aim_of c.args.self.now.settings.now) game (asked_of c.args.self.now.search) asks before P w.is_met.result told w.if-not-is_met.true
+          not_wanted (aim_of c.args.self.now.settings.now) game (asked_of c.args.self.now.search) asks before P w.is_met.result reports w.if-not-is_met.true
     ])
 
 pub returns : goal.returns

@@ -6,7 +6,7 @@ use Rattle.chess.specs.CellFacts.{on_board-men_of}
 use Rattle.chess.specs.Placements.{IsEmpty}
 use Rattle.chess.specs.BitWords.{IsWordOf, AreLeft, words_men, man_in}
 use Rattle.chess.specs.declared.board.man.Side.{Side}
-use Rattle.chess.proofs.LeftFacts.{carried_so, IsGone, gone_word, rest_word, left_then, men_then}
+use Rattle.chess.proofs.LeftFacts.{moved_so, IsGone, gone_word, rest_word, left_then, men_then}
 use Rattle.chess.proofs.board.bits.BitsBoard.attacked_after.Goals as goal
 
 pub returns : goal.returns
@@ -24,7 +24,7 @@ returns c =
     (gone_word from taken to c.word_of.result c.word_of-2.result c.word_of-3.result c.word_of-2.ensures.on_board c.word_of.ensures.on_board
     c.word_of-3.ensures.on_board c.word_of.ensures.word c.word_of-2.ensures.word c.word_of-3.ensures.word) in
     let rest = bit_not w64 gone in
-    let p = carried_so men c.args.man from taken to in
+    let p = moved_so men c.args.man from taken to in
     subst (λ (side : Side). IsTrue c.is_hit.result ↔ IsAttacked p side c.args.square) c.opposite.ensures
     (c.is_hit.ensures p
     (subst (λ (side : Side). AreLeft men p side rest) (sym c.opposite.ensures)

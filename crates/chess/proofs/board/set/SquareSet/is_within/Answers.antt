@@ -22,7 +22,7 @@ within_then own other same s here =
     is_in-places_of (has_bit other) s on ∙ eq-eqb _ _ there
 
 then_within : (own other : ℕ) → own < 2 ^ 64 → ((s : Place) → is_in (places_of (has_bit own)) s ≡ true → is_in (places_of (has_bit other)) s ≡ true) → bit_and own other ≡ own
-then_within own other fits told =
+then_within own other fits reports =
     let low = and_le_l own other in
     let below : bit_and own other < 2 ^ 64 = omega arith in
     same_from_bits_below 64 (bit_and own other) own below fits (λ i near. elim (cases_eq (bit_at own i) 1) [
@@ -31,7 +31,7 @@ then_within own other fits told =
           let at = index_of-square_at i near in
           let here = is_in-places_of (has_bit own) (square_at i) on ∙ ap (has_bit own) at ∙ eq-eqb _ _ set in
           let there : bit_at other i ≡ 1 =
-          eqb-true _ _ (sym (ap (has_bit other) at) ∙ sym (is_in-places_of (has_bit other) (square_at i) on) ∙ told (square_at i) here) in
+          eqb-true _ _ (sym (ap (has_bit other) at) ∙ sym (is_in-places_of (has_bit other) (square_at i) on) ∙ reports (square_at i) here) in
           let both = bit_at_and own other i in
           omega arith
       | inr other_bit ↦
@@ -45,7 +45,7 @@ returns c =
     let own = c.self.inside.word in
     let other = c.other.inside.word in
     let shown : (s : Place) → is_in (places_of (has_bit own)) s ≡ is_in c.args.self.now s = λ s. ap (λ set. is_in set s) c.self.view_is in
-    let told : (s : Place) → is_in (places_of (has_bit other)) s ≡ is_in c.args.other.now s = λ s. ap (λ set. is_in set s) c.other.view_is in (
-      (λ e s here. sym (told s) ∙ within_then own other (eqb-true _ _ e) s (shown s ∙ here)),
-      (λ all. eq-eqb _ _ (then_within own other c.self.invariant (λ s here. told s ∙ all s (sym (shown s) ∙ here)))),
+    let reports : (s : Place) → is_in (places_of (has_bit other)) s ≡ is_in c.args.other.now s = λ s. ap (λ set. is_in set s) c.other.view_is in (
+      (λ e s here. sym (reports s) ∙ within_then own other (eqb-true _ _ e) s (shown s ∙ here)),
+      (λ all. eq-eqb _ _ (then_within own other c.self.invariant (λ s here. reports s ∙ all s (sym (shown s) ∙ here)))),
     )

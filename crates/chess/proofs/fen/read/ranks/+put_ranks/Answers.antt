@@ -2,12 +2,12 @@ use Rattle.std.proofs.Common.{◌≡◌, ℕ, List, [], ◌∷◌, MatchOption, 
 use Rattle.chess.specs.Placements.{Placement}
 use Rattle.chess.specs.Fen.{parted_at, SpellRanks}
 use Rattle.chess.specs.Runs.{run_of, after_run}
-use Rattle.chess.proofs.FieldFacts.{parted_by_run, parted_behind}
+use Rattle.chess.proofs.FieldFacts.{parted_by_run, parted_after}
 use Rattle.chess.proofs.fen.read.ranks.+put_ranks.Goals as goal
 
 no_rank : (p : Placement) (rest : List ℕ) → SpellRanks p 0 (parted_at 47 rest) → ⊥
 no_rank p rest spelled =
-    let first : SpellRanks p 0 (run_of 47 rest ∷ parted_behind 47 (after_run 47 rest)) = subst (SpellRanks p 0) (parted_by_run 47 rest) spelled in
+    let first : SpellRanks p 0 (run_of 47 rest ∷ parted_after 47 (after_run 47 rest)) = subst (SpellRanks p 0) (parted_by_run 47 rest) spelled in
     let low = first.0 in
     omega arith
 

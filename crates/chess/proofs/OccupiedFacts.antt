@@ -1,0 +1,71 @@
+-- The squares of a side's men, from the words of its kinds.
+use Rattle.std.proofs.Common.{◌≡◌, ◌≢◌, ◌↔◌, ◌⊎◌, ◌∙◌, bit_or, bit_and, ℕ, inl, inr, ap, refl, Some}
+use Rattle.chess.specs.Squares.{Place, IsOnBoard, index_of}
+use Rattle.chess.specs.Placements.{Placement, IsOccupiedBy}
+use Rattle.chess.specs.SetWords.{has_bit}
+use Rattle.chess.specs.BitWords.{IsWordOf, IsMan, square_word}
+use Rattle.chess.specs.declared.board.man.Side.{Side}
+use Rattle.chess.specs.declared.board.man.Kind.{Kind}
+use Rattle.chess.specs.declared.board.man.Kind.TheVariants.{King, Queen, Rook, Bishop, Knight, Pawn}
+use Rattle.chess.proofs.PlaceFacts.{man_of}
+use Rattle.chess.proofs.FillFacts.{either_word, common_none, common_some}
+use Rattle.chess.proofs.BitFacts.{is_or}
+
+-- a man of the side is of one of six kinds
+abbrev pub IsOfSix : Placement → Side → Place → Type 0
+IsOfSix p side s =
+    ((((IsMan p side King s ⊎ IsMan p side Queen s) ⊎ IsMan p side Rook s) ⊎ IsMan p side Bishop s) ⊎ IsMan p side Knight s) ⊎ IsMan p side Pawn s
+
+of_kind : (p : Placement) (side : Side) (s : Place) (other : Kind) → IsMan p side other s → IsOfSix p side s
+of_kind p side s King here = inl (inl (inl (inl (inl here))))
+of_kind p side s Queen here = inl (inl (inl (inl (inr here))))
+of_kind p side s Rook here = inl (inl (inl (inr here)))
+of_kind p side s Bishop here = inl (inl (inr here))
+of_kind p side s Knight here = inl (inr here)
+of_kind p side s Pawn here = inr here
+
+occupied_of : (p : Placement) (side : Side) (s : Place) (other : Kind) → IsMan p side other s → IsOccupiedBy p side s
+occupied_of p side s other here = (record { side = side; kind = other }, here, refl)
+
+occupied_six : (p : Placement) (side : Side) (s : Place) → IsOfSix p side s → IsOccupiedBy p side s
+occupied_six p side s h = elim h [
+  | inr pawn ↦ occupied_of p side s Pawn pawn
+  | inl h ↦ elim h [
+    | inr knight ↦ occupied_of p side s Knight knight
+    | inl h ↦ elim h [
+      | inr bishop ↦ occupied_of p side s Bishop bishop
+      | inl h ↦ elim h [
+        | inr rook ↦ occupied_of p side s Rook rook
+        | inl h ↦ elim h [ inl king ↦ occupied_of p side s King king | inr queen ↦ occupied_of p side s Queen queen ]
+      ]
+    ]
+  ]
+]
+
+six_occupied : (p : Placement) (side : Side) (s : Place) → IsOccupiedBy p side s → IsOfSix p side s
+six_occupied p side s h =
+    let man : h.0 ≡ record { side = side; kind = h.0.kind } = man_of h.0 (record { side = side; kind = h.0.kind }) h.2 refl in
+    of_kind p side s h.0.kind (h.1 ∙ ap Some man)
+
+pub word_of_occupied : (p : Placement) (side : Side) (a b c d e f : ℕ) → IsWordOf (IsMan p side King) a → IsWordOf (IsMan p side Queen) b
+    → IsWordOf (IsMan p side Rook) c → IsWordOf (IsMan p side Bishop) d → IsWordOf (IsMan p side Knight) e → IsWordOf (IsMan p side Pawn) f
+    → IsWordOf (IsOccupiedBy p side) (bit_or (bit_or (bit_or (bit_or (bit_or a b) c) d) e) f)
+word_of_occupied p side a b c d e f king queen rook bishop knight pawn s on =
+    let six =
+    either_word _ _ (bit_or (bit_or (bit_or (bit_or a b) c) d) e) f
+    (either_word _ _ (bit_or (bit_or (bit_or a b) c) d) e
+    (either_word _ _ (bit_or (bit_or a b) c) d
+    (either_word _ _ (bit_or a b) c
+    (either_word _ _ a b king queen) rook) bishop) knight) pawn s on in
+    ((λ bit. occupied_six p side s (six.0 bit)), (λ held. six.1 (six_occupied p side s held)))
+
+-- one square of a word is asked
+pub has_square : (A : Place → Type 0) (all word : ℕ) (s : Place) → IsOnBoard s → word ≡ square_word s → IsWordOf A all
+    → (bit_and all word ≢ 0) ↔ A s
+has_square A all word s on is are = (
+  (λ some. elim (is_or (has_bit all (index_of s))) [
+    | inl bit ↦ (are s on).0 bit
+    | inr none ↦ absurd (some (common_none all word s is none))
+  ]),
+  (λ fact zero. common_some all word s is ((are s on).1 fact) zero),
+)

@@ -1,0 +1,13 @@
+use Rattle.std.proofs.Common.{◌≡◌, true}
+use Rattle.chess.specs.Squares.{index_of}
+use Rattle.chess.specs.Sets.{size_of}
+use Rattle.chess.specs.SetWords.{has_bit}
+use Rattle.chess.specs.MoveWords.{IsLeft}
+use Rattle.chess.proofs.AttackerFacts.{IsOpenFrom}
+use Rattle.chess.proofs.board.attack_tables.has_unblocked.Given as goal
+
+abbrev pub invariant-loop-square : goal.invariant-loop-square
+invariant-loop-square l = IsLeft (λ s. has_bit l.squares (index_of s) ≡ true) (IsOpenFrom l.target l.squares l.occupied) l.left
+
+abbrev pub decreases-loop-square : goal.decreases-loop-square
+decreases-loop-square l = size_of l.left

@@ -1,9 +1,0 @@
-use Rattle.chess.specs.BitWords.{words_men}
-use Rattle.chess.proofs.HitterFacts.{among_own}
-use Rattle.chess.proofs.board.bits.BitsBoard.hitters.Goals as goal
-
-pub returns : goal.returns
-returns c =
-    let men = words_men c.args.self.now.words in
-    among_own men c.args.man c.args.target c.squares_with.result c.word.result c.args.among c.hitters_of.result c.squares_with.ensures c.word.ensures
-    (c.hitters_of.ensures men c.occupied.ensures)

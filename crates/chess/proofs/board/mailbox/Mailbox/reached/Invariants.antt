@@ -1,7 +1,0 @@
-use Rattle.chess.specs.Cells.{cells_men}
-use Rattle.chess.specs.Attacks.{Reaches}
-use Rattle.chess.proofs.BoardFacts.{IsGathered}
-use Rattle.chess.proofs.board.mailbox.Mailbox.reached.Given as goal
-
-abbrev pub invariant-loop-index : goal.invariant-loop-index
-invariant-loop-index l = IsGathered (λ s. Reaches (cells_men l.self.cells) l.man.side l.man.kind l.from s) l.index l.set

@@ -1,9 +1,0 @@
-use Rattle.chess.specs.Sets.{size_of}
-use Rattle.chess.proofs.HitterFacts.{IsSearched}
-use Rattle.chess.proofs.board.sights.hitters_of.Given as goal
-
-abbrev pub invariant-loop-square : goal.invariant-loop-square
-invariant-loop-square l = IsSearched l.target l.seen l.occupied l.left l.set
-
-abbrev pub decreases-loop-square : goal.decreases-loop-square
-decreases-loop-square l = size_of l.left

@@ -1,6 +1,0 @@
-use Rattle.chess.proofs.BoardFacts.{IsNoneYet}
-use Rattle.chess.specs.FenWords.{IsEdgePawn}
-use Rattle.chess.proofs.fen.read.kept.has_edge_pawn.Given as goal
-
-abbrev pub invariant-loop-index : goal.invariant-loop-index
-invariant-loop-index g l = IsNoneYet (λ s. IsEdgePawn (g.B.Board.men l.board) s) l.index

@@ -1,0 +1,15 @@
+use Rattle.std.proofs.Common.{◌↔◌, refl, sym, subst}
+use Rattle.std.specs.Prelude.{IfSome}
+use Rattle.chess.specs.Positions.{State}
+use Rattle.pgn_criteria.specs.Layouts.{Laid}
+use Rattle.pgn_criteria.specs.Patterns.{FitsPattern}
+use Rattle.pgn_criteria.proofs.PlanFacts.{denied, plans_denied}
+use Rattle.pgn_criteria.proofs.plan.Plan.add_denied.Goals as goal
+
+pub returns : goal.returns
+returns c =
+    let old = c.args.self.now in
+    let pattern = c.args.pattern.now in
+    let fits = subst (λ o. IfSome o (λ layout. (P : State) → Laid P.men layout ↔ FitsPattern P.men pattern)) c.in-Some.is c.in_ok-layout.ensures in
+    plans_denied (λ P. FitsPattern P.men pattern → ⊥) old (record { layout = old.layout; ways = old.ways; denied = c.push.new.self }) c.new.result refl refl c.in_ok-push.ensures.items
+    c.new.ensures.free (λ P. denied (subst (λ l. Laid P.men l ↔ FitsPattern P.men pattern) (sym c.new.ensures.layout) (fits P)))
