@@ -184,7 +184,7 @@ impl<B: Board> Position<B> {
     }
 
     /// The board.
-    pub(crate) fn board(&self) -> B
+    pub fn board(&self) -> B
         ensures { B.men result ≡ self.now.men }
     {
         self.board

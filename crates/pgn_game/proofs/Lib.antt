@@ -34,3 +34,15 @@ pub mod PlainExport
 pub mod StartTexts
 pub mod MoveTexts
 pub mod GameLineFacts
+pub mod PlyCodeFacts
+pub mod RecordFields
+pub mod HeadFacts
+pub mod TagSearch
+pub mod RecordFacts
+pub mod CodeLineFacts
+pub mod PackOnce
+pub mod PackStreamFacts
+pub mod RecordWriting
+pub mod SomeRecord
+pub mod PackRoom
+pub mod PackExamples

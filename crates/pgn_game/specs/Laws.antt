@@ -1,24 +1,28 @@
 -- What holds of every game, whatever replays it.
-use Rattle.std.specs.Prelude.{◌≡◌, ◌⊎◌, ℕ, ◌+◌, List, [], ◌∷◌, ◌++◌, length, Option, Some, IfSome}
-use Rattle.std.specs.List.{slice_get}
+use Rattle.std.specs.Prelude.{◌≡◌, ◌⊎◌, ℕ, ◌+◌, ◌/◌, ◌%◌, ◌^◌, ◌==◌, ◌<◌, ◌≤◌, List, [], ◌∷◌, ◌++◌, length, Option, Some, IfSome, is_some}
+use Rattle.std.specs.List.{slice_get, AllByRecursion}
 use Rattle.chess.specs.Positions.{State}
-use Rattle.chess.specs.Moves.{after}
+use Rattle.chess.specs.Moves.{after, IsPseudoLegal}
 use Rattle.chess.specs.San.{IsOnlyNamed}
 use Rattle.chess.specs.declared.moves.Move.{Move}
 use Rattle.pgn_text.specs.Blocks.{event_line}
 use Rattle.pgn_text.specs.Games.{Item, MoveText, GlyphNumber, CommentText, VariationOpen, VariationClose}
-use Rattle.pgn_text.specs.GameTexts.{GameText, IsGameText, IsPaired, IsResult, tag_in}
+use Rattle.pgn_text.specs.GameTexts.{GameText, IsGameText, IsPaired, IsResult, ShowsGame, tag_in}
+use Rattle.pgn_text.specs.Limits.{block_limit}
+use Rattle.pgn_text.specs.Parts.{Part}
 use Rattle.pgn_text.specs.Strings.{IsContents}
 use Rattle.pgn_game.specs.AllLines.{Line, spelled, own_words}
 use Rattle.pgn_game.specs.MainLines.{main_words}
 use Rattle.pgn_game.specs.Faults.{Fault, IsFault}
 use Rattle.pgn_game.specs.Openings.{IsOpening}
+use Rattle.pgn_game.specs.PackedGames.{PackedGame, FitsRecord, IsPacked, IsRecordOf, head_of, numbered_result, record_bytes, pack_bytes, longest_name}
+use Rattle.pgn_game.specs.PlyCodes.{PlyCode, IsCode, FitsCode, moved, code_bytes, code_of}
 use Rattle.pgn_game.specs.Replays.{Replay, IsReplay, IsSoundGame}
 use Rattle.pgn_game.specs.Exports.{AreMovetextTokens, IsReplayFor, IsExport}
 use Rattle.pgn_game.specs.Starts.{IsStart, fen_tag}
 use Rattle.pgn_game.specs.TextLines.{IsLaid}
 use Rattle.pgn_game.specs.declared.replayer.Lines.{Lines}
-use Rattle.pgn_game.specs.declared.replayer.Lines.TheVariants.{All}
+use Rattle.pgn_game.specs.declared.replayer.Lines.TheVariants.{All, Main}
 use Rattle.pgn_game.specs.declared.style.Style.{Style}
 
 -- whichever lines are replayed, each move of the main line is the only legal move that its word names in the position before it, and the
@@ -117,3 +121,72 @@ pub record IsReadAsOne (text : List ℕ) : Type 0 where
 
 abbrev pub ExportIsReadAsOne : Type 0
 ExportIsReadAsOne = (style : Style) (game : GameText) (text : List ℕ) → IsGameText game → IsExport style game text → IsReadAsOne text
+
+-- each three bytes spell a code that has this spelling
+abbrev pub ThreeBytesAreACode : Type 0
+ThreeBytesAreACode = (a b d : ℕ) → a < 256 → b < 256 → d < 256 → FitsCode (code_of a b d) × (code_bytes (code_of a b d) ≡ a ∷ b ∷ d ∷ [])
+
+-- and the code that a code's bytes spell is that code
+abbrev pub CodeIsReadBack : Type 0
+CodeIsReadBack = (c : PlyCode) (a b d : ℕ) → FitsCode c → code_bytes c ≡ a ∷ b ∷ d ∷ [] → code_of a b d ≡ c
+
+-- a move has one code at most
+abbrev pub MoveHasOneCode : Type 0
+MoveHasOneCode = (P : State) (m : Move) (c other : PlyCode) → IsCode P m c → IsCode P m other → c ≡ other
+
+-- the code of a pseudo-legal move, and so of each legal one, has a spelling
+abbrev pub CodeOfAMoveFits : Type 0
+CodeOfAMoveFits = (P : State) (m : Move) (c : PlyCode) → IsPseudoLegal P m → IsCode P m c → FitsCode c
+
+-- the code of a pseudo-legal move moves the men as the move does
+abbrev pub CodeMovesAsItsMove : Type 0
+CodeMovesAsItsMove = (P : State) (m : Move) (c : PlyCode) → IsPseudoLegal P m → IsCode P m c → moved P.men c ≡ (after P m).men
+
+-- a replayed game has one record at most under a name, a number and an offset
+abbrev pub GameHasOneRecord : Type 0
+GameHasOneRecord =
+    (name : Option (List ℕ)) (number offset : ℕ) (game : GameText) (replay : Replay) (packed other : PackedGame)
+    → IsPacked name number offset game replay packed → IsPacked name number offset game replay other → packed ≡ other
+
+-- a game whose main line is sound has a record, as long as it may be
+abbrev pub SoundGameHasARecord : Type 0
+SoundGameHasARecord =
+    (name : Option (List ℕ)) (number offset : ℕ) (game : GameText) → IsSoundGame Main (tag_in fen_tag game.tags) game.elements
+    → (bytes : List ℕ) × IsRecordOf name number offset game bytes
+
+-- and one at most
+abbrev pub GameHasOneSpelling : Type 0
+GameHasOneSpelling =
+    (name : Option (List ℕ)) (number offset : ℕ) (game : GameText) (bytes other : List ℕ)
+    → IsRecordOf name number offset game bytes → IsRecordOf name number offset game other → bytes ≡ other
+
+-- a game of a block always fits in a record, where its mark fits in 64 bits and its name is short
+abbrev pub GameOfABlockFits : Type 0
+GameOfABlockFits =
+    (name : Option (List ℕ)) (number offset : ℕ) (game : GameText) (parts : List Part) (replay : Replay) (packed : PackedGame)
+    → IsGameText game → ShowsGame game game.at parts → length game.text ≤ block_limit
+    → IsReplay Main (tag_in fen_tag game.tags) game.elements replay → IsPacked name number offset game replay packed
+    → IfSome name (λ own. length own ≤ longest_name) → number < 2 ^ 64 → offset < 2 ^ 64 → FitsRecord packed
+
+-- the head of a record shows how many tags its game has, whether it has a name, its result and the marks of its start
+pub record ShowsHead (game : PackedGame) (head : ℕ) : Type 0 where
+  pub count : head / 32 ≡ length game.tags
+  pub named : (head / 16 % 2 == 1) ≡ is_some game.name
+  pub result : numbered_result (head / 4 % 4) ≡ game.result
+  pub check : (head % 2 == 1) ≡ game.check
+  pub stuck : (head / 2 % 2 == 1) ≡ game.stuck
+
+abbrev pub HeadIsReadBack : Type 0
+HeadIsReadBack = (game : PackedGame) → FitsRecord game → ShowsHead game (head_of game)
+
+-- in front of bytes stands the record of one game at most, and it ends in one place
+abbrev pub RecordHasOneReading : Type 0
+RecordHasOneReading =
+    (game other : PackedGame) (rest more : List ℕ) → FitsRecord game → FitsRecord other → record_bytes game ++ rest ≡ record_bytes other ++ more
+    → (game ≡ other) × (rest ≡ more)
+
+-- bytes are the pack of one list of games at most
+abbrev pub PackHasOneReading : Type 0
+PackHasOneReading =
+    (games others : List PackedGame) → AllByRecursion FitsRecord games → AllByRecursion FitsRecord others
+    → pack_bytes games ≡ pack_bytes others → games ≡ others

@@ -12,8 +12,13 @@ pub mod TextLines
 pub mod Comments
 pub mod Exports
 pub mod GameLines
+pub mod PlyCodes
+pub mod CodeLines
+pub mod PackedGames
+pub mod PackReading
+pub mod PackStreams
 pub mod Laws
--- Private words: how a replay is stored, and what its walks and its pen keep. No public contract cites them.
+-- Private words: how a replay is stored, and what its walks, its pen, and the writer and the reader of its record keep. No public contract cites them.
 pub mod Codes
 pub mod Walks
 pub mod LineTexts
@@ -23,3 +28,6 @@ pub mod RefusalWalks
 pub mod Pens
 pub mod CommentWords
 pub mod MovetextWalks
+pub mod PackWords
+pub mod PackSteps
+pub mod CodeWords

@@ -1,10 +1,10 @@
-//! What holds of every game, whatever replays it. Each law is the contract of a function that does nothing.
+//! What holds of every game, whatever replays it, and of every pack. Each law is the contract of a function that does nothing.
 
 ghost use Rattle.pgn_game.specs.Exports.{MovetextHasOneList};
 ghost use Rattle.pgn_game.specs.Refusals.{OneLineIsReached, RefusedWordIsTheFault};
 ghost use Rattle.pgn_game.specs.TextLines.{TokensHaveAText, TokensHaveOneText};
 ghost use Rattle.pgn_game.specs.GameLines.{SoundGameHasALine, GameHasOneLine, LineIsTheGame};
-ghost use Rattle.pgn_game.specs.Laws.{EachMoveIsNamed, MainLineIsTheLine, EachMoveHasATurn, GameHasOneReplay, GameHasOneOpening, GameHasOneFault, SoundGameHasNoFault, GameHasAnAnswer, MovetextHasTokens, GameHasAnExport, GameHasOneExport, NoLineIsMisread, ExportIsReadAsOne};
+ghost use Rattle.pgn_game.specs.Laws.{EachMoveIsNamed, MainLineIsTheLine, EachMoveHasATurn, GameHasOneReplay, GameHasOneOpening, GameHasOneFault, SoundGameHasNoFault, GameHasAnAnswer, MovetextHasTokens, GameHasAnExport, GameHasOneExport, NoLineIsMisread, ExportIsReadAsOne, ThreeBytesAreACode, CodeIsReadBack, MoveHasOneCode, CodeOfAMoveFits, CodeMovesAsItsMove, GameHasOneRecord, GameHasOneSpelling, SoundGameHasARecord, GameOfABlockFits, HeadIsReadBack, RecordHasOneReading, PackHasOneReading};
 
 /// Whichever lines are replayed, each move of the main line is the only legal move that its word names in the position before it.
 pub fn one_legal_move()
@@ -81,4 +81,38 @@ pub fn one_game_line()
 pub fn no_line_misread()
     ensures movetext { NoLineIsMisread }
     ensures export { ExportIsReadAsOne }
+{}
+
+/// Each three bytes spell one code of a ply, and the code has this spelling alone.
+pub fn one_code()
+    ensures some { ThreeBytesAreACode }
+    ensures one { CodeIsReadBack }
+{}
+
+/// A move that a man may make has one code at most, which has a spelling, and which moves the men as the move does.
+pub fn code_of_a_move()
+    ensures one { MoveHasOneCode }
+    ensures fits { CodeOfAMoveFits }
+    ensures moves { CodeMovesAsItsMove }
+{}
+
+/// A game that is replayed has one record at most under a name, a number and an offset; and a game whose main line is sound has a record,
+/// and only one.
+pub fn one_record()
+    ensures replayed { GameHasOneRecord }
+    ensures some { SoundGameHasARecord }
+    ensures one { GameHasOneSpelling }
+{}
+
+/// A game of a block always fits in a record, under a name that is no longer than a path.
+pub fn room_in_a_record()
+    ensures { GameOfABlockFits }
+{}
+
+/// The head of a record shows its game; in front of bytes stands the record of one game at most; and bytes are the pack of one list of games
+/// at most.
+pub fn one_pack()
+    ensures head { HeadIsReadBack }
+    ensures record { RecordHasOneReading }
+    ensures pack { PackHasOneReading }
 {}

@@ -21,8 +21,8 @@ fn value_of(alloc: Global, contents: &[u8]) -> Result<Vec<u8>, AllocError>
     value(contents).collect(alloc)
 }
 
-/// The position that the value of the contents spells.
-fn given_position<'a>(alloc: Global, contents: &[u8]) -> Result<GamePosition, GameFault<'a>>
+/// The position from which a game with these contents of its FEN tag starts.
+pub fn given_position<'a>(alloc: Global, contents: &[u8]) -> Result<GamePosition, GameFault<'a>>
     requires { IsContents contents.now }
     ensures { MatchResult result
         (IsStart (Some contents.now))

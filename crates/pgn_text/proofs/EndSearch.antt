@@ -8,8 +8,8 @@ use Rattle.pgn_text.specs.Blocks.{IsFirstBlock}
 use Rattle.pgn_text.specs.Cuts.{is_cut, NoCutBefore}
 use Rattle.pgn_text.specs.Held.{IsOccupiedBy}
 use Rattle.pgn_text.specs.Limits.{block_limit, largest_offset, window_limit}
-use Rattle.pgn_text.specs.Searches.{IsNextCut, AppendsRead, FindsMore, FindsEnd, FailsFrom, GivesUp}
-use Rattle.pgn_text.specs.Tallies.{Reads}
+use Rattle.pgn_text.specs.Searches.{IsNextCut, FindsMore, FindsEnd, FailsFrom, GivesUp}
+use Rattle.pgn_text.specs.Tallies.{AppendsRead, Reads}
 use Rattle.pgn_text.specs.Windows.{FailsAfter}
 use Rattle.pgn_text.specs.declared.blocks.ReadError.{ReadError}
 use Rattle.pgn_text.specs.declared.blocks.ReadError.TheVariants.{Read, OutOfMemory, InputTooLong, Failed}

@@ -21,15 +21,6 @@ pub record IsNextCut (text : List ℕ) (from cut : ℕ) : Type 0 where
 abbrev pub FindsCut : List ℕ → ℕ → Option ℕ → Type 0
 FindsCut text from found = MatchOption found (NoCutBefore text from (length text)) (λ cut. IsNextCut text from cut)
 
--- one read put its bytes after those held; it gave none only at the end
-pub record AppendsRead (held held' : List ℕ) (left left' : Option (List ℕ)) (moved moved' room count : ℕ) : Type 0 where
-  pub read : List ℕ
-  pub reads : Reads left left' moved moved' read
-  pub joined : held' ≡ held ++ read
-  pub counted : length read ≡ count
-  pub within : count ≤ room
-  pub end : count ≡ 0 → IsAtEnd left'
-
 -- one more byte was read, or none at the end
 pub record FindsMore (left left' : Option (List ℕ)) (moved moved' : ℕ) (found : Bool) : Type 0 where
   pub read : List ℕ

@@ -1,6 +1,6 @@
 -- What contracts see of a `Tally`, and what reads through it took from the bytes that its reader has left.
-use Rattle.std.specs.Prelude.{◌≡◌, ℕ, ◌+◌, ◌-◌, ◌^◌, ◌<◌, Bool, ◌&&◌, ◌==◌, false, not, min, List, length, Option, Result, Ok, Err}
-use Rattle.std.specs.Io.KnownBytes.{Consumes}
+use Rattle.std.specs.Prelude.{◌≡◌, ℕ, ◌+◌, ◌-◌, ◌^◌, ◌<◌, ◌≤◌, Bool, ◌&&◌, ◌==◌, false, not, min, List, ◌++◌, length, Option, Result, Ok, Err}
+use Rattle.std.specs.Io.KnownBytes.{Consumes, IsAtEnd}
 
 -- a reader or a writer, whether a call to it has failed, how many bytes it moved, and whether its last call was a good flush
 pub record Tallied (T : Type 0) : Type 0 where
@@ -23,3 +23,12 @@ takes_nothing (Err error) bytes = false
 pub record Reads (left left' : Option (List ℕ)) (moved moved' : ℕ) (read : List ℕ) : Type 0 where
   pub bytes : Consumes left left' read
   pub count : moved + length read < 2 ^ 64 → moved' ≡ moved + length read
+
+-- one read put its bytes after those held; it gave none only at the end
+pub record AppendsRead (held held' : List ℕ) (left left' : Option (List ℕ)) (moved moved' room count : ℕ) : Type 0 where
+  pub read : List ℕ
+  pub reads : Reads left left' moved moved' read
+  pub joined : held' ≡ held ++ read
+  pub counted : length read ≡ count
+  pub within : count ≤ room
+  pub end : count ≡ 0 → IsAtEnd left'

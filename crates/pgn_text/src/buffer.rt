@@ -1,7 +1,6 @@
 //! Bytes that are held, with room after them for those that a read gives.
 ghost use Rattle.std.specs.Prelude.{◌≡◌, ◌≢◌, ◌↔◌, ℕ, ◌+◌, ◌^◌, ◌<◌, ◌≤◌, true, false, List, [], ◌++◌, length, take, drop, vec_len, IfOk, IfErr, IsErrOf, OnOk};
-ghost use Rattle.pgn_text.specs.Searches.{AppendsRead};
-ghost use Rattle.pgn_text.specs.Tallies.{Reads};
+ghost use Rattle.pgn_text.specs.Tallies.{AppendsRead, Reads};
 
 use crate::blocks::ReadError;
 use crate::limits::WINDOW_LIMIT;
@@ -12,7 +11,7 @@ use std::marker::Model;
 
 /// Bytes in a row. The room after them is kept when bytes are given up, so that each of its places is filled with zeros once.
 #[derive(Drop)]
-pub(crate) struct Buffer {
+pub struct Buffer {
     /// The bytes, and room for more.
     room: Vec<u8>,
     /// How many bytes there are.
@@ -31,7 +30,7 @@ impl Model for Buffer {
 
 impl Buffer {
     /// No bytes.
-    pub(crate) fn new(alloc: Global) -> Self
+    pub fn new(alloc: Global) -> Self
         ensures { result ≡ [] }
     {
         Buffer {
@@ -41,28 +40,28 @@ impl Buffer {
     }
 
     /// How many bytes there are.
-    pub(crate) fn len(&self) -> usize
+    pub fn len(&self) -> usize
         ensures { result ≡ length self.now }
     {
         self.len
     }
 
     /// The bytes.
-    pub(crate) fn bytes(&self) -> &[u8]
+    pub fn bytes(&self) -> &[u8]
         ensures { result.now ≡ self.now }
     {
         &self.room[..self.len]
     }
 
     /// Gives up all bytes.
-    pub(crate) fn clear(&mut self)
+    pub fn clear(&mut self)
         ensures { self.new ≡ [] }
     {
         self.len = 0;
     }
 
     /// Gives up so many bytes at the front.
-    pub(crate) fn give_up(&mut self, count: usize)
+    pub fn give_up(&mut self, count: usize)
         requires { count ≤ length self.old }
         ensures { self.new ≡ drop count self.old }
     {
@@ -73,7 +72,7 @@ impl Buffer {
     }
 
     /// Reads at most `count` bytes after those that there are, and says how many came.
-    pub(crate) fn read_more<R: Read>(
+    pub fn read_more<R: Read>(
         &mut self,
         count: usize,
         input: &mut Tally<R>,

@@ -25,6 +25,7 @@ mod token;
 mod unquoted;
 
 pub use blocks::{Block, Blocks, Body, ReadError};
+pub use buffer::Buffer;
 pub use error_position::{Stop, Within, error_position_of, locate_error, tag_name_at};
 pub use game::{Element, RawGame};
 pub use limits::{BLOCK_LIMIT, LARGEST_OFFSET, MAX_DEPTH};

@@ -116,7 +116,7 @@ impl SquareSet {
 
     /// Takes a square out of the set.
     #[inline(always)]
-    pub(crate) fn remove(&mut self, square: Square)
+    pub fn remove(&mut self, square: Square)
         ensures { (s : Place) → is_in self.new s ≡ (is_in self.old s && not (same_square s square)) }
     {
         self.word &= !(1u64 << square.index());

@@ -1,0 +1,6 @@
+use Rattle.std.proofs.Common.{◌≡◌, ◌-◌}
+use Rattle.pgn_game.specs.PackReading.{after_tags}
+use Rattle.pgn_game.proofs.pack.fields.after_tags.Given as goal
+
+abbrev pub invariant-loop : goal.invariant-loop
+invariant-loop l = after_tags (l.count - l.counter) l.rest ≡ after_tags l.count l.bytes

@@ -1,0 +1,43 @@
+//! The record of a game as it stands in a text.
+ghost use Rattle.std.specs.Prelude.{◌≡◌, ◌++◌, ℕ, List, IfErr, IfSome, OnErr, OnOk};
+ghost use Rattle.pgn_text.specs.GameTexts.{tag_in};
+ghost use Rattle.pgn_game.specs.Faults.{IsFault};
+ghost use Rattle.pgn_game.specs.PackedGames.{FitsRecord, IsRecordOf, name_of};
+ghost use Rattle.pgn_game.specs.Replays.{fault_of};
+ghost use Rattle.pgn_game.specs.Starts.{fen_tag};
+ghost use Rattle.pgn_game.specs.declared.fault.GameFault.TheVariants.{OutOfMemory};
+ghost use Rattle.pgn_game.specs.declared.replayer.Lines.TheVariants.{Main};
+
+use crate::fault::GameFault;
+use crate::pack::error::PackError;
+use crate::pack::origin::GameOrigin;
+use crate::pack::writing::put_record;
+use crate::replayer::{Lines, replay};
+use pgn_text::RawGame;
+use std::alloc::Global;
+
+impl<'a> From<PackError> for GameFault<'a> {
+    ghost from_gives = { λ _ fault. fault ≡ OutOfMemory };
+
+    fn from(_: PackError) -> Self {
+        GameFault::OutOfMemory
+    }
+}
+
+/// Plays the main line of the game, and appends the record of the game, which comes from there; or answers the fault of its main line.
+/// Where memory is refused or the record would be too large, memory is said to be refused: no game of a block has such a record, except one
+/// with a name of more than 4096 bytes. In each of these cases nothing is appended.
+pub fn push_record<'a>(
+    alloc: Global,
+    origin: &GameOrigin,
+    game: &RawGame<'a>,
+    out: &mut Vec<u8>,
+) -> Result<(), GameFault<'a>>
+    ensures record { OnOk result ((bytes : List ℕ) × (own : IsRecordOf (name_of origin.now) origin.now.number origin.now.offset game.now bytes) × FitsRecord own.packed × (out.new.items ≡ out.old.items ++ bytes)) }
+    ensures fault { IfErr result (λ fault. IfSome (fault_of fault) (IsFault Main (tag_in fen_tag game.now.tags) game.now.elements)) }
+    ensures left { OnErr result (out.new.items ≡ out.old.items) }
+{
+    let replayed = replay(alloc, game, Lines::Main)?;
+    put_record(origin, game, &replayed, out)?;
+    Ok(())
+}

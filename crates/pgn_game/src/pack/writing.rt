@@ -1,0 +1,255 @@
+//! The record of a game, appended to bytes.
+ghost use Rattle.std.specs.Prelude.{◌≡◌, ◌↔◌, ◌<◌, ◌≤◌, ◌+◌, ◌^◌, ◌++◌, ℕ, List, length, min, option_map, OnOk, OnErr, IsErrOf};
+ghost use Rattle.std.specs.List.{flat_map};
+ghost use Rattle.std.specs.Int.{w32, to_be_bytes};
+ghost use Rattle.pgn_text.specs.GameTexts.{tag_in};
+ghost use Rattle.pgn_game.specs.Starts.{fen_tag};
+ghost use Rattle.pgn_game.specs.Replays.{IsSomeReplay};
+ghost use Rattle.pgn_game.specs.PackedGames.{PackedGame, FitsRecord, IsPacked, with_length, name_bytes, tag_bytes, tags_size, body_size, record_bytes, largest_body, name_size, named_number, result_number, name_of};
+ghost use Rattle.pgn_game.specs.PackWords.{IsLinePlayed, AreMarksAfter, PutsFront, PutsHead, PutsPly, PutsPlies};
+
+use crate::pack::error::PackError;
+use crate::pack::origin::GameOrigin;
+use crate::pack::ply::{Marks, coded_move};
+use crate::pack::reading::LARGEST_BODY;
+use crate::replayed::Replayed;
+use pgn_text::RawGame;
+use std::alloc::AllocError;
+
+/// How many bytes the tags of the game take in its record; the largest number, where it is more.
+fn tags_size(game: &RawGame) -> usize
+    ensures { result ≡ min (tags_size game.now.tags) usize.MAX }
+{
+    let mut size = 0_usize;
+    for (name, contents) in game.tags() {
+        size = size
+            .saturating_add(8)
+            .saturating_add(name.len())
+            .saturating_add(contents.len());
+    }
+    size
+}
+
+/// How many bytes the name takes in a record; the largest number, where it is more.
+fn name_size(name: Option<&[u8]>) -> usize
+    ensures { result ≡ min (name_size (option_map (λ bytes. bytes.now) name.entry)) usize.MAX }
+{
+    match name {
+        Some(name) => name.len().saturating_add(4),
+        None => 0,
+    }
+}
+
+/// 1 where there is a name, and else 0.
+fn named_number(name: Option<&[u8]>) -> u32
+    ensures number { result ≡ named_number (option_map (λ bytes. bytes.now) name.entry) }
+    ensures below { result < 2 }
+{
+    match name {
+        Some(_) => 1,
+        None => 0,
+    }
+}
+
+/// The number of the result token that ends a game.
+fn result_number(token: &[u8]) -> u32
+    ensures number { result ≡ result_number token.now }
+    ensures below { result < 4 }
+{
+    if token == b"1-0".as_slice() {
+        1
+    } else if token == b"0-1".as_slice() {
+        2
+    } else if token == b"1/2-1/2".as_slice() {
+        3
+    } else {
+        0
+    }
+}
+
+/// How many bytes stand in the record of the game after its size; the largest number, where it is more.
+fn body_size(origin: &GameOrigin, game: &RawGame, replayed: &Replayed) -> usize
+    ensures { result ≡ min (body_size (name_of origin.now) game.now.tags (length replayed.now.played)) usize.MAX }
+{
+    tags_size(game)
+        .saturating_add(20)
+        .saturating_add(name_size(origin.name))
+        .saturating_add(replayed.plies().saturating_mul(3))
+}
+
+/// Appends the size of the record of the game.
+fn put_size(
+    origin: &GameOrigin,
+    game: &RawGame,
+    replayed: &Replayed,
+    out: &mut Vec<u8>,
+) -> Result<(), PackError>
+    ensures size { OnOk result (out.new.items ≡ out.old.items ++ to_be_bytes w32 (body_size (name_of origin.now) game.now.tags (length replayed.now.played))) }
+    ensures within { OnOk result (body_size (name_of origin.now) game.now.tags (length replayed.now.played) ≤ largest_body) }
+    ensures large { IsErrOf result PackError.TooLarge ↔ (largest_body < body_size (name_of origin.now) game.now.tags (length replayed.now.played)) }
+    ensures kept { (some : List ℕ) × (out.new.items ≡ out.old.items ++ some) }
+{
+    let size = body_size(origin, game, replayed);
+    if size > LARGEST_BODY {
+        return Err(PackError::TooLarge);
+    }
+    out.extend_from_slice(&(size as u32).to_be_bytes())?;
+    Ok(())
+}
+
+/// Appends the size of the record, and the number and the offset of the game.
+fn put_front(
+    origin: &GameOrigin,
+    game: &RawGame,
+    replayed: &Replayed,
+    out: &mut Vec<u8>,
+) -> Result<(), PackError>
+    ensures front { OnOk result (PutsFront origin.now.number origin.now.offset (body_size (name_of origin.now) game.now.tags (length replayed.now.played)) out.old.items out.new.items) }
+    ensures placed { OnOk result ((origin.now.number < 2 ^ 64) × (origin.now.offset < 2 ^ 64)) }
+    ensures within { OnOk result (body_size (name_of origin.now) game.now.tags (length replayed.now.played) ≤ largest_body) }
+    ensures large { IsErrOf result PackError.TooLarge ↔ (largest_body < body_size (name_of origin.now) game.now.tags (length replayed.now.played)) }
+    ensures kept { (some : List ℕ) × (out.new.items ≡ out.old.items ++ some) }
+{
+    put_size(origin, game, replayed, out)?;
+    out.extend_from_slice(&origin.number.to_be_bytes())?;
+    out.extend_from_slice(&origin.offset.to_be_bytes())?;
+    Ok(())
+}
+
+/// The marks of the position after so many plies. Where another ply follows, no legal move is looked for.
+fn marks_after(replayed: &Replayed, plies: usize) -> Marks
+    requires within { plies ≤ length replayed.now.played }
+    requires line { IsLinePlayed replayed.now }
+    ensures { AreMarksAfter replayed.now plies result.check result.stuck }
+{
+    let position = replayed.position(plies);
+    if plies < replayed.plies() {
+        return Marks::of_movable(position);
+    }
+    Marks::of(position)
+}
+
+/// Appends the head of the record of the game.
+fn put_head(
+    origin: &GameOrigin,
+    game: &RawGame,
+    replayed: &Replayed,
+    out: &mut Vec<u8>,
+) -> Result<(), AllocError>
+    requires count { length game.now.tags < 2 ^ 27 }
+    requires line { IsLinePlayed replayed.now }
+    ensures head { OnOk result (PutsHead (name_of origin.now) game.now.tags game.now.result replayed.now out.old.items out.new.items) }
+    ensures kept { (some : List ℕ) × (out.new.items ≡ out.old.items ++ some) }
+{
+    let count = game.tags().len() as u32;
+    let marks = marks_after(replayed, 0);
+    let named = named_number(origin.name);
+    let low = 4 * result_number(game.result()) + u32::from(marks.number());
+    let head = 32 * count + 16 * named + low;
+    out.extend_from_slice(&head.to_be_bytes())?;
+    Ok(())
+}
+
+/// Appends the bytes after their length.
+fn put_text(text: &[u8], out: &mut Vec<u8>) -> Result<(), AllocError>
+    requires { length text.now < 2 ^ 32 }
+    ensures text { OnOk result (out.new.items ≡ out.old.items ++ with_length text.now) }
+    ensures kept { (some : List ℕ) × (out.new.items ≡ out.old.items ++ some) }
+{
+    out.extend_from_slice(&(text.len() as u32).to_be_bytes())?;
+    out.extend_from_slice(text)?;
+    Ok(())
+}
+
+/// Appends the name, where there is one.
+fn put_name(name: Option<&[u8]>, out: &mut Vec<u8>) -> Result<(), AllocError>
+    requires { name_size (option_map (λ bytes. bytes.now) name) < 2 ^ 32 }
+    ensures name { OnOk result (out.new.items ≡ out.old.items ++ name_bytes (option_map (λ bytes. bytes.now) name.entry)) }
+    ensures kept { (some : List ℕ) × (out.new.items ≡ out.old.items ++ some) }
+{
+    match name {
+        Some(name) => put_text(name, out),
+        None => Ok(()),
+    }
+}
+
+/// Appends the tags of the game.
+fn put_tags(game: &RawGame, out: &mut Vec<u8>) -> Result<(), AllocError>
+    requires { tags_size game.now.tags < 2 ^ 32 }
+    ensures tags { OnOk result (out.new.items ≡ out.old.items ++ flat_map tag_bytes game.now.tags) }
+    ensures kept { (some : List ℕ) × (out.new.items ≡ out.old.items ++ some) }
+{
+    for (name, contents) in game.tags() {
+        put_text(*name, out)?;
+        put_text(*contents, out)?;
+    }
+    Ok(())
+}
+
+/// Appends the code of the move that so many plies go before.
+fn put_ply(replayed: &Replayed, plies: usize, out: &mut Vec<u8>) -> Result<(), AllocError>
+    requires within { plies < length replayed.now.played }
+    requires below { plies < usize.MAX }
+    requires line { IsLinePlayed replayed.now }
+    ensures code { OnOk result (PutsPly replayed.now plies out.old.items out.new.items) }
+    ensures kept { (some : List ℕ) × (out.new.items ≡ out.old.items ++ some) }
+{
+    let m = replayed.played(plies);
+    let marks = marks_after(replayed, plies + 1);
+    out.extend_from_slice(&coded_move(replayed.position(plies), &m, marks))?;
+    Ok(())
+}
+
+/// Appends the codes of all plies.
+fn put_plies(replayed: &Replayed, out: &mut Vec<u8>) -> Result<(), AllocError>
+    requires { IsLinePlayed replayed.now }
+    ensures codes { OnOk result (PutsPlies replayed.now out.old.items out.new.items) }
+    ensures kept { (some : List ℕ) × (out.new.items ≡ out.old.items ++ some) }
+{
+    for plies in 0..replayed.plies() {
+        put_ply(replayed, plies, out)?;
+    }
+    Ok(())
+}
+
+/// Appends the record of the game; where it would be too large or memory is refused, some bytes of it.
+fn put_fields(
+    origin: &GameOrigin,
+    game: &RawGame,
+    replayed: &Replayed,
+    out: &mut Vec<u8>,
+) -> Result<(), PackError>
+    requires { IsLinePlayed replayed.now }
+    ensures record { OnOk result ((packed : PackedGame) × IsPacked (name_of origin.now) origin.now.number origin.now.offset game.now replayed.now packed × FitsRecord packed × (out.new.items ≡ out.old.items ++ record_bytes packed)) }
+    ensures large { IsErrOf result PackError.TooLarge ↔ (largest_body < body_size (name_of origin.now) game.now.tags (length replayed.now.played)) }
+    ensures kept { (some : List ℕ) × (out.new.items ≡ out.old.items ++ some) }
+{
+    game.invariant();
+    put_front(origin, game, replayed, out)?;
+    put_head(origin, game, replayed, out)?;
+    put_name(origin.name, out)?;
+    put_tags(game, out)?;
+    put_plies(replayed, out)?;
+    Ok(())
+}
+
+/// Appends the record of the game that comes from there: its name, its tags and its result as they stand, and the main line of the replay,
+/// which is one of the game. Where the record would be too large or memory is refused, nothing is appended.
+pub fn put_record(
+    origin: &GameOrigin,
+    game: &RawGame,
+    replayed: &Replayed,
+    out: &mut Vec<u8>,
+) -> Result<(), PackError>
+    requires { IsSomeReplay (tag_in fen_tag game.now.tags) game.now.elements replayed.now }
+    ensures record { OnOk result ((packed : PackedGame) × IsPacked (name_of origin.now) origin.now.number origin.now.offset game.now replayed.now packed × FitsRecord packed × (out.new.items ≡ out.old.items ++ record_bytes packed)) }
+    ensures large { IsErrOf result PackError.TooLarge ↔ (largest_body < body_size (name_of origin.now) game.now.tags (length replayed.now.played)) }
+    ensures left { OnErr result (out.new.items ≡ out.old.items) }
+{
+    let length = out.len();
+    let put = put_fields(origin, game, replayed, out);
+    if put.is_err() {
+        out.truncate(length);
+    }
+    put
+}
