@@ -7,7 +7,6 @@ use Rattle.std.proofs.lemmas.List.{get_or-drop, take-append-drop, drop-drop, len
 use Rattle.chess.specs.Fen.{row}
 use Rattle.chess.specs.Squares.{Place, same_square}
 use Rattle.chess.specs.Placements.{Placement, man_at}
-use Rattle.chess.specs.Positions.{State}
 use Rattle.chess.specs.Sets.{is_in}
 use Rattle.chess.specs.declared.board.man.Man.{Man}
 use Rattle.chess.proofs.PlaceFacts.{same_square-then, same_square-same}
@@ -27,38 +26,38 @@ use Rattle.pgn_criteria.specs.declared.rank.Item.TheVariants.{Run, Many}
 use Rattle.pgn_criteria.proofs.NeedFacts.{after_own, left_then, left_at_end}
 
 -- nothing is laid out yet
-pub lays_start : {T : Type 0} {Sound : T → Type 0} {Stands : Placement → T → Type 0} (whole : State → Type 0) (old : T) → Extends Sound Stands whole whole old old true
-lays_start whole old = record { sound = λ s. s; needed = λ P laid all. (laid, all); enough = λ so P laid all. (laid, all) }
+pub lays_start : {T : Type 0} {Sound : T → Type 0} {Stands : Placement → T → Type 0} (whole : Placement → Type 0) (old : T) → Extends Sound Stands whole whole old old true
+lays_start whole old = record { sound = λ s. s; needed = λ p laid all. (laid, all); enough = λ so p laid all. (laid, all) }
 
 -- one fact more
-pub lays_step : {T : Type 0} {Sound : T → Type 0} {Stands : Placement → T → Type 0} (whole rest fact more : State → Type 0) (a b c : T) (r s t : Bool) → Extends Sound Stands whole rest a b r
-    → Extends Sound Stands fact (λ P. Unit {0}) b c s → ((P : State) → rest P ↔ (fact P × more P)) → (IsTrue t → IsTrue r × IsTrue s) → Extends Sound Stands whole more a c t
+pub lays_step : {T : Type 0} {Sound : T → Type 0} {Stands : Placement → T → Type 0} (whole rest fact more : Placement → Type 0) (a b c : T) (r s t : Bool) → Extends Sound Stands whole rest a b r
+    → Extends Sound Stands fact (λ p. Unit {0}) b c s → ((p : Placement) → rest p ↔ (fact p × more p)) → (IsTrue t → IsTrue r × IsTrue s) → Extends Sound Stands whole more a c t
 lays_step whole rest fact more a b c r s t first next parts both = record {
   sound = λ is. next.sound (first.sound is);
-  needed = λ P laid all.
-      let one = first.needed P laid all in
-      let two = (parts P).0 one.1 in
-      ((next.needed P one.0 two.0).0, two.1);
-  enough = λ so P laid left.
-      let two = next.enough (both so).1 P laid tt in
-      first.enough (both so).0 P two.0 ((parts P).1 (two.1, left));
+  needed = λ p laid all.
+      let one = first.needed p laid all in
+      let two = (parts p).0 one.1 in
+      ((next.needed p one.0 two.0).0, two.1);
+  enough = λ so p laid left.
+      let two = next.enough (both so).1 p laid tt in
+      first.enough (both so).0 p two.0 ((parts p).1 (two.1, left));
 }
 
 -- what is left says the same
-pub lays_same : (whole rest more : State → Type 0) (a b : Layout) (r : Bool) → Lays whole rest a b r → ((P : State) → rest P ↔ more P) → Lays whole more a b r
+pub lays_same : (whole rest more : Placement → Type 0) (a b : Layout) (r : Bool) → Lays whole rest a b r → ((p : Placement) → rest p ↔ more p) → Lays whole more a b r
 lays_same whole rest more a b r first same = record {
   sound = first.sound;
-  needed = λ P laid all. let one = first.needed P laid all in (one.0, (same P).0 one.1);
-  enough = λ so P laid left. first.enough so P laid ((same P).1 left);
+  needed = λ p laid all. let one = first.needed p laid all in (one.0, (same p).0 one.1);
+  enough = λ so p laid left. first.enough so p laid ((same p).1 left);
 }
 
 -- nothing is left, or it is not all
-pub lays_end : {T : Type 0} {Sound : T → Type 0} {Stands : Placement → T → Type 0} (whole rest : State → Type 0) (a b : T) (r s : Bool) → Extends Sound Stands whole rest a b r
-    → (IsTrue s → IsTrue r × ((P : State) → rest P)) → Extends Sound Stands whole (λ P. Unit {0}) a b s
+pub lays_end : {T : Type 0} {Sound : T → Type 0} {Stands : Placement → T → Type 0} (whole rest : Placement → Type 0) (a b : T) (r s : Bool) → Extends Sound Stands whole rest a b r
+    → (IsTrue s → IsTrue r × ((p : Placement) → rest p)) → Extends Sound Stands whole (λ p. Unit {0}) a b s
 lays_end whole rest a b r s first ends = record {
   sound = first.sound;
-  needed = λ P laid all. ((first.needed P laid all).0, tt);
-  enough = λ so P laid left. first.enough (ends so).0 P laid ((ends so).1 P);
+  needed = λ p laid all. ((first.needed p laid all).0, tt);
+  enough = λ so p laid left. first.enough (ends so).0 p laid ((ends so).1 p);
 }
 
 -- a square more on which something must stand
@@ -69,62 +68,62 @@ stand_more men (first ∷ more) one =
     (λ stand. ((stand.0, (there.0 stand.1).0), (there.0 stand.1).1), λ both. (both.0.0, there.1 (both.0.1, both.1)))
 
 pub lays_asked : (old new : Layout) (class : SquareTest) (square : Place) (one : Asked) → one.class ≡ class → one.square ≡ square → new.asked.items ≡ old.asked.items ++ one ∷ [] → new.barred.items ≡ old.barred.items → new.empty ≡ old.empty
-    → Lays (λ P. IsOf class (man_at P.men square)) (λ P. Unit {0}) old new true
+    → Lays (λ p. IsOf class (man_at p square)) (λ p. Unit {0}) old new true
 lays_asked old new class square one is at items barred empty = record {
   sound = λ s. tt;
-  needed = λ P laid here. (
+  needed = λ p laid here. (
     (
-      subst (AllStand P.men) (sym items) ((stand_more P.men old.asked.items one).1 (laid.0, subst (λ c. IsOf c (man_at P.men one.square)) (sym is) (subst (λ s. IsOf class (man_at P.men s)) (sym at) here))),
-      subst (AllStand P.men) (sym barred) laid.1,
-      subst (AreEmpty P.men) (sym empty) laid.2,
+      subst (AllStand p) (sym items) ((stand_more p old.asked.items one).1 (laid.0, subst (λ c. IsOf c (man_at p one.square)) (sym is) (subst (λ s. IsOf class (man_at p s)) (sym at) here))),
+      subst (AllStand p) (sym barred) laid.1,
+      subst (AreEmpty p) (sym empty) laid.2,
     ),
     tt,
   );
-  enough = λ so P laid left.
-      let both = (stand_more P.men old.asked.items one).0 (subst (AllStand P.men) items laid.0) in (
-        (both.0, subst (AllStand P.men) barred laid.1, subst (AreEmpty P.men) empty laid.2),
-        subst (λ s. IsOf class (man_at P.men s)) at (subst (λ c. IsOf c (man_at P.men one.square)) is both.1),
+  enough = λ so p laid left.
+      let both = (stand_more p old.asked.items one).0 (subst (AllStand p) items laid.0) in (
+        (both.0, subst (AllStand p) barred laid.1, subst (AreEmpty p) empty laid.2),
+        subst (λ s. IsOf class (man_at p s)) at (subst (λ c. IsOf c (man_at p one.square)) is both.1),
       );
 }
 
 -- a square more on which a man must not stand, if that is so
 pub lays_barred : (old new : Layout) (class : SquareTest) (square : Place) (one : Asked) → one.class ≡ class → one.square ≡ square → new.barred.items ≡ old.barred.items ++ one ∷ [] → new.asked.items ≡ old.asked.items → new.empty ≡ old.empty
-    → Lays (λ P. IsTrue true → IsOf class (man_at P.men square)) (λ P. Unit {0}) old new true
+    → Lays (λ p. IsTrue true → IsOf class (man_at p square)) (λ p. Unit {0}) old new true
 lays_barred old new class square one is at items asked empty = record {
   sound = λ s. tt;
-  needed = λ P laid here. (
+  needed = λ p laid here. (
     (
-      subst (AllStand P.men) (sym asked) laid.0,
-      subst (AllStand P.men) (sym items) ((stand_more P.men old.barred.items one).1 (laid.1, subst (λ c. IsOf c (man_at P.men one.square)) (sym is) (subst (λ s. IsOf class (man_at P.men s)) (sym at) (here refl)))),
-      subst (AreEmpty P.men) (sym empty) laid.2,
+      subst (AllStand p) (sym asked) laid.0,
+      subst (AllStand p) (sym items) ((stand_more p old.barred.items one).1 (laid.1, subst (λ c. IsOf c (man_at p one.square)) (sym is) (subst (λ s. IsOf class (man_at p s)) (sym at) (here refl)))),
+      subst (AreEmpty p) (sym empty) laid.2,
     ),
     tt,
   );
-  enough = λ so P laid left.
-      let both = (stand_more P.men old.barred.items one).0 (subst (AllStand P.men) items laid.1) in (
-        (subst (AllStand P.men) asked laid.0, both.0, subst (AreEmpty P.men) empty laid.2),
-        λ t. subst (λ s. IsOf class (man_at P.men s)) at (subst (λ c. IsOf c (man_at P.men one.square)) is both.1),
+  enough = λ so p laid left.
+      let both = (stand_more p old.barred.items one).0 (subst (AllStand p) items laid.1) in (
+        (subst (AllStand p) asked laid.0, both.0, subst (AreEmpty p) empty laid.2),
+        λ t. subst (λ s. IsOf class (man_at p s)) at (subst (λ c. IsOf c (man_at p one.square)) is both.1),
       );
 }
 
-pub lays_unbarred : (fact : State → Type 0) (old : Layout) → Lays (λ P. IsTrue false → fact P) (λ P. Unit {0}) old old true
-lays_unbarred fact old = record { sound = λ s. tt; needed = λ P laid all. (laid, tt); enough = λ so P laid left. (laid, λ t. absurd (cc)) }
+pub lays_unbarred : (fact : Placement → Type 0) (old : Layout) → Lays (λ p. IsTrue false → fact p) (λ p. Unit {0}) old old true
+lays_unbarred fact old = record { sound = λ s. tt; needed = λ p laid all. (laid, tt); enough = λ so p laid left. (laid, λ t. absurd (cc)) }
 
 -- two facts, one after the other, and the same fact in other words
-pub lays_both : {T : Type 0} {Sound : T → Type 0} {Stands : Placement → T → Type 0} (first second : State → Type 0) (a b c : T) → Extends Sound Stands first (λ P. Unit {0}) a b true
-    → Extends Sound Stands second (λ P. Unit {0}) b c true → Extends Sound Stands (λ P. first P × second P) (λ P. Unit {0}) a c true
+pub lays_both : {T : Type 0} {Sound : T → Type 0} {Stands : Placement → T → Type 0} (first second : Placement → Type 0) (a b c : T) → Extends Sound Stands first (λ p. Unit {0}) a b true
+    → Extends Sound Stands second (λ p. Unit {0}) b c true → Extends Sound Stands (λ p. first p × second p) (λ p. Unit {0}) a c true
 lays_both first second a b c one two = record {
   sound = λ s. two.sound (one.sound s);
-  needed = λ P laid both. two.needed P (one.needed P laid both.0).0 both.1;
-  enough = λ so P laid left. let back = two.enough refl P laid tt in let front = one.enough refl P back.0 tt in (front.0, (front.1, back.1));
+  needed = λ p laid both. two.needed p (one.needed p laid both.0).0 both.1;
+  enough = λ so p laid left. let back = two.enough refl p laid tt in let front = one.enough refl p back.0 tt in (front.0, (front.1, back.1));
 }
 
-pub lays_like : {T : Type 0} {Sound : T → Type 0} {Stands : Placement → T → Type 0} (whole other : State → Type 0) (a b : T) → ((P : State) → whole P ↔ other P)
-    → Extends Sound Stands whole (λ P. Unit {0}) a b true → Extends Sound Stands other (λ P. Unit {0}) a b true
+pub lays_like : {T : Type 0} {Sound : T → Type 0} {Stands : Placement → T → Type 0} (whole other : Placement → Type 0) (a b : T) → ((p : Placement) → whole p ↔ other p)
+    → Extends Sound Stands whole (λ p. Unit {0}) a b true → Extends Sound Stands other (λ p. Unit {0}) a b true
 lays_like whole other a b same first = record {
   sound = first.sound;
-  needed = λ P laid all. first.needed P laid ((same P).1 all);
-  enough = λ so P laid left. let back = first.enough so P laid left in (back.0, (same P).0 back.1);
+  needed = λ p laid all. first.needed p laid ((same p).1 all);
+  enough = λ so p laid left. let back = first.enough so p laid left in (back.0, (same p).0 back.1);
 }
 
 -- a fact of each kind
@@ -158,22 +157,22 @@ second_true true b e = refl
 second_true false b e = e
 
 pub lays_empty : (old new : Layout) (square : Place) → ((s : Place) → is_in new.empty s ≡ (same_square square s || is_in old.empty s)) → new.asked.items ≡ old.asked.items → new.barred.items ≡ old.barred.items
-    → Lays (λ P. man_at P.men square ≡ None) (λ P. Unit {0}) old new true
+    → Lays (λ p. man_at p square ≡ None) (λ p. Unit {0}) old new true
 lays_empty old new square reports items barred = record {
   sound = λ s. tt;
-  needed = λ P laid here. (
+  needed = λ p laid here. (
     (
-      subst (AllStand P.men) (sym items) laid.0,
-      subst (AllStand P.men) (sym barred) laid.1,
+      subst (AllStand p) (sym items) laid.0,
+      subst (AllStand p) (sym barred) laid.1,
       λ s is. elim (either_true (same_square square s) (is_in old.empty s) (sym (reports s) ∙ is)) [
-        | inl same ↦ subst (λ t. man_at P.men t ≡ None) (same_square-then square s same) here
+        | inl same ↦ subst (λ t. man_at p t ≡ None) (same_square-then square s same) here
         | inr before ↦ laid.2 s before
       ],
     ),
     tt,
   );
-  enough = λ so P laid left. (
-    (subst (AllStand P.men) items laid.0, subst (AllStand P.men) barred laid.1, λ s is. laid.2 s (reports s ∙ second_true (same_square square s) (is_in old.empty s) is)),
+  enough = λ so p laid left. (
+    (subst (AllStand p) items laid.0, subst (AllStand p) barred laid.1, λ s is. laid.2 s (reports s ∙ second_true (same_square square s) (is_in old.empty s) is)),
     laid.2 square (reports square ∙ first_true (same_square square square) (is_in old.empty square) (same_square-same square square refl)),
   );
 }

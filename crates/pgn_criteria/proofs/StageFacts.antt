@@ -4,81 +4,22 @@ use Rattle.std.proofs.lemmas.Option.{slice_get_within, slice_get-get_or, get_or_
 use Rattle.std.specs.Prelude.{◌⊎◌, replicate}
 use Rattle.std.specs.Option.{unwrap_or}
 use Rattle.std.specs.List.{slice_get}
-use Rattle.chess.specs.Positions.{State}
+use Rattle.chess.specs.Moves.{HasMove}
+use Rattle.chess.specs.Placements.{Placement}
+use Rattle.chess.specs.Positions.{State, IsCheck}
+use Rattle.chess.specs.declared.board.man.Side.{Side}
 use Rattle.pgn_game.specs.Replays.{Replay}
 use Rattle.pgn_criteria.specs.Mirrors.{mirror}
 use Rattle.pgn_criteria.specs.Meeting.{Heading, IsSo, Taken, is_turned, EachHold, AllHold, HoldsThere, SpansHold, IsMetBy, SomeHold, Meets, AreMet, IsFirst}
-use Rattle.pgn_criteria.specs.Stages.{SaysOfGame, AllOfGame, SaysOfHeading, AllOfHeading, IsFreeOfMoves, AreFreeOfMoves, AsksWithin, AllAskWithin, SaysOfPosition, OfPosition, SaysOfPly, AllOfPly, AllSaid, EachOfPosition, AllOfPosition, AllOfStage, AllOfRest, ArePatterns, stage_of, is_on_position, on_positions, FitsAt, FitsAbout, IsFirstBefore}
-use Rattle.pgn_criteria.specs.declared.meets.Stage.{Stage}
-use Rattle.pgn_criteria.specs.declared.meets.Stage.TheVariants.{Game, Squares, Men, Attacks, Replies}
+use Rattle.pgn_criteria.specs.Stages.{SaysOfGame, AllOfGame, SaysOfHeading, AllOfHeading, IsFreeOfMoves, AreFreeOfMoves, AsksWithin, AllAskWithin, SaysOfPosition, SaysOfPly, AllOfPly, AllOfSeen, EachOfPosition, AllOfPosition, is_on_position, on_positions, FitsAt, FitsAbout, IsFirstBefore}
+use Rattle.pgn_criteria.specs.Walks.{IsSeenOf}
 use Rattle.pgn_criteria.specs.declared.condition.Condition.{Condition}
 use Rattle.pgn_criteria.specs.declared.condition.Claim.{Claim}
 use Rattle.pgn_criteria.specs.declared.condition.Claim.TheVariants.{Tag, Fen, Flip, Material, Moves, Plies, Result, Next, Played, For, Count, Turn, Check, Mate, Stalemate}
 use Rattle.pgn_criteria.proofs.OpeningFacts.{positions_ask_none}
+use Rattle.pgn_criteria.proofs.SeenFacts.{all_position}
+use Rattle.pgn_criteria.proofs.WalkFacts.{seen_said}
 use Rattle.pgn_criteria.proofs.SpanFacts.{spans_same, no_spans_hold, within_no_spans}
-
--- each condition on the position is tried at some stage
-one_stage : (P : State) (denied : Bool) (claim : Claim (List ℕ)) → (stage_of claim ≡ Squares → SaysOfPosition P denied claim) → (stage_of claim ≡ Men → SaysOfPosition P denied claim)
-    → (stage_of claim ≡ Attacks → SaysOfPosition P denied claim) → (stage_of claim ≡ Replies → SaysOfPosition P denied claim) → SaysOfPosition P denied claim
-one_stage P denied (Tag name relation contents) squares men attacks replies = tt
-one_stage P denied (Fen pattern) squares men attacks replies = squares refl
-one_stage P denied (Flip pattern) squares men attacks replies = squares refl
-one_stage P denied (Material white black) squares men attacks replies = men refl
-one_stage P denied (Moves words) squares men attacks replies = tt
-one_stage P denied (Plies comparison count) squares men attacks replies = tt
-one_stage P denied (Result result) squares men attacks replies = tt
-one_stage P denied (Next word) squares men attacks replies = tt
-one_stage P denied (Played word) squares men attacks replies = tt
-one_stage P denied (For count) squares men attacks replies = tt
-one_stage P denied (Count comparison count) squares men attacks replies = tt
-one_stage P denied (Turn side) squares men attacks replies = men refl
-one_stage P denied Check squares men attacks replies = attacks refl
-one_stage P denied Mate squares men attacks replies = replies refl
-one_stage P denied Stalemate squares men attacks replies = replies refl
-
-all_stages : (P : State) (conditions : List (Condition (List ℕ))) → AllOfStage Squares P conditions → AllOfStage Men P conditions → AllOfStage Attacks P conditions
-    → AllOfStage Replies P conditions → AllSaid P conditions
-all_stages P [] squares men attacks replies = tt
-all_stages P (condition ∷ more) squares men attacks replies = (
-  one_stage P condition.is_denied condition.claim squares.0 men.0 attacks.0 replies.0,
-  all_stages P more squares.1 men.1 attacks.1 replies.1,
-)
-
-each_stage : (stage : Stage) (P : State) (conditions : List (Condition (List ℕ))) → AllSaid P conditions → AllOfStage stage P conditions
-each_stage stage P [] all = tt
-each_stage stage P (condition ∷ more) all = ((λ here. all.0), each_stage stage P more all.1)
-
--- what is said of a position is what patterns say, and what the others say
-pub stages_parted : (P : State) (conditions : List (Condition (List ℕ))) → AllSaid P conditions ↔ (AllOfStage Squares P conditions × AllOfRest P conditions)
-stages_parted P conditions = (
-  λ all. (each_stage Squares P conditions all, (each_stage Men P conditions all, each_stage Attacks P conditions all, each_stage Replies P conditions all)),
-  λ both. all_stages P conditions both.0 both.1.0 both.1.1 both.1.2,
-)
-
--- where all are patterns, the others say nothing
-none_of_stage : (stage : Stage) (P : State) (conditions : List (Condition (List ℕ))) → (Game ≡ stage → ⊥) → (Squares ≡ stage → ⊥) → ArePatterns conditions → AllOfStage stage P conditions
-none_of_stage stage P [] no_game no_squares patterns = tt
-none_of_stage stage P (condition ∷ more) no_game no_squares patterns = (
-  λ here. elim patterns.0 [ inl game ↦ absurd (no_game (sym game ∙ here)) | inr squares ↦ absurd (no_squares (sym squares ∙ here)) ],
-  none_of_stage stage P more no_game no_squares patterns.1,
-)
-
-pub patterns_rest : (P : State) (conditions : List (Condition (List ℕ))) → ArePatterns conditions → AllOfRest P conditions
-patterns_rest P conditions patterns = (
-  none_of_stage Men P conditions (λ is. cc) (λ is. cc) patterns,
-  none_of_stage Attacks P conditions (λ is. cc) (λ is. cc) patterns,
-  none_of_stage Replies P conditions (λ is. cc) (λ is. cc) patterns,
-)
-
--- one condition that is no pattern is all of the rest
-pub rest_of_pattern : (P : State) (condition : Condition (List ℕ)) → stage_of condition.claim ≡ Squares → AllOfRest P (condition ∷ [])
-rest_of_pattern P condition is = patterns_rest P (condition ∷ []) (inr is, tt)
-
-pub rest_of_one : (P : State) (condition : Condition (List ℕ)) → (stage_of condition.claim ≡ Squares → ⊥) → OfPosition P condition ↔ AllOfRest P (condition ∷ [])
-rest_of_one P condition other = (
-  λ here. ((λ is. here, tt), (λ is. here, tt), (λ is. here, tt)),
-  λ rest. one_stage P condition.is_denied condition.claim (λ is. absurd (other is)) rest.0.0 rest.1.0 rest.2.0,
-)
 
 -- what is said of the game is what is said of its tags, where nothing is said of its moves
 one_of_heading : (heading : Heading) (replay : Replay) (denied : Bool) (claim : Claim (List ℕ)) → IsFreeOfMoves claim → SaysOfHeading heading denied claim → SaysOfGame heading replay denied claim
@@ -217,8 +158,19 @@ all_free_within (condition ∷ more) free = (free_within condition.claim free.0,
 
 -- what is said of the position, and then of the moves about it
 pub fits_both : (replay : Replay) (ply : ℕ) (conditions : List (Condition (List ℕ))) (P : State) (first r : Bool) → slice_get replay.positions ply ≡ Some P
-    → (IsTrue first ↔ AllOfPosition P conditions) → IsTrue first → (IsTrue r ↔ AllOfPly replay ply conditions) → IsTrue r ↔ FitsAt replay conditions ply
-fits_both replay ply conditions P first r here of_position holds of_ply = (λ t. (P, here, of_position.0 holds, of_ply.0 t), λ fits. of_ply.1 fits.3)
+    → (IsTrue first ↔ AllOfSeen P.men P.turn (IsCheck P.men P.turn) (¬ HasMove P) conditions) → IsTrue first → (IsTrue r ↔ AllOfPly replay ply conditions)
+    → IsTrue r ↔ FitsAt replay conditions ply
+fits_both replay ply conditions P first r here of_position holds of_ply =
+    (λ t. (P, here, (all_position P conditions).0 (of_position.0 holds), of_ply.0 t), λ fits. of_ply.1 fits.3)
+
+pub fits_none : (replay : Replay) (ply : ℕ) (conditions : List (Condition (List ℕ))) (P : State) (r : Bool) → slice_get replay.positions ply ≡ Some P
+    → (IsTrue r ↔ AllOfSeen P.men P.turn (IsCheck P.men P.turn) (¬ HasMove P) conditions) → r ≡ false → IsTrue r ↔ FitsAt replay conditions ply
+fits_none replay ply conditions P r here of_position fails = (
+  λ t. absurd (cc (t, fails)),
+  λ fits.
+      let same : fits.0 ≡ P = cc (fits.1, here) in
+      of_position.1 ((all_position P conditions).1 (subst (λ Q. AllOfPosition Q conditions) same fits.2)),
+)
 
 -- of a game of which what conditions say is so, they hold at the plies that fit
 there_fits : (heading : Heading) (replay : Replay) (conditions : List (Condition (List ℕ))) → AllOfGame heading replay conditions
@@ -380,7 +332,7 @@ positions_hold heading replay ply P conditions =
     )
 
 -- none of them is `for` or `count`
-positions_met : (heading : Heading) (replay : Replay) (ply : ℕ) (P : State) (conditions : List (Condition (List ℕ)))
+pub positions_met : (heading : Heading) (replay : Replay) (ply : ℕ) (P : State) (conditions : List (Condition (List ℕ)))
     → IsMetBy heading replay ply P (on_positions conditions) ↔ AllOfPosition P conditions
 positions_met heading replay ply P conditions =
     let same = positions_hold heading replay ply P conditions in
@@ -389,10 +341,13 @@ positions_met heading replay ply P conditions =
       λ all. (same.1 all, no_spans_hold (HoldsThere heading replay own) ply own (within_no_spans 0 own (positions_ask_none conditions))),
     )
 
-pub reports_positions : (heading : Heading) (replay : Replay) (ply : ℕ) (P : State) (conditions : List (Condition (List ℕ))) (r : Bool) → (IsTrue r ↔ AllOfPosition P conditions)
-    → IsTrue r ↔ IsMetBy heading replay ply P (on_positions conditions)
-reports_positions heading replay ply P conditions r reports =
-    let same = positions_met heading replay ply P conditions in (λ t. same.1 (reports.0 t), λ hold. reports.1 (same.0 hold))
+pub reports_seen : (heading : Heading) (replay : Replay) (ply : ℕ) (P : State) (conditions : List (Condition (List ℕ))) (r : Bool) (men : Placement) (turn : Side)
+    (Checked Stuck : Type 0) → IsSeenOf P men turn Checked Stuck
+    → (IsTrue r ↔ AllOfSeen men turn Checked Stuck conditions) → IsTrue r ↔ IsMetBy heading replay ply P (on_positions conditions)
+reports_seen heading replay ply P conditions r men turn Checked Stuck seen reports =
+    let same = positions_met heading replay ply P conditions in
+    let here = seen_said P men turn Checked Stuck conditions seen in
+    (λ t. same.1 (here.0 (reports.0 t)), λ hold. reports.1 (here.1 (same.0 hold)))
 
 -- alternatives and one more
 hold_before : (heading : Heading) (replay : Replay) (ply : ℕ) (P : State) (before : List (List (Condition (List ℕ)))) (more : List (List (Condition (List ℕ))))

@@ -3,12 +3,16 @@ use Rattle.std.specs.Prelude.{◌≡◌, ◌↔◌, ◌⊎◌, ℕ, List, [], �
 use Rattle.chess.specs.Squares.{Place, IsOnBoard}
 use Rattle.chess.specs.Placements.{Placement, AreOnBoard}
 use Rattle.chess.specs.Positions.{State}
+use Rattle.chess.specs.Moves.{after, IsPseudoLegal}
+use Rattle.chess.specs.declared.moves.Move.{Move}
 use Rattle.pgn_text.specs.Games.{Item}
+use Rattle.pgn_game.specs.PlyCodes.{PlyCode, IsCode}
 use Rattle.pgn_game.specs.Replays.{Replay, IsReplay}
 use Rattle.pgn_game.specs.declared.replayer.Lines.{Lines}
 use Rattle.pgn_criteria.specs.Lines.{Accepts, IsRefused}
 use Rattle.pgn_criteria.specs.Meeting.{Heading, AllHold, Meets, is_turned}
 use Rattle.pgn_criteria.specs.Mirrors.{flipped_men, mirror}
+use Rattle.pgn_criteria.specs.Walks.{Sight, IsSightOf, stepped}
 use Rattle.pgn_criteria.specs.declared.condition.Condition.{Condition}
 use Rattle.pgn_criteria.specs.declared.parse.CriteriaError.TheVariants.{TooLong, Line, OutOfMemory}
 
@@ -58,3 +62,8 @@ abbrev pub SidesAreAlike : Type 0
 SidesAreAlike =
     (heading : Heading) (replay : Replay) (ply : ℕ) (P : State) (conditions : List (Condition (List ℕ))) → StandsOnBoard P → AreTurned conditions
     → AllHold heading replay ply P conditions ↔ AllHold heading replay ply (mirror P) conditions
+
+-- where a walk shows a position, a step by the code of a pseudo-legal move shows the position after the move
+abbrev pub StepShowsNextPosition : Type 0
+StepShowsNextPosition =
+    (P : State) (m : Move) (c : PlyCode) (s : Sight) → IsPseudoLegal P m → IsCode P m c → IsSightOf P s → IsSightOf (after P m) (stepped s c)

@@ -2,7 +2,6 @@
 use Rattle.std.specs.Prelude.{◌≡◌, ◌↔◌, ◌<◌, ◌≤◌, ◌+◌, ℕ, Bool, true, List, [], ◌∷◌, Option, Some, None, IsTrue}
 use Rattle.chess.specs.Squares.{Place, IsOnBoard}
 use Rattle.chess.specs.Placements.{Placement, man_at}
-use Rattle.chess.specs.Positions.{State}
 use Rattle.chess.specs.Sets.{Places, is_in}
 use Rattle.chess.specs.declared.board.man.Side.{Side}
 use Rattle.chess.specs.declared.board.man.Kind.{Kind}
@@ -40,12 +39,12 @@ EachFrom men class rank before step count =
     (k : ℕ) → step ≤ k → k < count → IsOf class (man_at men (record { file = before + k + 1; rank = rank }))
 
 -- what is new in what is laid out follows from a fact, of which the rest stays. Where it is all, what is laid out and the rest give the fact
-pub record Extends {T : Type 0} (Sound : T → Type 0) (Stands : Placement → T → Type 0) (whole rest : State → Type 0) (old new : T) (all : Bool) : Type 0 where
+pub record Extends {T : Type 0} (Sound : T → Type 0) (Stands : Placement → T → Type 0) (whole rest : Placement → Type 0) (old new : T) (all : Bool) : Type 0 where
   pub sound : Sound old → Sound new
-  pub needed : (P : State) → Stands P.men old → whole P → Stands P.men new × rest P
-  pub enough : IsTrue all → (P : State) → Stands P.men new → rest P → Stands P.men old × whole P
+  pub needed : (p : Placement) → Stands p old → whole p → Stands p new × rest p
+  pub enough : IsTrue all → (p : Placement) → Stands p new → rest p → Stands p old × whole p
 
-abbrev pub Lays : (State → Type 0) → (State → Type 0) → Layout → Layout → Bool → Type 0
+abbrev pub Lays : (Placement → Type 0) → (Placement → Type 0) → Layout → Layout → Bool → Type 0
 Lays = Extends (λ layout. Unit {0}) Laid
 
 -- the man of that kind stands on squares of the set alone

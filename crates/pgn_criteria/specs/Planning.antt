@@ -1,12 +1,10 @@
 -- What is planned of the patterns of an alternative, in whichever way they are asked.
 use Rattle.std.specs.Prelude.{◌⊎◌, ℕ, Bool, List, [], ◌∷◌, IsTrue}
 use Rattle.chess.specs.Placements.{Placement}
-use Rattle.chess.specs.Positions.{State}
 use Rattle.pgn_criteria.specs.Layouts.{Extends, IsRest, Laid}
-use Rattle.pgn_criteria.specs.Stages.{AllOfStage}
+use Rattle.pgn_criteria.specs.Stages.{AllOfPatterns}
 use Rattle.pgn_criteria.specs.declared.condition.Condition.{Condition}
 use Rattle.pgn_criteria.specs.declared.layout.Look.{Look}
-use Rattle.pgn_criteria.specs.declared.meets.Stage.TheVariants.{Squares}
 use Rattle.pgn_criteria.specs.declared.plan.Plan.{Plan}
 use Rattle.pgn_criteria.specs.declared.plan.Ways.{Ways}
 
@@ -39,10 +37,10 @@ NoneLaid men (look ∷ more) = (Laid men look.layout → ⊥) × NoneLaid men mo
 abbrev pub Planned : Placement → Plan → Type 0
 Planned men plan = Laid men plan.layout × AllEither men plan.ways.items × NoneLaid men plan.denied.items
 
-abbrev pub Plans : (State → Type 0) → (State → Type 0) → Plan → Plan → Bool → Type 0
+abbrev pub Plans : (Placement → Type 0) → (Placement → Type 0) → Plan → Plan → Bool → Type 0
 Plans = Extends IsSoundPlan Planned
 
 -- what is planned of conditions follows from the patterns among them. Where it is all, it gives what those say
 abbrev pub IsPlanned : List (Condition (List ℕ)) → Plan → Bool → Type 0
 IsPlanned conditions plan all =
-    ((P : State) → AllOfStage Squares P conditions → Planned P.men plan) × (IsTrue all → (P : State) → Planned P.men plan → AllOfStage Squares P conditions)
+    ((men : Placement) → AllOfPatterns men conditions → Planned men plan) × (IsTrue all → (men : Placement) → Planned men plan → AllOfPatterns men conditions)

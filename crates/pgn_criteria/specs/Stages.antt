@@ -1,15 +1,17 @@
 -- Conditions by what they are tried on: the game alone, or a position.
 use Rattle.std.specs.Prelude.{◌≡◌, ◌↔◌, ◌≤◌, ◌<◌, ◌+◌, if◌then◌else◌, ℕ, Bool, true, false, List, [], ◌∷◌, length, Option, Some, None, ◌⊎◌}
 use Rattle.chess.specs.Fen.{parted_at}
+use Rattle.chess.specs.Placements.{Placement, opposite}
 use Rattle.chess.specs.Positions.{State, IsCheck}
 use Rattle.std.specs.List.{slice_get}
-use Rattle.chess.specs.Moves.{IsLegal, IsMate, IsStalemate}
+use Rattle.chess.specs.Moves.{IsLegal, HasMove}
+use Rattle.chess.specs.declared.board.man.Side.{Side}
 use Rattle.chess.specs.declared.moves.Move.{Move}
 use Rattle.pgn_text.specs.Strings.{IsContents}
 use Rattle.pgn_game.specs.Replays.{Replay}
 use Rattle.pgn_criteria.specs.Patterns.{FitsPattern}
 use Rattle.pgn_criteria.specs.Materials.{FitsMaterial}
-use Rattle.pgn_criteria.specs.Mirrors.{mirror, FitsEitherWay}
+use Rattle.pgn_criteria.specs.Mirrors.{mirrored_men, mirror, FitsEitherWay, can_be_mirrored}
 use Rattle.pgn_criteria.specs.MoveTexts.{FitMoves, GoesOnBy, IsReachedBy}
 use Rattle.pgn_criteria.specs.Words.{words_of}
 use Rattle.pgn_criteria.specs.Comparing.{Compares}
@@ -213,31 +215,51 @@ abbrev pub AllOfPly : Replay → ℕ → List (Condition (List ℕ)) → Type 0
 AllOfPly replay ply [] = Unit {0}
 AllOfPly replay ply (condition ∷ more) = OfPly replay ply condition × AllOfPly replay ply more
 
+-- what a condition says of one position by what is seen of it: its men, the side to move, whether that side is in check, and whether it has no
+-- move
+abbrev pub SaysOfSeen : Placement → Side → Type 0 → Type 0 → Bool → Claim (List ℕ) → Type 0
+SaysOfSeen men turn Checked Stuck denied (Tag name relation contents) = Unit {0}
+SaysOfSeen men turn Checked Stuck denied (Fen pattern) = Taken denied (FitsPattern men pattern)
+SaysOfSeen men turn Checked Stuck denied (Flip pattern) = Taken denied (FitsEitherWay men pattern)
+SaysOfSeen men turn Checked Stuck denied (Material white black) = Taken denied (FitsMaterial men white black)
+SaysOfSeen men turn Checked Stuck denied (Moves words) = Unit {0}
+SaysOfSeen men turn Checked Stuck denied (Plies comparison count) = Unit {0}
+SaysOfSeen men turn Checked Stuck denied (Result result) = Unit {0}
+SaysOfSeen men turn Checked Stuck denied (Next word) = Unit {0}
+SaysOfSeen men turn Checked Stuck denied (Played word) = Unit {0}
+SaysOfSeen men turn Checked Stuck denied (For count) = Unit {0}
+SaysOfSeen men turn Checked Stuck denied (Count comparison count) = Unit {0}
+SaysOfSeen men turn Checked Stuck denied (Turn side) = Taken denied (turn ≡ side)
+SaysOfSeen men turn Checked Stuck denied Check = Taken denied Checked
+SaysOfSeen men turn Checked Stuck denied Mate = Taken denied (Checked × Stuck)
+SaysOfSeen men turn Checked Stuck denied Stalemate = Taken denied ((¬ Checked) × Stuck)
+
+abbrev pub OfSeen : Placement → Side → Type 0 → Type 0 → Condition (List ℕ) → Type 0
+OfSeen men turn Checked Stuck condition = SaysOfSeen men turn Checked Stuck condition.is_denied condition.claim
+
+-- what all conditions say is so there, whether they have `either` or not
+abbrev pub AllSaid : Placement → Side → Type 0 → Type 0 → List (Condition (List ℕ)) → Type 0
+AllSaid men turn Checked Stuck [] = Unit {0}
+AllSaid men turn Checked Stuck (condition ∷ more) = OfSeen men turn Checked Stuck condition × AllSaid men turn Checked Stuck more
+
+-- what each condition says is so there, or where it has `either`, of the other men with the other side to move
+abbrev pub EachOfSeen : Placement → Side → Placement → Side → Type 0 → Type 0 → List (Condition (List ℕ)) → Type 0
+EachOfSeen men turn others other Checked Stuck [] = Unit {0}
+EachOfSeen men turn others other Checked Stuck (condition ∷ more) =
+    OfSeen (if is_turned condition then others else men) (if is_turned condition then other else turn) Checked Stuck condition
+    × EachOfSeen men turn others other Checked Stuck more
+
+-- what the conditions of an alternative say is so there
+abbrev pub AllOfSeen : Placement → Side → Type 0 → Type 0 → List (Condition (List ℕ)) → Type 0
+AllOfSeen men turn Checked Stuck conditions =
+    EachOfSeen men turn men turn Checked Stuck conditions ⊎ EachOfSeen men turn (mirrored_men men) (opposite turn) Checked Stuck conditions
+
 -- what a condition says of the position alone
 abbrev pub SaysOfPosition : State → Bool → Claim (List ℕ) → Type 0
-SaysOfPosition P denied (Tag name relation contents) = Unit {0}
-SaysOfPosition P denied (Fen pattern) = Taken denied (FitsPattern P.men pattern)
-SaysOfPosition P denied (Flip pattern) = Taken denied (FitsEitherWay P.men pattern)
-SaysOfPosition P denied (Material white black) = Taken denied (FitsMaterial P.men white black)
-SaysOfPosition P denied (Moves words) = Unit {0}
-SaysOfPosition P denied (Plies comparison count) = Unit {0}
-SaysOfPosition P denied (Result result) = Unit {0}
-SaysOfPosition P denied (Next word) = Unit {0}
-SaysOfPosition P denied (Played word) = Unit {0}
-SaysOfPosition P denied (For count) = Unit {0}
-SaysOfPosition P denied (Count comparison count) = Unit {0}
-SaysOfPosition P denied (Turn side) = Taken denied (P.turn ≡ side)
-SaysOfPosition P denied Check = Taken denied (IsCheck P.men P.turn)
-SaysOfPosition P denied Mate = Taken denied (IsMate P)
-SaysOfPosition P denied Stalemate = Taken denied (IsStalemate P)
+SaysOfPosition P denied claim = SaysOfSeen P.men P.turn (IsCheck P.men P.turn) (¬ HasMove P) denied claim
 
 abbrev pub OfPosition : State → Condition (List ℕ) → Type 0
-OfPosition P condition = SaysOfPosition P condition.is_denied condition.claim
-
--- what all conditions say is so of the position, whether they have `either` or not
-abbrev pub AllSaid : State → List (Condition (List ℕ)) → Type 0
-AllSaid P [] = Unit {0}
-AllSaid P (condition ∷ more) = OfPosition P condition × AllSaid P more
+OfPosition P condition = OfSeen P.men P.turn (IsCheck P.men P.turn) (¬ HasMove P) condition
 
 -- what each condition says is so of the position, or where it has `either`, of the other one
 abbrev pub EachOfPosition : State → State → List (Condition (List ℕ)) → Type 0
@@ -248,9 +270,24 @@ EachOfPosition P other (condition ∷ more) = OfPosition (if is_turned condition
 abbrev pub AllOfPosition : State → List (Condition (List ℕ)) → Type 0
 AllOfPosition P conditions = EachOfPosition P P conditions ⊎ EachOfPosition P (mirror P) conditions
 
--- the claim is so of a position where the other one is so of its mirror
-abbrev pub IsMirrorOf : Claim (List ℕ) → Claim (List ℕ) → Type 0
-IsMirrorOf own claim = (P : State) (denied : Bool) → SaysOfPosition P denied own ↔ SaysOfPosition (mirror P) denied claim
+-- what a claim says of the men and of the side to move, if it speaks of these alone
+abbrev pub SaysOfMen : Placement → Side → Bool → Claim (List ℕ) → Type 0
+SaysOfMen men turn denied claim = SaysOfSeen men turn ⊥ ⊥ denied claim
+
+-- the claim is one that can be made of the mirror, and is so of men where the other one is so of their mirror
+pub record IsMirrorOf (own claim : Claim (List ℕ)) : Type 0 where
+  pub can : can_be_mirrored own ≡ true
+  pub alike : (men : Placement) (turn : Side) (denied : Bool) → SaysOfMen men turn denied own ↔ SaysOfMen (mirrored_men men) (opposite turn) denied claim
+
+-- the condition holds where the other one does, or where that has `either`, at the mirror
+pub record IsMirrored (own condition : Condition (List ℕ)) : Type 0 where
+  pub denied : own.is_denied ≡ condition.is_denied
+  pub turned : is_turned condition ≡ true → IsMirrorOf own.claim condition.claim
+  pub fixed : is_turned condition ≡ false → own.claim ≡ condition.claim
+
+abbrev pub AreMirrored : List (Condition (List ℕ)) → List (Condition (List ℕ)) → Type 0
+AreMirrored own [] = own ≡ []
+AreMirrored own (condition ∷ more) = (one : Condition (List ℕ)) × (rest : List (Condition (List ℕ))) × (own ≡ one ∷ rest) × IsMirrored one condition × AreMirrored rest more
 
 -- none of the conditions has `either`
 abbrev pub AreFixed : List (Condition (List ℕ)) → Type 0
@@ -341,13 +378,29 @@ stage_of Check = Attacks
 stage_of Mate = Replies
 stage_of Stalemate = Replies
 
-abbrev pub AllOfStage : Stage → State → List (Condition (List ℕ)) → Type 0
-AllOfStage stage P [] = Unit {0}
-AllOfStage stage P (condition ∷ more) = (stage_of condition.claim ≡ stage → OfPosition P condition) × AllOfStage stage P more
+-- what a pattern says of the men; no other claim says anything of them here
+abbrev pub SaysOfPattern : Placement → Bool → Claim (List ℕ) → Type 0
+SaysOfPattern men denied (Fen pattern) = Taken denied (FitsPattern men pattern)
+SaysOfPattern men denied (Flip pattern) = Taken denied (FitsEitherWay men pattern)
+SaysOfPattern men denied claim = Unit {0}
+
+abbrev pub OfPattern : Placement → Condition (List ℕ) → Type 0
+OfPattern men condition = SaysOfPattern men condition.is_denied condition.claim
+
+abbrev pub AllOfStage : Stage → Placement → Side → Type 0 → Type 0 → List (Condition (List ℕ)) → Type 0
+AllOfStage stage men turn Checked Stuck [] = Unit {0}
+AllOfStage stage men turn Checked Stuck (condition ∷ more) =
+    (stage_of condition.claim ≡ stage → OfSeen men turn Checked Stuck condition) × AllOfStage stage men turn Checked Stuck more
+
+-- what the patterns among the conditions say of the men
+abbrev pub AllOfPatterns : Placement → List (Condition (List ℕ)) → Type 0
+AllOfPatterns men [] = Unit {0}
+AllOfPatterns men (condition ∷ more) = (stage_of condition.claim ≡ Squares → OfPattern men condition) × AllOfPatterns men more
 
 -- what the conditions that are no patterns say
-abbrev pub AllOfRest : State → List (Condition (List ℕ)) → Type 0
-AllOfRest P conditions = AllOfStage Men P conditions × AllOfStage Attacks P conditions × AllOfStage Replies P conditions
+abbrev pub AllOfRest : Placement → Side → Type 0 → Type 0 → List (Condition (List ℕ)) → Type 0
+AllOfRest men turn Checked Stuck conditions =
+    AllOfStage Men men turn Checked Stuck conditions × AllOfStage Attacks men turn Checked Stuck conditions × AllOfStage Replies men turn Checked Stuck conditions
 
 -- none of the conditions says more of positions than patterns do
 abbrev pub ArePatterns : List (Condition (List ℕ)) → Type 0

@@ -1,23 +1,27 @@
 //! Alternatives of criteria.
-ghost use Rattle.std.specs.Prelude.{◌≡◌, ◌↔◌, List, map, IsTrue, IfOk, IfSome, MatchOption};
-ghost use Rattle.pgn_criteria.specs.Meeting.{heading_of};
-ghost use Rattle.chess.specs.Positions.{State};
-ghost use Rattle.pgn_criteria.specs.Mirrors.{mirror};
+ghost use Rattle.std.specs.Prelude.{◌≡◌, ◌↔◌, false, List, map, IsTrue, IfOk, IfSome, MatchOption};
 ghost use Rattle.pgn_criteria.specs.Planning.{Plans};
-ghost use Rattle.pgn_criteria.specs.Stages.{AreLegal, AreGood, AllOfGame, AllOfHeading, AllAskWithin, AreFreeOfMoves, AllOfPly, OfPosition, AllSaid, EachOfPosition, AllOfPosition, AreFixed, AllOfStage, AllOfRest, AreNoSpans, AreNoCounts, SpansStand, claim_seen, seen, stage_of};
+ghost use Rattle.pgn_criteria.specs.Stages.{AreLegal, AreGood, AllOfGame, AllOfHeading, AllAskWithin, AreFreeOfMoves, AllOfPly, AllSaid, AllOfSeen, AreFixed, AreMirrored, OfPattern, AllOfPatterns, AllOfStage, AllOfRest, AreNoSpans, AreNoCounts, SpansStand, claim_seen, seen, stage_of};
+ghost use Rattle.pgn_criteria.specs.Sieves.{NowhereSeen, codes_in};
+ghost use Rattle.pgn_criteria.specs.Marks.{FitsSeen};
+ghost use Rattle.pgn_criteria.specs.Tracks.{Nowhere};
 ghost use Rattle.pgn_criteria.specs.declared.meets.Stage.TheVariants.{Squares};
 
 use crate::condition::{Claim, Condition};
+use crate::headed::Headed;
+use crate::marks::marks_are_shown;
 use crate::meets::{
     Stage, are_free_of_moves, are_of_game, are_of_heading, are_of_ply, are_of_rest, are_of_stage,
     are_patterns, longest_opening, stage_of,
 };
 use crate::mirror::{all_mirrored, are_fixed};
+use crate::numbers::numbers_are_shown;
 use crate::plan::Plan;
+use crate::seen::Seen;
+use crate::sieve::{Sieve, sieve_of};
 use crate::spans::{are_no_counts, are_no_spans, spans_stand};
 use chess::SquareSet;
-use pgn_game::{GamePosition, Replayed};
-use pgn_text::RawGame;
+use pgn_game::Replayed;
 use std::alloc::{AllocError, Global};
 use std::marker::Model;
 
@@ -32,10 +36,13 @@ pub(crate) struct Form {
     is_planned: bool,
     /// Whether the others say nothing of positions.
     is_bare: bool,
+    /// A man who has to stand on known squares, if the patterns name one.
+    sieve: Option<Sieve>,
 }
 
 impl Model for Form {
-    ghost use Rattle.std.specs.Prelude.{ℕ, List, IsTrue, map};
+    ghost use Rattle.std.specs.Prelude.{ℕ, List, IfSome, IsTrue, map};
+    ghost use Rattle.pgn_criteria.specs.Tracks.{IsSieve};
     ghost use Rattle.pgn_criteria.specs.declared.condition.Condition.{Condition};
     ghost use Rattle.pgn_criteria.specs.Layouts.{IsRest};
     ghost use Rattle.pgn_criteria.specs.Planning.{IsSoundPlan, IsPlanned};
@@ -50,6 +57,7 @@ impl Model for Form {
       rest : IsRest a.plan.layout.empty a.free;
       planned : IsPlanned (map (seen (λ text. text.items)) a.conditions.items) a.plan a.is_planned;
       bare : IsTrue a.is_bare → ArePatterns (map (seen (λ text. text.items)) a.conditions.items);
+      sieved : IfSome a.sieve (λ sieve. IsSieve a.plan.layout.asked.items sieve.man sieve.wanted);
     } };
 }
 
@@ -63,17 +71,15 @@ pub struct Alternative {
 }
 
 impl Model for Alternative {
-    ghost use Rattle.std.specs.Prelude.{◌↔◌, ℕ, List, MatchOption};
-    ghost use Rattle.chess.specs.Positions.{State};
+    ghost use Rattle.std.specs.Prelude.{ℕ, List, MatchOption};
     ghost use Rattle.pgn_criteria.specs.declared.condition.Condition.{Condition};
-    ghost use Rattle.pgn_criteria.specs.Mirrors.{mirror};
-    ghost use Rattle.pgn_criteria.specs.Stages.{AllSaid, EachOfPosition, AreFixed};
+    ghost use Rattle.pgn_criteria.specs.Stages.{AreFixed, AreMirrored};
 
     ghost Value = { List (Condition (List ℕ)) };
 
     ghost view = { λ a. a.plain };
 
-    ghost invariant = { λ a. MatchOption a.mirrored (AreFixed a.plain) (λ form. (P : State) → AllSaid P form ↔ EachOfPosition P (mirror P) a.plain) };
+    ghost invariant = { λ a. MatchOption a.mirrored (AreFixed a.plain) (λ form. AreMirrored form a.plain) };
 }
 
 /// Plans what a condition asks of squares, if it is a pattern. Answers whether that is all that it asks.
@@ -82,7 +88,7 @@ fn plan_one(
     plan: &mut Plan,
     condition: &Condition<Vec<u8>>,
 ) -> Result<bool, AllocError>
-    ensures { IfOk result (Plans (λ P. stage_of (claim_seen (λ text. text.items) condition.now.claim) ≡ Squares → OfPosition P (seen (λ text. text.items) condition.now)) (λ P. Unit {0}) plan.old plan.new) }
+    ensures { IfOk result (Plans (λ p. stage_of (claim_seen (λ text. text.items) condition.now.claim) ≡ Squares → OfPattern p (seen (λ text. text.items) condition.now)) (λ p. Unit {0}) plan.old plan.new) }
 {
     if stage_of(&condition.claim) != Stage::Squares {
         return Ok(true);
@@ -112,7 +118,7 @@ fn plan_all(
     plan: &mut Plan,
     conditions: &[Condition<Vec<u8>>],
 ) -> Result<bool, AllocError>
-    ensures { IfOk result (Plans (λ P. AllOfStage Squares P (map (seen (λ text. text.items)) conditions.now)) (λ P. Unit {0}) plan.old plan.new) }
+    ensures { IfOk result (Plans (λ p. AllOfPatterns p (map (seen (λ text. text.items)) conditions.now)) (λ p. Unit {0}) plan.old plan.new) }
 {
     let mut is_all = true;
     for condition in conditions {
@@ -130,27 +136,51 @@ impl Form {
         let is_planned = plan_all(alloc, &mut plan, &conditions)?;
         let is_bare = are_patterns(&conditions);
         let free = plan.free();
+        let sieve = sieve_of(plan.asked());
         Ok(Form {
             conditions,
             plan,
             free,
             is_planned,
             is_bare,
+            sieve,
         })
+    }
+
+    /// Whether what the patterns say may be so before the plies or after one of them, by the squares of one man.
+    #[inline(always)]
+    fn may_be_met<S: Seen>(&self, start: &S, plies: &[u8]) -> bool
+        ensures { result ≡ false → Nowhere (λ men. AllOfPatterns men self.now) (S.men start.now) (codes_in plies.now) }
+    {
+        match &self.sieve {
+            Some(sieve) => sieve.lets_through(start, plies),
+            None => true,
+        }
+    }
+
+    /// Whether the marks that the conditions need, and as few men as they allow, may be so before the plies or after one of them.
+    #[inline(always)]
+    fn needs_are_shown<S: Seen>(&self, start: &S, plies: &[u8]) -> bool
+        ensures { result ≡ false → NowhereSeen (FitsSeen self.now) (S.men start.now) (S.turn start.now) (S.checked start.now) (S.stuck start.now) (codes_in plies.now) }
+    {
+        if !marks_are_shown(&self.conditions, start, plies) {
+            return false;
+        }
+        numbers_are_shown(&self.conditions, start, plies)
     }
 
     /// Whether what the conditions that are no patterns say of the position is so.
     #[inline(always)]
-    fn rest_is_met(&self, position: &GamePosition) -> bool
-        ensures { IsTrue result ↔ AllOfRest position.now self.now }
+    fn rest_is_met<S: Seen>(&self, position: &S) -> bool
+        ensures { IsTrue result ↔ AllOfRest (S.men position.now) (S.turn position.now) (S.checked position.now) (S.stuck position.now) self.now }
     {
         self.is_bare || are_of_rest(&self.conditions, position)
     }
 
     /// Whether what all conditions say of the position is so. What is planned is looked at first, and patterns of which that is not all last.
     #[inline(always)]
-    fn is_met(&self, position: &GamePosition) -> bool
-        ensures { IsTrue result ↔ AllSaid position.now self.now }
+    fn is_met<S: Seen>(&self, position: &S) -> bool
+        ensures { IsTrue result ↔ AllSaid (S.men position.now) (S.turn position.now) (S.checked position.now) (S.stuck position.now) self.now }
     {
         self.plan.is_met(&self.free, position)
             && self.rest_is_met(position)
@@ -164,7 +194,7 @@ fn mirrored_form(
     conditions: &[Condition<Vec<u8>>],
 ) -> Result<Option<Form>, AllocError>
     ensures { IfOk result (λ found. MatchOption found (AreFixed (map (seen (λ text. text.items)) conditions.now))
-        (λ form. (P : State) → AllSaid P form ↔ EachOfPosition P (mirror P) (map (seen (λ text. text.items)) conditions.now))) }
+        (λ form. AreMirrored form (map (seen (λ text. text.items)) conditions.now))) }
 {
     if are_fixed(conditions) {
         return Ok(None);
@@ -187,18 +217,20 @@ impl Alternative {
     }
 
     /// Whether what the conditions say of the game alone is so.
-    pub(crate) fn is_of_game<'a>(&'a self, game: &RawGame<'a>, replayed: &Replayed) -> bool
+    pub(crate) fn is_of_game<'a, H: Headed<'a>>(&'a self, game: &H, replayed: &Replayed) -> bool
+        requires valid { H.valid game.now }
         requires good { AreGood self.now }
         requires legal { AreLegal replayed.now }
-        ensures { IsTrue result ↔ AllOfGame (heading_of game.now) replayed.now self.now }
+        ensures { IsTrue result ↔ AllOfGame (H.heading game.now) replayed.now self.now }
     {
         are_of_game(&self.plain.conditions, game, replayed)
     }
 
     /// Whether what the conditions say of the tags and the result of the game is so.
-    pub(crate) fn is_of_heading<'a>(&'a self, game: &RawGame<'a>) -> bool
+    pub(crate) fn is_of_heading<'a, H: Headed<'a>>(&'a self, game: &H) -> bool
+        requires valid { H.valid game.now }
         requires good { AreGood self.now }
-        ensures { IsTrue result ↔ AllOfHeading (heading_of game.now) self.now }
+        ensures { IsTrue result ↔ AllOfHeading (H.heading game.now) self.now }
     {
         are_of_heading(&self.plain.conditions, game)
     }
@@ -248,14 +280,31 @@ impl Alternative {
 
     /// Whether what the conditions say of the position is so, as they stand or with those that have `either` tried at its mirror.
     #[inline(always)]
-    pub(crate) fn is_met(&self, position: &GamePosition) -> bool
-        ensures { IsTrue result ↔ AllOfPosition position.now self.now }
+    pub(crate) fn is_met<S: Seen>(&self, position: &S) -> bool
+        ensures { IsTrue result ↔ AllOfSeen (S.men position.now) (S.turn position.now) (S.checked position.now) (S.stuck position.now) self.now }
     {
         if self.plain.is_met(position) {
             return true;
         }
         match &self.mirrored {
             Some(form) => form.is_met(position),
+            None => false,
+        }
+    }
+
+    /// Whether what the conditions say of positions may be so before the plies or after one of them.
+    #[inline(always)]
+    pub(crate) fn may_be_met<S: Seen>(&self, start: &S, plies: &[u8]) -> bool
+        ensures { result ≡ false → NowhereSeen (FitsSeen self.now) (S.men start.now) (S.turn start.now) (S.checked start.now) (S.stuck start.now) (codes_in plies.now) }
+    {
+        if !self.plain.needs_are_shown(start, plies) {
+            return false;
+        }
+        if self.plain.may_be_met(start, plies) {
+            return true;
+        }
+        match &self.mirrored {
+            Some(form) => form.may_be_met(start, plies),
             None => false,
         }
     }

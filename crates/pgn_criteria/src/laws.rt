@@ -1,6 +1,6 @@
 //! What holds of every text, whatever reads it. Each law is the contract of a function that does nothing.
 
-ghost use Rattle.pgn_criteria.specs.Laws.{TextHasOneMeaning, TextHasOneAnswer, MemoryIsTheOnlyFault, EachPositionMeetsOrDoesNot, MirrorIsUndone, FlipIsUndone, SidesAreAlike};
+ghost use Rattle.pgn_criteria.specs.Laws.{TextHasOneMeaning, TextHasOneAnswer, MemoryIsTheOnlyFault, EachPositionMeetsOrDoesNot, MirrorIsUndone, FlipIsUndone, SidesAreAlike, StepShowsNextPosition};
 
 /// A text spells at most one list of alternatives, and is either accepted, or too long, or refused for one of its lines. Memory runs out
 /// only where the text is neither too long nor bad.
@@ -21,4 +21,9 @@ pub fn mirrors()
     ensures mirror { MirrorIsUndone }
     ensures flip { FlipIsUndone }
     ensures alike { SidesAreAlike }
+{}
+
+/// Where a walk shows a position, a step by the code of a pseudo-legal move shows the position after the move.
+pub fn walks()
+    ensures { StepShowsNextPosition }
 {}

@@ -2,7 +2,6 @@
 ghost use Rattle.std.specs.Prelude.{◌≡◌, ◌↔◌, ◌≤◌, ◌<◌, ◌+◌, ◌∷◌, List, Option, IsTrue, IfOk, IfSome, OnOk, MatchOption, length, drop, true};
 ghost use Rattle.chess.specs.Fen.{row};
 ghost use Rattle.chess.specs.Placements.{Placement, man_at};
-ghost use Rattle.chess.specs.Positions.{State};
 ghost use Rattle.chess.specs.Sets.{is_in, HoldsExactly};
 ghost use Rattle.chess.specs.Squares.{IsOnBoard};
 ghost use Rattle.chess.specs.declared.board.man.Kind.{Kind};
@@ -16,8 +15,8 @@ ghost use Rattle.pgn_criteria.specs.Items.{items_of};
 
 use crate::cut::next_part;
 use crate::rank::{Item, Kinds, Men, SquareTest, is_of, next_item, size_of};
+use crate::seen::Seen;
 use chess::{Kind, Man, Side, Square, SquareSet};
-use pgn_game::GamePosition;
 use std::alloc::{AllocError, Global};
 
 /// The square on the same rank and as far from the other edge.
@@ -34,8 +33,8 @@ fn square_beside(square: Square) -> Square
 /// A square, and what must stand on it.
 #[derive(Drop)]
 pub(crate) struct Asked {
-    class: SquareTest,
-    square: Square,
+    pub(crate) class: SquareTest,
+    pub(crate) square: Square,
 }
 
 impl Asked {
@@ -53,14 +52,14 @@ impl Asked {
 
     /// Whether that stands on the square.
     #[inline(always)]
-    fn is_met(&self, position: &GamePosition) -> bool
-        ensures { IsTrue result ↔ IsOf self.now.class (man_at position.now.men self.now.square) }
+    fn is_met<S: Seen>(&self, position: &S) -> bool
+        ensures { IsTrue result ↔ IsOf self.now.class (man_at (S.men position.now) self.now.square) }
     {
         position.invariant();
         match self.class {
-            SquareTest::This(man) => position.squares_of(man).has(self.square),
-            SquareTest::Not(man) => !position.squares_of(man).has(self.square),
-            class => is_of(class, position.at(self.square)),
+            SquareTest::This(man) => position.squares_with(man).has(self.square),
+            SquareTest::Not(man) => !position.squares_with(man).has(self.square),
+            class => is_of(class, position.man_on(self.square)),
         }
     }
 }
@@ -75,8 +74,8 @@ pub(crate) struct Layout {
 
 /// Whether on each of the squares stands what must stand there.
 #[inline(always)]
-fn all_stand(all: &[Asked], position: &GamePosition) -> bool
-    ensures { IsTrue result ↔ AllStand position.now.men all.now }
+fn all_stand<S: Seen>(all: &[Asked], position: &S) -> bool
+    ensures { IsTrue result ↔ AllStand (S.men position.now) all.now }
 {
     for asked in all {
         if !asked.is_met(position) {
@@ -128,7 +127,7 @@ impl Layout {
 
     /// Adds a square on which a man must not stand, if that is so.
     fn bar(&mut self, is_barred: bool, man: Man, square: Square) -> Result<(), AllocError>
-        ensures { OnOk result (Lays (λ P. IsTrue is_barred → IsOf (Not man) (man_at P.men square)) (λ P. Unit {0}) self.old self.new true) }
+        ensures { OnOk result (Lays (λ p. IsTrue is_barred → IsOf (Not man) (man_at p square)) (λ p. Unit {0}) self.old self.new true) }
     {
         if is_barred {
             let class = SquareTest::Not(man);
@@ -139,7 +138,7 @@ impl Layout {
 
     /// Adds a square on which no man of these kinds must stand.
     fn bar_kinds(&mut self, side: Side, kinds: Kinds, square: Square) -> Result<(), AllocError>
-        ensures { OnOk result (Lays (λ P. NoneOf side kinds (man_at P.men square)) (λ P. Unit {0}) self.old self.new true) }
+        ensures { OnOk result (Lays (λ p. NoneOf side kinds (man_at p square)) (λ p. Unit {0}) self.old self.new true) }
     {
         self.bar(
             kinds.pawn,
@@ -194,7 +193,7 @@ impl Layout {
 
     /// Adds a square on which none of the men must stand.
     fn bar_men(&mut self, men: Men, square: Square) -> Result<(), AllocError>
-        ensures { OnOk result (Lays (λ P. IsOf (Other men) (man_at P.men square)) (λ P. Unit {0}) self.old self.new true) }
+        ensures { OnOk result (Lays (λ p. IsOf (Other men) (man_at p square)) (λ p. Unit {0}) self.old self.new true) }
     {
         self.bar_kinds(Side::White, men.white, square)?;
         self.bar_kinds(Side::Black, men.black, square)?;
@@ -203,7 +202,7 @@ impl Layout {
 
     /// Adds a square and what must stand on it.
     fn add(&mut self, class: SquareTest, square: Square) -> Result<(), AllocError>
-        ensures { OnOk result (Lays (λ P. IsOf class (man_at P.men square)) (λ P. Unit {0}) self.old self.new true) }
+        ensures { OnOk result (Lays (λ p. IsOf class (man_at p square)) (λ p. Unit {0}) self.old self.new true) }
     {
         match class {
             SquareTest::Any => Ok(()),
@@ -230,7 +229,7 @@ impl Layout {
         requires room { before + count ≤ 8 }
         requires low { 1 ≤ rank }
         requires high { rank ≤ 8 }
-        ensures { OnOk result (Lays (λ P. EachFrom P.men class rank before 0 count) (λ P. Unit {0}) self.old self.new true) }
+        ensures { OnOk result (Lays (λ p. EachFrom p class rank before 0 count) (λ p. Unit {0}) self.old self.new true) }
     {
         for step in 0..count {
             if let Some(square) = Square::new(before + step + 1, rank) {
@@ -252,7 +251,7 @@ impl Layout {
         requires low { 1 ≤ rank }
         requires high { rank ≤ 8 }
         ensures { IfOk result (λ next. MatchOption next (self.new ≡ self.old) (λ next. (next.1 ≤ 8) × (length next.0.now < length items.now)
-            × Lays (λ P. CanBeSplit (items_of items.now) (drop taken (row P.men rank))) (λ P. CanBeSplit (items_of next.0.now) (drop next.1 (row P.men rank)))
+            × Lays (λ p. CanBeSplit (items_of items.now) (drop taken (row p rank))) (λ p. CanBeSplit (items_of next.0.now) (drop next.1 (row p rank)))
             self.old self.new true)) }
     {
         match next_item(items) {
@@ -280,7 +279,7 @@ impl Layout {
     fn add_rank(&mut self, items: &[u8], rank: u8) -> Result<bool, AllocError>
         requires low { 1 ≤ rank }
         requires high { rank ≤ 8 }
-        ensures { IfOk result (Lays (λ P. CanBeSplit (items_of items.now) (row P.men rank)) (λ P. Unit {0}) self.old self.new) }
+        ensures { IfOk result (Lays (λ p. CanBeSplit (items_of items.now) (row p rank)) (λ p. Unit {0}) self.old self.new) }
     {
         let mut taken = 0u8;
         let mut rest = items;
@@ -296,7 +295,7 @@ impl Layout {
 
     /// Adds what a pattern asks. Answers whether it is all that it asks.
     pub(crate) fn add_pattern(&mut self, pattern: &[u8]) -> Result<bool, AllocError>
-        ensures { IfOk result (Lays (λ P. FitsPattern P.men pattern.now) (λ P. Unit {0}) self.old self.new) }
+        ensures { IfOk result (Lays (λ p. FitsPattern p pattern.now) (λ p. Unit {0}) self.old self.new) }
     {
         let mut rest = pattern;
         let mut is_all = true;
@@ -325,6 +324,13 @@ impl Layout {
         })
     }
 
+    /// The squares on which certain men must stand.
+    pub(crate) fn asked(&self) -> &[Asked]
+        ensures { result.now ≡ self.now.asked.items }
+    {
+        &self.asked
+    }
+
     /// The squares that men may stand on.
     pub(crate) fn free(&self) -> SquareSet
         ensures { IsRest self.now.empty result }
@@ -344,9 +350,9 @@ impl Layout {
 
     /// Whether the men stand as is laid out, where the set is that of the squares that they may stand on.
     #[inline(always)]
-    pub(crate) fn is_met(&self, free: &SquareSet, position: &GamePosition) -> bool
+    pub(crate) fn is_met<S: Seen>(&self, free: &SquareSet, position: &S) -> bool
         requires { IsRest self.now.empty free.now }
-        ensures { IsTrue result ↔ Laid position.now.men self.now }
+        ensures { IsTrue result ↔ Laid (S.men position.now) self.now }
     {
         if !all_stand(&self.asked, position) || !all_stand(&self.barred, position) {
             return false;
@@ -375,25 +381,25 @@ impl Look {
 
     /// Whether the men stand as is laid out.
     #[inline(always)]
-    pub(crate) fn is_met(&self, position: &GamePosition) -> bool
+    pub(crate) fn is_met<S: Seen>(&self, position: &S) -> bool
         requires { IsRest self.now.layout.empty self.now.free }
-        ensures { IsTrue result ↔ Laid position.now.men self.now.layout }
+        ensures { IsTrue result ↔ Laid (S.men position.now) self.now.layout }
     {
         self.layout.is_met(&self.free, position)
     }
 }
 
 /// Whether that man stands on squares of the set alone.
-fn is_within(position: &GamePosition, side: Side, kind: Kind, free: &SquareSet) -> bool
-    ensures { IsTrue result ↔ KindWithin position.now.men free.now side kind }
+fn is_within<S: Seen>(position: &S, side: Side, kind: Kind, free: &SquareSet) -> bool
+    ensures { IsTrue result ↔ KindWithin (S.men position.now) free.now side kind }
 {
     position.invariant();
-    position.squares_of(Man { side, kind }).is_within(free)
+    position.squares_with(Man { side, kind }).is_within(free)
 }
 
 /// Whether the side's men stand on squares of the set alone.
-fn is_side_within(position: &GamePosition, side: Side, free: &SquareSet) -> bool
-    ensures { IsTrue result ↔ ((kind : Kind) → KindWithin position.now.men free.now side kind) }
+fn is_side_within<S: Seen>(position: &S, side: Side, free: &SquareSet) -> bool
+    ensures { IsTrue result ↔ ((kind : Kind) → KindWithin (S.men position.now) free.now side kind) }
 {
     is_within(position, side, Kind::Pawn, free)
         && is_within(position, side, Kind::Knight, free)
@@ -404,8 +410,8 @@ fn is_side_within(position: &GamePosition, side: Side, free: &SquareSet) -> bool
 }
 
 /// Whether all men stand on squares of the set.
-fn are_within(position: &GamePosition, free: &SquareSet) -> bool
-    ensures { IsTrue result ↔ ((side : Side) (kind : Kind) → KindWithin position.now.men free.now side kind) }
+fn are_within<S: Seen>(position: &S, free: &SquareSet) -> bool
+    ensures { IsTrue result ↔ ((side : Side) (kind : Kind) → KindWithin (S.men position.now) free.now side kind) }
 {
     is_side_within(position, Side::White, free) && is_side_within(position, Side::Black, free)
 }

@@ -1,16 +1,22 @@
 //! The plies of a game that is replayed which meet criteria, found at once.
-ghost use Rattle.std.specs.Prelude.{◌∷◌, ◌++◌, [], ◌≡◌, ℕ, List, IfOk};
-ghost use Rattle.pgn_text.specs.GameTexts.{tag_in};
-ghost use Rattle.pgn_game.specs.Replays.{IsSomeReplay};
+ghost use Rattle.std.specs.Prelude.{◌≡◌, ◌∷◌, ◌++◌, [], ℕ, List, IfOk};
+ghost use Rattle.chess.specs.Positions.{State};
+ghost use Rattle.pgn_text.specs.GameTexts.{GameText, tag_in};
+ghost use Rattle.pgn_game.specs.CodeLines.{IsLegalLine};
+ghost use Rattle.pgn_game.specs.PackedGames.{PackedGame, IsPacked, FitsRecord};
+ghost use Rattle.pgn_game.specs.PackReading.{IsRawOfGame, raw_of};
+ghost use Rattle.pgn_game.specs.Replays.{Replay, IsSomeReplay};
 ghost use Rattle.pgn_game.specs.Starts.{fen_tag};
 ghost use Rattle.pgn_criteria.specs.declared.condition.Condition.{Condition};
 ghost use Rattle.pgn_criteria.specs.Meeting.{Heading, heading_of, AreMet};
-ghost use Rattle.pgn_criteria.specs.Stages.{AreGood, AreLegal};
+ghost use Rattle.pgn_criteria.specs.Stages.{AllGood, AreGood, AreLegal};
 
 use crate::alternative::Alternative;
+use crate::headed::Headed;
 use crate::meets::Criteria;
 use crate::spans::add_plies;
 use pgn_game::Replayed;
+use pgn_game::pack::RawRecord;
 use pgn_text::RawGame;
 use std::alloc::{AllocError, Global};
 
@@ -24,20 +30,40 @@ fn no_plies(alloc: Global, replayed: &Replayed) -> Result<Vec<bool>, AllocError>
 }
 
 /// Adds the plies at which all conditions of one more alternative hold.
-fn add_alternative<'a>(
+fn add_alternative<'a, H: Headed<'a>>(
     met: &mut [bool],
     alternative: &'a Alternative,
-    game: &RawGame<'a>,
+    game: &H,
     replayed: &Replayed,
 )
+    requires valid { H.valid game.now }
     requires good { AreGood alternative.now }
     requires legal { AreLegal replayed.now }
-    ensures { (before : List (List (Condition (List ℕ)))) → AreMet (heading_of game.now) replayed.now before met.old
-        → AreMet (heading_of game.now) replayed.now (before ++ alternative.now ∷ []) met.new }
+    ensures { (before : List (List (Condition (List ℕ)))) → AreMet (H.heading game.now) replayed.now before met.old
+        → AreMet (H.heading game.now) replayed.now (before ++ alternative.now ∷ []) met.new }
 {
     if alternative.is_of_game(game, replayed) {
         add_plies(met, alternative, replayed);
     }
+}
+
+/// For each ply of the main line whether all conditions of some alternative hold there.
+fn met_by<'a, H: Headed<'a>>(
+    alternatives: &'a [Alternative],
+    alloc: Global,
+    game: &H,
+    replayed: &Replayed,
+) -> Result<Vec<bool>, AllocError>
+    requires valid { H.valid game.now }
+    requires good { AllGood alternatives.now }
+    requires legal { AreLegal replayed.now }
+    ensures { IfOk result (λ met. AreMet (H.heading game.now) replayed.now alternatives.now met.items) }
+{
+    let mut met = no_plies(alloc, replayed)?;
+    for alternative in alternatives {
+        add_alternative(&mut met, alternative, game, replayed);
+    }
+    Ok(met)
 }
 
 impl Criteria {
@@ -54,10 +80,21 @@ impl Criteria {
         ensures { IfOk result (λ met. AreMet (heading_of game.now) replayed.now self.now met.items) }
     {
         pgn_game::laws::one_legal_move();
-        let mut met = no_plies(alloc, replayed)?;
-        for alternative in &self.alternatives {
-            add_alternative(&mut met, alternative, game, replayed);
-        }
-        Ok(met)
+        met_by(&self.alternatives, alloc, game, replayed)
+    }
+
+    /// The same of a packed game: for each ply of its line, from 0 to its last, whether its position meets the criteria.
+    pub fn met_packed<'a>(
+        &'a self,
+        alloc: Global,
+        raw: &RawRecord<'a>,
+        replayed: &Replayed,
+    ) -> Result<Vec<bool>, AllocError>
+        requires shows { IsRawOfGame raw.now }
+        requires legal { (start : State) × IsLegalLine start replayed.now }
+        ensures { IfOk result (λ met. (game : GameText) (replay : Replay) (packed : PackedGame) → IsPacked packed.name packed.number packed.offset game replay packed
+            → FitsRecord packed → raw_of packed ≡ raw.now → AreMet (heading_of game) replayed.now self.now met.items) }
+    {
+        met_by(&self.alternatives, alloc, raw, replayed)
     }
 }

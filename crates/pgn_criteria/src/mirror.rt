@@ -1,13 +1,11 @@
 //! Conditions that are tried at the mirror of a position.
-ghost use Rattle.std.specs.Prelude.{◌≡◌, ◌↔◌, ◌++◌, if◌then◌else◌, map, IsTrue, IfOk, OnOk};
+ghost use Rattle.std.specs.Prelude.{◌≡◌, ◌↔◌, ◌++◌, map, IsTrue, IfOk, OnOk};
 ghost use Rattle.chess.specs.Fen.{parted_at};
 ghost use Rattle.chess.specs.Placements.{Placement};
-ghost use Rattle.chess.specs.Positions.{State};
-ghost use Rattle.pgn_criteria.specs.Meeting.{is_turned};
-ghost use Rattle.pgn_criteria.specs.Mirrors.{mirrored_men, mirror, can_be_mirrored};
+ghost use Rattle.pgn_criteria.specs.Mirrors.{mirrored_men, can_be_mirrored};
 ghost use Rattle.pgn_criteria.specs.Turning.{other_letter, turned};
 ghost use Rattle.pgn_criteria.specs.Patterns.{FitsPattern, IsPattern};
-ghost use Rattle.pgn_criteria.specs.Stages.{OfPosition, AllSaid, EachOfPosition, AreFixed, IsMirrorOf, seen, claim_seen};
+ghost use Rattle.pgn_criteria.specs.Stages.{AreFixed, IsMirrorOf, IsMirrored, AreMirrored, seen, claim_seen};
 
 use crate::condition::{Claim, Condition};
 use crate::cut::next_part;
@@ -129,8 +127,7 @@ fn mirrored_claim(alloc: Global, claim: &Claim<Vec<u8>>) -> Result<Claim<Vec<u8>
 
 /// The condition that holds at a position where this one holds at its mirror, or without `either` at the position itself.
 fn mirrored(alloc: Global, condition: &Condition<Vec<u8>>) -> Result<Condition<Vec<u8>>, AllocError>
-    ensures { IfOk result (λ own. (P : State) → OfPosition P (seen (λ text. text.items) own)
-        ↔ OfPosition (if is_turned (seen (λ text. text.items) condition.now) then mirror P else P) (seen (λ text. text.items) condition.now)) }
+    ensures { IfOk result (λ own. IsMirrored (seen (λ text. text.items) own) (seen (λ text. text.items) condition.now)) }
 {
     let is_denied = condition.is_denied;
     let claim = if condition.is_either && can_be_mirrored(&condition.claim) {
@@ -150,8 +147,7 @@ pub(crate) fn all_mirrored(
     alloc: Global,
     conditions: &[Condition<Vec<u8>>],
 ) -> Result<Vec<Condition<Vec<u8>>>, AllocError>
-    ensures { IfOk result (λ own. (P : State) → AllSaid P (map (seen (λ text. text.items)) own.items)
-        ↔ EachOfPosition P (mirror P) (map (seen (λ text. text.items)) conditions.now)) }
+    ensures { IfOk result (λ own. AreMirrored (map (seen (λ text. text.items)) own.items) (map (seen (λ text. text.items)) conditions.now)) }
 {
     let mut own = Vec::new(alloc);
     for condition in conditions {

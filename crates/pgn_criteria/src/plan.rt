@@ -1,15 +1,14 @@
 //! What the patterns of an alternative ask of squares, laid out once, in whichever way they are asked.
 ghost use Rattle.std.specs.Prelude.{◌≡◌, ◌↔◌, [], IsTrue, IfOk, IfSome};
 ghost use Rattle.chess.specs.Placements.{Placement};
-ghost use Rattle.chess.specs.Positions.{State};
 ghost use Rattle.pgn_criteria.specs.Layouts.{IsRest, Laid};
 ghost use Rattle.pgn_criteria.specs.Planning.{AreSound, AreSoundWays, IsSoundPlan, AllEither, NoneLaid, Planned, Plans};
 ghost use Rattle.pgn_criteria.specs.Mirrors.{FitsEitherWay};
 ghost use Rattle.pgn_criteria.specs.Patterns.{FitsPattern};
 
-use crate::layout::{Layout, Look};
+use crate::layout::{Asked, Layout, Look};
+use crate::seen::Seen;
 use chess::SquareSet;
-use pgn_game::GamePosition;
 use std::alloc::{AllocError, Global};
 
 /// A look at what a pattern asks, and one at what it asks of the men with their files turned.
@@ -29,7 +28,7 @@ pub(crate) struct Plan {
 
 /// What the pattern asks, if it can be laid out.
 fn layout_of(alloc: Global, pattern: &[u8]) -> Result<Option<Layout>, AllocError>
-    ensures { IfOk result (λ found. IfSome found (λ layout. (P : State) → Laid P.men layout ↔ FitsPattern P.men pattern.now)) }
+    ensures { IfOk result (λ found. IfSome found (λ layout. (p : Placement) → Laid p layout ↔ FitsPattern p pattern.now)) }
 {
     let mut layout = Layout::new(alloc);
     if !layout.add_pattern(pattern)? {
@@ -53,14 +52,14 @@ impl Plan {
 
     /// Adds a pattern that is to fit. Answers whether all that it asks is planned.
     pub(crate) fn add_pattern(&mut self, pattern: &[u8]) -> Result<bool, AllocError>
-        ensures { IfOk result (Plans (λ P. FitsPattern P.men pattern.now) (λ P. Unit {0}) self.old self.new) }
+        ensures { IfOk result (Plans (λ p. FitsPattern p pattern.now) (λ p. Unit {0}) self.old self.new) }
     {
         self.layout.add_pattern(pattern)
     }
 
     /// Adds a pattern that is to fit as it stands, or with the files turned. Answers whether all that it asks is planned.
     pub(crate) fn add_ways(&mut self, alloc: Global, pattern: &[u8]) -> Result<bool, AllocError>
-        ensures { IfOk result (Plans (λ P. FitsEitherWay P.men pattern.now) (λ P. Unit {0}) self.old self.new) }
+        ensures { IfOk result (Plans (λ p. FitsEitherWay p pattern.now) (λ p. Unit {0}) self.old self.new) }
     {
         let Some(straight) = layout_of(alloc, pattern)? else {
             return Ok(false);
@@ -75,7 +74,7 @@ impl Plan {
 
     /// Adds a pattern that is not to fit. Answers whether all that this asks is planned.
     pub(crate) fn add_denied(&mut self, alloc: Global, pattern: &[u8]) -> Result<bool, AllocError>
-        ensures { IfOk result (Plans (λ P. FitsPattern P.men pattern.now → ⊥) (λ P. Unit {0}) self.old self.new) }
+        ensures { IfOk result (Plans (λ p. FitsPattern p pattern.now → ⊥) (λ p. Unit {0}) self.old self.new) }
     {
         let Some(layout) = layout_of(alloc, pattern)? else {
             return Ok(false);
@@ -86,7 +85,7 @@ impl Plan {
 
     /// Adds a pattern that is to fit neither as it stands nor with the files turned. Answers whether all that this asks is planned.
     pub(crate) fn add_no_way(&mut self, alloc: Global, pattern: &[u8]) -> Result<bool, AllocError>
-        ensures { IfOk result (Plans (λ P. FitsEitherWay P.men pattern.now → ⊥) (λ P. Unit {0}) self.old self.new) }
+        ensures { IfOk result (Plans (λ p. FitsEitherWay p pattern.now → ⊥) (λ p. Unit {0}) self.old self.new) }
     {
         let Some(straight) = layout_of(alloc, pattern)? else {
             return Ok(false);
@@ -95,6 +94,13 @@ impl Plan {
         self.denied.push(Look::new(straight))?;
         self.denied.push(Look::new(turned))?;
         Ok(true)
+    }
+
+    /// The squares on which certain men must stand where the patterns that are to fit do.
+    pub(crate) fn asked(&self) -> &[Asked]
+        ensures { result.now ≡ self.now.layout.asked.items }
+    {
+        self.layout.asked()
     }
 
     /// The squares that men may stand on where the patterns that are to fit do.
@@ -106,10 +112,10 @@ impl Plan {
 
     /// Whether the men stand as is planned, where the set is that of the squares that they may stand on.
     #[inline(always)]
-    pub(crate) fn is_met(&self, free: &SquareSet, position: &GamePosition) -> bool
+    pub(crate) fn is_met<S: Seen>(&self, free: &SquareSet, position: &S) -> bool
         requires sound { IsSoundPlan self.now }
         requires free { IsRest self.now.layout.empty free.now }
-        ensures { IsTrue result ↔ Planned position.now.men self.now }
+        ensures { IsTrue result ↔ Planned (S.men position.now) self.now }
     {
         self.layout.is_met(free, position) && (self.is_flat() || self.is_met_beyond(position))
     }
@@ -124,9 +130,9 @@ impl Plan {
 
     /// Whether the men stand as the other patterns want it.
     #[inline(never)]
-    fn is_met_beyond(&self, position: &GamePosition) -> bool
+    fn is_met_beyond<S: Seen>(&self, position: &S) -> bool
         requires { IsSoundPlan self.now }
-        ensures { IsTrue result ↔ (AllEither position.now.men self.now.ways.items × NoneLaid position.now.men self.now.denied.items) }
+        ensures { IsTrue result ↔ (AllEither (S.men position.now) self.now.ways.items × NoneLaid (S.men position.now) self.now.denied.items) }
     {
         all_either(&self.ways, position) && none_laid(&self.denied, position)
     }
@@ -134,9 +140,9 @@ impl Plan {
 
 /// Whether the men stand the one way or the other, of each of these.
 #[inline(always)]
-fn all_either(all: &[Ways], position: &GamePosition) -> bool
+fn all_either<S: Seen>(all: &[Ways], position: &S) -> bool
     requires { AreSoundWays all.now }
-    ensures { IsTrue result ↔ AllEither position.now.men all.now }
+    ensures { IsTrue result ↔ AllEither (S.men position.now) all.now }
 {
     for ways in all {
         if !ways.straight.is_met(position) && !ways.turned.is_met(position) {
@@ -148,9 +154,9 @@ fn all_either(all: &[Ways], position: &GamePosition) -> bool
 
 /// Whether the men stand as none of these lays out.
 #[inline(always)]
-fn none_laid(all: &[Look], position: &GamePosition) -> bool
+fn none_laid<S: Seen>(all: &[Look], position: &S) -> bool
     requires { AreSound all.now }
-    ensures { IsTrue result ↔ NoneLaid position.now.men all.now }
+    ensures { IsTrue result ↔ NoneLaid (S.men position.now) all.now }
 {
     for look in all {
         if look.is_met(position) {

@@ -1,17 +1,24 @@
 //! The plies of one game that meet criteria, looked for one after the other.
-ghost use Rattle.std.specs.Prelude.{◌≡◌, ◌↔◌, ◌==◌, ℕ, List, length, IsTrue, IfOk, IfSome, MatchResult};
+ghost use Rattle.std.specs.Prelude.{◌≡◌, ◌↔◌, ◌==◌, ℕ, false, List, length, IsTrue, IfOk, IfSome, MatchResult};
 ghost use Rattle.chess.specs.Positions.{State};
-ghost use Rattle.pgn_text.specs.GameTexts.{tag_in};
+ghost use Rattle.pgn_text.specs.GameTexts.{GameText, tag_in};
 ghost use Rattle.pgn_game.specs.Faults.{IsFault};
 ghost use Rattle.pgn_game.specs.Replays.{Replay, IsSomeReplay, fault_of};
+ghost use Rattle.pgn_game.specs.PackedGames.{PackedGame, IsPacked, FitsRecord};
+ghost use Rattle.pgn_game.specs.PackReading.{IsRawOfGame, raw_of};
 ghost use Rattle.pgn_game.specs.Starts.{fen_tag};
 ghost use Rattle.pgn_game.specs.declared.replayer.Lines.TheVariants.{Main};
+ghost use Rattle.pgn_criteria.specs.Sieves.{MeetsSeen, NowhereSeen, codes_in};
 ghost use Rattle.pgn_criteria.specs.Meeting.{Heading, heading_of, SomeHold, Meets};
 ghost use Rattle.pgn_criteria.specs.Stages.{AllGood, AreLegal, EachAsksWithin};
+ghost use Rattle.pgn_criteria.specs.Walks.{IsSeenOf};
 
 use crate::alternative::Alternative;
+use crate::headed::Headed;
 use crate::meets::Criteria;
-use pgn_game::{GameFault, GamePosition, Replayed, replay_opening};
+use crate::seen::Seen;
+use pgn_game::pack::RawRecord;
+use pgn_game::{GameFault, Replayed, replay_opening};
 use pgn_text::RawGame;
 use std::alloc::{AllocError, Global};
 use std::marker::Model;
@@ -41,13 +48,27 @@ impl<'a> Search<'a> {
         self.left.is_empty()
     }
 
-    /// Whether the position meets what is asked: some alternative that is left holds there.
+    /// Whether the position that is seen meets what is asked: some alternative that is left holds there.
     #[inline(always)]
-    pub fn is_met(&self, position: &GamePosition) -> bool
-        ensures { (heading : Heading) (replay : Replay) (ply : ℕ) → IsTrue result ↔ SomeHold heading replay ply position.now self.now }
+    pub fn is_met<S: Seen>(&self, seen: &S) -> bool
+        ensures { (P : State) → IsSeenOf P (S.men seen.now) (S.turn seen.now) (S.checked seen.now) (S.stuck seen.now)
+            → (heading : Heading) (replay : Replay) (ply : ℕ) → IsTrue result ↔ SomeHold heading replay ply P self.now }
     {
         for alternative in &self.left {
-            if alternative.is_met(position) {
+            if alternative.is_met(seen) {
+                return true;
+            }
+        }
+        false
+    }
+
+    /// Whether a position of a packed game may meet what is asked, by the squares of one man of each alternative, and by check and whether
+    /// there is a move: the game starts as is seen, and these are the bytes of its plies.
+    pub fn may_be_met<S: Seen>(&self, start: &S, plies: &[u8]) -> bool
+        ensures { result ≡ false → NowhereSeen (MeetsSeen self.now) (S.men start.now) (S.turn start.now) (S.checked start.now) (S.stuck start.now) (codes_in plies.now) }
+    {
+        for alternative in &self.left {
+            if alternative.may_be_met(start, plies) {
                 return true;
             }
         }
@@ -82,13 +103,14 @@ fn left_after<'a>(
 impl Criteria {
     /// What the criteria ask of the positions of the game, where that does not depend on its moves. It is `None` where an alternative
     /// whose conditions on tags hold has one on the moves.
-    fn watch_heading<'a>(
+    fn watch_heading<'a, H: Headed<'a>>(
         &'a self,
         alloc: Global,
-        game: &RawGame<'a>,
+        game: &H,
     ) -> Result<Option<Search<'a>>, AllocError>
+        requires { H.valid game.now }
         ensures { IfOk result (λ watched. IfSome watched (λ search. (replay : Replay) (ply : ℕ)
-            → Meets (heading_of game.now) replay ply search ↔ Meets (heading_of game.now) replay ply self.now)) }
+            → Meets (H.heading game.now) replay ply search ↔ Meets (H.heading game.now) replay ply self.now)) }
     {
         let mut left = Vec::new(alloc);
         for alternative in &self.alternatives {
@@ -100,6 +122,20 @@ impl Criteria {
             }
         }
         Ok(Some(Search { left }))
+    }
+
+    /// What the criteria ask of the positions of a packed game. Conditions on its tags and its result are decided here, once. It is
+    /// `None` where an alternative of which these hold speaks of the moves too, or of several plies.
+    pub fn watch_packed<'a>(
+        &'a self,
+        alloc: Global,
+        record: &RawRecord<'a>,
+    ) -> Result<Option<Search<'a>>, AllocError>
+        requires { IsRawOfGame record.now }
+        ensures { IfOk result (λ watched. IfSome watched (λ search. (game : GameText) (replay : Replay) (packed : PackedGame) → IsPacked packed.name packed.number packed.offset game replay packed
+            → FitsRecord packed → raw_of packed ≡ record.now → (any : Replay) (ply : ℕ) → Meets (heading_of game) any ply search ↔ Meets (heading_of game) any ply self.now)) }
+    {
+        self.watch_heading(alloc, record)
     }
 
     /// What the criteria ask of the positions of the game, by which its plies are found while it is played. Conditions on tags and on the

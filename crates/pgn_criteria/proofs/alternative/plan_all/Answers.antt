@@ -1,6 +1,6 @@
 use Rattle.std.proofs.Common.{◌≡◌, ◌+◌, ◌∷◌, [], ℕ, List, Vec, Global, true, length, map, drop, subst, sym, ap, ◌∙◌, arith}
 use Rattle.std.proofs.Math.Seq.{drop-length}
-use Rattle.pgn_criteria.specs.Stages.{OfPosition, AllOfStage, seen, stage_of}
+use Rattle.pgn_criteria.specs.Stages.{OfPattern, AllOfPatterns, seen, stage_of}
 use Rattle.pgn_criteria.specs.declared.meets.Stage.TheVariants.{Squares}
 use Rattle.pgn_criteria.specs.declared.condition.Condition.{Condition}
 use Rattle.pgn_criteria.proofs.MeetFacts.{alternatives_from}
@@ -17,10 +17,10 @@ loop-condition-preserved c =
     let i = c.loop-condition.condition-index in
     let own = c.condition-item.result in
     let front : view (drop i all) ≡ seen (λ text. text.items) own ∷ view (drop (i + 1) all) = ap view (alternatives_from all i own c.loop-condition-test.true c.condition-item.is) in
-    lays_step (λ P. AllOfStage Squares P (view all)) (λ P. AllOfStage Squares P (view (drop i all))) (λ P. stage_of (seen (λ text. text.items) own).claim ≡ Squares → OfPosition P (seen (λ text. text.items) own))
-    (λ P. AllOfStage Squares P (view (drop (i + 1) all))) c.args.plan.now c.loop-condition.plan c.plan_one.new.plan c.loop-condition.is_all c.in_ok-is_all.is_all c.if-branch.is_all
+    lays_step (λ p. AllOfPatterns p (view all)) (λ p. AllOfPatterns p (view (drop i all))) (λ p. stage_of (seen (λ text. text.items) own).claim ≡ Squares → OfPattern p (seen (λ text. text.items) own))
+    (λ p. AllOfPatterns p (view (drop (i + 1) all))) c.args.plan.now c.loop-condition.plan c.plan_one.new.plan c.loop-condition.is_all c.in_ok-is_all.is_all c.if-branch.is_all
     c.loop-condition.invariant c.in_ok-is_all.ensures
-    (λ P. (λ holds. subst (AllOfStage Squares P) front holds, λ both. subst (AllOfStage Squares P) (sym front) both))
+    (λ p. (λ holds. subst (AllOfPatterns p) front holds, λ both. subst (AllOfPatterns p) (sym front) both))
     (λ t. elim c.if-branch.branch [
       | then-branch w ↦ let both : c.loop-condition.is_all ≡ true = cc (w.is_all-is, t) in (both, w.if-branch.true)
       | else-branch w ↦ absurd (cc (w.is_all-is, t))
@@ -32,5 +32,5 @@ returns c =
     let i = c.loop-condition.condition-index in
     let end : i ≡ length all = omega arith in
     let none : view (drop i all) ≡ [] = ap view (ap (λ n. drop n all) end ∙ drop-length all) in
-    lays_end (λ P. AllOfStage Squares P (view all)) (λ P. AllOfStage Squares P (view (drop i all))) c.args.plan.now c.loop-condition.plan c.loop-condition.is_all c.loop-condition.is_all
-    c.loop-condition.invariant (λ t. (t, λ P. subst (AllOfStage Squares P) (sym none) tt))
+    lays_end (λ p. AllOfPatterns p (view all)) (λ p. AllOfPatterns p (view (drop i all))) c.args.plan.now c.loop-condition.plan c.loop-condition.is_all c.loop-condition.is_all
+    c.loop-condition.invariant (λ t. (t, λ p. subst (AllOfPatterns p) (sym none) tt))

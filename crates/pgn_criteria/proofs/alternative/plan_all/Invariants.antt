@@ -1,10 +1,9 @@
 use Rattle.std.proofs.Common.{drop, map}
 use Rattle.pgn_criteria.specs.Planning.{Plans}
-use Rattle.pgn_criteria.specs.Stages.{AllOfStage, seen}
-use Rattle.pgn_criteria.specs.declared.meets.Stage.TheVariants.{Squares}
+use Rattle.pgn_criteria.specs.Stages.{AllOfPatterns, seen}
 use Rattle.pgn_criteria.proofs.alternative.plan_all.Given as goal
 
 abbrev pub invariant-loop-condition : goal.invariant-loop-condition
 invariant-loop-condition l =
-    Plans (λ P. AllOfStage Squares P (map (seen (λ text. text.items)) l.conditions)) (λ P. AllOfStage Squares P (map (seen (λ text. text.items)) (drop l.condition-index l.conditions)))
+    Plans (λ p. AllOfPatterns p (map (seen (λ text. text.items)) l.conditions)) (λ p. AllOfPatterns p (map (seen (λ text. text.items)) (drop l.condition-index l.conditions)))
     l.fn.plan l.plan l.is_all

@@ -4,8 +4,8 @@ use Rattle.pgn_criteria.proofs.layout.is_within.Goals as goal
 
 pub returns : goal.returns
 unfolding KindWithin
-returns c =
+returns g c =
     let man : Man = record { side = c.args.side; kind = c.args.kind } in (
-      λ reports s here. c.is_within.ensures.0 reports s ((c.squares_of.ensures s).1 (c.invariant.ensures.on_board s man here, here)),
-      λ within. c.is_within.ensures.1 (λ s here. within s ((c.squares_of.ensures s).0 here).1),
+      λ reports s here. c.is_within.ensures.0 reports s ((c.squares_with.ensures s).1 (c.invariant.ensures s man here, here)),
+      λ within. c.is_within.ensures.1 (λ s here. within s ((c.squares_with.ensures s).0 here).1),
     )

@@ -1,10 +1,9 @@
 use Rattle.std.proofs.Common.{◌↔◌, drop, map}
 use Rattle.pgn_criteria.specs.Stages.{AllOfGame, AreGood, seen}
-use Rattle.pgn_criteria.specs.Meeting.{heading_of}
 use Rattle.pgn_criteria.proofs.meets.are_of_game.Given as goal
 
 abbrev pub invariant-loop-condition : goal.invariant-loop-condition
-invariant-loop-condition l =
+invariant-loop-condition g l =
     AreGood (map (seen (λ text. text.items)) (drop l.condition-index l.conditions))
-    × (AllOfGame (heading_of l.game) l.replayed (map (seen (λ text. text.items)) (drop l.condition-index l.conditions))
-    ↔ AllOfGame (heading_of l.game) l.replayed (map (seen (λ text. text.items)) l.conditions))
+    × (AllOfGame (g.H.Headed.heading l.game) l.replayed (map (seen (λ text. text.items)) (drop l.condition-index l.conditions))
+    ↔ AllOfGame (g.H.Headed.heading l.game) l.replayed (map (seen (λ text. text.items)) l.conditions))

@@ -1,14 +1,14 @@
 use Rattle.std.proofs.Common.{◌≡◌, ◌↔◌, ℕ, List, IsTrue, not, subst, sym}
 use Rattle.std.specs.Bool.{beq}
 use Rattle.chess.specs.Fen.{parted_at}
-use Rattle.pgn_criteria.specs.Meeting.{heading_of, Heading, HasOneOf}
+use Rattle.pgn_criteria.specs.Meeting.{Heading, HasOneOf}
 use Rattle.pgn_criteria.specs.Stages.{SaysOfHeading, claim_seen}
 use Rattle.pgn_criteria.proofs.MeetFacts.{reports_taken}
 use Rattle.pgn_criteria.proofs.meets.is_of_heading.Goals as goal
 
 pub returns-in-Tag : goal.returns-in-Tag
-returns-in-Tag c =
-    let heading : Heading = heading_of c.args.game.now in
+returns-in-Tag g c =
+    let heading : Heading = g.H.Headed.heading c.args.game.now in
     let denied = c.args.condition.now.is_denied in
     let reports : IsTrue c.has_one_of.result ↔ HasOneOf heading c.in-Tag.relation c.in-Tag.contents.items (parted_at 124 c.in-Tag.names.items) =
     subst (λ (x : List ℕ). IsTrue c.has_one_of.result ↔ HasOneOf heading c.in-Tag.relation x (parted_at 124 c.in-Tag.names.items)) c.deref-in-Tag.ensures.value
@@ -18,8 +18,8 @@ returns-in-Tag c =
     (reports_taken denied c.has_one_of.result reports)
 
 pub returns-in-Result : goal.returns-in-Result
-returns-in-Result c =
-    let heading : Heading = heading_of c.args.game.now in
+returns-in-Result g c =
+    let heading : Heading = g.H.Headed.heading c.args.game.now in
     let denied = c.args.condition.now.is_denied in
     let reports : IsTrue c.ends_with.result ↔ (heading.result ≡ c.in-Result.result.items) =
     subst (λ (x : List ℕ). IsTrue c.ends_with.result ↔ (heading.result ≡ x)) c.deref-in-Result.ensures.value c.ends_with.ensures in

@@ -1,7 +1,6 @@
 use Rattle.std.proofs.Common.{map, take}
-use Rattle.pgn_criteria.specs.Stages.{seen}
-use Rattle.pgn_criteria.proofs.EitherFacts.{AreMirrors}
+use Rattle.pgn_criteria.specs.Stages.{AreMirrored, seen}
 use Rattle.pgn_criteria.proofs.mirror.all_mirrored.Given as goal
 
 abbrev pub invariant-loop-condition : goal.invariant-loop-condition
-invariant-loop-condition l = AreMirrors (map (seen (λ text. text.items)) l.own.items) (map (seen (λ text. text.items)) (take l.condition-index l.conditions))
+invariant-loop-condition l = AreMirrored (map (seen (λ text. text.items)) l.own.items) (map (seen (λ text. text.items)) (take l.condition-index l.conditions))

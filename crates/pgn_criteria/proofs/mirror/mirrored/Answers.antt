@@ -4,7 +4,7 @@ use Rattle.pgn_criteria.specs.Meeting.{is_turned}
 use Rattle.pgn_criteria.specs.Mirrors.{can_be_mirrored}
 use Rattle.pgn_criteria.specs.Stages.{IsMirrorOf, seen, claim_seen}
 use Rattle.pgn_criteria.specs.declared.condition.Condition.{Condition}
-use Rattle.pgn_criteria.proofs.EitherFacts.{can_be_seen, turned_said, fixed_said}
+use Rattle.pgn_criteria.proofs.EitherFacts.{can_be_seen}
 use Rattle.pgn_criteria.proofs.mirror.mirrored.Goals as goal
 use Rattle.pgn_criteria.proofs.mirror.mirrored.Goals.{then-condition+then-can_be_mirrored+in_ok-claim, else-condition+in_ok-claim-2, else-condition-via-then-condition+else-can_be_mirrored, else-condition-via-else-condition}
 
@@ -24,15 +24,18 @@ second_is_not true b p = p
 second_is_not false b p = refl
 
 pub returns : goal.returns
-returns c P =
+returns c =
     let condition = c.args.condition.now in
-    let own : Condition (List ℕ) = view (record { is_either = false; is_denied = condition.is_denied; claim = c.if-condition.claim }) in
     let claim = claim_seen (λ text. text.items) condition.claim in
     elim c.if-condition.branch [
       | then-condition+then-can_be_mirrored+in_ok-claim w ↦
           let can : can_be_mirrored claim ≡ true = can_be_seen (λ text. text.items) condition.claim ∙ sym w.can_be_mirrored.ensures ∙ w.if-can_be_mirrored.true in
-          turned_said own (view condition) (both_are condition.is_either (can_be_mirrored claim) w.if-condition.true can) refl
-          (subst (λ k. IsMirrorOf (claim_seen (λ text. text.items) k) claim) (sym w.claim-is) w.in_ok-claim.ensures) P
+          let turned : is_turned (view condition) ≡ true = both_are condition.is_either (can_be_mirrored claim) w.if-condition.true can in
+          record {
+            denied = refl;
+            turned = λ is. subst (λ k. IsMirrorOf (claim_seen (λ text. text.items) k) claim) (sym w.claim-is) w.in_ok-claim.ensures;
+            fixed = λ fixed. absurd (cc (turned, fixed));
+          }
       | else-condition+in_ok-claim-2 w ↦
           let fixed : is_turned (view condition) ≡ false =
           elim w.else-condition.branch [
@@ -41,5 +44,9 @@ returns c P =
                 (can_be_seen (λ text. text.items) condition.claim ∙ sym w'.can_be_mirrored.ensures ∙ w'.if-can_be_mirrored.false)
             | else-condition-via-else-condition w' ↦ first_is_not condition.is_either (can_be_mirrored claim) w'.if-condition.false
           ] in
-          fixed_said own (view condition) fixed refl (ap (claim_seen (λ text. text.items)) w.claim-is ∙ w.in_ok-claim-2.ensures) P
+          record {
+            denied = refl;
+            turned = λ turned. absurd (cc (turned, fixed));
+            fixed = λ is. ap (claim_seen (λ text. text.items)) w.claim-is ∙ w.in_ok-claim-2.ensures;
+          }
     ]

@@ -12,5 +12,5 @@ returns-in_ok-push-in_default c = lays_asked _ _ c.args.class c.args.square _ re
 
 pub returns-in-Other : goal.returns-in-Other
 returns-in-Other c =
-    subst (λ (class : SquareTest). OnOk c.bar_men.result (Lays (λ P. IsOf class (man_at P.men c.args.square)) (λ P. Unit {0}) c.args.self.now c.bar_men.new.self true)) (sym c.in-Other.is)
+    subst (λ (class : SquareTest). OnOk c.bar_men.result (Lays (λ p. IsOf class (man_at p c.args.square)) (λ p. Unit {0}) c.args.self.now c.bar_men.new.self true)) (sym c.in-Other.is)
     c.bar_men.ensures

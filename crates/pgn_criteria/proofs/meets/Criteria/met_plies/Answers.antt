@@ -1,46 +1,26 @@
-use Rattle.std.proofs.Common.{◌≡◌, ◌++◌, ◌∷◌, [], Bool, List, length, take, drop, sym, ap, ◌∙◌, subst, arith}
-use Rattle.std.proofs.Math.Seq.{take-length}
-use Rattle.std.proofs.lemmas.List.{take_at}
+use Rattle.std.proofs.Common.{◌∙◌, ℕ, List, refl, sym, subst}
+use Rattle.std.specs.Prelude.{IfOk}
 use Rattle.pgn_game.specs.Starts.{fen_tag}
 use Rattle.pgn_text.specs.GameTexts.{tag_in}
-use Rattle.pgn_criteria.specs.Meeting.{heading_of, Heading, AreMet}
+use Rattle.pgn_criteria.specs.Meeting.{heading_of, AreMet}
 use Rattle.pgn_criteria.specs.Stages.{AllGood}
-use Rattle.pgn_criteria.proofs.MeetFacts.{legal_moves, good_from, alternatives_to}
+use Rattle.pgn_criteria.specs.declared.condition.Condition.{Condition}
+use Rattle.pgn_criteria.proofs.MeetFacts.{legal_moves}
 use Rattle.pgn_criteria.proofs.meets.Criteria.met_plies.Goals as goal
 
-pub loop-alternative-init : goal.loop-alternative-init
-loop-alternative-init c = record {
-  good = subst AllGood (sym c.deref-alternative-items.ensures.value) c.self.invariant.good;
-  so_far = c.in_ok-met.ensures (heading_of c.args.game.now);
-}
-
-pub add_alternative-requires-clause-legal : goal.add_alternative-requires-clause-legal
-add_alternative-requires-clause-legal c =
-    legal_moves c.one_legal_move.ensures (tag_in fen_tag c.args.game.now.tags) c.args.game.now.elements c.args.replayed.now c.requires.of_game
-
-pub loop-alternative-preserved : goal.loop-alternative-preserved
-loop-alternative-preserved c =
-    let heading : Heading = heading_of c.args.game.now in
-    let replay = c.args.replayed.now in
-    let all = c.deref-alternative-items.result.now in
-    let i = c.loop-alternative.alternative-index in
-    let own = c.alternative-item.result in
-    record {
-      good = (good_from all i own c.loop-alternative-test.true c.alternative-item.is c.loop-alternative.invariant.good).1;
-      so_far =
-          let new = c.add_alternative.new.met in
-          let whole : List Bool = take c.loop-alternative.met.len (new ++ drop (length new) c.loop-alternative.met.items) in
-          let is : whole ≡ new =
-          take_at new (drop (length new) c.loop-alternative.met.items) c.loop-alternative.met.len (c.add_alternative.auto.met ∙ c.deref_mut.ensures.len) in
-          subst (λ x. AreMet heading replay x whole) (sym (alternatives_to all i own c.loop-alternative-test.true c.alternative-item.is))
-          (subst (AreMet heading replay (take i all ++ own ∷ [])) (sym is)
-          (c.add_alternative.ensures (take i all) (subst (AreMet heading replay (take i all)) (sym c.deref_mut.ensures.value) c.loop-alternative.invariant.so_far)));
-    }
+pub met_by-requires : goal.met_by-requires
+met_by-requires c k = (
+  (refl, tt),
+  (
+    tt,
+    (
+      subst AllGood (sym c.deref.ensures.value) c.self.invariant.good,
+      legal_moves c.one_legal_move.ensures (tag_in fen_tag c.args.game.now.tags) c.args.game.now.elements c.args.replayed.now c.requires.of_game,
+    ),
+  ),
+)
 
 pub returns : goal.returns
 returns c =
-    let heading : Heading = heading_of c.args.game.now in
-    let all = c.deref-alternative-items.result.now in
-    let end : c.loop-alternative.alternative-index ≡ length all = omega arith in
-    subst (λ x. AreMet heading c.args.replayed.now x c.loop-alternative.met.items)
-    (ap (λ n. take n all) end ∙ take-length all ∙ c.deref-alternative-items.ensures.value ∙ c.self.view_is) c.loop-alternative.invariant.so_far
+    subst (λ (x : List (List (Condition (List ℕ)))). IfOk c.met_by.result (λ met. AreMet (heading_of c.args.game.now) c.args.replayed.now x met.items))
+    (c.deref.ensures.value ∙ c.self.view_is) c.met_by.ensures

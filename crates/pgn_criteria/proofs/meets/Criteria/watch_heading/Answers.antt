@@ -3,7 +3,7 @@ use Rattle.std.proofs.lemmas.List.{append-nil, map-append}
 use Rattle.std.proofs.Math.Seq.{drop-length}
 use Rattle.chess.specs.Positions.{State}
 use Rattle.pgn_game.specs.Replays.{Replay}
-use Rattle.pgn_criteria.specs.Meeting.{heading_of, Heading, SomeHold}
+use Rattle.pgn_criteria.specs.Meeting.{Heading, SomeHold}
 use Rattle.pgn_criteria.specs.Stages.{on_positions}
 use Rattle.pgn_criteria.proofs.MeetFacts.{good_from, alternatives_from}
 use Rattle.pgn_criteria.proofs.StageFacts.{all_of_heading, not_of_heading, kept_one, dropped_one, same_plies, all_free_within}
@@ -11,8 +11,8 @@ use Rattle.pgn_criteria.proofs.meets.Criteria.watch_heading.Goals as goal
 use Rattle.pgn_criteria.proofs.meets.Criteria.watch_heading.Goals.{then-is_of_heading+else-not-is_free_of_moves+in_ok-push, else-is_of_heading}
 
 pub loop-alternative-preserved : goal.loop-alternative-preserved
-loop-alternative-preserved c =
-    let heading : Heading = heading_of c.args.game.now in
+loop-alternative-preserved g c =
+    let heading : Heading = g.H.Headed.heading c.args.game.now in
     let all = c.deref-alternative-items.result.now in
     let i = c.loop-alternative.alternative-index in
     let own = c.alternative-item.result in
@@ -41,8 +41,8 @@ loop-alternative-preserved c =
     }
 
 pub returns : goal.returns
-returns c replay =
-    let heading : Heading = heading_of c.args.game.now in
+returns g c replay =
+    let heading : Heading = g.H.Headed.heading c.args.game.now in
     let all = c.deref-alternative-items.result.now in
     let left = map (λ a. on_positions a.now) c.loop-alternative.left.items in
     let end : c.loop-alternative.alternative-index ≡ length all = omega arith in

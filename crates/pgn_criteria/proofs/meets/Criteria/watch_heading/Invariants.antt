@@ -1,14 +1,14 @@
 use Rattle.std.proofs.Common.{◌↔◌, ◌++◌, ℕ, drop, map}
 use Rattle.chess.specs.Positions.{State}
 use Rattle.pgn_game.specs.Replays.{Replay}
-use Rattle.pgn_criteria.specs.Meeting.{heading_of, SomeHold}
+use Rattle.pgn_criteria.specs.Meeting.{SomeHold}
 use Rattle.pgn_criteria.specs.Stages.{AllGood, on_positions}
 use Rattle.pgn_criteria.proofs.meets.Criteria.watch_heading.Given as goal
 
 abbrev pub invariant-loop-alternative : goal.invariant-loop-alternative
-invariant-loop-alternative l = record {
+invariant-loop-alternative g l = record {
   good : AllGood (drop l.alternative-index l.alternative-items);
   kept : (replay : Replay) (ply : ℕ) (P : State)
-      → SomeHold (heading_of l.game) replay ply P (map (λ a. on_positions a.now) l.left.items ++ drop l.alternative-index l.alternative-items)
-      ↔ SomeHold (heading_of l.game) replay ply P l.self;
+      → SomeHold (g.H.Headed.heading l.game) replay ply P (map (λ a. on_positions a.now) l.left.items ++ drop l.alternative-index l.alternative-items)
+      ↔ SomeHold (g.H.Headed.heading l.game) replay ply P l.self;
 }

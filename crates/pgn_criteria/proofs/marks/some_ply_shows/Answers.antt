@@ -1,0 +1,16 @@
+use Rattle.std.proofs.Common.{arith, refl}
+use Rattle.pgn_criteria.proofs.MarkFacts.{marks_end, marks_on}
+use Rattle.pgn_criteria.proofs.StandFacts.{rest_is}
+use Rattle.pgn_criteria.proofs.marks.some_ply_shows.Goals as goal
+
+pub loop-rest-init : goal.loop-rest-init
+loop-rest-init c = λ all. all
+
+pub loop-rest-preserved : goal.loop-rest-preserved
+loop-rest-preserved c = λ later.
+    c.loop-rest.invariant
+    (marks_on c.args.check c.args.stuck c.loop-rest.rest.now _ c.in-len3-up.len_at_least (rest_is c.loop-rest.rest.now _ refl)
+    (λ both. let yes = c.shows.ensures.1 both in let no = c.if-shows.false in absurd (cc)) later)
+
+pub returns : goal.returns
+returns c = λ none. c.loop-rest.invariant (marks_end c.args.check c.args.stuck c.loop-rest.rest.now (omega (arith, c.in_default.len_below)))

@@ -1,0 +1,10 @@
+use Rattle.std.proofs.Common.{drop, map}
+use Rattle.pgn_criteria.specs.Sieves.{MeetsSeen, NowhereSeen, codes_in}
+use Rattle.pgn_criteria.specs.Stages.{on_positions}
+use Rattle.pgn_criteria.proofs.search.Search.may_be_met.Given as goal
+
+abbrev pub invariant-loop-alternative : goal.invariant-loop-alternative
+invariant-loop-alternative g l =
+    NowhereSeen (MeetsSeen (map (λ a. on_positions a.now) (drop l.alternative-index l.alternative-items))) (g.S.Seen.men l.start) (g.S.Seen.turn l.start) (g.S.Seen.checked l.start)
+    (g.S.Seen.stuck l.start) (codes_in l.plies)
+    → NowhereSeen (MeetsSeen l.self) (g.S.Seen.men l.start) (g.S.Seen.turn l.start) (g.S.Seen.checked l.start) (g.S.Seen.stuck l.start) (codes_in l.plies)

@@ -1,0 +1,125 @@
+//! How many of a man stand, while the codes of plies move him: games in which there are never as few as a line `material` allows are passed
+//! over.
+ghost use Rattle.std.specs.Prelude.{◌≡◌, ◌≤◌, false, map, IfSome};
+ghost use Rattle.chess.specs.Placements.{Placement};
+ghost use Rattle.chess.specs.Sets.{IsSquaresOf};
+ghost use Rattle.pgn_criteria.specs.Counting.{FitsKind};
+ghost use Rattle.pgn_criteria.specs.Sieves.{NowhereSeen, codes_in};
+ghost use Rattle.pgn_criteria.specs.Marks.{FitsSeen, IsMost, SaysOfNumbers};
+ghost use Rattle.pgn_criteria.specs.Materials.{FitsSide, FitsMaterial, count_of};
+ghost use Rattle.pgn_criteria.specs.Stages.{claim_seen, seen};
+ghost use Rattle.pgn_criteria.specs.Tracks.{Nowhere};
+
+use crate::condition::{Claim, Condition};
+use crate::material::{Limit, Limits};
+use crate::seen::Seen;
+use crate::track::follow;
+use chess::{Kind, Man, Side, SquareSet};
+
+/// The largest number that the limit allows, if there is one.
+fn most_of(limit: Limit) -> Option<u8>
+    ensures { IfSome result (λ most. IsMost limit most) }
+{
+    match limit {
+        Limit::Exactly(n) => Some(n),
+        Limit::AtMost(n) => Some(n),
+        _ => None,
+    }
+}
+
+/// Whether of the man, who stands on these squares before the plies, no more than so many stand before them or after one of them.
+fn are_few_somewhere(man: Man, most: u8, squares: &mut SquareSet, plies: &[u8]) -> bool
+    ensures { (men : Placement) → IsSquaresOf men man squares.old → result ≡ false → Nowhere (λ p. count_of p man ≤ most) men (codes_in plies.now) }
+{
+    if squares.count() <= u32::from(most) {
+        return true;
+    }
+    let mut rest = plies;
+    while let [a, b, d, after @ ..] = rest {
+        follow(man, squares, *a, *b, *d);
+        rest = after;
+        if squares.count() <= u32::from(most) {
+            return true;
+        }
+    }
+    false
+}
+
+/// Whether before the plies or after one of them no more of the man stand than his side's limit allows.
+fn kind_may_fit<S: Seen>(limits: &Limits, man: Man, start: &S, plies: &[u8]) -> bool
+    ensures { result ≡ false → Nowhere (λ p. FitsKind p man.side limits.now man.kind) (S.men start.now) (codes_in plies.now) }
+{
+    match most_of(limits.of(man.kind)) {
+        Some(most) => {
+            let mut squares = start.squares_with(man);
+            are_few_somewhere(man, most, &mut squares, plies)
+        }
+        None => true,
+    }
+}
+
+/// Whether of each kind before the plies or after one of them no more stand than the side's limit allows.
+fn side_may_fit<S: Seen>(limits: &Limits, side: Side, start: &S, plies: &[u8]) -> bool
+    ensures { result ≡ false → Nowhere (λ p. FitsSide p side limits.now) (S.men start.now) (codes_in plies.now) }
+{
+    for kind in [
+        Kind::Queen,
+        Kind::Rook,
+        Kind::Bishop,
+        Kind::Knight,
+        Kind::Pawn,
+    ] {
+        if !kind_may_fit(limits, Man { side, kind }, start, plies) {
+            return false;
+        }
+    }
+    true
+}
+
+/// Whether of each side's kinds before the plies or after one of them no more stand than its limits allow.
+fn sides_may_fit<S: Seen>(white: &Limits, black: &Limits, start: &S, plies: &[u8]) -> bool
+    ensures { result ≡ false → Nowhere (λ p. FitsMaterial p white.now black.now) (S.men start.now) (codes_in plies.now) }
+{
+    if !side_may_fit(white, Side::White, start, plies) {
+        return false;
+    }
+    side_may_fit(black, Side::Black, start, plies)
+}
+
+/// Whether what a line `material` without `not` says may be so before the plies or after one of them.
+fn material_may_fit<S: Seen>(condition: &Condition<Vec<u8>>, start: &S, plies: &[u8]) -> bool
+    ensures { result ≡ false → (condition.now.is_denied ≡ false)
+        × Nowhere (SaysOfNumbers condition.now.is_either (claim_seen (λ text. text.items) condition.now.claim)) (S.men start.now) (codes_in plies.now) }
+{
+    if condition.is_denied {
+        return true;
+    }
+    match &condition.claim {
+        Claim::Material { white, black } => {
+            if sides_may_fit(white, black, start, plies) {
+                return true;
+            }
+            if !condition.is_either {
+                return false;
+            }
+            sides_may_fit(black, white, start, plies)
+        }
+        _ => true,
+    }
+}
+
+/// Whether as few men as the conditions allow may stand before the plies or after one of them.
+pub(crate) fn numbers_are_shown<S: Seen>(
+    conditions: &[Condition<Vec<u8>>],
+    start: &S,
+    plies: &[u8],
+) -> bool
+    ensures { result ≡ false → NowhereSeen (FitsSeen (map (seen (λ text. text.items)) conditions.now)) (S.men start.now) (S.turn start.now) (S.checked start.now) (S.stuck start.now) (codes_in plies.now) }
+{
+    for condition in conditions {
+        if !material_may_fit(condition, start, plies) {
+            return false;
+        }
+    }
+    true
+}
