@@ -9,7 +9,7 @@ use Rattle.pgn_extract.specs.GameReports.{IsReplayOf}
 use Rattle.pgn_extract.specs.Laws.{FirstChangesNoExport, with_first}
 use Rattle.pgn_extract.specs.Listing.{heading_in}
 use Rattle.pgn_extract.specs.declared.settings.Form.{Form}
-use Rattle.pgn_extract.specs.declared.settings.Form.TheVariants.{Standard, AsItStands, Line}
+use Rattle.pgn_extract.specs.declared.settings.Form.TheVariants.{Standard, AsItStands, Line, Record}
 use Rattle.pgn_extract.proofs.Decided.{all_decided}
 use Rattle.pgn_extract.proofs.Exported.{selected_by}
 use Rattle.pgn_extract.proofs.SomeReport.{none_before}
@@ -20,6 +20,7 @@ text_of_any : (aim : Aim) (number offset : ℕ) (parts : List Part) (text : List
 text_of_any aim number offset parts text Standard first other own = own
 text_of_any aim number offset parts text AsItStands first other own = own
 text_of_any aim number offset parts text (Line notation) first other own = own
+text_of_any aim number offset parts text Record first other own = own
 
 module _ (aim : Aim) (number offset : ℕ) (parts : List Part) (replay : Replay) (is : IsReplayOf (written_lines aim) parts replay) where
   -- of the plies up to one that is wanted there is a first

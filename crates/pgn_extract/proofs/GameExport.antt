@@ -1,18 +1,29 @@
--- The game of some parts has an export in each style, where it is sound in the lines that are written, and only one.
-use Rattle.std.proofs.Common.{◌≡◌, ℕ, List, Option, sym, ap, subst}
+-- The game of some parts has an export in each style, where it is sound in the lines that are written, and only one; and likewise a record.
+use Rattle.std.proofs.Common.{◌≡◌, ℕ, List, Option, sym, ap, subst, ◌∙◌}
 use Rattle.pgn_text.specs.GameTexts.{GameText, IsGameText, ShowsGame, tag_in}
 use Rattle.pgn_text.specs.Games.{Item, items_of}
 use Rattle.pgn_text.specs.Parts.{Part}
 use Rattle.pgn_text.proofs.ShownOnce.{one_game_text}
 use Rattle.pgn_game.specs.Exports.{AreMovetextTokens, lines_with}
+use Rattle.pgn_game.specs.PackedGames.{IsRecordOf}
 use Rattle.pgn_game.specs.Replays.{Replay, IsReplay}
 use Rattle.pgn_game.specs.Starts.{fen_tag, IsStart}
 use Rattle.pgn_game.specs.TagLines.{AreTagLines}
 use Rattle.pgn_game.proofs.OneExport.{one_export}
 use Rattle.pgn_game.proofs.SomeExport.{some_export}
+use Rattle.pgn_game.proofs.SomeRecord.{a_record, one_spelling}
+use Rattle.pgn_game.specs.declared.replayer.Lines.{Lines}
+use Rattle.pgn_game.specs.declared.replayer.Lines.TheVariants.{Main}
 use Rattle.pgn_game.specs.declared.style.Style.{Style}
 use Rattle.pgn_extract.specs.Exports.{IsExportOf}
 use Rattle.pgn_extract.specs.GameReports.{IsReplayOf}
+
+-- what is replayed of parts is replayed of a game that they make
+pub own_replay : (lines : Lines) (game : GameText) (parts : List Part) (replay : Replay) → ShowsGame game game.at parts → IsReplayOf lines parts replay
+    → IsReplay lines (tag_in fen_tag game.tags) game.elements replay
+own_replay lines game parts replay shows sound =
+    subst (λ (items : List Item). IsReplay lines (tag_in fen_tag game.tags) items replay) (sym shows.elements)
+    (subst (λ (tag : Option (List ℕ)). IsReplay lines tag (items_of parts) replay) (sym (shows.tags fen_tag)) sound)
 
 -- the game of some parts has one export in a style
 abbrev pub PartsHaveOneExport : Type 0
@@ -41,8 +52,45 @@ pub some_export_of_parts : (style : Style) (parts : List Part) (game : GameText)
     → (replay : Replay) → IsReplayOf (lines_with style.variations) parts replay → (text : List ℕ) × IsExportOf style parts text
 some_export_of_parts style parts game is shows replay sound =
     let lines = lines_with style.variations in
-    let own : IsReplay lines (tag_in fen_tag game.tags) game.elements replay =
-    subst (λ (items : List Item). IsReplay lines (tag_in fen_tag game.tags) items replay) (sym shows.elements)
-    (subst (λ (tag : Option (List ℕ)). IsReplay lines tag (items_of parts) replay) (sym (shows.tags fen_tag)) sound) in
+    let own = own_replay lines game parts replay shows sound in
     let export = some_export style game replay is (lines, (λ kept. ap lines_with kept), own) in
     (export.0, (game, is, shows, export.1))
+
+-- the record is one of each game that has these tags, elements and result
+record_alike : (name : Option (List ℕ)) (number offset : ℕ) (game other : GameText) (bytes : List ℕ) → other.tags ≡ game.tags → other.elements ≡ game.elements
+    → other.result ≡ game.result → IsRecordOf name number offset other bytes → IsRecordOf name number offset game bytes
+record_alike name number offset game other bytes tags elements result own = record {
+  replay = own.replay;
+  is_replay =
+      subst (λ (items : List Item). IsReplay Main (tag_in fen_tag game.tags) items own.replay) elements
+      (subst (λ (given : List (List ℕ × List ℕ)). IsReplay Main (tag_in fen_tag given) other.elements own.replay) tags own.is_replay);
+  packed = own.packed;
+  is_packed = record {
+    name = own.is_packed.name;
+    number = own.is_packed.number;
+    offset = own.is_packed.offset;
+    tags = own.is_packed.tags ∙ tags;
+    result = own.is_packed.result ∙ result;
+    start = own.is_packed.start;
+    first = own.is_packed.first;
+    marks = own.is_packed.marks;
+    plies = own.is_packed.plies;
+  };
+  spells = own.spells;
+}
+
+-- a record of the game that these parts make
+abbrev IsPartsRecord : Option (List ℕ) → ℕ → ℕ → List Part → List ℕ → Type 0
+IsPartsRecord name number offset parts text = (game : GameText) × IsGameText game × ShowsGame game game.at parts × IsRecordOf name number offset game text
+
+pub one_record_of_parts : (name : Option (List ℕ)) (number offset : ℕ) (parts : List Part) (text other : List ℕ)
+    → IsPartsRecord name number offset parts text → IsPartsRecord name number offset parts other → text ≡ other
+one_record_of_parts name number offset parts text other (game, is, shows, own) (second, also, seen, written) =
+    let same = one_game_text parts game second is also shows seen in
+    one_spelling name number offset game text other own (record_alike name number offset game second other (sym same.0) (sym same.1) (sym same.2) written)
+
+pub some_record_of_parts : (name : Option (List ℕ)) (number offset : ℕ) (parts : List Part) (game : GameText) → IsGameText game → ShowsGame game game.at parts
+    → (replay : Replay) → IsReplayOf Main parts replay → (text : List ℕ) × IsPartsRecord name number offset parts text
+some_record_of_parts name number offset parts game is shows replay sound =
+    let written = a_record name number offset game (replay, own_replay Main game parts replay shows sound) in
+    (written.0, (game, is, shows, written.1))

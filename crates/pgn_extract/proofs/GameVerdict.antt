@@ -25,7 +25,7 @@ use Rattle.pgn_extract.specs.Listing.{Entry, AreFields, listing, heading_in}
 use Rattle.pgn_extract.specs.GameReports.{plies_of, AreListed, cause_text, IsReplayOf, IsFaultOf}
 use Rattle.pgn_game.specs.GameLines.{IsGameLine}
 use Rattle.pgn_extract.specs.declared.settings.Form.{Form}
-use Rattle.pgn_extract.specs.declared.settings.Form.TheVariants.{Standard, AsItStands, Line}
+use Rattle.pgn_extract.specs.declared.settings.Form.TheVariants.{Standard, AsItStands, Line, Record}
 use Rattle.pgn_extract.specs.Exports.{written_lines, HasEntry, IsTextOf, IsWritten, selected, unselected, as_it_stands, faulty_text}
 use Rattle.pgn_extract.specs.Notes.{IsNote, NamesByte, NamesStop}
 use Rattle.pgn_extract.specs.Verdicts.{Verdict, SoundGame, FaultyGame, output_of, fault_line_of, is_faulty, IsVerdictIn, IsGameVerdict, IsUnreadableVerdict}
@@ -116,6 +116,8 @@ exported_replay aim {old} {new} {number} {offset} {game} is_game replay text is 
           (subst (λ (tag : Option (List ℕ)). IsGameLine notation tag game.elements line) (shows.tags fen_tag) is),
       spells,
     )
+    text_of Record own =
+        (game, is_game, record { place = refl; text = shows.text; tags = shows.tags; elements = shows.elements; result = shows.result }, own)
 
     of_parts : IsGameWritten aim number offset game replay text → IsWritten aim number offset parts replay text
     of_parts (inl (is, given)) = selected (selected_by aim.select (HasEntry aim own replay) (HasEntry aim (heading_in parts) replay) has had is) (text_of aim.form given)

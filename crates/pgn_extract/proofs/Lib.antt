@@ -16,9 +16,16 @@ pub mod GameVerdict
 pub mod Indexed
 pub mod JoinedParts
 pub mod KeptFacts
+pub mod PackedFacts
+pub mod KeptPackedFacts
 pub mod Listed
 pub mod OneExports
 pub mod OneListing
+pub mod PackListed
+pub mod PackTaken
+pub mod PackFits
+pub mod SearchFacts
+pub mod Sifted
 pub mod OneOfThree
 pub mod OneReport
 pub mod OneVerdict

@@ -10,7 +10,7 @@ use Rattle.pgn_game.specs.declared.replayer.Lines.TheVariants.{Main}
 use Rattle.pgn_game.specs.Starts.{fen_tag}
 use Rattle.pgn_game.proofs.GameLineFacts.{one_game_line}
 use Rattle.pgn_extract.specs.declared.settings.Form.{Form}
-use Rattle.pgn_extract.specs.declared.settings.Form.TheVariants.{Standard, AsItStands, Line}
+use Rattle.pgn_extract.specs.declared.settings.Form.TheVariants.{Standard, AsItStands, Line, Record}
 use Rattle.pgn_extract.specs.Exports.{line_with, written_lines, IsTextOf, IsWritten, selected, unselected, faulty_text}
 use Rattle.pgn_extract.specs.Index.{fault_text}
 use Rattle.pgn_extract.specs.Listing.{AreFields, listing, heading_in}
@@ -20,7 +20,7 @@ use Rattle.pgn_extract.specs.Verdicts.{Verdict, SoundGame, FaultyGame, IsListed,
 use Rattle.pgn_extract.specs.Aims.{Aim, IsEntry}
 use Rattle.pgn_extract.proofs.Chosen.{one_chosen}
 use Rattle.pgn_extract.proofs.FieldTexts.{one_text as one_fields}
-use Rattle.pgn_extract.proofs.GameExport.{PartsHaveOneExport}
+use Rattle.pgn_extract.proofs.GameExport.{PartsHaveOneExport, one_record_of_parts}
 use Rattle.pgn_extract.specs.declared.settings.Mode.{Mode}
 use Rattle.pgn_extract.specs.declared.settings.Mode.TheVariants as modes
 
@@ -31,6 +31,7 @@ one_text one_export Standard aim number offset parts x y first second = one_expo
 one_text one_export AsItStands aim number offset parts x y first second = first ∙ sym second
 one_text one_export (Line notation) aim number offset parts x y (own, is, first) (other, also, second) =
     first ∙ ap (line_with aim.name number offset) (one_game_line notation (first_tag fen_tag parts) (items_of parts) own other is also) ∙ sym second
+one_text one_export Record aim number offset parts x y first second = one_record_of_parts aim.name number offset parts x y first second
 
 -- what is written of a game, where its parts have one export
 pub one_written : PartsHaveOneExport → (aim : Aim) (number offset : ℕ) (parts : List Part) (replay : Replay) (x y : List ℕ)

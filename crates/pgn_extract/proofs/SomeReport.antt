@@ -19,7 +19,7 @@ use Rattle.pgn_extract.specs.Listing.{AreFields, listing, heading_in}
 use Rattle.pgn_extract.specs.GameReports.{plies_of, cause_text, IsReplayOf, IsFaultOf}
 use Rattle.pgn_game.proofs.GameLineFacts.{some_line}
 use Rattle.pgn_extract.specs.declared.settings.Form.{Form}
-use Rattle.pgn_extract.specs.declared.settings.Form.TheVariants.{Standard, AsItStands, Line}
+use Rattle.pgn_extract.specs.declared.settings.Form.TheVariants.{Standard, AsItStands, Line, Record}
 use Rattle.pgn_extract.specs.Exports.{line_with, lines_in, written_lines, HasEntry, IsTextOf, IsWritten, selected, unselected, as_it_stands, faulty_text}
 use Rattle.pgn_extract.specs.Verdicts.{Verdict, SoundGame, FaultyGame, IsVerdictIn, IsReportedBy, IsPieceVerdict, AreVerdicts, IsUnreadableVerdict}
 use Rattle.pgn_game.specs.Replays.{Replay}
@@ -31,7 +31,7 @@ use Rattle.pgn_extract.proofs.Decided.{IsDecided, all_decided}
 use Rattle.pgn_extract.proofs.ExactEntries.{within_plies}
 use Rattle.pgn_extract.proofs.Exported.{selected_or_not}
 use Rattle.pgn_extract.proofs.FieldTexts.{some_fields}
-use Rattle.pgn_extract.proofs.GameExport.{some_export_of_parts}
+use Rattle.pgn_extract.proofs.GameExport.{some_export_of_parts, some_record_of_parts}
 use Rattle.pgn_extract.proofs.NoteLines.{empty_note, some_stop_note}
 use Rattle.pgn_extract.specs.declared.settings.Mode.{Mode}
 use Rattle.pgn_extract.specs.declared.settings.Mode.TheVariants as modes
@@ -171,6 +171,7 @@ module _ (aim : Aim) (decided : IsDecided aim) (number offset : ℕ) (parts : Li
   some_text (Line notation) replay is =
       let own = some_line notation (first_tag fen_tag parts) (items_of parts) (replay, is) in
       (line_with aim.name number offset own.0, (own.0, own.1, refl))
+  some_text Record replay is = some_record_of_parts aim.name number offset parts made.0 made.1 made.2 replay is
 
   written : (replay : Replay) → IsReplayOf (written_lines aim) parts replay → (text : List ℕ) × IsWritten aim number offset parts replay text
   written replay is = elim (selected_or_not aim.select (HasEntry aim (heading_in parts) replay) (has_or_not replay is)) [

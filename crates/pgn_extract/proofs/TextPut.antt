@@ -4,6 +4,7 @@ use Rattle.pgn_text.specs.GameTexts.{GameText, tag_in}
 use Rattle.pgn_game.specs.Exports.{IsExport, lines_with}
 use Rattle.pgn_game.specs.Faults.{Fault, IsFault}
 use Rattle.pgn_game.specs.GameLines.{IsGameLine}
+use Rattle.pgn_game.specs.PackedGames.{IsRecordOf}
 use Rattle.pgn_game.specs.Replays.{Replay, IsReplay, IsSoundGame}
 use Rattle.pgn_game.specs.Starts.{fen_tag}
 use Rattle.pgn_game.specs.declared.notation.Notation.{Notation}
@@ -12,7 +13,7 @@ use Rattle.pgn_extract.specs.Aims.{Aim}
 use Rattle.pgn_extract.specs.Blockwise.{IsGivenText, PutsText}
 use Rattle.pgn_extract.specs.Exports.{as_it_stands, line_with, lines_in, written_lines}
 use Rattle.pgn_extract.specs.declared.settings.Form.{Form}
-use Rattle.pgn_extract.specs.declared.settings.Form.TheVariants.{Standard, AsItStands, Line}
+use Rattle.pgn_extract.specs.declared.settings.Form.TheVariants.{Standard, AsItStands, Line, Record}
 
 module _ (aim : Aim) (number offset : ℕ) (game : GameText) (old new : List ℕ) where
   -- its line
@@ -27,6 +28,16 @@ module _ (aim : Aim) (number offset : ℕ) (game : GameText) (old new : List ℕ
         subst (λ (f : Form). IsGivenText f aim number offset game (line_with aim.name number offset own)) (sym form) (own, line, refl),
         put,
       )
+
+  -- its record
+  pub record_put : aim.form ≡ Record → (text : List ℕ) → IsRecordOf aim.name number offset game text → new ≡ old ++ text → PutsText aim number offset game old new
+  record_put form text own put = (
+    own.replay,
+    subst (λ (f : Form). IsReplay (lines_in f aim.style) (tag_in fen_tag game.tags) game.elements own.replay) (sym form) own.is_replay,
+    text,
+    subst (λ (f : Form). IsGivenText f aim number offset game text) (sym form) own,
+    put,
+  )
 
   -- its export
   pub export_put : aim.form ≡ Standard → (text : List ℕ) → IsExport aim.style game text
@@ -53,3 +64,7 @@ module _ (aim : Aim) (number offset : ℕ) (game : GameText) (old new : List ℕ
   pub line_lines : (notation : Notation) → aim.form ≡ Line notation → (fault : Fault) → IsFault Main (tag_in fen_tag game.tags) game.elements fault
       → IsFault (written_lines aim) (tag_in fen_tag game.tags) game.elements fault
   line_lines notation form fault met = subst (λ (f : Form). IsFault (lines_in f aim.style) (tag_in fen_tag game.tags) game.elements fault) (sym form) met
+
+  pub record_lines : aim.form ≡ Record → (fault : Fault) → IsFault Main (tag_in fen_tag game.tags) game.elements fault
+      → IsFault (written_lines aim) (tag_in fen_tag game.tags) game.elements fault
+  record_lines form fault met = subst (λ (f : Form). IsFault (lines_in f aim.style) (tag_in fen_tag game.tags) game.elements fault) (sym form) met

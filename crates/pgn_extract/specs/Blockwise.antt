@@ -6,6 +6,7 @@ use Rattle.pgn_text.specs.GameTexts.{GameText, ShowsGame, tag_in}
 use Rattle.pgn_game.specs.Exports.{IsExport}
 use Rattle.pgn_game.specs.Faults.{Fault, IsFault}
 use Rattle.pgn_game.specs.GameLines.{IsGameLine}
+use Rattle.pgn_game.specs.PackedGames.{IsRecordOf}
 use Rattle.pgn_game.specs.Replays.{Replay, IsReplay}
 use Rattle.pgn_game.specs.Starts.{fen_tag}
 use Rattle.pgn_extract.specs.Exports.{HasEntry, IsSelected, as_it_stands, faulty_text, line_with, written_lines}
@@ -35,8 +36,9 @@ use Rattle.pgn_criteria.specs.Meeting.{heading_of, Heading}
 use Rattle.pgn_extract.specs.Aims.{Aim}
 use Rattle.pgn_extract.specs.Listing.{Entry, listing}
 use Rattle.pgn_extract.specs.declared.settings.Form.{Form}
-use Rattle.pgn_extract.specs.declared.settings.Form.TheVariants.{Standard, AsItStands, Line}
+use Rattle.pgn_extract.specs.declared.settings.Form.TheVariants.{Standard, AsItStands, Line, Record}
 use Rattle.pgn_extract.specs.declared.settings.Select.TheVariants.{Matching}
+use Rattle.pgn_extract.specs.Finding.{named_mark}
 use Rattle.pgn_extract.specs.GameReports.{AreListed}
 
 -- a body that is shown has no more bytes than the limit
@@ -76,12 +78,18 @@ AddsPlies aim number offset plies old new =
     (tags : Heading) (replay : Replay) → length replay.positions ≡ plies + 1
     → (entries : List Entry) × AreListed aim number offset tags replay entries × (new ≡ old ++ listing aim.name entries)
 
--- the text of the game that is given: its export, or the game as it stands, or its line
+-- the same of a game with this mark, whatever it says
+abbrev pub AddsLines : Aim → List ℕ → ℕ → List ℕ → List ℕ → Type 0
+AddsLines aim marked plies old new =
+    (name : Option (List ℕ)) (number offset : ℕ) → marked ≡ named_mark name number offset → AddsPlies (record aim { name = name }) number offset plies old new
+
+-- the text of the game that is given: its export, or the game as it stands, or its line, or its record
 abbrev pub IsGivenText : Form → Aim → ℕ → ℕ → GameText → List ℕ → Type 0
 IsGivenText Standard aim number offset game text = IsExport aim.style game text
 IsGivenText AsItStands aim number offset game text = text ≡ as_it_stands game.text
 IsGivenText (Line notation) aim number offset game text =
     (own : List ℕ) × IsGameLine notation (tag_in fen_tag game.tags) game.elements own × (text ≡ line_with aim.name number offset own)
+IsGivenText Record aim number offset game text = IsRecordOf aim.name number offset game text
 
 -- the sound game that is given is selected
 abbrev pub IsGameSelected : Aim → GameText → Replay → Type 0

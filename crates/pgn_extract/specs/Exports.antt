@@ -1,5 +1,5 @@
 -- The export of a text: of its games whose lines can be replayed, those that have an entry, each in the standard's form for export. Or those that
--- have none, or its faulty pieces; or each game as it stands, or on a line of its own.
+-- have none, or its faulty pieces; or each game as it stands, on a line of its own, or as the record of a pack.
 use Rattle.std.specs.Prelude.{◌≡◌, ℕ, ◌+◌, ◌<◌, List, [], ◌∷◌, ◌++◌, length, codes, Option}
 use Rattle.pgn_text.specs.GameTexts.{GameText, IsGameText, ShowsGame}
 use Rattle.pgn_text.specs.Games.{items_of, first_tag}
@@ -8,6 +8,7 @@ use Rattle.pgn_text.specs.Parts.{Part, spelled}
 use Rattle.pgn_game.specs.Exports.{IsExport, lines_with}
 use Rattle.pgn_game.specs.Faults.{Fault}
 use Rattle.pgn_game.specs.GameLines.{IsGameLine}
+use Rattle.pgn_game.specs.PackedGames.{IsRecordOf}
 use Rattle.pgn_game.specs.Replays.{Replay}
 use Rattle.pgn_game.specs.Starts.{fen_tag}
 use Rattle.pgn_game.specs.declared.notation.Notation.{Notation}
@@ -20,7 +21,7 @@ use Rattle.pgn_extract.specs.Index.{mark, titled}
 use Rattle.pgn_extract.specs.Listing.{heading_in}
 use Rattle.pgn_extract.specs.GameReports.{IsReplayOf, IsFaultOf}
 use Rattle.pgn_extract.specs.declared.settings.Form.{Form}
-use Rattle.pgn_extract.specs.declared.settings.Form.TheVariants.{Standard, AsItStands, Line}
+use Rattle.pgn_extract.specs.declared.settings.Form.TheVariants.{Standard, AsItStands, Line, Record}
 use Rattle.pgn_extract.specs.declared.settings.Mode.{Mode}
 use Rattle.pgn_extract.specs.declared.settings.Mode.TheVariants as modes
 use Rattle.pgn_extract.specs.declared.settings.Select.{Select}
@@ -31,6 +32,7 @@ abbrev pub lines_in : Form → Style → Lines
 lines_in Standard style = lines_with style.variations
 lines_in AsItStands style = lines_with style.variations
 lines_in (Line notation) style = Main
+lines_in Record style = Main
 
 abbrev pub written_lines : Aim → Lines
 written_lines aim = lines_in aim.form aim.style
@@ -61,11 +63,17 @@ abbrev pub IsGameLineOf : Notation → Aim → ℕ → ℕ → List Part → Lis
 IsGameLineOf notation aim number offset parts text =
     (own : List ℕ) × IsGameLine notation (first_tag fen_tag parts) (items_of parts) own × (text ≡ line_with aim.name number offset own)
 
--- the text of a game that is selected: its export, or the game as it stands, or its line
+-- the text is the record of the game that these parts make, under the name of its file where lines have one
+abbrev pub IsGameRecordOf : Aim → ℕ → ℕ → List Part → List ℕ → Type 0
+IsGameRecordOf aim number offset parts text =
+    (game : GameText) × IsGameText game × ShowsGame game game.at parts × IsRecordOf aim.name number offset game text
+
+-- the text of a game that is selected: its export, or the game as it stands, or its line, or its record
 abbrev pub IsTextOf : Form → Aim → ℕ → ℕ → List Part → List ℕ → Type 0
 IsTextOf Standard aim number offset parts text = IsExportOf aim.style parts text
 IsTextOf AsItStands aim number offset parts text = text ≡ as_it_stands (spelled parts)
 IsTextOf (Line notation) aim number offset parts text = IsGameLineOf notation aim number offset parts text
+IsTextOf Record aim number offset parts text = IsGameRecordOf aim number offset parts text
 
 -- what is written of a sound game: its text where it is selected, once however many entries it has, and else nothing
 pub data IsWritten (aim : Aim) (number offset : ℕ) (parts : List Part) (replay : Replay) (text : List ℕ) : Type 0 where

@@ -1,15 +1,22 @@
 -- What holds of the entries of every text, of its marks, and of what is reported of it.
-use Rattle.std.specs.Prelude.{◌≡◌, ◌↔◌, Bool, true, false, ℕ, ◌+◌, ◌-◌, ◌^◌, ◌<◌, ◌≤◌, ◌==◌, List, [], ◌∷◌, ◌++◌, length, take, drop, count_by, codes}
+use Rattle.std.specs.Prelude.{◌≡◌, ◌↔◌, Bool, true, false, ℕ, ◌+◌, ◌-◌, ◌^◌, ◌<◌, ◌≤◌, ◌==◌, List, [], ◌∷◌, ◌++◌, length, take, drop, count_by, codes, Option, Some, Ok, IfSome}
+use Rattle.std.specs.Io.KnownBytes.{Appends}
 use Rattle.pgn_text.specs.Limits.{depth_limit, largest_offset}
 use Rattle.pgn_text.specs.Stops.{IsLongestViablePrefix}
 use Rattle.pgn_text.specs.Marks.{PieceKind, ReadableGame, UnreadableRest, TooLongBlock, MarkedPiece, AreMarkedPieces}
 use Rattle.pgn_text.specs.Parts.{spelled}
-use Rattle.pgn_extract.specs.Listing.{Entry, AreEntries}
+use Rattle.pgn_game.specs.PackedGames.{longest_name}
+use Rattle.pgn_extract.specs.Listing.{Entry, AreEntries, listing}
 use Rattle.pgn_extract.specs.Exports.{as_it_stands, IsPieceExport, AreExports}
 use Rattle.pgn_extract.specs.Notes.{IsLinePlace, IsNote, NamesByte, NamesStop}
 use Rattle.pgn_extract.specs.Resuming.{IsMarkAmong}
+use Rattle.pgn_extract.specs.Runs.{Io, job_of, ArePieces, Adds, IsRun}
+use Rattle.pgn_extract.specs.Searching.{IsSearch, PacksAll}
 use Rattle.pgn_extract.specs.Verdicts.{Verdict, AreVerdicts, IsSameReport, output_text, fault_lines, is_faulty}
-use Rattle.pgn_extract.specs.Aims.{Aim}
+use Rattle.pgn_extract.specs.Aims.{Aim, aim_of}
+use Rattle.pgn_extract.specs.declared.outcome.Summary.{Summary}
+use Rattle.pgn_extract.specs.declared.searching.Searched.{Searched}
+use Rattle.pgn_extract.specs.declared.settings.Settings.{Settings}
 use Rattle.pgn_extract.specs.declared.settings.Form.TheVariants.{AsItStands}
 use Rattle.pgn_extract.specs.declared.settings.Mode.TheVariants as modes
 use Rattle.pgn_extract.specs.declared.settings.Select.{Select}
@@ -65,6 +72,16 @@ abbrev pub TextHasOneExport : Type 0
 TextHasOneExport =
     (aim : Aim) (number : ℕ) (pieces : List MarkedPiece) (text other : List ℕ)
     → AreExports aim number pieces text → AreExports aim number pieces other → text ≡ other
+
+-- a run packs each sound game of its input, and answers `Ok`. A search of what it wrote that answers `Ok` writes the listing of the input
+abbrev pub PackIsListedAsItsText : Type 0
+PackIsListedAsItsText =
+    (packing : Settings) (io : Io) (summary : Summary) (whole : List ℕ)
+    → packing.mode ≡ modes.Export → PacksAll (aim_of packing) → IfSome packing.name (λ name. length name ≤ longest_name)
+    → packing.number ≤ 2 ^ 62 → packing.offset ≤ largest_offset → io.input.old.bytes ≡ Some whole → IsRun (job_of packing) io (Ok summary)
+    → (pieces : List MarkedPiece) × (bytes : List ℕ) × ArePieces (job_of packing) whole pieces × Adds io.out bytes
+    × ((aim : Aim) (out out' : Option (List ℕ)) (searched : Searched) (entries : List Entry) → IsSearch aim (Some bytes) out out' (Ok searched)
+    → AreEntries aim packing.number pieces entries → Appends out out' (listing packing.name entries))
 
 -- the aim that asks for all entries of each game, or for the first alone
 abbrev pub with_first : Bool → Aim → Aim

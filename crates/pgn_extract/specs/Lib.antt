@@ -10,11 +10,15 @@ pub mod Outcomes
 pub mod Resuming
 pub mod Runs
 pub mod Several
+pub mod Searching
 pub mod Laws
 -- Private words: what the parts of a run do. No public contract cites them.
 pub mod EntryRows
 pub mod Blockwise
 pub mod Finding
+pub mod Packed
+pub mod SearchSteps
+pub mod KeptPacked
 pub mod RunParts
 pub mod NoteTexts
 pub mod MoveNotes

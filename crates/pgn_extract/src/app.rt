@@ -1,12 +1,14 @@
 //! The program over arguments and files that are handed in.
-ghost use Rattle.std.specs.Prelude.{◌≡◌, ◌≤◌, ◌^◌, false, OnErr};
+ghost use Rattle.std.specs.Prelude.{◌≡◌, ◌≤◌, ◌^◌, false, true, OnErr};
+ghost use Rattle.pgn_extract.specs.Listing.{is_plain};
 
-use crate::command::{Request, read_arguments};
+use crate::command::{DEFAULT_WIDTH, Request, read_arguments};
 use crate::conditions::{is_one_line, push_lines};
 use crate::endings::{flush_rest, line_of, put_summary, report_bytes, report_failure, report_line};
 use crate::files::{Files, Task, Total, name_file, run_files, run_input};
 use crate::mark::{Mark, read_mark};
 use crate::messages;
+use crate::packs::{PackTask, search_packs};
 use crate::read_prefix::read_prefix;
 use crate::refusal_notes::{file_note, line_note};
 use crate::settings::{Fields, Form, Mode, Select, Settings};
@@ -79,6 +81,9 @@ fn read_order<'a>(alloc: Global, arguments: &'a [String]) -> Result<Order<'a>, R
         Ok(mode) => mode,
         Err(line) => return Err(Refusal::Line(line)),
     };
+    if let Some(line) = refused_packs(&request, mode) {
+        return Err(Refusal::Line(line));
+    }
     if (request.fen || request.next) && mode != Mode::List {
         return Err(Refusal::Line(messages::NO_ENTRIES_LISTED));
     }
@@ -111,6 +116,22 @@ fn read_order<'a>(alloc: Global, arguments: &'a [String]) -> Result<Order<'a>, R
         mark,
         end,
     })
+}
+
+/// The line that refuses what is not done with packs.
+fn refused_packs(request: &Request<'_>, mode: Mode) -> Option<&'static str> {
+    if !request.packed {
+        return None;
+    }
+    if mode != Mode::List {
+        return Some(messages::PACKS_ARE_LISTED);
+    }
+    let has_fields = request.fen || request.next;
+    let has_mark = request.from.is_some() || request.until.is_some();
+    if has_fields || has_mark || request.with_names || request.no_names {
+        return Some(messages::PACKS_ARE_PLAIN);
+    }
+    None
 }
 
 /// The line that refuses names that are both asked for and refused, or marks of several files.
@@ -156,6 +177,9 @@ fn select_of(request: &Request<'_>, mode: Mode) -> Result<Select, &'static str> 
 
 /// How a game that is selected is written, or the line that refuses it.
 fn form_of(request: &Request<'_>, mode: Mode) -> Result<Form, &'static str> {
+    if request.pack {
+        return packed_form(request, mode);
+    }
     let notation = match (request.moves, request.uci) {
         (true, true) => return Err(messages::BOTH_NOTATIONS),
         (true, false) => Notation::San,
@@ -169,6 +193,21 @@ fn form_of(request: &Request<'_>, mode: Mode) -> Result<Form, &'static str> {
     Ok(Form::Line(notation))
 }
 
+/// Whether an option says how games are written in the standard's form.
+fn is_styled(request: &Request<'_>) -> bool {
+    let leaves_out = request.no_comments || request.no_glyphs || request.no_variations;
+    leaves_out || request.roster || request.width.is_some()
+}
+
+/// The form of the games of a pack, or the line that refuses it.
+fn packed_form(request: &Request<'_>, mode: Mode) -> Result<Form, &'static str> {
+    let has_form = request.moves || request.uci || request.as_is || is_styled(request);
+    if mode != Mode::Export || request.faulty || has_form {
+        return Err(messages::NO_PACK);
+    }
+    Ok(Form::Record)
+}
+
 /// How games are written.
 fn style_of(request: &Request<'_>) -> Style {
     Style {
@@ -176,7 +215,7 @@ fn style_of(request: &Request<'_>) -> Style {
         glyphs: !request.no_glyphs,
         variations: !request.no_variations,
         roster_only: request.roster,
-        width: request.width,
+        width: request.width.unwrap_or(DEFAULT_WIDTH),
     }
 }
 
@@ -204,6 +243,18 @@ fn settings_of(order: &Order<'_>, criteria: Option<Criteria>) -> Settings
         number: order.mark.number,
         offset: order.mark.offset,
     }
+}
+
+/// What is looked for in packs.
+fn packed_settings(order: &Order<'_>, criteria: Option<Criteria>) -> Settings
+    ensures { is_plain result.fields ≡ true }
+{
+    let mut settings = settings_of(order, criteria);
+    settings.fields = Fields {
+        fen: false,
+        next: false,
+    };
+    settings
 }
 
 /// The mark that the run begins at: that of `--from`, and `1@0` without it. `None` for a bad one.
@@ -363,6 +414,17 @@ where
     if request.progress {
         files.show_progress();
     }
+    if request.packed {
+        let settings = packed_settings(&order, criteria);
+        let task = PackTask {
+            alloc,
+            settings,
+            paths: &request.files,
+            summary: request.summary,
+            explain: request.explain,
+        };
+        return Ok(search_packs(&task, files, out, err));
+    }
     let mut task = Task {
         alloc,
         settings: settings_of(&order, criteria),
@@ -389,7 +451,12 @@ where
 }
 
 /// Ends runs that came to the ends of their inputs, with a summary where it is asked for: the status.
-fn end_runs<E: Write>(alloc: Global, err: &mut Tally<E>, asked: bool, total: &Total) -> u8
+pub(crate) fn end_runs<E: Write>(
+    alloc: Global,
+    err: &mut Tally<E>,
+    asked: bool,
+    total: &Total,
+) -> u8
     requires { err.old.faulted ≡ false }
 {
     if asked && let Err(error) = put_summary(alloc, err, &None, &total.summary) {

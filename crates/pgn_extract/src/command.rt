@@ -9,10 +9,14 @@ pub struct Request<'a> {
     pub index: bool,
     /// `--list` was given.
     pub list: bool,
+    /// `--packed` was given.
+    pub packed: bool,
     /// `--moves` was given.
     pub moves: bool,
     /// `--uci` was given.
     pub uci: bool,
+    /// `--pack` was given.
+    pub pack: bool,
     /// `-C` was given.
     pub no_comments: bool,
     /// `-N` was given.
@@ -21,8 +25,8 @@ pub struct Request<'a> {
     pub no_variations: bool,
     /// `--roster` was given.
     pub roster: bool,
-    /// The number after `-w`, and [`DEFAULT_WIDTH`] without it.
-    pub width: u16,
+    /// The number after `-w`.
+    pub width: Option<u16>,
     /// The path after `--criteria`.
     pub criteria: Option<&'a str>,
     /// The texts after each `--where`, in their order.
@@ -92,6 +96,8 @@ const AFTER_HELP: &str =
     pgn-extract --criteria wanted.txt games.pgn       # criteria in a file\n  \
     pgn-extract --faulty games.pgn > faulty.pgn       # the faulty ones, unchanged\n  \
     pgn-extract --list --first --min-ply 80 games.pgn # games of 80 plies and more\n  \
+    pgn-extract --pack games.pgn > all.pack           # a pack, for many searches\n  \
+    pgn-extract --list --packed --where mate all.pack # the same list, much sooner\n  \
     gzip -dc games.pgn.gz | pgn-extract --index       # each game's mark: N@O\n\
     \n\
     A game that cannot be read or played is reported on standard error, and is\n\
@@ -143,6 +149,12 @@ fn mode_options<'a>(alloc: Global, command: Command<'a>) -> Result<Command<'a>, 
         ))?
         .arg(flag(
             alloc,
+            "packed",
+            "With --list, the FILEs are packs: the listing of the\n\
+             games that were packed, much sooner",
+        ))?
+        .arg(flag(
+            alloc,
             "index",
             "N@O for each readable game; no move is played",
         ))?
@@ -152,7 +164,13 @@ fn mode_options<'a>(alloc: Global, command: Command<'a>) -> Result<Command<'a>, 
             "N@O, FEN with _ for blanks (- is the usual start)\n\
              and the moves of each game, on one line",
         ))?
-        .arg(flag(alloc, "uci", "The same with moves as e2e4, e7e8q, e1g1"))
+        .arg(flag(alloc, "uci", "The same with moves as e2e4, e7e8q, e1g1"))?
+        .arg(flag(
+            alloc,
+            "pack",
+            "A pack: a record of each game, which holds its tags\n\
+             and its moves for searches",
+        ))
 }
 
 /// The options for what is looked for.
@@ -325,13 +343,15 @@ pub fn read_arguments<'a>(alloc: Global, arguments: &'a [String]) -> Result<Requ
     Ok(Request {
         index: matches.get_flag("index"),
         list: matches.get_flag("list"),
+        packed: matches.get_flag("packed"),
         moves: matches.get_flag("moves"),
         uci: matches.get_flag("uci"),
+        pack: matches.get_flag("pack"),
         no_comments: matches.get_flag("no-comments"),
         no_glyphs: matches.get_flag("no-glyphs"),
         no_variations: matches.get_flag("no-variations"),
         roster: matches.get_flag("roster"),
-        width: matches.get_one("width").unwrap_or(DEFAULT_WIDTH),
+        width: matches.get_one("width"),
         criteria: matches.get_str("criteria"),
         conditions,
         min_ply: matches.get_one("min-ply").unwrap_or(0),

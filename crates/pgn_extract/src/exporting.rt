@@ -1,5 +1,5 @@
 //! Which games are exported, and how.
-ghost use Rattle.std.specs.Prelude.{◌≡◌, ◌↔◌, ◌++◌, ℕ, List, MatchResult, IfErr, IfSome, OnOk, IsTrue};
+ghost use Rattle.std.specs.Prelude.{◌≡◌, ◌↔◌, ◌++◌, ℕ, List, MatchResult, IfErr, IfSome, OnOk, IsTrue, option_map};
 ghost use Rattle.pgn_text.specs.GameTexts.{GameText, tag_in};
 ghost use Rattle.pgn_game.specs.Exports.{lines_with};
 ghost use Rattle.pgn_game.specs.Faults.{IsFault};
@@ -12,12 +12,13 @@ ghost use Rattle.pgn_extract.specs.Blockwise.{AddsText, IsGameSelected, LeavesTe
 ghost use Rattle.pgn_extract.specs.Exports.{HasEntry, as_it_stands, faulty_text, line_with, written_lines};
 ghost use Rattle.pgn_extract.specs.Finding.{IsChosen, StopsAtFault};
 ghost use Rattle.pgn_criteria.specs.Meeting.{heading_of};
-ghost use Rattle.pgn_extract.specs.declared.settings.Form.TheVariants.{AsItStands, Line};
+ghost use Rattle.pgn_extract.specs.declared.settings.Form.TheVariants.{AsItStands, Line, Record};
 
 use crate::choosing::has_entry;
 use crate::entries::GameContext;
 use crate::settings::{Form, Mode, Select, Settings};
 use crate::texts::push_named_mark;
+use pgn_game::pack::{GameOrigin, push_record};
 use pgn_game::{
     GameFault, Lines, Notation, Style, check_lines, check_variations, export_played, push_line,
 };
@@ -41,7 +42,7 @@ pub fn written_lines(settings: &Settings) -> Lines
 {
     match settings.form {
         Form::Standard | Form::AsItStands => lines_with(&settings.style),
-        Form::Line(_) => Lines::Main,
+        Form::Line(_) | Form::Record => Lines::Main,
     }
 }
 
@@ -171,6 +172,40 @@ fn put_game_line<'a>(
     }
 }
 
+/// The name that lines begin with, if they have one.
+fn shown_name(settings: &Settings) -> Option<&[u8]>
+    ensures { option_map (λ name. name.now) result ≡ settings.now.name }
+{
+    match &settings.name {
+        Some(name) => Some(name.bytes()),
+        None => None,
+    }
+}
+
+/// Appends the record of a game; or answers the fault of its main line, and nothing is appended.
+fn put_game_record<'a>(
+    text: &mut Vec<u8>,
+    context: GameContext<'_>,
+    game: &RawGame<'a>,
+) -> Result<(), GameFault<'a>>
+    requires { context.settings.now.form ≡ Record }
+    ensures { MatchResult result
+        (λ _. PutsText (aim_of context.entry.settings.now) context.entry.own.number context.entry.own.offset game.now text.old.items text.new.items)
+        (λ fault. IfSome (fault_of fault) (LeavesText (aim_of context.entry.settings.now) game.now text.old.items text.new.items)) }
+{
+    let GameContext {
+        alloc,
+        settings,
+        own,
+    } = context;
+    let origin = GameOrigin {
+        name: shown_name(settings),
+        number: own.number,
+        offset: own.offset,
+    };
+    push_record(alloc, &origin, game, text)
+}
+
 /// Appends a game as it stands, if the lines that are written are sound; or answers their first fault.
 fn put_as_is<'a>(
     alloc: Global,
@@ -192,7 +227,7 @@ fn put_as_is<'a>(
     }
 }
 
-/// Appends the text of a game, played while it is written: its export, its line, or the game as it stands. Where one of the lines that are
+/// Appends the text of a game, played while it is written: its export, its line, its record, or the game as it stands. Where one of the lines that are
 /// written is faulty, the first fault is answered, and nothing is appended.
 fn put_text<'a>(
     text: &mut Vec<u8>,
@@ -212,6 +247,7 @@ fn put_text<'a>(
         Form::Standard => export_played(alloc, game, &settings.style, text),
         Form::AsItStands => put_as_is(alloc, text, settings, game),
         Form::Line(notation) => put_game_line(text, context, notation, game),
+        Form::Record => put_game_record(text, context, game),
     }
 }
 
@@ -221,7 +257,7 @@ fn is_as_it_stands(settings: &Settings) -> bool
 {
     match settings.form {
         Form::AsItStands => true,
-        Form::Standard | Form::Line(_) => false,
+        Form::Standard | Form::Line(_) | Form::Record => false,
     }
 }
 
@@ -275,7 +311,7 @@ fn put_by_entry<'a>(
     }
 }
 
-/// Appends the text of a game, if the lines that are written are sound and it is selected: its export, its line, or the game as it stands.
+/// Appends the text of a game, if the lines that are written are sound and it is selected: its export, its line, its record, or the game as it stands.
 /// Where one of these lines is faulty, the first fault is answered, and nothing is appended.
 pub fn put_selected<'a>(
     text: &mut Vec<u8>,

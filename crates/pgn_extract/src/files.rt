@@ -67,7 +67,7 @@ pub struct Total {
 
 impl Total {
     /// That of no run.
-    const NONE: Total = Total {
+    pub(crate) const NONE: Total = Total {
         summary: Summary {
             games: 0,
             faulty: 0,
@@ -84,7 +84,7 @@ impl Total {
     }
 
     /// Adds what a run met, or that a file could not be opened.
-    fn add(&mut self, ran: Option<Summary>)
+    pub(crate) fn add(&mut self, ran: Option<Summary>)
         ensures { self.new.unopened ≡ (self.old.unopened || is_none ran) }
     {
         let Some(own) = ran else {
@@ -148,7 +148,7 @@ where
 }
 
 /// Names a file that could not be opened, and the system's reason.
-fn put_unopened<E: Write>(
+pub(crate) fn put_unopened<E: Write>(
     alloc: Global,
     err: &mut Tally<E>,
     path: &str,

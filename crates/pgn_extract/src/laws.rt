@@ -1,6 +1,7 @@
 //! What holds of every text, whatever lists or reports it. Each law is the contract of a function that does nothing.
 
-ghost use Rattle.pgn_extract.specs.Laws.{PiecesHaveOneListing, EachPieceHasAMark, TextHasAReport, TextHasOneReport, ExportsAreWritten, TextHasOneExport, FirstChangesNoExport, PieceIsInOneExport, NoteNamesTheStop, NoNotes, PartsJoin, PartsAreReported};
+ghost use Rattle.pgn_extract.specs.Searching.{PackedTextIsAPack};
+ghost use Rattle.pgn_extract.specs.Laws.{PiecesHaveOneListing, EachPieceHasAMark, TextHasAReport, TextHasOneReport, ExportsAreWritten, TextHasOneExport, PackIsListedAsItsText, FirstChangesNoExport, PieceIsInOneExport, NoteNamesTheStop, NoNotes, PartsJoin, PartsAreReported};
 
 /// The pieces of each text have entries, and these are one list: the plies of its sound games that are within the bounds and whose position
 /// meets the criteria, or the least such of each game, each once, in the order of the games and their plies.
@@ -46,4 +47,11 @@ pub fn notes()
 pub fn parts()
     ensures join { PartsJoin }
     ensures reported { PartsAreReported }
+{}
+
+/// Where each sound game of a text is packed, what the export writes is the pack of the text. So a search of what such a run wrote writes
+/// the listing of the text.
+pub fn packs()
+    ensures pack { PackedTextIsAPack }
+    ensures listing { PackIsListedAsItsText }
 {}

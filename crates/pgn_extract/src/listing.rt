@@ -1,13 +1,13 @@
 //! Which plies are listed where no criteria are given.
 ghost use Rattle.std.specs.Prelude.{◌≡◌, ◌↔◌, ℕ, ◌<◌, ◌≤◌, None, true, OnOk};
 ghost use Rattle.pgn_extract.specs.Aims.{aim_of};
-ghost use Rattle.pgn_extract.specs.Blockwise.{IsPlainEntry, AddsPlies};
+ghost use Rattle.pgn_extract.specs.Blockwise.{IsPlainEntry, AddsPlies, AddsLines};
 ghost use Rattle.pgn_extract.specs.Listing.{is_plain};
 
 use crate::entries::GameContext;
 use crate::settings::Settings;
 use crate::texts::{count_up, push_entry, push_named_mark};
-use std::alloc::AllocError;
+use std::alloc::{AllocError, Global};
 
 /// The most bytes that a mark without a name has: two numbers of at most 20 digits, and `@`.
 pub const MARK_ROOM: usize = 41;
@@ -44,12 +44,27 @@ pub fn push_plies(
     } = context;
     let mut mark = Vec::with_capacity(alloc, MARK_ROOM)?;
     push_named_mark(&mut mark, &settings.name, own.number, own.offset)?;
+    push_lines(text, alloc, settings, &mark, plies)
+}
+
+/// Appends the lines of the entries of a game with this mark whose main line has so many plies, where there are no criteria.
+pub fn push_lines(
+    text: &mut Vec<u8>,
+    alloc: Global,
+    settings: &Settings,
+    mark: &[u8],
+    plies: usize,
+) -> Result<(), AllocError>
+    requires criteria { settings.now.criteria ≡ None }
+    requires plain { is_plain settings.now.fields ≡ true }
+    ensures { OnOk result (AddsLines (aim_of settings.now) mark.now plies text.old.items text.new.items) }
+{
     let least = settings.min_ply as usize;
     let mut line = Vec::with_capacity(alloc, LINE_ROOM)?;
-    push_entry(&mut line, &mark, least)?;
+    push_entry(&mut line, mark, least)?;
     for ply in least..end_ply(settings, plies) {
         text.extend_from_slice(&line)?;
-        count_up(&mut line, &mark, ply)?;
+        count_up(&mut line, mark, ply)?;
     }
     Ok(())
 }

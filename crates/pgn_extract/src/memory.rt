@@ -1,20 +1,23 @@
 //! Runs over memory: what each clause of `run` says where all bytes are known.
-ghost use Rattle.std.specs.Prelude.{◌≡◌, ◌↔◌, ◌⊎◌, ◌≤◌, ◌<◌, ◌^◌, ◌++◌, ℕ, true, false, List, codes, drop, length, take, count_by, IfErr, IfOk, OnOk, IsErrOf};
+ghost use Rattle.std.specs.Prelude.{◌≡◌, ◌≢◌, ◌↔◌, ◌⊎◌, ◌≤◌, ◌<◌, ◌^◌, ◌++◌, ℕ, true, false, List, [], Option, codes, drop, length, take, count_by, IfErr, IfOk, OnOk, IsErrOf};
 ghost use Rattle.pgn_text.specs.Complete.{AreCompletePieces};
 ghost use Rattle.pgn_text.specs.Limits.{block_limit, depth_limit, largest_offset};
 ghost use Rattle.pgn_text.specs.Marks.{MarkedPiece, AreMarkedPieces};
+ghost use Rattle.pgn_game.specs.PackedGames.{PackedGame, pack_bytes};
 ghost use Rattle.pgn_extract.specs.Aims.{aim_of};
 ghost use Rattle.pgn_extract.specs.Exports.{AreExports};
 ghost use Rattle.pgn_extract.specs.Index.{index};
-ghost use Rattle.pgn_extract.specs.Listing.{Entry, AreEntries, entries_at_least, listing};
+ghost use Rattle.pgn_extract.specs.Listing.{Entry, AreEntries, entries_at_least, is_plain, listing};
 ghost use Rattle.pgn_extract.specs.Resuming.{IsMarkAmong, verdicts_at_least};
 ghost use Rattle.pgn_extract.specs.Runs.{ArePieces, job_of};
+ghost use Rattle.pgn_extract.specs.Searching.{HasNoGame, IsPackListing, IsPackOf};
 ghost use Rattle.pgn_extract.specs.Several.{IsReport, NamesUnopened};
 ghost use Rattle.pgn_extract.specs.Verdicts.{Verdict, AreVerdicts, IsSameReport, fault_lines, is_faulty, output_text};
 
 use crate::engine::run;
 use crate::files::{Files, Task, run_files};
 use crate::outcome::{RunError, Summary};
+use crate::searching::{SearchError, Searched, search};
 use crate::settings::{Mode, Settings};
 use pgn_text::Tally;
 use std::alloc::Global;
@@ -196,6 +199,53 @@ pub fn report_some<'a>(
     ensures alone { (out.new.faulted ≡ true) × (err.new.faulted ≡ true) → ⊥ }
 {
     run(alloc, input, out, err, settings)
+}
+
+/// What the search of a pack in memory writes: whatever text the bytes are the pack of, its listing. Bytes that are no pack are refused at the
+/// first record of no game.
+pub fn search_pack(alloc: Global, bytes: &[u8], settings: &Settings) -> Result<Vec<u8>, SearchError>
+    requires plain { is_plain settings.now.fields ≡ true }
+    ensures listed { IfOk result (λ out. (name : Option (List ℕ)) (number : ℕ) (pieces : List MarkedPiece) → IsPackOf name number pieces bytes.now
+        → (entries : List Entry) → AreEntries (aim_of settings.now) number pieces entries → out.items ≡ listing name entries) }
+    ensures bad { IfErr result (λ error. (at : ℕ) → error ≡ SearchError.BadPack at → (before : List PackedGame) × (rest : List ℕ)
+        × (bytes.now ≡ pack_bytes before ++ rest) × (at ≡ length (pack_bytes before)) × (rest ≢ []) × HasNoGame rest) }
+{
+    let mut input = Tally::new(bytes);
+    let mut out = Tally::new(Vec::new(alloc));
+    match search(alloc, &mut input, &mut out, settings) {
+        Ok(_) => Ok(out.into_inner()),
+        Err(error) => Err(error),
+    }
+}
+
+/// Searches a pack in memory, after which the writer may hold bytes already. What is found of the records stands in its new bytes.
+pub fn search_records<'a>(
+    alloc: Global,
+    input: &mut Tally<&'a [u8]>,
+    out: &mut Tally<Vec<u8>>,
+    settings: &Settings,
+) -> Result<Searched, SearchError>
+    requires sound { (input.old.faulted ≡ false) × (out.old.faulted ≡ false) }
+    requires plain { is_plain settings.now.fields ≡ true }
+    // Each record is counted, and its lines are written.
+    ensures searched { IfOk result (λ searched. (records : List PackedGame) × (text : List ℕ) × (input.old.inner.now ≡ pack_bytes records)
+        × IsPackListing (aim_of settings.now) records text × (searched.records ≡ length records) × (out.new.inner.items ≡ out.old.inner.items ++ text)) }
+    // A record of no game: those before it are listed, and nothing else.
+    ensures bad { IfErr result (λ error. (at : ℕ) → error ≡ SearchError.BadPack at → (before : List PackedGame) × (rest : List ℕ) × (text : List ℕ)
+        × (input.old.inner.now ≡ pack_bytes before ++ rest) × (at ≡ length (pack_bytes before)) × HasNoGame rest
+        × IsPackListing (aim_of settings.now) before text × (out.new.inner.items ≡ out.old.inner.items ++ text)) }
+    // A read failed: those before it are.
+    ensures read { IfErr result (λ error. error ≡ SearchError.Read → (before : List PackedGame) × (rest : List ℕ) × (text : List ℕ)
+        × (input.old.inner.now ≡ pack_bytes before ++ rest) × IsPackListing (aim_of settings.now) before text
+        × (out.new.inner.items ≡ out.old.inner.items ++ text)) }
+    // A write failed: a beginning of their listing is written.
+    ensures write { IfErr result (λ error. error ≡ SearchError.Write → (before : List PackedGame) × (rest : List ℕ) × (text : List ℕ) × (n : ℕ)
+        × (input.old.inner.now ≡ pack_bytes before ++ rest) × IsPackListing (aim_of settings.now) before text
+        × (out.new.inner.items ≡ out.old.inner.items ++ take n text)) }
+    ensures flushed { OnOk result (out.new.flushed ≡ true) }
+    ensures faulted { IsErrOf result SearchError.Write ↔ (out.new.faulted ≡ true) }
+{
+    search(alloc, input, out, settings)
 }
 
 /// Runs over two files in memory, up to an offset in each, with a path between them at which there is none.

@@ -23,8 +23,22 @@ pub const BOTH_NOTATIONS: &str = "pgn-extract: --moves and --uci exclude each ot
 pub const NO_LINES_OF_MOVES: &str =
     "pgn-extract: --moves and --uci go with none of --list, --index, --faulty and --as-is\n";
 
+/// A pack is of games that are selected, and a record has one form.
+pub const NO_PACK: &str =
+    "pgn-extract: --pack goes with none of --list, --index, --moves, --uci, --faulty, --as-is, -C, -N, -V, --roster and -w\n";
+
 /// Names are asked for, and refused.
 pub const BOTH_NAMINGS: &str = "pgn-extract: --with-names and --no-names exclude each other\n";
+
+/// A pack is searched, and nothing else is done with it.
+pub const PACKS_ARE_LISTED: &str = "pgn-extract: --packed goes with --list\n";
+
+/// The lines of a pack have the names that were packed, and end after the ply; and a pack is searched as a whole.
+pub const PACKS_ARE_PLAIN: &str =
+    "pgn-extract: --packed goes with none of --fen, --next, --from, --until, --with-names and --no-names\n";
+
+/// A pack has something that is the record of no game; its name follows.
+pub const BAD_PACK: &str = "pgn-extract: bad pack: ";
 
 /// A mark is of one file.
 pub const MARKS_TAKE_ONE_FILE: &str = "pgn-extract: --from and --until take one FILE\n";

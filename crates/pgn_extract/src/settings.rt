@@ -55,6 +55,8 @@ pub enum Form {
     AsItStands,
     /// On a line of its own: its mark, the position that it starts from, and the moves of its main line in this notation.
     Line(Notation),
+    /// As the record of a pack: its mark, the name of its file where lines have one, its tags, its result and the moves of its main line.
+    Record,
 }
 
 /// What a run writes, and where in the file it begins. With [`Mode::Index`] only `name`, `explain`, `number` and `offset` have an effect.
@@ -79,7 +81,7 @@ pub struct Settings {
     /// How each game that the export selects is written.
     pub form: Form,
     /// What is kept of a game in the standard's format. Where variations are, each line of a game must be sound, also of one that is written
-    /// as it stands; else its main line alone, as where it is written on a line.
+    /// as it stands; else its main line alone, as where it is written on a line or as a record.
     pub style: Style,
     /// Whether notes stand after the lines of faulty games: where a game is faulty, and why.
     pub explain: bool,

@@ -20,7 +20,7 @@ pub fn push_number(text: &mut Vec<u8>, number: usize) -> Result<(), AllocError>
 }
 
 /// Appends the mark `N@O`.
-fn push_mark(text: &mut Vec<u8>, number: u64, offset: u64) -> Result<(), AllocError>
+pub fn push_mark(text: &mut Vec<u8>, number: u64, offset: u64) -> Result<(), AllocError>
     ensures { OnOk result (text.new.items ≡ text.old.items ++ mark number offset) }
 {
     let mut buffer = Buffer::new();

@@ -56,7 +56,7 @@ fn holds(alloc: Global, row: &Row) -> Result<bool, AllocError> {
 }
 
 /// Files of which nothing touches the next.
-const EACH_ALONE: [Row; 9] = [
+const EACH_ALONE: [Row; 10] = [
     (
         &["--index", "open-end.pgn", "marked.pgn", "two.pgn"],
         b"open-end.pgn:1@0\nmarked.pgn:1@3\ntwo.pgn:1@0\ntwo.pgn:2@22\n",
@@ -112,6 +112,20 @@ const EACH_ALONE: [Row; 9] = [
         b"1. Qxh8 *\n\n",
         b"pgn-extract: fault.pgn: game 2@8: illegal move Qxh8 at ply 1\n",
         1,
+    ),
+    (
+        &["--pack", "open-end.pgn", "marked.pgn"],
+        b"\x00\x00\x00\x35\x00\x00\x00\x00\x00\x00\x00\x01\
+          \x00\x00\x00\x00\x00\x00\x00\x00\x00\x00\x00\x30\
+          \x00\x00\x00\x0Copen-end.pgn\
+          \x00\x00\x00\x05Event\x00\x00\x00\x01A\
+          \x0C\x5C\x5C\
+          \x00\x00\x00\x25\x00\x00\x00\x00\x00\x00\x00\x01\
+          \x00\x00\x00\x00\x00\x00\x00\x03\x00\x00\x00\x10\
+          \x00\x00\x00\x0Amarked.pgn\
+          \x0B\x5B\x5B",
+        b"",
+        0,
     ),
 ];
 

@@ -26,6 +26,10 @@ mod listing;
 #[cfg(test)]
 mod moves;
 #[cfg(test)]
+mod packs;
+#[cfg(test)]
 mod runs;
+#[cfg(test)]
+mod searches;
 #[cfg(test)]
 mod trials;

@@ -1,6 +1,7 @@
 use Rattle.std.proofs.Common.{◌≡◌, ◌↔◌, ℕ, ◌∷◌, ◌++◌, [], length, decimal, IsTrue, sym, ap, subst, ◌∙◌, arith}
 use Rattle.pgn_game.specs.Replays.{Replay}
 use Rattle.pgn_criteria.specs.Meeting.{Heading, SomeHold}
+use Rattle.pgn_criteria.proofs.WalkFacts.{seen_itself}
 use Rattle.pgn_extract.specs.Aims.{aim_of}
 use Rattle.pgn_extract.specs.Finding.{named_mark}
 use Rattle.pgn_extract.proofs.FieldTexts.{no_fields}
@@ -24,7 +25,7 @@ returns-then-ply-self-2 c game asks before played text to so_far =
           let low = wanted.0 in let count = to.count in omega (arith, count, c.plies-ply.ensures, w.if-ply-self-2.true, low)
       | then-ply-self-2-via-else-ply-self-2+then-not-is_met w ↦
           let reports : (tags : Heading) (replay : Replay) (ply : ℕ) → IsTrue w.is_met.result ↔ SomeHold tags replay ply P c.args.self.now.search =
-          λ tags replay ply. subst (λ p. IsTrue w.is_met.result ↔ SomeHold tags replay ply p c.args.self.now.search) w.position.ensures (w.is_met.ensures tags replay ply) in
+          λ tags replay ply. subst (λ p. IsTrue w.is_met.result ↔ SomeHold tags replay ply p c.args.self.now.search) w.position.ensures (w.is_met.ensures w.position.result.now (seen_itself w.position.result.now) tags replay ply) in
           not_wanted (aim_of c.args.self.now.settings.now) game c.args.self.now.search asks before P w.is_met.result reports w.if-not-is_met.true
     ])
 
@@ -33,7 +34,7 @@ returns c game asks before played text to so_far =
     let P = c.args.line.now.position in
     let own = c.args.self.now.own in
     let met : (tags : Heading) (replay : Replay) (ply : ℕ) → IsTrue c.is_met.result ↔ SomeHold tags replay ply P c.args.self.now.search =
-    λ tags replay ply. subst (λ p. IsTrue c.is_met.result ↔ SomeHold tags replay ply p c.args.self.now.search) c.position.ensures (c.is_met.ensures tags replay ply) in
+    λ tags replay ply. subst (λ p. IsTrue c.is_met.result ↔ SomeHold tags replay ply p c.args.self.now.search) c.position.ensures (c.is_met.ensures c.position.result.now (seen_itself c.position.result.now) tags replay ply) in
     let ply : c.plies-ply.result ≡ length before = c.plies-ply.ensures ∙ sym to.count in
     let marked : c.deref.result.now ≡ named_mark c.args.self.now.settings.now.name own.number own.offset = c.deref.ensures.value ∙ c.requires.marked in
     keeps_one P so_far [] c.if-not-is_open.false

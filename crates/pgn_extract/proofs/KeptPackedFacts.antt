@@ -1,0 +1,63 @@
+-- The line that the codes of a record tell is the main line of each game that has the record.
+use Rattle.std.proofs.Common.{◌≡◌, List, Some, sym, ap, ◌∙◌, subst}
+use Rattle.chess.specs.Positions.{State}
+use Rattle.chess.specs.declared.moves.Move.{Move}
+use Rattle.pgn_text.specs.GameTexts.{GameText, tag_in}
+use Rattle.pgn_game.specs.CodeLines.{positions_from, IsCodedLine, IsCodedReplay}
+use Rattle.pgn_game.specs.MainLines.{main_words, IsMainLine}
+use Rattle.pgn_game.specs.PackReading.{RawRecord}
+use Rattle.pgn_game.specs.PackedGames.{PackedGame}
+use Rattle.pgn_game.specs.PlyCodes.{AreCodes}
+use Rattle.pgn_game.specs.Replays.{Replay}
+use Rattle.pgn_game.specs.Starts.{fen_tag, IsStart}
+use Rattle.pgn_game.proofs.CodeLineFacts.{line_legal, line_positions}
+use Rattle.pgn_game.proofs.OneReplay.{one_start, line_head}
+use Rattle.pgn_extract.specs.KeptPacked.{IsStartOf, IsKeptOf}
+use Rattle.pgn_extract.specs.Packed.{IsOfRecord, HasNoText}
+
+same_state : (P Q : State) → Some P ≡ Some Q → P ≡ Q
+same_state P Q e = cc
+
+module _ {raw : RawRecord} {game : GameText} {replay : Replay} {packed : PackedGame} (own : IsOfRecord raw game replay packed) (start : State)
+    (is : IsStart (tag_in fen_tag game.tags) start) where
+  starts : own.is_replay.start ≡ start
+  starts = one_start (tag_in fen_tag game.tags) own.is_replay.start start own.is_replay.is_start is
+
+  kept_start : own.kept.start ≡ start
+  kept_start =
+      same_state own.kept.start own.is_replay.start
+      (sym own.kept.first ∙ line_head own.is_replay.start (main_words game.elements 0) replay.positions replay.played own.is_replay.line)
+      ∙ starts
+
+  line_there : IsMainLine start (main_words game.elements 0) replay.positions replay.played
+  line_there = subst (λ (P : State). IsMainLine P (main_words game.elements 0) replay.positions replay.played) starts own.is_replay.line
+
+  -- the bytes of the record spell the main line of the game
+  coded_line : IsCodedLine start raw.plies replay.played
+  coded_line = record {
+    legal = line_legal start (main_words game.elements 0) replay.positions replay.played line_there;
+    codes = packed.plies;
+    are = subst (λ (P : State). AreCodes P replay.played packed.plies) kept_start own.kept.plies;
+    spell = ap (λ (r : RawRecord). r.plies) (sym own.shows);
+  }
+
+  -- so a replay of the bytes is that of the game
+  same_replay : (kept : Replay) → IsCodedReplay start raw.plies kept → replay ≡ kept
+  same_replay kept coded =
+      let played : replay.played ≡ kept.played = coded.only replay.played coded_line in
+      let positions : replay.positions ≡ kept.positions =
+      line_positions start (main_words game.elements 0) replay.positions replay.played line_there
+      ∙ ap (positions_from start) played ∙ sym coded.line.positions in
+      let turns : replay.turns ≡ kept.turns = own.is_replay.turns ∙ sym coded.turns in
+      λ i. record { positions = positions i; played = played i; turns = turns i }
+
+pub kept_of : (raw : RawRecord) (start : State) (kept : Replay) → IsStartOf raw start → IsCodedReplay start raw.plies kept → IsKeptOf raw kept
+kept_of raw start kept is coded = record {
+  start = start;
+  line = coded.line;
+  same = λ game replay packed own. same_replay own start (is game replay packed own) kept coded;
+}
+
+-- where the bytes spell no line, no game has the record
+pub none_of : (raw : RawRecord) (start : State) → IsStartOf raw start → ((moves : List Move) → IsCodedLine start raw.plies moves → ⊥) → HasNoText raw
+none_of raw start is none game replay packed own = none replay.played (coded_line own start (is game replay packed own))

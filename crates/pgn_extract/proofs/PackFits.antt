@@ -1,0 +1,109 @@
+-- Where each sound game of a text is packed, each of its records has a spelling, and so what is exported is the pack of the text.
+use Rattle.std.proofs.Common.{◌≡◌, ℕ, ◌+◌, ◌^◌, ◌<◌, ◌≤◌, ◌==◌, Bool, List, [], ◌∷◌, ◌++◌, map, length, drop, Option, Some, sym, ap, ◌∙◌, subst, append_assoc, length-append, length-drop, arith}
+use Rattle.std.specs.List.{AllByRecursion}
+use Rattle.std.specs.Prelude.{IfSome}
+use Rattle.pgn_text.specs.Limits.{block_limit, depth_limit, largest_offset}
+use Rattle.pgn_text.specs.Marks.{PieceKind, ReadableGame, UnreadableRest, TooLongBlock, MarkedPiece, marked, AreOfBlock, over, within, AreOfBlocks, AreMarkedPieces}
+use Rattle.pgn_text.specs.Parts.{Part, spelled}
+use Rattle.pgn_text.specs.Pieces.{Piece, Game, Unreadable, ArePieces}
+use Rattle.pgn_text.proofs.MarkBounds.{mark_bounds}
+use Rattle.pgn_game.proofs.PackRoom.{game_fits}
+use Rattle.pgn_game.specs.PackedGames.{PackedGame, FitsRecord, longest_name}
+use Rattle.pgn_game.specs.declared.replayer.Lines.TheVariants.{Main}
+use Rattle.pgn_extract.specs.Aims.{aim_of}
+use Rattle.pgn_extract.specs.Laws.{PackIsListedAsItsText}
+use Rattle.pgn_extract.specs.Runs.{job_of, Completes, Exports}
+use Rattle.pgn_extract.specs.Searching.{AreGameRecords, sound, faulty, ArePieceRecords, AreRecords, IsPackOf, PackedTextIsAPack}
+use Rattle.pgn_extract.specs.declared.settings.Mode.TheVariants as modes
+use Rattle.pgn_extract.proofs.GameExport.{own_replay}
+use Rattle.pgn_extract.proofs.PackTaken.{pieces_records}
+
+both_parts : {X : Type 0} (P : X → Type 0) (xs ys : List X) → AllByRecursion P xs → AllByRecursion P ys → AllByRecursion P (xs ++ ys)
+both_parts P [] ys here there = there
+both_parts P (x ∷ xs) ys here there = (here.0, both_parts P xs ys here.1 there)
+
+-- a game is no longer than a block
+abbrev IsSmallKind : PieceKind → Type 0
+IsSmallKind (ReadableGame parts) = length (spelled parts) ≤ block_limit
+IsSmallKind (UnreadableRest bytes) = Unit {0}
+IsSmallKind TooLongBlock = Unit {0}
+
+abbrev IsSmall : MarkedPiece → Type 0
+IsSmall piece = IsSmallKind piece.kind
+
+small_pieces : (max_depth offset : ℕ) (file_start : Bool) (before : List ℕ) (pieces : List Piece) (text : List ℕ) → length text ≤ block_limit
+    → ArePieces max_depth file_start before pieces text → AllByRecursion IsSmall (map (marked offset) pieces)
+small_pieces max_depth offset file_start before [] text bounded are = tt
+small_pieces max_depth offset file_start before (Game at parts ∷ more) text bounded (gap, after, parted, longest, here, is_game, others) =
+    let size = ap length parted ∙ length-append (spelled gap) (spelled parts ++ after) in
+    let rest = length-append (spelled parts) after in
+    (omega arith, small_pieces max_depth offset file_start ((before ++ spelled gap) ++ spelled parts) more after (omega arith) others)
+small_pieces max_depth offset file_start before (Unreadable at bytes ∷ more) text bounded (gap, parted, longest, here, some, no_game, none) =
+    (tt, subst (λ (pieces : List Piece). AllByRecursion IsSmall (map (marked offset) pieces)) (sym none) tt)
+
+small_of_block : (max_depth offset : ℕ) (block : List ℕ) (marks : List MarkedPiece) → AreOfBlock block_limit max_depth offset block marks → AllByRecursion IsSmall marks
+small_of_block max_depth offset block marks (over long is) = subst (AllByRecursion IsSmall) (sym is) (tt, tt)
+small_of_block max_depth offset block marks (within short pieces are is) =
+    subst (AllByRecursion IsSmall) (sym is) (small_pieces max_depth offset (offset == 0) [] pieces block short are)
+
+small_of_blocks : (max_depth offset : ℕ) (blocks : List (List ℕ)) (marks : List MarkedPiece) → AreOfBlocks block_limit max_depth offset blocks marks → AllByRecursion IsSmall marks
+small_of_blocks max_depth offset [] marks none = subst (AllByRecursion IsSmall) (sym none) tt
+small_of_blocks max_depth offset (block ∷ more) marks (own, rest, parted, here, others) =
+    subst (AllByRecursion IsSmall) (sym parted) (both_parts IsSmall own rest (small_of_block max_depth offset block own here) (small_of_blocks max_depth (offset + length block) more rest others))
+
+record_fits : (name : Option (List ℕ)) (number offset : ℕ) (parts : List Part) (records : List PackedGame) → IfSome name (λ own. length own ≤ longest_name)
+    → number < 2 ^ 64 → offset < 2 ^ 64 → length (spelled parts) ≤ block_limit → AreGameRecords name number offset parts records → AllByRecursion FitsRecord records
+record_fits name number offset parts records short number_fits offset_fits small (sound game replay packed good shows is packs one) =
+    let own = own_replay Main game parts replay shows is in
+    let text : length game.text ≤ block_limit = omega (arith, ap length shows.text) in
+    subst (AllByRecursion FitsRecord) (sym one) (game_fits name number offset game parts replay packed good shows text own packs short number_fits offset_fits, tt)
+record_fits name number offset parts records short number_fits offset_fits small (faulty fault is none) = subst (AllByRecursion FitsRecord) (sym none) tt
+
+piece_fits : (name : Option (List ℕ)) (number offset : ℕ) (kind : PieceKind) (records : List PackedGame) → IfSome name (λ own. length own ≤ longest_name)
+    → number < 2 ^ 64 → offset < 2 ^ 64 → IsSmallKind kind → ArePieceRecords name kind number offset records → AllByRecursion FitsRecord records
+piece_fits name number offset (ReadableGame parts) records short number_fits offset_fits small are = record_fits name number offset parts records short number_fits offset_fits small are
+piece_fits name number offset (UnreadableRest bytes) records short number_fits offset_fits small none = subst (AllByRecursion FitsRecord) (sym none) tt
+piece_fits name number offset TooLongBlock records short number_fits offset_fits small none = subst (AllByRecursion FitsRecord) (sym none) tt
+
+-- a piece has no more pieces before it than bytes
+pieces_fit : (name : Option (List ℕ)) (number max_depth offset : ℕ) (text : List ℕ) (before more : List MarkedPiece) (records : List PackedGame)
+    → IfSome name (λ own. length own ≤ longest_name) → number ≤ 2 ^ 62 + length before → offset + length text ≤ largest_offset
+    → AreMarkedPieces block_limit max_depth offset text (before ++ more) → AllByRecursion IsSmall more → AreRecords name number more records → AllByRecursion FitsRecord records
+pieces_fit name number max_depth offset text before [] records short few bounded each small none = subst (AllByRecursion FitsRecord) (sym none) tt
+pieces_fit name number max_depth offset text before (piece ∷ more) records short few bounded each small (own, rest, parted, here, others) =
+    let bounds = mark_bounds block_limit max_depth offset text before piece more each in
+    let first = piece_fits name number piece.offset piece.kind own short (omega (arith, bounds.0, bounds.1)) (omega (arith, bounds.1)) small.0 here in
+    let next : AreMarkedPieces block_limit max_depth offset text ((before ++ piece ∷ []) ++ more) =
+    subst (AreMarkedPieces block_limit max_depth offset text) (sym (append_assoc before (piece ∷ []) more)) each in
+    let count : number + 1 ≤ 2 ^ 62 + length (before ++ piece ∷ []) = omega (arith, length-append before (piece ∷ [])) in
+    subst (AllByRecursion FitsRecord) (sym parted) (both_parts FitsRecord own rest first (pieces_fit name (number + 1) max_depth offset text (before ++ piece ∷ []) more rest short count bounded next small.1 others))
+
+pub packed_text : PackedTextIsAPack
+packed_text packing number offset text pieces bytes packs =
+    let taken = pieces_records packing number pieces bytes packs.all packs.exported in
+    let small = small_of_blocks depth_limit offset packs.each.blocks pieces packs.each.each in record {
+      records = taken.0;
+      are = taken.1;
+      fit = pieces_fit packing.name number depth_limit offset text [] pieces taken.0 packs.short (omega (arith, packs.few)) packs.within packs.each small taken.1;
+      packed = taken.2;
+    }
+
+-- ---- the search of what a run packed
+
+some_input : (P : List ℕ → Type 0) (input : Option (List ℕ)) (whole : List ℕ) → input ≡ Some whole → IfSome input P → P whole
+some_input P input whole is holds = subst (λ (bytes : Option (List ℕ)). IfSome bytes P) is holds
+
+pub listed_pack : PackIsListedAsItsText
+listed_pack packing io summary whole exports all short few offset known run =
+    let exported : Exports (job_of packing) io whole = some_input (λ bytes. packing.mode ≡ modes.Export → Exports (job_of packing) io bytes) io.input.old.bytes whole known run.exports exports in
+    let done : Completes (job_of packing) io whole summary = some_input (λ bytes. Completes (job_of packing) io bytes summary) io.input.old.bytes whole known run.done.0 in
+    let pack : IsPackOf packing.name packing.number exported.pieces exported.text =
+    packed_text (aim_of packing) packing.number packing.offset (drop packing.offset whole) exported.pieces exported.text record {
+      all = all;
+      short = short;
+      few = few;
+      within = omega (arith, done.size, length-drop packing.offset whole);
+      each = exported.each;
+      exported = exported.are;
+    } in
+    (exported.pieces, exported.text, exported.each, exported.exported, λ aim out out' searched entries search are. search.lists packing.name packing.number exported.pieces pack entries are)

@@ -1,0 +1,100 @@
+-- The listing of a pack is that of the text that was packed.
+use Rattle.std.proofs.Common.{◌≡◌, ℕ, ◌+◌, List, [], ◌∷◌, ◌++◌, Option, refl, sym, ap, ◌∙◌, subst, append_assoc, append-nil}
+use Rattle.pgn_text.specs.GameTexts.{GameText, ShowsGame}
+use Rattle.pgn_text.specs.Marks.{PieceKind, ReadableGame, UnreadableRest, TooLongBlock, MarkedPiece}
+use Rattle.pgn_text.specs.Parts.{Part}
+use Rattle.pgn_game.proofs.PackOnce.{one_pack}
+use Rattle.pgn_game.specs.PackedGames.{PackedGame, IsPacked, pack_bytes}
+use Rattle.pgn_game.specs.declared.replayer.Lines.TheVariants.{Main}
+use Rattle.pgn_criteria.specs.Meeting.{Heading, heading_of}
+use Rattle.pgn_extract.specs.Aims.{Aim}
+use Rattle.pgn_extract.specs.EntryRows.{AreGameEntries, sound as sound_rows, faulty as faulty_rows, ArePieceEntries, AreEntryRows}
+use Rattle.pgn_extract.specs.GameReports.{AreListed}
+use Rattle.pgn_extract.specs.Listing.{Entry, AreEntries, listing, heading_in}
+use Rattle.pgn_extract.specs.Searching.{AreGameRecords, sound, faulty, ArePieceRecords, AreRecords, IsPackOf, IsRecordListing, IsPackListing, BeginsWithRecords}
+use Rattle.pgn_extract.proofs.ExactEntries.{are_entries}
+use Rattle.pgn_extract.proofs.GameExport.{own_replay}
+use Rattle.pgn_extract.proofs.ModeOutputs.{listing-append}
+use Rattle.pgn_extract.proofs.OneListing.{one_listing}
+
+-- the listing of records, and then of others
+listing_cut : (aim : Aim) (own rest : List PackedGame) (text : List ℕ) → IsPackListing aim (own ++ rest) text
+    → (front : List ℕ) × (back : List ℕ) × (text ≡ front ++ back) × IsPackListing aim own front × IsPackListing aim rest back
+listing_cut aim [] rest text listed = ([], text, refl, refl, listed)
+listing_cut aim (packed ∷ more) rest text (lines, others, parted, of, listed) =
+    let cut = listing_cut aim more rest others listed in
+    (lines ++ cut.0, cut.1, parted ∙ ap (λ t. lines ++ t) cut.2 ∙ sym (append_assoc lines cut.0 cut.1), (lines, cut.0, refl, of, cut.3), cut.4)
+
+-- the listing of records, and of one more
+pub one_more_listed : (aim : Aim) (before : List PackedGame) (packed : PackedGame) (text own : List ℕ) → IsPackListing aim before text → IsRecordListing aim packed own
+    → IsPackListing aim (before ++ packed ∷ []) (text ++ own)
+one_more_listed aim [] packed text own none of = (own, [], ap (λ t. t ++ own) none ∙ sym (append-nil own), of, refl)
+one_more_listed aim (first ∷ before) packed text own (lines, others, parted, here, listed) of = (
+  lines,
+  others ++ own,
+  ap (λ t. t ++ own) parted ∙ append_assoc lines others own,
+  here,
+  one_more_listed aim before packed others own listed of,
+)
+
+-- the heading of a game is that of its parts
+same_heading : (game : GameText) (at : ℕ) (parts : List Part) → ShowsGame game at parts → heading_of game ≡ heading_in parts
+same_heading game at parts shows = λ i. record { named = λ name. shows.tags name i; result = shows.result i }
+
+-- what is listed of a record is listed of the game
+game_rows : (aim : Aim) (name : Option (List ℕ)) (number offset : ℕ) (parts : List Part) (own : List PackedGame) (text : List ℕ)
+    → AreGameRecords name number offset parts own → IsPackListing aim own text
+    → (rows : List Entry) × AreGameEntries aim number offset parts rows × (text ≡ listing name rows)
+game_rows aim name number offset parts own text (sound game replay packed good shows is packs one) listed =
+    let (lines, others, parted, of, none) = subst (λ r. IsPackListing aim r text) one listed in
+    let played = own_replay Main game parts replay shows is in
+    let own_mark : IsPacked packed.name packed.number packed.offset game replay packed = record {
+      name = refl;
+      number = refl;
+      offset = refl;
+      tags = packs.tags;
+      result = packs.result;
+      start = packs.start;
+      first = packs.first;
+      marks = packs.marks;
+      plies = packs.plies;
+    } in
+    let found = of game replay good played own_mark in
+    let headed : AreListed aim packed.number packed.offset (heading_in parts) replay found.0 =
+    subst (λ (heading : Heading). AreListed aim packed.number packed.offset heading replay found.0) (same_heading game game.at parts shows) found.1 in
+    let numbered : AreListed aim number packed.offset (heading_in parts) replay found.0 = subst (λ (n : ℕ). AreListed aim n packed.offset (heading_in parts) replay found.0) packs.number headed in
+    let marked : AreListed aim number offset (heading_in parts) replay found.0 = subst (λ (o : ℕ). AreListed aim number o (heading_in parts) replay found.0) packs.offset numbered in (
+      found.0,
+      sound_rows replay is marked,
+      parted ∙ ap (λ t. lines ++ t) none ∙ append-nil lines ∙ found.2 ∙ ap (λ (title : Option (List ℕ)). listing title found.0) packs.name,
+    )
+game_rows aim name number offset parts own text (faulty fault is none) listed = ([], faulty_rows fault is refl, subst (λ r. IsPackListing aim r text) none listed)
+
+piece_rows : (aim : Aim) (name : Option (List ℕ)) (kind : PieceKind) (number offset : ℕ) (own : List PackedGame) (text : List ℕ)
+    → ArePieceRecords name kind number offset own → IsPackListing aim own text
+    → (rows : List Entry) × ArePieceEntries aim kind number offset rows × (text ≡ listing name rows)
+piece_rows aim name (ReadableGame parts) number offset own text are listed = game_rows aim name number offset parts own text are listed
+piece_rows aim name (UnreadableRest bytes) number offset own text none listed = ([], refl, subst (λ r. IsPackListing aim r text) none listed)
+piece_rows aim name TooLongBlock number offset own text none listed = ([], refl, subst (λ r. IsPackListing aim r text) none listed)
+
+all_rows : (aim : Aim) (name : Option (List ℕ)) (number : ℕ) (pieces : List MarkedPiece) (records : List PackedGame) (text : List ℕ)
+    → AreRecords name number pieces records → IsPackListing aim records text
+    → (rows : List Entry) × AreEntryRows aim number pieces rows × (text ≡ listing name rows)
+all_rows aim name number [] records text none listed = ([], refl, subst (λ r. IsPackListing aim r text) none listed)
+all_rows aim name number (piece ∷ more) records text (own, rest, parted, here, others) listed =
+    let cut = listing_cut aim own rest text (subst (λ r. IsPackListing aim r text) parted listed) in
+    let first = piece_rows aim name piece.kind number piece.offset own cut.0 here cut.3 in
+    let later = all_rows aim name (number + 1) more rest cut.1 others cut.4 in (
+      first.0 ++ later.0,
+      (first.0, later.0, refl, first.1, later.1),
+      cut.2 ∙ ap (λ t. t ++ cut.1) first.2 ∙ ap (λ t. listing name first.0 ++ t) later.2 ∙ sym (listing-append name first.0 later.0),
+    )
+
+-- whatever text the bytes are the pack of, what is listed of their records is its listing
+pub packed_listing : (aim : Aim) (whole : List ℕ) (records : List PackedGame) (text : List ℕ) → BeginsWithRecords aim whole records [] text
+    → (name : Option (List ℕ)) (number : ℕ) (pieces : List MarkedPiece) → IsPackOf name number pieces whole
+    → (entries : List Entry) → AreEntries aim number pieces entries → text ≡ listing name entries
+packed_listing aim whole records text read name number pieces pack entries are =
+    let same : pack.records ≡ records = one_pack pack.records records pack.fit read.fit (sym pack.packed ∙ read.parted ∙ append-nil (pack_bytes records)) in
+    let rows = all_rows aim name number pieces records text (subst (AreRecords name number pieces) same pack.are) read.listed in
+    rows.2 ∙ ap (listing name) (one_listing aim number pieces rows.0 entries (are_entries aim number pieces rows.0 rows.1) are)

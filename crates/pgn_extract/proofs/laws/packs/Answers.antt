@@ -1,0 +1,9 @@
+-- The laws are lemmas.
+use Rattle.pgn_extract.proofs.PackFits.{packed_text, listed_pack}
+use Rattle.pgn_extract.proofs.laws.packs.Goals as goal
+
+pub returns-clause-pack : goal.returns-clause-pack
+returns-clause-pack c = packed_text
+
+pub returns-clause-listing : goal.returns-clause-listing
+returns-clause-listing c = listed_pack

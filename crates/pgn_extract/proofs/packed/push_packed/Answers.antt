@@ -1,0 +1,25 @@
+use Rattle.std.proofs.Common.{Result, Ok, Err}
+use Rattle.std.specs.Prelude.{OnOk, IfErr}
+use Rattle.pgn_extract.specs.Aims.{aim_of}
+use Rattle.pgn_extract.proofs.PackedFacts.{puts_record, leaves_record}
+use Rattle.pgn_extract.proofs.packed.push_packed.Goals as goal
+
+so_at_ok : {X E A B : Type 0} (r : Result X E) → (A → B) → OnOk r A → OnOk r B
+so_at_ok (Ok x) so here = so here
+so_at_ok (Err e) so here = tt
+
+so_at_err : {X E : Type 0} {A B : E → Type 0} (r : Result X E) → ((e : E) → A e → B e) → IfErr r A → IfErr r B
+so_at_err (Ok x) so here = tt
+so_at_err (Err e) so here = so e here
+
+pub returns-in-Some-clause-ok : goal.returns-in-Some-clause-ok
+returns-in-Some-clause-ok c =
+    so_at_ok c.push_walked.result (puts_record (aim_of c.args.settings.now) c.args.record.now c.args.text.now.items c.push_walked.new.text.items) c.push_walked.ensures.ok
+
+pub returns-in-Some-clause-err : goal.returns-in-Some-clause-err
+returns-in-Some-clause-err c =
+    so_at_err c.push_walked.result (λ fault so is. ((so is).0, leaves_record c.args.record.now (so is).1)) c.push_walked.ensures.err
+
+pub returns-in-None-clause-ok : goal.returns-in-None-clause-ok
+returns-in-None-clause-ok c =
+    so_at_ok c.push_plain.result (puts_record (aim_of c.args.settings.now) c.args.record.now c.args.text.now.items c.push_plain.new.text.items) c.push_plain.ensures.ok

@@ -1,0 +1,25 @@
+use Rattle.std.proofs.Common.{◌≡◌, ◌+◌, ◌/◌, ◌++◌, ℕ, List, [], None, length, sym, ap, ◌∙◌}
+use Rattle.std.specs.Prelude.{replicate}
+use Rattle.std.proofs.lemmas.List.{length-replicate}
+use Rattle.chess.specs.Start.{initial}
+use Rattle.pgn_game.specs.Replays.{Replay}
+use Rattle.pgn_criteria.specs.Meeting.{heading_of, Heading}
+use Rattle.pgn_extract.specs.Finding.{named_mark}
+use Rattle.pgn_extract.specs.Listing.{listing}
+use Rattle.pgn_extract.proofs.PackedFacts.{plies_counted}
+use Rattle.pgn_extract.proofs.packed.push_plain.Goals as goal
+
+pub returns-clause-ok : goal.returns-clause-ok
+returns-clause-ok c =
+    let raw = c.args.record.now in
+    let marked : c.deref.result.now ≡ named_mark raw.name raw.number raw.offset =
+    c.deref.ensures.value ∙ c.in_ok-push_record_mark.ensures ∙ ap (λ t. t ++ named_mark raw.name raw.number raw.offset) c.in_ok-mark.ensures.items in
+    let adds = c.in_ok-push_lines.ensures raw.name raw.number raw.offset marked in
+    let count = length c.plies.result.now / 3 in
+    let any : Replay = record { positions = replicate (count + 1) initial; played = []; turns = [] } in
+    let tags : Heading = record { named = λ name. None; result = [] } in
+    let some = adds tags any (length-replicate (count + 1) initial) in (
+      (listing raw.name some.0, some.2),
+      λ game replay packed own. adds (heading_of game) replay
+          (plies_counted own ∙ ap (λ (bytes : List ℕ). length bytes / 3 + 1) (sym c.plies.ensures)),
+    )

@@ -1,0 +1,161 @@
+-- The search of a pack: what is written of it is the listing of the text that was packed.
+use Rattle.std.specs.Prelude.{◌≡◌, ◌≢◌, ℕ, ◌+◌, ◌^◌, ◌<◌, ◌≤◌, List, [], ◌∷◌, ◌++◌, length, Option, None, Result, IfSome, IfOk, IfErr}
+use Rattle.std.specs.Io.KnownBytes.{Appends}
+use Rattle.std.specs.List.{AllByRecursion}
+use Rattle.pgn_text.specs.GameTexts.{GameText, IsGameText, ShowsGame, tag_in}
+use Rattle.pgn_text.specs.Limits.{block_limit, depth_limit, largest_offset}
+use Rattle.pgn_text.specs.Marks.{PieceKind, ReadableGame, UnreadableRest, TooLongBlock, MarkedPiece, AreMarkedPieces}
+use Rattle.pgn_text.specs.Parts.{Part}
+use Rattle.pgn_game.specs.Faults.{Fault}
+use Rattle.pgn_game.specs.PackedGames.{PackedGame, FitsRecord, IsPacked, record_bytes, pack_bytes, longest_name}
+use Rattle.pgn_game.specs.Replays.{Replay, IsReplay}
+use Rattle.pgn_game.specs.Starts.{fen_tag}
+use Rattle.pgn_game.specs.declared.replayer.Lines.TheVariants.{Main}
+use Rattle.pgn_criteria.specs.Meeting.{heading_of}
+use Rattle.pgn_extract.specs.Aims.{Aim}
+use Rattle.pgn_extract.specs.Exports.{AreExports}
+use Rattle.pgn_extract.specs.declared.settings.Form.TheVariants.{Record}
+use Rattle.pgn_extract.specs.declared.settings.Select.TheVariants.{Matching}
+use Rattle.pgn_extract.specs.GameReports.{AreListed, IsReplayOf, IsFaultOf}
+use Rattle.pgn_extract.specs.Listing.{Entry, AreEntries, listing}
+use Rattle.pgn_extract.specs.Outcomes.{AppendsFront}
+use Rattle.pgn_extract.specs.declared.searching.SearchError.{SearchError}
+use Rattle.pgn_extract.specs.declared.searching.SearchError.TheVariants.{Read, Write, OutOfMemory, InputTooLong, BadPack}
+use Rattle.pgn_extract.specs.declared.searching.Searched.{Searched}
+
+-- What was packed.
+
+-- the records of a game that can be read: of a sound one what is kept of it, and of a faulty one none
+pub data AreGameRecords (name : Option (List ℕ)) (number offset : ℕ) (parts : List Part) (records : List PackedGame) : Type 0 where
+  sound : (game : GameText) (replay : Replay) (packed : PackedGame) → IsGameText game → ShowsGame game game.at parts → IsReplayOf Main parts replay
+      → IsPacked name number offset game replay packed → records ≡ packed ∷ [] → AreGameRecords name number offset parts records
+  faulty : (fault : Fault) → IsFaultOf Main parts fault → records ≡ [] → AreGameRecords name number offset parts records
+
+-- the records of a piece: only a game that can be read has one
+abbrev pub ArePieceRecords : Option (List ℕ) → PieceKind → ℕ → ℕ → List PackedGame → Type 0
+ArePieceRecords name (ReadableGame parts) number offset records = AreGameRecords name number offset parts records
+ArePieceRecords name (UnreadableRest bytes) number offset records = records ≡ []
+ArePieceRecords name TooLongBlock number offset records = records ≡ []
+
+-- the records of pieces that are numbered from a number on, each with the name of their file: of each sound game one, in their order
+abbrev pub AreRecords : Option (List ℕ) → ℕ → List MarkedPiece → List PackedGame → Type 0
+AreRecords name number [] records = records ≡ []
+AreRecords name number (piece ∷ more) records =
+    (own : List PackedGame) × (rest : List PackedGame) × (records ≡ own ++ rest)
+    × ArePieceRecords name piece.kind number piece.offset own × AreRecords name (number + 1) more rest
+
+-- the bytes are the pack of all sound games of these pieces
+pub record IsPackOf (name : Option (List ℕ)) (number : ℕ) (pieces : List MarkedPiece) (bytes : List ℕ) : Type 0 where
+  pub records : List PackedGame
+  pub are : AreRecords name number pieces records
+  pub fit : AllByRecursion FitsRecord records
+  pub packed : bytes ≡ pack_bytes records
+
+-- each sound game is packed, whatever its moves
+pub record PacksAll (packing : Aim) : Type 0 where
+  pub form : packing.form ≡ Record
+  pub criteria : packing.criteria ≡ None
+  pub from_start : packing.min_ply ≡ 0
+  pub select : packing.select ≡ Matching
+
+-- these pieces of the text that begins at the offset, numbered from a number on, are packed in these bytes
+pub record PacksText (packing : Aim) (number offset : ℕ) (text : List ℕ) (pieces : List MarkedPiece) (bytes : List ℕ) : Type 0 where
+  pub all : PacksAll packing
+  pub short : IfSome packing.name (λ name. length name ≤ longest_name)
+  pub few : number ≤ 2 ^ 62
+  pub within : offset + length text ≤ largest_offset
+  pub each : AreMarkedPieces block_limit depth_limit offset text pieces
+  pub exported : AreExports packing number pieces bytes
+
+-- these bytes are then the pack of the pieces
+abbrev pub PackedTextIsAPack : Type 0
+PackedTextIsAPack =
+    (packing : Aim) (number offset : ℕ) (text : List ℕ) (pieces : List MarkedPiece) (bytes : List ℕ)
+    → PacksText packing number offset text pieces bytes → IsPackOf packing.name number pieces bytes
+
+-- What is found in a pack.
+
+-- the lines of a record: of whatever game it is kept, those of the entries of that game
+abbrev pub IsRecordListing : Aim → PackedGame → List ℕ → Type 0
+IsRecordListing aim packed text =
+    (game : GameText) (replay : Replay) → IsGameText game → IsReplay Main (tag_in fen_tag game.tags) game.elements replay
+    → IsPacked packed.name packed.number packed.offset game replay packed
+    → (entries : List Entry) × AreListed aim packed.number packed.offset (heading_of game) replay entries × (text ≡ listing packed.name entries)
+
+-- no game has the record
+abbrev pub IsOfNoGame : PackedGame → Type 0
+IsOfNoGame packed =
+    (game : GameText) (replay : Replay) → IsGameText game → IsReplay Main (tag_in fen_tag game.tags) game.elements replay
+    → IsPacked packed.name packed.number packed.offset game replay packed → ⊥
+
+-- in front of the bytes stands the record of no game
+abbrev pub HasNoGame : List ℕ → Type 0
+HasNoGame bytes = (packed : PackedGame) (rest : List ℕ) → FitsRecord packed → bytes ≡ record_bytes packed ++ rest → IsOfNoGame packed
+
+-- the lines of records: those of the first, and then those of the others
+abbrev pub IsPackListing : Aim → List PackedGame → List ℕ → Type 0
+IsPackListing aim [] text = text ≡ []
+IsPackListing aim (packed ∷ more) text =
+    (own : List ℕ) × (rest : List ℕ) × (text ≡ own ++ rest) × IsRecordListing aim packed own × IsPackListing aim more rest
+
+-- the bytes begin with these records, and this is their listing
+pub record BeginsWithRecords (aim : Aim) (whole : List ℕ) (before : List PackedGame) (rest text : List ℕ) : Type 0 where
+  pub fit : AllByRecursion FitsRecord before
+  pub parted : whole ≡ pack_bytes before ++ rest
+  pub listed : IsPackListing aim before text
+
+-- What stands at the end of a search.
+
+-- at `Ok`: all bytes are records, each is counted, and their listing is written
+pub record Searches (aim : Aim) (whole : List ℕ) (out out' : Option (List ℕ)) (searched : Searched) : Type 0 where
+  pub records : List PackedGame
+  pub text : List ℕ
+  pub read : BeginsWithRecords aim whole records [] text
+  pub counted : searched.records ≡ length records
+  pub written : Appends out out' text
+
+-- so of whatever text the bytes are the pack, its listing is written
+abbrev pub ListsWhatWasPacked : Aim → List ℕ → Option (List ℕ) → Option (List ℕ) → Type 0
+ListsWhatWasPacked aim whole out out' =
+    (name : Option (List ℕ)) (number : ℕ) (pieces : List MarkedPiece) → IsPackOf name number pieces whole
+    → (entries : List Entry) → AreEntries aim number pieces entries → Appends out out' (listing name entries)
+
+-- where something is the record of no game: it stands after records of so many bytes, whose listing is written
+pub record StopsAtBytes (aim : Aim) (whole : List ℕ) (at : ℕ) (out out' : Option (List ℕ)) : Type 0 where
+  pub before : List PackedGame
+  pub rest : List ℕ
+  pub text : List ℕ
+  pub read : BeginsWithRecords aim whole before rest text
+  pub place : at ≡ length (pack_bytes before)
+  pub some : rest ≢ []
+  pub bad : HasNoGame rest
+  pub written : Appends out out' text
+
+-- where the input fails: the listing of the records before is written
+pub record StopsAfter (aim : Aim) (whole : List ℕ) (out out' : Option (List ℕ)) : Type 0 where
+  pub before : List PackedGame
+  pub rest : List ℕ
+  pub text : List ℕ
+  pub read : BeginsWithRecords aim whole before rest text
+  pub written : Appends out out' text
+
+-- where a write fails, or memory runs out: a beginning of it is
+pub record StopsWithin (aim : Aim) (whole : List ℕ) (out out' : Option (List ℕ)) : Type 0 where
+  pub before : List PackedGame
+  pub rest : List ℕ
+  pub text : List ℕ
+  pub read : BeginsWithRecords aim whole before rest text
+  pub written : AppendsFront out out' text
+
+abbrev pub StopsSearch : SearchError → Aim → List ℕ → Option (List ℕ) → Option (List ℕ) → Type 0
+StopsSearch Read aim whole out out' = StopsAfter aim whole out out'
+StopsSearch InputTooLong aim whole out out' = (largest_offset < length whole) × StopsAfter aim whole out out'
+StopsSearch Write aim whole out out' = StopsWithin aim whole out out'
+StopsSearch OutOfMemory aim whole out out' = StopsWithin aim whole out out'
+StopsSearch (BadPack at) aim whole out out' = StopsAtBytes aim whole at out out'
+
+-- So a search ends, of an input whose bytes are known.
+pub record IsSearch (aim : Aim) (left out out' : Option (List ℕ)) (result : Result Searched SearchError) : Type 0 where
+  pub done : IfOk result (λ searched. IfSome left (λ whole. Searches aim whole out out' searched))
+  pub lists : IfOk result (λ _. IfSome left (λ whole. ListsWhatWasPacked aim whole out out'))
+  pub stopped : IfErr result (λ error. IfSome left (λ whole. StopsSearch error aim whole out out'))

@@ -1,0 +1,241 @@
+//! The entries of a packed game: a walk over the codes of its plies shows its positions.
+ghost use Rattle.std.specs.Prelude.{◌≡◌, ◌≢◌, ◌+◌, ◌<◌, ◌≤◌, ◌++◌, ℕ, length, true, Some, None, codes, OnOk, IfOk, IfErr};
+ghost use Rattle.pgn_text.specs.GameTexts.{tag_in};
+ghost use Rattle.pgn_game.specs.Faults.{Fault};
+ghost use Rattle.pgn_game.specs.Replays.{fault_of};
+ghost use Rattle.pgn_game.specs.Starts.{fen_tag};
+ghost use Rattle.pgn_game.specs.PackReading.{IsRawOfGame};
+ghost use Rattle.pgn_extract.specs.Aims.{aim_of};
+ghost use Rattle.pgn_extract.specs.Finding.{named_mark, AsksFor};
+ghost use Rattle.pgn_extract.specs.Index.{titled};
+ghost use Rattle.pgn_extract.specs.Listing.{is_plain};
+ghost use Rattle.pgn_extract.specs.Packed.{PutsRecord, LeavesRecord, EachOfRecord, HasNoText, record_aim, Grows, ShowsInitial, StartsThere, GoesOnSeen, ListsRecord};
+
+use crate::kept_packed::push_kept_record;
+use crate::listing::{MARK_ROOM, push_lines};
+use crate::settings::Settings;
+use crate::texts::{push_entry, push_mark};
+use chess::{Bits, Board, Side};
+use pgn_criteria::{Criteria, Search, Walk};
+use pgn_game::pack::RawRecord;
+use pgn_game::{GameFault, given_position};
+use pgn_text::is_contents;
+use std::alloc::{AllocError, Global};
+
+/// Why the lines of a packed game are not added.
+#[derive(Clone, Copy, Debug, PartialEq, Eq)]
+pub enum PackedFault {
+    /// It is the record of no game: its FEN tag spells no position, or its codes tell no line of legal moves.
+    NoGame,
+    /// Memory was refused.
+    OutOfMemory,
+}
+
+impl From<AllocError> for PackedFault {
+    ghost use Rattle.pgn_extract.specs.declared.packed.PackedFault.TheVariants.{OutOfMemory};
+
+    ghost from_gives = { λ _ fault. fault ≡ OutOfMemory };
+
+    fn from(_: AllocError) -> Self {
+        PackedFault::OutOfMemory
+    }
+}
+
+/// Appends the name of the record's file and a colon, and nothing where it has no name.
+fn push_record_title(text: &mut Vec<u8>, record: &RawRecord<'_>) -> Result<(), AllocError>
+    ensures { OnOk result (text.new.items ≡ text.old.items ++ titled (codes ":") record.now.name) }
+{
+    match record.name() {
+        Some(name) => {
+            text.extend_from_slice(name)?;
+            text.extend_from_slice(b":")
+        }
+        None => Ok(()),
+    }
+}
+
+/// Appends the mark that the lines of the record begin with, after the name of its file where it has one.
+pub(crate) fn push_record_mark(text: &mut Vec<u8>, record: &RawRecord<'_>) -> Result<(), AllocError>
+    ensures { OnOk result (text.new.items ≡ text.old.items ++ named_mark record.now.name record.now.number record.now.offset) }
+{
+    push_record_title(text, record)?;
+    push_mark(text, record.number(), record.offset())
+}
+
+/// The fault of a record for that of its FEN tag.
+pub(crate) fn start_fault(fault: GameFault<'_>) -> PackedFault
+    ensures { result ≡ PackedFault.NoGame → (own : Fault) × (fault_of fault.entry ≡ Some own) }
+{
+    match fault {
+        GameFault::OutOfMemory => PackedFault::OutOfMemory,
+        GameFault::BadPosition => PackedFault::NoGame,
+        GameFault::Illegal { .. } => PackedFault::NoGame,
+        GameFault::Ambiguous { .. } => PackedFault::NoGame,
+    }
+}
+
+/// Begins the walk at the position that the contents of the record's FEN tag spell.
+fn begin_at(
+    alloc: Global,
+    walk: &mut Walk<Bits>,
+    record: &RawRecord<'_>,
+    contents: &[u8],
+) -> Result<(), PackedFault>
+    requires { EachOfRecord record.now (λ game replay packed. tag_in fen_tag game.tags ≡ Some contents.now) }
+    ensures ok { OnOk result (StartsThere record.now walk.new) }
+    ensures err { IfErr result (λ fault. fault ≡ PackedFault.NoGame → HasNoText record.now) }
+{
+    if !is_contents(contents) {
+        return Err(PackedFault::NoGame);
+    }
+    match given_position(alloc, contents) {
+        Ok(position) => {
+            let board = position.board();
+            *walk = Walk::new(board, position.side(), record.in_check(), record.is_stuck());
+            Ok(())
+        }
+        Err(fault) => Err(start_fault(fault)),
+    }
+}
+
+/// Begins the walk where the game of the record starts, if that is another position than the initial one, which it shows.
+fn begin(alloc: Global, walk: &mut Walk<Bits>, record: &RawRecord<'_>) -> Result<(), PackedFault>
+    requires { ShowsInitial record.now walk.old }
+    ensures ok { OnOk result (StartsThere record.now walk.new) }
+    ensures err { IfErr result (λ fault. fault ≡ PackedFault.NoGame → HasNoText record.now) }
+{
+    match record.tag(b"FEN") {
+        Some(contents) => begin_at(alloc, walk, record, contents),
+        None => Ok(()),
+    }
+}
+
+/// What is asked of the positions of a packed game, and what the lines of its entries begin with.
+#[derive(Drop)]
+struct Walker<'s, 'r, 'a> {
+    settings: &'s Settings,
+    record: &'r RawRecord<'a>,
+    search: Search<'a>,
+    mark: Vec<u8>,
+}
+
+impl<'s, 'r, 'a> Walker<'s, 'r, 'a> {
+    /// Adds the line of the ply whose position the walk shows, if it is an entry. Answers whether a later one may be one.
+    #[inline(always)]
+    fn ask(
+        &self,
+        text: &mut Vec<u8>,
+        walk: &Walk<Bits>,
+        ply: usize,
+        is_open: bool,
+    ) -> Result<bool, AllocError>
+        requires plain { is_plain self.now.settings.now.fields ≡ true }
+        requires marked { self.now.mark.items ≡ named_mark self.now.record.now.name self.now.record.now.number self.now.record.now.offset }
+        ensures { IfOk result (λ still. Grows text.old.items text.new.items
+            × GoesOnSeen (record_aim (aim_of self.now.settings.now) self.now.record.now) self.now.record.now.number self.now.record.now.offset
+            self.now.search walk.now ply text.old.items text.new.items is_open still) }
+    {
+        if !is_open || ply > self.settings.max_ply as usize {
+            return Ok(false);
+        }
+        if ply < (self.settings.min_ply as usize) || !self.search.is_met(walk) {
+            return Ok(true);
+        }
+        push_entry(text, &self.mark, ply)?;
+        Ok(!self.settings.first)
+    }
+
+    /// Walks over the plies of the game, and adds the lines of its entries. It goes no further than an entry may stand.
+    fn walk(&self, text: &mut Vec<u8>, walk: &mut Walk<Bits>) -> Result<(), AllocError>
+        requires plain { is_plain self.now.settings.now.fields ≡ true }
+        requires marked { self.now.mark.items ≡ named_mark self.now.record.now.name self.now.record.now.number self.now.record.now.offset }
+        requires asks { EachOfRecord self.now.record.now (λ game replay packed. AsksFor (aim_of self.now.settings.now) game self.now.search) }
+        requires starts { StartsThere self.now.record.now walk.old }
+        ensures { OnOk result (ListsRecord (aim_of self.now.settings.now) self.now.record.now text.old.items text.new.items) }
+    {
+        let plies = self.record.plies();
+        let mut is_open = self.ask(text, walk, 0, !self.search.is_empty())?;
+        for ply in 0..plies.len() / 3 {
+            if !is_open {
+                return Ok(());
+            }
+            walk.step(plies[3 * ply], plies[3 * ply + 1], plies[3 * ply + 2]);
+            is_open = self.ask(text, walk, ply + 1, is_open)?;
+        }
+        Ok(())
+    }
+}
+
+/// Adds the lines of the entries of a packed game by criteria. Where these speak of its moves or of several plies, its line is replayed.
+fn push_walked<'a>(
+    text: &mut Vec<u8>,
+    alloc: Global,
+    settings: &'a Settings,
+    criteria: &'a Criteria,
+    record: &RawRecord<'a>,
+) -> Result<(), PackedFault>
+    requires plain { is_plain settings.now.fields ≡ true }
+    requires criteria { settings.now.criteria ≡ Some criteria.now }
+    requires shows { IsRawOfGame record.now }
+    ensures ok { OnOk result (ListsRecord (aim_of settings.now) record.now text.old.items text.new.items) }
+    ensures err { IfErr result (λ fault. fault ≡ PackedFault.NoGame → (text.new.items ≡ text.old.items) × HasNoText record.now) }
+{
+    let Some(search) = criteria.watch_packed(alloc, record)? else {
+        return push_kept_record(text, alloc, settings, criteria, record);
+    };
+    let (check, stuck) = (record.in_check(), record.is_stuck());
+    let mut walk = Walk::new(Bits::initial(), Side::White, check, stuck);
+    if let Err(fault) = begin(alloc, &mut walk, record) {
+        return Err(fault);
+    }
+    if !search.may_be_met(&walk, record.plies()) {
+        return Ok(());
+    }
+    let mut mark = Vec::with_capacity(alloc, MARK_ROOM)?;
+    push_record_mark(&mut mark, record)?;
+    let walker = Walker {
+        settings,
+        record,
+        search,
+        mark,
+    };
+    walker.walk(text, &mut walk)?;
+    Ok(())
+}
+
+/// Adds the lines of the entries of a packed game, where there are no criteria. It is not walked.
+fn push_plain(
+    text: &mut Vec<u8>,
+    alloc: Global,
+    settings: &Settings,
+    record: &RawRecord<'_>,
+) -> Result<(), PackedFault>
+    requires plain { is_plain settings.now.fields ≡ true }
+    requires criteria { settings.now.criteria ≡ None }
+    requires shows { IsRawOfGame record.now }
+    ensures ok { OnOk result (ListsRecord (aim_of settings.now) record.now text.old.items text.new.items) }
+    ensures err { IfErr result (λ fault. fault ≢ PackedFault.NoGame) }
+{
+    let mut mark = Vec::with_capacity(alloc, MARK_ROOM)?;
+    push_record_mark(&mut mark, record)?;
+    push_lines(text, alloc, settings, &mark, record.plies().len() / 3)?;
+    Ok(())
+}
+
+/// Adds the lines of the entries of a packed game. Where it is found to be the record of no game, nothing is added.
+pub fn push_packed<'a>(
+    text: &mut Vec<u8>,
+    alloc: Global,
+    settings: &'a Settings,
+    record: &RawRecord<'a>,
+) -> Result<(), PackedFault>
+    requires plain { is_plain settings.now.fields ≡ true }
+    requires shows { IsRawOfGame record.now }
+    ensures ok { OnOk result (PutsRecord (aim_of settings.now) record.now text.old.items text.new.items) }
+    ensures err { IfErr result (λ fault. fault ≡ PackedFault.NoGame → LeavesRecord record.now text.old.items text.new.items) }
+{
+    match &settings.criteria {
+        Some(criteria) => push_walked(text, alloc, settings, criteria, record),
+        None => push_plain(text, alloc, settings, record),
+    }
+}
