@@ -15,20 +15,23 @@ _pgn_extract() {
     --where | --min-ply | --max-ply | --from | --until | -w | --width) return ;;
     esac
     if [[ $word == -* ]]; then
-        mapfile -t COMPREPLY < <(compgen -W '--list --fen --next --index --moves --uci --criteria --where --min-ply --max-ply --first --others --faulty --as-is -C --no-comments -N --no-glyphs
+        mapfile -t COMPREPLY < <(compgen -W '--list --fen --next --packed --index --moves --uci --pack --criteria --where --min-ply --max-ply --first --others --faulty --as-is -C --no-comments -N --no-glyphs
             -V --no-variations --roster -w --width --explain --summary --progress --from --until --with-names --no-names
             -h --help --version' -- "$word")
-        # --list, --index, --moves and --uci exclude each other, what only a list shows, and most of what chooses games; --others and --faulty exclude each other; names too.
+        # --list, --index, --moves, --uci and --pack exclude each other, what only a list shows, and most of what chooses games; --others and --faulty exclude each other; names too. A pack is searched as a whole, for plain lines.
         options=" ${COMP_WORDS[*]:0:COMP_CWORD} "
-        [[ $options == *' --list '* ]] && _pgn_extract_without --index --others --faulty --as-is --moves --uci
-        [[ $options == *' --index '* ]] && _pgn_extract_without --list --fen --next --others --faulty --as-is --moves --uci
-        [[ $options == *' --moves '* ]] && _pgn_extract_without --list --fen --next --index --faulty --as-is --uci
-        [[ $options == *' --uci '* ]] && _pgn_extract_without --list --fen --next --index --faulty --as-is --moves
-        [[ $options == *' --others '* ]] && _pgn_extract_without --list --fen --next --index --faulty
-        [[ $options == *' --faulty '* ]] && _pgn_extract_without --list --fen --next --index --others --moves --uci
-        [[ $options == *' --as-is '* ]] && _pgn_extract_without --list --fen --next --index --moves --uci
-        [[ $options == *' --with-names '* ]] && _pgn_extract_without --no-names
-        [[ $options == *' --no-names '* ]] && _pgn_extract_without --with-names
+        [[ $options == *' --list '* ]] && _pgn_extract_without --index --others --faulty --as-is --moves --uci --pack
+        [[ $options == *' --packed '* ]] && _pgn_extract_without --fen --next --index --others --faulty --as-is --moves --uci --pack --from --until --with-names --no-names
+        [[ $options =~ ' '--(fen|next|from|until)' ' ]] && _pgn_extract_without --packed
+        [[ $options == *' --index '* ]] && _pgn_extract_without --list --fen --next --packed --others --faulty --as-is --moves --uci --pack
+        [[ $options == *' --moves '* ]] && _pgn_extract_without --list --fen --next --packed --index --faulty --as-is --uci --pack
+        [[ $options == *' --uci '* ]] && _pgn_extract_without --list --fen --next --packed --index --faulty --as-is --moves --pack
+        [[ $options == *' --pack '* ]] && _pgn_extract_without --list --fen --next --packed --index --faulty --as-is --moves --uci -C --no-comments -N --no-glyphs -V --no-variations --roster -w --width
+        [[ $options == *' --others '* ]] && _pgn_extract_without --list --fen --next --packed --index --faulty
+        [[ $options == *' --faulty '* ]] && _pgn_extract_without --list --fen --next --packed --index --others --moves --uci --pack
+        [[ $options == *' --as-is '* ]] && _pgn_extract_without --list --fen --next --packed --index --moves --uci --pack
+        [[ $options == *' --with-names '* ]] && _pgn_extract_without --packed --no-names
+        [[ $options == *' --no-names '* ]] && _pgn_extract_without --packed --with-names
     else
         mapfile -t COMPREPLY < <(compgen -f -- "$word")
     fi
