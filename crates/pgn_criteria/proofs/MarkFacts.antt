@@ -1,6 +1,12 @@
 -- Where no ply shows the marks that conditions need, the conditions hold nowhere.
-use Rattle.std.proofs.Common.{◌≡◌, ◌⊎◌, inl, inr, ℕ, zero, suc, Bool, true, false, List, [], ◌∷◌, ◌<◌, ◌≤◌, length, map, drop, get_or, if◌then◌else◌, refl, sym, subst}
-use Rattle.std.specs.Prelude.{◌&&◌, IsTrue}
+use Rattle.std.proofs.Common.{◌≡◌, ◌⊎◌, inl, inr, ℕ, zero, suc, Bool, true, false, List, [], ◌∷◌, ◌+◌, ◌<◌, ◌≤◌, length, map, drop, get_or, max, bit_or, if◌then◌else◌, refl, sym, ap, ◌∙◌, subst, arith, length-drop}
+use Rattle.std.specs.Prelude.{◌&&◌, IsTrue, ◌==◌, ◌/◌, ◌%◌, nat_le}
+use Rattle.std.specs.Int.{bit_at}
+use Rattle.std.proofs.Math.Nat.{max-le, le-max_left, le-max_right}
+use Rattle.std.proofs.lemmas.Bool.Decides.{nat_tests}
+use Rattle.std.proofs.lemmas.Nat.{le_or_l, le_or_r}
+use Rattle.std.proofs.lemmas.Nat.Bits.{bit_at_or, bit_at-lt}
+use Rattle.std.proofs.lemmas.List.{get_or-drop, drop-drop}
 use Rattle.std.specs.List.{AllByRecursion}
 use Rattle.chess.specs.Placements.{Placement, opposite}
 use Rattle.chess.specs.Positions.{State}
@@ -175,6 +181,86 @@ pub marks_on : (check stuck : Bool) (rest rest' : List ℕ) → 3 ≤ length res
 marks_on check stuck rest rest' long same lacks later =
     subst (AllByRecursion (LacksMarks check stuck)) (sym (three rest long))
     (lacks, subst (λ (left : List ℕ). AllByRecursion (LacksMarks check stuck) (codes_in left)) same later)
+
+-- ---- several plies at once
+
+-- each mark that the byte tells is told by the other one too
+abbrev pub IsCovered : ℕ → ℕ → Type 0
+IsCovered a any = (a / 64 % 2 ≡ 1 → any / 64 % 2 ≡ 1) × (a ≤ any)
+
+covers_more : (a b d : ℕ) → IsCovered a b → IsCovered b d → IsCovered a d
+covers_more a b d first next = (λ one. next.0 (first.0 one), omega (arith, first.1, next.1))
+
+larger : (x y z : ℕ) → z ≡ max x y → x < 2 → y < 2 → (x ≡ 1 → z ≡ 1) × (y ≡ 1 → z ≡ 1)
+larger x y z is low_x low_y =
+    let top : max x y ≤ 1 = max-le (omega (arith, low_x)) (omega (arith, low_y)) in
+    let above_x : x ≤ max x y = le-max_left x y in
+    let above_y : y ≤ max x y = le-max_right x y in
+    ((λ one. omega (arith, is, top, above_x, one)), (λ one. omega (arith, is, top, above_y, one)))
+
+-- two bytes are covered by their bits together
+pub cover_two : (a b : ℕ) → IsCovered a (bit_or a b) × IsCovered b (bit_or a b)
+cover_two a b =
+    let sixth = larger (bit_at a 6) (bit_at b 6) (bit_at (bit_or a b) 6) (bit_at_or a b 6) (bit_at-lt a 6) (bit_at-lt b 6) in
+    ((sixth.0, le_or_l a b), (sixth.1, le_or_r a b))
+
+-- and four, and eight
+pub cover_four : (a b d e : ℕ) → let any = bit_or (bit_or a b) (bit_or d e) in IsCovered a any × IsCovered b any × IsCovered d any × IsCovered e any
+cover_four a b d e =
+    let any = bit_or (bit_or a b) (bit_or d e) in
+    let pairs = cover_two (bit_or a b) (bit_or d e) in (
+      covers_more a (bit_or a b) any (cover_two a b).0 pairs.0,
+      covers_more b (bit_or a b) any (cover_two a b).1 pairs.0,
+      covers_more d (bit_or d e) any (cover_two d e).0 pairs.1,
+      covers_more e (bit_or d e) any (cover_two d e).1 pairs.1,
+    )
+
+checked_too : (a any : ℕ) → IsCovered a any → (a / 64 % 2 == 1) ≡ true → (any / 64 % 2 == 1) ≡ true
+checked_too a any covered is = let one : a / 64 % 2 ≡ 1 = grind (arith, nat_tests) in ap (λ n. n == 1) (covered.0 one)
+
+stuck_too : (a any : ℕ) → IsCovered a any → (a / 128 == 1) ≡ true → nat_le 128 any ≡ true
+stuck_too a any covered is =
+    let one : a / 128 ≡ 1 = grind (arith, nat_tests) in
+    let far : 128 ≤ any = omega (arith, one, covered.1) in
+    grind (arith, nat_tests)
+
+-- what is so of plies from the last on, if they lack a mark that is needed
+module _ (check stuck : Bool) (bytes : List ℕ) (so : ℕ → List PlyCode → Type 0)
+    (one_more : (j : ℕ) (code : PlyCode) (codes : List PlyCode) → LacksMarks check stuck code → so j codes → so (suc j) (code ∷ codes)) where
+  -- where a byte that covers the first one of the ply at some place lacks a mark that is needed, the ply does
+  one_covered : (any i j : ℕ) → ¬ ((check ≡ true → (any / 64 % 2 == 1) ≡ true) × (stuck ≡ true → nat_le 128 any ≡ true)) → i + 3 ≤ length bytes
+      → IsCovered (get_or bytes i 0) any → so j (codes_in (drop (i + 3) bytes)) → so (suc j) (codes_in (drop i bytes))
+  one_covered any i j lacks long covered later =
+      let first : get_or bytes i 0 ≡ get_or (drop i bytes) 0 0 = sym (get_or-drop i bytes 0 0 ∙ ap (λ k. get_or bytes k 0) (omega arith)) in
+      let its : IsCovered (get_or (drop i bytes) 0 0) any = subst (λ a. IsCovered a any) first covered in
+      let front = three (drop i bytes) (omega (arith, length-drop i bytes, long)) in
+      subst (so (suc j)) (sym front)
+      (one_more j _ (codes_in (drop 3 (drop i bytes)))
+      (λ both. lacks ((λ t. checked_too (get_or (drop i bytes) 0 0) any its (both.0 t)), (λ t. stuck_too (get_or (drop i bytes) 0 0) any its (both.1 t))))
+      (subst (λ (left : List ℕ). so j (codes_in left)) (sym (drop-drop 3 i bytes)) later))
+
+  -- eight plies, of which the first bytes together lack a mark that is needed
+  pub eight_on : let at : ℕ → ℕ = λ i. get_or bytes i 0 in
+      let any = bit_or (bit_or (bit_or (at 0) (at 3)) (bit_or (at 6) (at 9))) (bit_or (bit_or (at 12) (at 15)) (bit_or (at 18) (at 21))) in
+      (rest : List ℕ) → 24 ≤ length bytes → rest ≡ drop 24 bytes → ¬ ((check ≡ true → (any / 64 % 2 == 1) ≡ true) × (stuck ≡ true → nat_le 128 any ≡ true))
+      → so 0 (codes_in rest) → so 8 (codes_in bytes)
+  eight_on rest long same lacks later =
+      let at : ℕ → ℕ = λ i. get_or bytes i 0 in
+      let low = bit_or (bit_or (at 0) (at 3)) (bit_or (at 6) (at 9)) in
+      let high = bit_or (bit_or (at 12) (at 15)) (bit_or (at 18) (at 21)) in
+      let any = bit_or low high in
+      let halves = cover_two low high in
+      let lows = cover_four (at 0) (at 3) (at 6) (at 9) in
+      let highs = cover_four (at 12) (at 15) (at 18) (at 21) in
+      one_covered any 0 7 lacks (omega (arith, long)) (covers_more (at 0) low any lows.0 halves.0)
+      (one_covered any 3 6 lacks (omega (arith, long)) (covers_more (at 3) low any lows.1 halves.0)
+      (one_covered any 6 5 lacks (omega (arith, long)) (covers_more (at 6) low any lows.2 halves.0)
+      (one_covered any 9 4 lacks (omega (arith, long)) (covers_more (at 9) low any lows.3 halves.0)
+      (one_covered any 12 3 lacks (omega (arith, long)) (covers_more (at 12) high any highs.0 halves.1)
+      (one_covered any 15 2 lacks (omega (arith, long)) (covers_more (at 15) high any highs.1 halves.1)
+      (one_covered any 18 1 lacks (omega (arith, long)) (covers_more (at 18) high any highs.2 halves.1)
+      (one_covered any 21 0 lacks (omega (arith, long)) (covers_more (at 21) high any highs.3 halves.1)
+      (subst (λ (left : List ℕ). so 0 (codes_in left)) same later))))))))
 
 -- what follows from one of two facts is nowhere where both are
 seen_either : (first second other : Placement → Side → Type 0 → Type 0 → Type 0) (men : Placement) (turn : Side) (Checked Stuck : Type 0) (codes : List PlyCode)

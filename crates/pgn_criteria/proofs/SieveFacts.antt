@@ -1,52 +1,55 @@
--- The squares on which a man has to stand, gathered.
-use Rattle.std.proofs.Common.{◌≡◌, ◌⊎◌, inl, inr, ◌+◌, ◌||◌, ℕ, Bool, true, false, List, ◌∷◌, drop, Some, refl, sym, subst, ◌∙◌}
+-- The squares on which a man has to stand and those on which he may, gathered.
+use Rattle.std.proofs.Common.{◌≡◌, ◌↔◌, ◌⊎◌, inl, inr, ◌||◌, ◌&&◌, not, Bool, true, false, Some, refl, sym, subst, ◌∙◌}
 use Rattle.chess.specs.Squares.{Place, IsOnBoard, same_square}
 use Rattle.chess.specs.Placements.{Placement, man_at}
-use Rattle.chess.specs.Sets.{Places, is_in}
+use Rattle.chess.specs.Sets.{Places, is_in, IsSquaresOf}
 use Rattle.chess.specs.declared.board.man.Man.{Man}
 use Rattle.chess.proofs.PlaceFacts.{same_square-then}
-use Rattle.pgn_criteria.specs.Items.{IsOf}
-use Rattle.pgn_criteria.specs.Layouts.{AllStand}
-use Rattle.pgn_criteria.specs.Tracks.{IsSieve}
-use Rattle.pgn_criteria.specs.declared.layout.Asked.{Asked}
-use Rattle.pgn_criteria.specs.declared.rank.SquareTest.TheVariants.{This}
+use Rattle.pgn_criteria.specs.Layouts.{AreEmpty, IsRest}
+use Rattle.pgn_criteria.specs.Tracks.{StaysOn}
+use Rattle.pgn_criteria.specs.declared.sieve.Stand.{Stand}
 
--- the squares gathered of the first so many; what is asked of the others is left
-pub record IsSieving (all : List Asked) (man : Man) (wanted : Places) (i : ℕ) : Type 0 where
-  pub gathered : IsSieve all man wanted
-  pub left : (men : Placement) → AllStand men all → AllStand men (drop i all)
+-- he stands so if the squares wanted are among his, and his among the free ones
+pub stays : (stand : Stand) (man : Man) (men : Placement) (squares : Places) → IsSquaresOf men man squares
+    → (((s : Place) → is_in stand.wanted s ≡ true → is_in squares s ≡ true) × ((s : Place) → is_in squares s ≡ true → is_in stand.free s ≡ true)) ↔ StaysOn stand man men
+stays stand man men squares his = (
+  λ both. record { wanted = λ s here. (his s).0 (both.0 s here); free = λ s on at. both.1 s ((his s).1 (on, at)) },
+  λ so. (λ s here. (his s).1 (so.wanted s here), λ s here. let at = (his s).0 here in so.free s at.0 at.1),
+)
 
 one_or_other : (same was : Bool) → (same || was) ≡ true → (same ≡ true) ⊎ (was ≡ true)
 one_or_other true was e = inl refl
 one_or_other false was e = inr e
 
-pub starts : (all : List Asked) (man : Man) (wanted : Places) → ((s : Place) → is_in wanted s ≡ false) → IsSieving all man wanted 0
-starts all man wanted none = record {
-  gathered = record { on_board = λ s here. absurd (cc (none s, here)); stands = λ men all s here. absurd (cc (none s, here)) };
-  left = λ men all. all;
+-- one square more is wanted
+pub wants : (old new : Stand) (man : Man) (men : Placement) (t : Place) → ((s : Place) → is_in new.wanted s ≡ (same_square t s || is_in old.wanted s)) → new.free ≡ old.free
+    → IsOnBoard t → man_at men t ≡ Some man → StaysOn old man men → StaysOn new man men
+wants old new man men t put same on stands so = record {
+  wanted = λ s here. elim (one_or_other (same_square t s) (is_in old.wanted s) (sym (put s) ∙ here)) [
+    | inl own ↦ subst (λ (s : Place). IsOnBoard s × (man_at men s ≡ Some man)) (same_square-then t s own) (on, stands)
+    | inr was ↦ so.wanted s was
+  ];
+  free = λ s on at. subst (λ (free : Places). is_in free s ≡ true) (sym same) (so.free s on at);
 }
 
--- one square more
-pub adds : (all : List Asked) (man : Man) (wanted wanted' : Places) (i : ℕ) (asked : Asked) → drop i all ≡ asked ∷ drop (i + 1) all → asked.class ≡ This man
-    → IsOnBoard asked.square → ((s : Place) → is_in wanted' s ≡ (same_square asked.square s || is_in wanted s)) → IsSieving all man wanted i → IsSieving all man wanted' (i + 1)
-adds all man wanted wanted' i asked next this on put so = record {
-  gathered = record {
-    on_board = λ s here. elim (one_or_other (same_square asked.square s) (is_in wanted s) (sym (put s) ∙ here)) [
-      | inl same ↦ subst IsOnBoard (same_square-then asked.square s same) on
-      | inr was ↦ so.gathered.on_board s was
-    ];
-    stands = λ men each s here. elim (one_or_other (same_square asked.square s) (is_in wanted s) (sym (put s) ∙ here)) [
-      | inl same ↦
-          let head = (subst (AllStand men) next (so.left men each)).0 in
-          let stands : man_at men asked.square ≡ Some man = subst (λ class. IsOf class (man_at men asked.square)) this head in
-          subst (λ (t : Place). man_at men t ≡ Some man) (same_square-then asked.square s same) stands
-      | inr was ↦ so.gathered.stands men each s was
-    ];
-  };
-  left = λ men each. (subst (AllStand men) next (so.left men each)).1;
+still_in : (was same : Bool) → was ≡ true → (same ≡ true → ⊥) → (was && not same) ≡ true
+still_in true true e other = absurd (other refl)
+still_in true false e other = refl
+still_in false same e other = absurd cc
+
+-- or one less is free
+pub bars : (old new : Stand) (man : Man) (men : Placement) (t : Place) → ((s : Place) → is_in new.free s ≡ (is_in old.free s && not (same_square s t))) → new.wanted ≡ old.wanted
+    → (man_at men t ≡ Some man → ⊥) → StaysOn old man men → StaysOn new man men
+bars old new man men t put same never so = record {
+  wanted = λ s here. so.wanted s (subst (λ (wanted : Places). is_in wanted s ≡ true) same here);
+  free = λ s on at. put s ∙ still_in (is_in old.free s) (same_square s t) (so.free s on at)
+      (λ own. never (subst (λ (s : Place). man_at men s ≡ Some man) (same_square-then s t own) at));
 }
 
--- or none
-pub passes_over : (all : List Asked) (man : Man) (wanted : Places) (i : ℕ) (asked : Asked) → drop i all ≡ asked ∷ drop (i + 1) all → IsSieving all man wanted i
-    → IsSieving all man wanted (i + 1)
-passes_over all man wanted i asked next so = record { gathered = so.gathered; left = λ men each. (subst (AllStand men) next (so.left men each)).1 }
+-- at first only squares that must be empty are not free
+pub begins : (stand : Stand) (man : Man) (men : Placement) (empty : Places) → ((s : Place) → is_in stand.wanted s ≡ false) → IsRest empty stand.free → AreEmpty men empty
+    → StaysOn stand man men
+begins stand man men empty none rest are = record {
+  wanted = λ s here. absurd (cc (none s, here));
+  free = λ s on at. (rest s on).1 (λ here. let no = are s here in absurd (cc (no, at)));
+}

@@ -1,10 +1,11 @@
 -- What conditions need of the marks of a position, check and no move, and of how many men there are.
-use Rattle.std.specs.Prelude.{◌≡◌, ◌⊎◌, ◌≤◌, ℕ, Bool, true, false, List}
+use Rattle.std.specs.Prelude.{◌≡◌, ◌↔◌, ◌⊎◌, ◌≤◌, ℕ, Bool, true, false, List, IsTrue}
 use Rattle.chess.specs.Moves.{HasMove}
 use Rattle.chess.specs.Placements.{Placement}
 use Rattle.chess.specs.Positions.{State, IsCheck}
 use Rattle.chess.specs.declared.board.man.Side.{Side}
 use Rattle.pgn_game.specs.PlyCodes.{PlyCode}
+use Rattle.pgn_criteria.specs.ByMarks.{has_marks}
 use Rattle.pgn_criteria.specs.Materials.{Allows, FitsMaterial}
 use Rattle.pgn_criteria.specs.Stages.{AllOfPosition}
 use Rattle.pgn_criteria.specs.Walks.{IsSeenOf}
@@ -48,3 +49,12 @@ IsMost limit most = (count : ℕ) → Allows limit count → count ≤ most
 abbrev pub SaysOfNumbers : Bool → Claim (List ℕ) → Placement → Type 0
 SaysOfNumbers either (Material white black) men = FitsMaterial men white black ⊎ ((either ≡ true) × FitsMaterial men black white)
 SaysOfNumbers either claim men = Unit {0}
+
+-- the set has the marks with which the fact is so
+abbrev pub AreMarksOf : ℕ → (Side → Bool → Bool → Type 0) → Type 0
+AreMarksOf set So = (turn : Side) (check stuck : Bool) → IsTrue (has_marks set turn check stuck) ↔ So turn check stuck
+
+-- the set has marks only of positions in check, where that is asked, and only of those with no move, where that is asked
+abbrev pub Needs : Bool → Bool → ℕ → Type 0
+Needs check stuck set =
+    (check ≡ true → (turn : Side) (none : Bool) → has_marks set turn false none ≡ false) × (stuck ≡ true → (turn : Side) (attacked : Bool) → has_marks set turn attacked false ≡ false)

@@ -1,12 +1,14 @@
 //! Alternatives of criteria.
 ghost use Rattle.std.specs.Prelude.{◌≡◌, ◌↔◌, false, List, map, IsTrue, IfOk, IfSome, MatchOption};
+ghost use Rattle.chess.specs.Placements.{Placement};
 ghost use Rattle.pgn_criteria.specs.Planning.{Plans};
 ghost use Rattle.pgn_criteria.specs.Stages.{AreLegal, AreGood, AllOfGame, AllOfHeading, AllAskWithin, AreFreeOfMoves, AllOfPly, AllSaid, AllOfSeen, AreFixed, AreMirrored, OfPattern, AllOfPatterns, AllOfStage, AllOfRest, AreNoSpans, AreNoCounts, SpansStand, claim_seen, seen, stage_of};
 ghost use Rattle.pgn_criteria.specs.Sieves.{NowhereSeen, codes_in};
-ghost use Rattle.pgn_criteria.specs.Marks.{FitsSeen};
+ghost use Rattle.pgn_criteria.specs.Marks.{AreMarksOf, FitsSeen};
 ghost use Rattle.pgn_criteria.specs.Tracks.{Nowhere};
 ghost use Rattle.pgn_criteria.specs.declared.meets.Stage.TheVariants.{Squares};
 
+use crate::by_marks::marks_of_all;
 use crate::condition::{Claim, Condition};
 use crate::headed::Headed;
 use crate::marks::marks_are_shown;
@@ -18,7 +20,7 @@ use crate::mirror::{all_mirrored, are_fixed};
 use crate::numbers::numbers_are_shown;
 use crate::plan::Plan;
 use crate::seen::Seen;
-use crate::sieve::{Sieve, sieve_of};
+use crate::sieve::Sieve;
 use crate::spans::{are_no_counts, are_no_spans, spans_stand};
 use chess::SquareSet;
 use pgn_game::Replayed;
@@ -36,13 +38,15 @@ pub(crate) struct Form {
     is_planned: bool,
     /// Whether the others say nothing of positions.
     is_bare: bool,
-    /// A man who has to stand on known squares, if the patterns name one.
+    /// Whether the sieve is asked of a position before the plan. It takes fewer steps where patterns are asked either way.
+    is_sifted: bool,
+    /// A man who has to stand on known squares, or may not, if the patterns say so of one.
     sieve: Option<Sieve>,
 }
 
 impl Model for Form {
     ghost use Rattle.std.specs.Prelude.{ℕ, List, IfSome, IsTrue, map};
-    ghost use Rattle.pgn_criteria.specs.Tracks.{IsSieve};
+    ghost use Rattle.pgn_criteria.specs.Tracks.{Sifts};
     ghost use Rattle.pgn_criteria.specs.declared.condition.Condition.{Condition};
     ghost use Rattle.pgn_criteria.specs.Layouts.{IsRest};
     ghost use Rattle.pgn_criteria.specs.Planning.{IsSoundPlan, IsPlanned};
@@ -57,7 +61,7 @@ impl Model for Form {
       rest : IsRest a.plan.layout.empty a.free;
       planned : IsPlanned (map (seen (λ text. text.items)) a.conditions.items) a.plan a.is_planned;
       bare : IsTrue a.is_bare → ArePatterns (map (seen (λ text. text.items)) a.conditions.items);
-      sieved : IfSome a.sieve (λ sieve. IsSieve a.plan.layout.asked.items sieve.man sieve.wanted);
+      sieved : IfSome a.sieve (Sifts a.plan);
     } };
 }
 
@@ -136,13 +140,15 @@ impl Form {
         let is_planned = plan_all(alloc, &mut plan, &conditions)?;
         let is_bare = are_patterns(&conditions);
         let free = plan.free();
-        let sieve = sieve_of(plan.asked());
+        let sieve = plan.sieve();
+        let is_sifted = sieve.is_some() && !plan.is_flat();
         Ok(Form {
             conditions,
             plan,
             free,
             is_planned,
             is_bare,
+            is_sifted,
             sieve,
         })
     }
@@ -169,6 +175,14 @@ impl Form {
         numbers_are_shown(&self.conditions, start, plies)
     }
 
+    /// The marks of positions with which all conditions hold. It is `None` where one of them speaks of men or of moves.
+    fn marks(&self) -> Option<u8>
+        ensures { IfSome result (λ set. AreFreeOfMoves self.now
+            × ((men : Placement) → AreMarksOf set (λ turn check stuck. AllSaid men turn (IsTrue check) (IsTrue stuck) self.now))) }
+    {
+        marks_of_all(&self.conditions)
+    }
+
     /// Whether what the conditions that are no patterns say of the position is so.
     #[inline(always)]
     fn rest_is_met<S: Seen>(&self, position: &S) -> bool
@@ -177,11 +191,25 @@ impl Form {
         self.is_bare || are_of_rest(&self.conditions, position)
     }
 
+    /// Whether what the patterns say may be so of the position, by the squares of one man.
+    #[inline(never)]
+    fn may_stand<S: Seen>(&self, position: &S) -> bool
+        ensures { result ≡ false → AllOfPatterns (S.men position.now) self.now → ⊥ }
+    {
+        match &self.sieve {
+            Some(sieve) => sieve.may_be_met(position),
+            None => true,
+        }
+    }
+
     /// Whether what all conditions say of the position is so. What is planned is looked at first, and patterns of which that is not all last.
     #[inline(always)]
     fn is_met<S: Seen>(&self, position: &S) -> bool
         ensures { IsTrue result ↔ AllSaid (S.men position.now) (S.turn position.now) (S.checked position.now) (S.stuck position.now) self.now }
     {
+        if self.is_sifted && !self.may_stand(position) {
+            return false;
+        }
         self.plan.is_met(&self.free, position)
             && self.rest_is_met(position)
             && (self.is_planned || are_of_stage(&self.conditions, Stage::Squares, position))
@@ -255,6 +283,17 @@ impl Alternative {
         ensures { IsTrue result ↔ AreFreeOfMoves self.now }
     {
         are_free_of_moves(&self.plain.conditions)
+    }
+
+    /// The marks of positions with which the conditions hold. It is `None` where one of them has `either`, or speaks of men or of moves.
+    pub(crate) fn marks(&self) -> Option<u8>
+        ensures { IfSome result (λ set. AreFreeOfMoves self.now
+            × ((men : Placement) → AreMarksOf set (λ turn check stuck. AllOfSeen men turn (IsTrue check) (IsTrue stuck) self.now))) }
+    {
+        match &self.mirrored {
+            Some(_) => None,
+            None => self.plain.marks(),
+        }
     }
 
     /// Whether none of the conditions has `for` or `count`.

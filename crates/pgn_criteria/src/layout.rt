@@ -2,7 +2,7 @@
 ghost use Rattle.std.specs.Prelude.{◌≡◌, ◌↔◌, ◌≤◌, ◌<◌, ◌+◌, ◌∷◌, List, Option, IsTrue, IfOk, IfSome, OnOk, MatchOption, length, drop, true};
 ghost use Rattle.chess.specs.Fen.{row};
 ghost use Rattle.chess.specs.Placements.{Placement, man_at};
-ghost use Rattle.chess.specs.Sets.{is_in, HoldsExactly};
+ghost use Rattle.chess.specs.Sets.{is_in, no_places, HoldsExactly};
 ghost use Rattle.chess.specs.Squares.{IsOnBoard};
 ghost use Rattle.chess.specs.declared.board.man.Kind.{Kind};
 ghost use Rattle.chess.specs.declared.board.man.Side.{Side};
@@ -331,6 +331,20 @@ impl Layout {
         &self.asked
     }
 
+    /// The squares on which certain men must not stand.
+    pub(crate) fn barred(&self) -> &[Asked]
+        ensures { result.now ≡ self.now.barred.items }
+    {
+        &self.barred
+    }
+
+    /// Whether no square has to be empty.
+    pub(crate) fn asks_no_empty(&self) -> bool
+        ensures { IsTrue result ↔ (self.now.empty ≡ no_places) }
+    {
+        self.empty.is_empty()
+    }
+
     /// The squares that men may stand on.
     pub(crate) fn free(&self) -> SquareSet
         ensures { IsRest self.now.empty result }
@@ -377,6 +391,13 @@ impl Look {
     {
         let free = layout.free();
         Look { layout, free }
+    }
+
+    /// What is laid out.
+    pub(crate) fn layout(&self) -> &Layout
+        ensures { result.now ≡ self.now.layout }
+    {
+        &self.layout
     }
 
     /// Whether the men stand as is laid out.

@@ -1,8 +1,11 @@
 //! Check, and that there is no move: games whose plies never show what conditions need of the two are passed over.
-ghost use Rattle.std.specs.Prelude.{◌≡◌, ◌↔◌, true, false, map, IsTrue};
+ghost use Rattle.std.specs.Prelude.{◌≡◌, ◌↔◌, ℕ, List, true, false, map, IsTrue};
 ghost use Rattle.std.specs.List.{AllByRecursion};
+ghost use Rattle.chess.specs.declared.board.man.Side.{Side};
+ghost use Rattle.pgn_game.specs.PlyCodes.{PlyCode};
+ghost use Rattle.pgn_criteria.specs.ByMarks.{NoneMeets, IsNextMet};
 ghost use Rattle.pgn_criteria.specs.Sieves.{NowhereSeen, codes_in};
-ghost use Rattle.pgn_criteria.specs.Marks.{NeedMark, LacksMarks, FitsSeen, asks_mark};
+ghost use Rattle.pgn_criteria.specs.Marks.{NeedMark, LacksMarks, Needs, FitsSeen, asks_mark};
 ghost use Rattle.pgn_criteria.specs.Stages.{claim_seen, seen};
 
 use crate::condition::{Claim, Condition};
@@ -49,11 +52,29 @@ fn shows(check: bool, stuck: bool, is_checked: bool, is_stuck: bool) -> bool
     (!check || is_checked) && (!stuck || is_stuck)
 }
 
+/// The plies from where the marks that are needed may be so: eight plies are passed over at once where none of them has a mark.
+pub(crate) fn after_eights(check: bool, stuck: bool, plies: &[u8]) -> &[u8]
+    ensures met { (set : ℕ) → Needs check stuck set → (turn : Side) → (NoneMeets set turn (codes_in result.now) → NoneMeets set turn (codes_in plies.now))
+        × ((side : Side) (left : List PlyCode) → IsNextMet set turn (codes_in result.now) side left → IsNextMet set turn (codes_in plies.now) side left) }
+    ensures lacks { AllByRecursion (LacksMarks check stuck) (codes_in result.now) → AllByRecursion (LacksMarks check stuck) (codes_in plies.now) }
+{
+    let mut rest = plies;
+    while rest.len() >= 24 {
+        let any = ((rest[0] | rest[3]) | (rest[6] | rest[9]))
+            | ((rest[12] | rest[15]) | (rest[18] | rest[21]));
+        if shows(check, stuck, any / 64 % 2 == 1, any >= 128) {
+            return rest;
+        }
+        rest = &rest[24..];
+    }
+    rest
+}
+
 /// Whether after one of the plies the side to move is in check, if that is needed, and has no move, if that is needed.
 fn some_ply_shows(check: bool, stuck: bool, plies: &[u8]) -> bool
     ensures { result ≡ false → AllByRecursion (LacksMarks check stuck) (codes_in plies.now) }
 {
-    let mut rest = plies;
+    let mut rest = after_eights(check, stuck, plies);
     while let [a, _, _, after @ ..] = rest {
         if shows(check, stuck, *a / 64 % 2 == 1, *a / 128 == 1) {
             return true;

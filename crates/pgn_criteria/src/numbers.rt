@@ -1,19 +1,18 @@
 //! How many of a man stand, while the codes of plies move him: games in which there are never as few as a line `material` allows are passed
 //! over.
-ghost use Rattle.std.specs.Prelude.{◌≡◌, ◌≤◌, false, map, IfSome};
+ghost use Rattle.std.specs.Prelude.{◌≡◌, false, map, IfSome};
 ghost use Rattle.chess.specs.Placements.{Placement};
-ghost use Rattle.chess.specs.Sets.{IsSquaresOf};
 ghost use Rattle.pgn_criteria.specs.Counting.{FitsKind};
 ghost use Rattle.pgn_criteria.specs.Sieves.{NowhereSeen, codes_in};
 ghost use Rattle.pgn_criteria.specs.Marks.{FitsSeen, IsMost, SaysOfNumbers};
-ghost use Rattle.pgn_criteria.specs.Materials.{FitsSide, FitsMaterial, count_of};
+ghost use Rattle.pgn_criteria.specs.Materials.{FitsSide, FitsMaterial};
 ghost use Rattle.pgn_criteria.specs.Stages.{claim_seen, seen};
-ghost use Rattle.pgn_criteria.specs.Tracks.{Nowhere};
+ghost use Rattle.pgn_criteria.specs.Tracks.{AreFew, Nowhere};
 
 use crate::condition::{Claim, Condition};
 use crate::material::{Limit, Limits};
 use crate::seen::Seen;
-use crate::track::follow;
+use crate::track::{StandTest, is_met_somewhere};
 use chess::{Kind, Man, Side, SquareSet};
 
 /// The largest number that the limit allows, if there is one.
@@ -27,22 +26,19 @@ fn most_of(limit: Limit) -> Option<u8>
     }
 }
 
-/// Whether of the man, who stands on these squares before the plies, no more than so many stand before them or after one of them.
-fn are_few_somewhere(man: Man, most: u8, squares: &mut SquareSet, plies: &[u8]) -> bool
-    ensures { (men : Placement) → IsSquaresOf men man squares.old → result ≡ false → Nowhere (λ p. count_of p man ≤ most) men (codes_in plies.now) }
-{
-    if squares.count() <= u32::from(most) {
-        return true;
+/// A man of whom no more than so many are to stand.
+#[derive(Drop)]
+struct Few {
+    most: u8,
+}
+
+impl StandTest for Few {
+    ghost stands = { AreFew };
+
+    #[inline(always)]
+    fn is_met(&self, squares: &SquareSet, _taken: &SquareSet) -> bool {
+        squares.count() <= u32::from(self.most)
     }
-    let mut rest = plies;
-    while let [a, b, d, after @ ..] = rest {
-        follow(man, squares, *a, *b, *d);
-        rest = after;
-        if squares.count() <= u32::from(most) {
-            return true;
-        }
-    }
-    false
 }
 
 /// Whether before the plies or after one of them no more of the man stand than his side's limit allows.
@@ -50,10 +46,7 @@ fn kind_may_fit<S: Seen>(limits: &Limits, man: Man, start: &S, plies: &[u8]) -> 
     ensures { result ≡ false → Nowhere (λ p. FitsKind p man.side limits.now man.kind) (S.men start.now) (codes_in plies.now) }
 {
     match most_of(limits.of(man.kind)) {
-        Some(most) => {
-            let mut squares = start.squares_with(man);
-            are_few_somewhere(man, most, &mut squares, plies)
-        }
+        Some(most) => is_met_somewhere(&Few { most }, man, start.squares_with(man), plies),
         None => true,
     }
 }

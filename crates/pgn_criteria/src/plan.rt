@@ -5,9 +5,11 @@ ghost use Rattle.pgn_criteria.specs.Layouts.{IsRest, Laid};
 ghost use Rattle.pgn_criteria.specs.Planning.{AreSound, AreSoundWays, IsSoundPlan, AllEither, NoneLaid, Planned, Plans};
 ghost use Rattle.pgn_criteria.specs.Mirrors.{FitsEitherWay};
 ghost use Rattle.pgn_criteria.specs.Patterns.{FitsPattern};
+ghost use Rattle.pgn_criteria.specs.Tracks.{FitsSieve, Sifts};
 
-use crate::layout::{Asked, Layout, Look};
+use crate::layout::{Layout, Look};
 use crate::seen::Seen;
+use crate::sieve::{Sieve, sieve_of};
 use chess::SquareSet;
 use std::alloc::{AllocError, Global};
 
@@ -96,11 +98,14 @@ impl Plan {
         Ok(true)
     }
 
-    /// The squares on which certain men must stand where the patterns that are to fit do.
-    pub(crate) fn asked(&self) -> &[Asked]
-        ensures { result.now ≡ self.now.layout.asked.items }
+    /// A man who has to stand on known squares, or may not, where the men stand as is planned.
+    pub(crate) fn sieve(&self) -> Option<Sieve>
+        ensures { IfSome result (Sifts self.now) }
     {
-        self.layout.asked()
+        match sieve_of(&self.layout, None) {
+            Some(sieve) => Some(sieve),
+            None => sieve_of_ways(&self.ways),
+        }
     }
 
     /// The squares that men may stand on where the patterns that are to fit do.
@@ -122,7 +127,7 @@ impl Plan {
 
     /// Whether patterns that are to fit as they stand are all that is planned.
     #[inline(always)]
-    fn is_flat(&self) -> bool
+    pub(crate) fn is_flat(&self) -> bool
         ensures { IsTrue result → (self.now.ways.items ≡ []) × (self.now.denied.items ≡ []) }
     {
         self.ways.is_empty() && self.denied.is_empty()
@@ -136,6 +141,18 @@ impl Plan {
     {
         all_either(&self.ways, position) && none_laid(&self.denied, position)
     }
+}
+
+/// A man who has to stand on known squares, or may not. The men stand the one way or the other, of each of these.
+fn sieve_of_ways(all: &[Ways]) -> Option<Sieve>
+    ensures { IfSome result (λ sieve. (men : Placement) → AllEither men all.now → FitsSieve sieve men) }
+{
+    for ways in all {
+        if let Some(sieve) = sieve_of(ways.straight.layout(), Some(ways.turned.layout())) {
+            return Some(sieve);
+        }
+    }
+    None
 }
 
 /// Whether the men stand the one way or the other, of each of these.

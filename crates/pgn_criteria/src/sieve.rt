@@ -1,24 +1,75 @@
-//! A man who has to stand on known squares: games in which he never does so are passed over.
-ghost use Rattle.std.specs.Prelude.{◌≡◌, ◌↔◌, IsTrue, IfSome, false, true};
-ghost use Rattle.chess.specs.Placements.{Placement};
-ghost use Rattle.chess.specs.Sets.{is_in};
-ghost use Rattle.chess.specs.Squares.{IsOnBoard, Place};
-ghost use Rattle.pgn_criteria.specs.Layouts.{AllStand};
+//! A man who has to stand on known squares, or may not. Games in which he never stands so are passed over.
+ghost use Rattle.std.specs.Prelude.{◌≡◌, IsTrue, IfSome, Some, false, option_map};
+ghost use Rattle.chess.specs.Placements.{Placement, man_at};
+ghost use Rattle.chess.specs.Squares.{IsOnBoard};
+ghost use Rattle.pgn_criteria.specs.Items.{IsOf};
+ghost use Rattle.pgn_criteria.specs.Layouts.{AllStand, Laid};
 ghost use Rattle.pgn_criteria.specs.Sieves.{codes_in};
-ghost use Rattle.pgn_criteria.specs.Tracks.{IsSieve, Nowhere, StandsOn};
+ghost use Rattle.pgn_criteria.specs.Tracks.{FitsSieve, LaidEither, Nowhere, StaysAs, StaysAt, StaysOn};
 ghost use Rattle.pgn_criteria.specs.declared.rank.SquareTest.TheVariants.{This};
 
-use crate::layout::Asked;
-use crate::rank::SquareTest;
+use crate::layout::{Asked, Layout};
+use crate::rank::{SquareTest, is_of};
 use crate::seen::Seen;
-use crate::track::stands_somewhere;
+use crate::track::{StandTest, is_met_somewhere};
 use chess::{Bits, Board, Man, Square, SquareSet};
+use pgn_game::pack::numbered_man;
 
-/// A man, and the squares on which he has to stand.
+/// The squares on which a man has to stand, and those on which he may.
+#[derive(Drop)]
+pub(crate) struct Stand {
+    wanted: SquareSet,
+    free: SquareSet,
+}
+
+impl StandTest for Stand {
+    ghost stands = { StaysOn };
+
+    #[inline(always)]
+    fn is_met(&self, squares: &SquareSet, _taken: &SquareSet) -> bool {
+        self.wanted.is_within(squares) && squares.is_within(&self.free)
+    }
+}
+
+/// How a man has to stand, and the squares on which others may.
+#[derive(Drop)]
+pub(crate) struct Site {
+    stand: Stand,
+    clear: SquareSet,
+}
+
+impl StandTest for Site {
+    ghost stands = { StaysAt };
+
+    #[inline(always)]
+    fn is_met(&self, squares: &SquareSet, taken: &SquareSet) -> bool {
+        self.stand.is_met(squares, taken) && taken.is_within(&self.clear)
+    }
+}
+
+/// A man, and where he has to stand: in this way, or in another one if there is one.
 #[derive(Drop)]
 pub(crate) struct Sieve {
     man: Man,
-    wanted: SquareSet,
+    straight: Site,
+    turned: Option<Site>,
+    /// Whether no square has to be empty.
+    is_bare: bool,
+}
+
+impl StandTest for Sieve {
+    ghost stands = { StaysAs };
+
+    #[inline(always)]
+    fn is_met(&self, squares: &SquareSet, taken: &SquareSet) -> bool {
+        if self.straight.is_met(squares, taken) {
+            return true;
+        }
+        match &self.turned {
+            Some(turned) => turned.is_met(squares, taken),
+            None => false,
+        }
+    }
 }
 
 impl Asked {
@@ -32,6 +83,13 @@ impl Asked {
         }
     }
 
+    /// Whether the man may not stand on the square.
+    fn bars(&self, man: Man) -> bool
+        ensures { IsTrue result → IsOf self.now.class (Some man) → ⊥ }
+    {
+        !is_of(self.class, Some(man))
+    }
+
     /// The square.
     fn place(&self) -> Square
         ensures square { result ≡ self.now.square }
@@ -42,46 +100,117 @@ impl Asked {
     }
 }
 
-/// The squares on which the man has to stand.
-fn squares_wanted(man: Man, all: &[Asked]) -> SquareSet
-    ensures { IsSieve all.now man result }
-{
-    let mut wanted = SquareSet::new();
-    for asked in all {
+impl Stand {
+    /// Adds what is asked of a square, as far as it is said of the man.
+    fn add(&mut self, man: Man, asked: &Asked)
+        ensures { (men : Placement) → IsOf asked.now.class (man_at men asked.now.square) → StaysOn self.old man men → StaysOn self.new man men }
+    {
         if asked.names(man) {
-            wanted.insert(asked.place());
+            self.wanted.insert(asked.place());
+        } else if asked.bars(man) {
+            self.free.remove(asked.place());
         }
     }
-    wanted
+
+    /// Adds what is asked of squares.
+    fn add_all(&mut self, man: Man, all: &[Asked])
+        ensures { (men : Placement) → AllStand men all.now → StaysOn self.old man men → StaysOn self.new man men }
+    {
+        for asked in all {
+            self.add(man, asked);
+        }
+    }
+
+    /// How the man stands where the men stand as is laid out.
+    fn new(man: Man, layout: &Layout) -> Self
+        ensures { (men : Placement) → Laid men layout.now → StaysOn result man men }
+    {
+        let mut stand = Stand {
+            wanted: SquareSet::new(),
+            free: layout.free(),
+        };
+        stand.add_all(man, layout.asked());
+        stand.add_all(man, layout.barred());
+        stand
+    }
 }
 
-/// The man who has to stand on most squares, if one is named who does not stand so as games usually begin.
-pub(crate) fn sieve_of(all: &[Asked]) -> Option<Sieve>
-    ensures { IfSome result (λ sieve. IsSieve all.now sieve.man sieve.wanted) }
+impl Site {
+    /// How the man stands where the men stand as is laid out, and where others do.
+    fn new(man: Man, layout: &Layout) -> Self
+        ensures { (men : Placement) → Laid men layout.now → StaysAt result man men }
+    {
+        Site {
+            stand: Stand::new(man, layout),
+            clear: layout.free(),
+        }
+    }
+}
+
+impl Sieve {
+    /// How the man stands where the men stand as one of these lays out.
+    fn new(man: Man, straight: &Layout, turned: Option<&Layout>) -> Self
+        ensures { (men : Placement) → LaidEither men straight.now (option_map (λ layout. layout.now) turned.entry) → FitsSieve result men }
+    {
+        let other = match turned {
+            Some(layout) => Some(Site::new(man, layout)),
+            None => None,
+        };
+        Sieve {
+            man,
+            straight: Site::new(man, straight),
+            turned: other,
+            is_bare: straight.asks_no_empty(),
+        }
+    }
+
+    /// Whether the man stands as he has to, as far as his own squares tell it.
+    #[inline(always)]
+    pub(crate) fn may_be_met<S: Seen>(&self, position: &S) -> bool
+        ensures { result ≡ false → FitsSieve self.now (S.men position.now) → ⊥ }
+    {
+        let squares = position.squares_with(self.man);
+        self.is_met(&squares, &SquareSet::new())
+    }
+
+    /// Whether the man may stand as he has to, before the plies or after one of them.
+    #[inline(always)]
+    pub(crate) fn lets_through<S: Seen>(&self, start: &S, plies: &[u8]) -> bool
+        ensures { result ≡ false → Nowhere (FitsSieve self.now) (S.men start.now) (codes_in plies.now) }
+    {
+        let squares = start.squares_with(self.man);
+        match &self.turned {
+            None if self.is_bare => is_met_somewhere(
+                &self.straight.stand,
+                self.man,
+                squares,
+                plies,
+            ),
+            _ => is_met_somewhere(self, self.man, squares, plies),
+        }
+    }
+}
+
+/// The man who has to stand on most squares, and of these the one who may stand on fewest. The men stand as one of these lays out. He is one
+/// who does not stand so as games usually begin, if there is one.
+pub(crate) fn sieve_of(straight: &Layout, turned: Option<&Layout>) -> Option<Sieve>
+    ensures { IfSome result (λ sieve. (men : Placement) → LaidEither men straight.now (option_map (λ layout. layout.now) turned.entry) → FitsSieve sieve men) }
 {
     let initial = Bits::initial();
     let mut best: Option<Sieve> = None;
     let mut most = 0;
-    for asked in all {
-        if let SquareTest::This(man) = asked.class {
-            let wanted = squares_wanted(man, all);
-            if wanted.count() > most && !wanted.is_within(&initial.squares_of(man)) {
-                most = wanted.count();
-                best = Some(Sieve { man, wanted });
-            }
+    let mut least = 64;
+    for number in 0u8..12 {
+        let man = numbered_man(number);
+        let sieve = Sieve::new(man, straight, turned);
+        let wanted = sieve.straight.stand.wanted.count();
+        let free = sieve.straight.stand.free.count();
+        let is_tighter = wanted > most || wanted == most && free < least;
+        if is_tighter && !sieve.is_met(&initial.squares_of(man), &SquareSet::new()) {
+            most = wanted;
+            least = free;
+            best = Some(sieve);
         }
     }
     best
-}
-
-impl Sieve {
-    /// Whether the man may stand as he has to, before the plies or after one of them.
-    #[inline(always)]
-    pub(crate) fn lets_through<S: Seen>(&self, start: &S, plies: &[u8]) -> bool
-        requires { (s : Place) → is_in self.now.wanted s ≡ true → IsOnBoard s }
-        ensures { result ≡ false → Nowhere (StandsOn self.now.man self.now.wanted) (S.men start.now) (codes_in plies.now) }
-    {
-        let mut squares = start.squares_with(self.man);
-        stands_somewhere(self.man, &mut squares, &self.wanted, plies)
-    }
 }

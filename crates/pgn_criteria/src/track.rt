@@ -1,15 +1,27 @@
-//! The squares of one man, moved by the codes of plies: where he never stands as a pattern needs it, no position of a game need be looked at.
-ghost use Rattle.std.specs.Prelude.{◌≡◌, ◌↔◌, ◌<◌, None, true, false};
+//! The squares of one man, moved by the codes of plies. Where he never stands as is asked, no position of a game need be looked at.
+ghost use Rattle.std.specs.Prelude.{◌≡◌, ◌↔◌, ◌<◌, ◌+◌, ◌*◌, ◌/◌, ◌%◌, IsTrue, None, true, false};
+ghost use Rattle.chess.specs.Moves.{with_rook};
 ghost use Rattle.chess.specs.Placements.{Placement};
-ghost use Rattle.chess.specs.Sets.{is_in, IsSquaresOf};
-ghost use Rattle.chess.specs.Squares.{Place, IsOnBoard};
+ghost use Rattle.chess.specs.Sets.{IsSquaresOf};
+ghost use Rattle.chess.specs.Squares.{square_at};
+ghost use Rattle.chess.specs.declared.board.man.Man.{Man};
 ghost use Rattle.pgn_criteria.specs.Sieves.{codes_in};
-ghost use Rattle.pgn_criteria.specs.Tracks.{IsPut, Nowhere, StandsOn};
-ghost use Rattle.pgn_game.specs.PlyCodes.{code_of, man_number, moved, numbered_man};
+ghost use Rattle.pgn_criteria.specs.Tracks.{AreTaken, IsPut, Nowhere, gone};
+ghost use Rattle.pgn_game.specs.PlyCodes.{code_of, man_number, moved, numbered_castle, numbered_man};
 
 use crate::walk::{rook_arrives, rook_leaves};
 use chess::{Kind, Man, Side, Square, SquareSet};
 use pgn_game::pack::{numbered_castle, numbered_man};
+
+/// What is asked of the squares on which one man stands.
+pub(crate) trait StandTest {
+    /// The man stands so among the men.
+    ghost stands: { Self → Man → Placement → Type 0 };
+
+    /// Whether a man who stands on these squares may stand so, where the others are known to be taken.
+    fn is_met(&self, squares: &SquareSet, taken: &SquareSet) -> bool
+        ensures { (man : Man) (men : Placement) → IsSquaresOf men man squares.now → AreTaken men taken.now → stands self.now man men → IsTrue result };
+}
 
 /// Puts the square into the set, or takes it out.
 #[inline(always)]
@@ -23,18 +35,11 @@ fn put(squares: &mut SquareSet, square: Square, is_his: bool)
     }
 }
 
-/// Whether the two are the same man.
-#[inline(always)]
-fn is_same(man: Man, other: Man) -> bool
-    ensures { (result ≡ true) ↔ (man ≡ other) }
-{
-    man == other
-}
-
 /// The number of the man.
 #[inline(always)]
 fn number_of(man: Man) -> u8
-    ensures { result ≡ man_number man None }
+    ensures number { man_number man None ≡ result }
+    ensures below { result < 12 }
 {
     let side = match man.side {
         Side::White => 0u8,
@@ -51,56 +56,124 @@ fn number_of(man: Man) -> u8
     side + kind
 }
 
-/// Whether the number is that of the man.
+/// Whether the man has that number.
 #[inline(always)]
-fn is_numbered(man: Man, number: u8) -> bool
-    requires { number < 16 }
-    ensures { (result ≡ true) ↔ (man ≡ numbered_man number) }
+fn has_number(own: Man, number: u8) -> bool
+    ensures { (man : Man) → man_number man None ≡ number → (result ≡ true) ↔ (man ≡ own) }
 {
-    if number < 12 {
-        return number_of(man) == number;
-    }
-    is_same(man, numbered_man(number))
+    number_of(own) == number
 }
 
-/// Moves the men by the ply of three bytes, as far as it takes the man to squares or from them.
-#[inline(always)]
-pub(crate) fn follow(man: Man, squares: &mut SquareSet, a: u8, b: u8, d: u8)
-    ensures { (men : Placement) → IsSquaresOf men man squares.old → IsSquaresOf (moved men (code_of a b d)) man squares.new }
+/// The squares of the man with the number after a king castles by the bytes, where these are his before it.
+#[cold]
+#[inline(never)]
+fn follow_castling(number: u8, squares: SquareSet, a: u8, b: u8, king: u8) -> SquareSet
+    requires { king < 16 }
+    ensures { (man : Man) → man_number man None ≡ number → (men : Placement) → IsSquaresOf men man squares
+        → IsSquaresOf (gone men (square_at (a % 64)) (square_at (b % 64)) (numbered_man king) (numbered_castle king)) man result }
 {
-    let number = b / 64 + 4 * (d / 64);
-    let own = numbered_man(number);
-    put(squares, Square::of_index(d % 64), false);
-    put(squares, Square::of_index(a % 64), false);
-    put(squares, Square::of_index(b % 64), is_numbered(man, number));
-    if let Some(wing) = numbered_castle(number) {
-        let rook = Man {
-            side: own.side,
-            kind: Kind::Rook,
-        };
-        put(squares, rook_leaves(own.side, wing), false);
-        put(squares, rook_arrives(own.side, wing), is_same(man, rook));
-    }
+    let own = numbered_man(king);
+    let mut now = squares;
+    put(&mut now, Square::of_index(a % 64), false);
+    put(&mut now, Square::of_index(b % 64), has_number(own, number));
+    let Some(wing) = numbered_castle(king) else {
+        return now;
+    };
+    let rook = Man {
+        side: own.side,
+        kind: Kind::Rook,
+    };
+    put(&mut now, rook_leaves(own.side, wing), false);
+    put(
+        &mut now,
+        rook_arrives(own.side, wing),
+        has_number(rook, number),
+    );
+    now
 }
 
-/// Whether the man, who stands on these squares before the plies, may stand at one of them on all that are wanted.
-pub(crate) fn stands_somewhere(
+/// Squares that are known to be taken after the rook of a king who castles. These are taken before it goes.
+#[cold]
+#[inline(never)]
+fn settle_rook(taken: SquareSet, king: u8) -> SquareSet
+    requires { king < 16 }
+    ensures { (men : Placement) → AreTaken men taken → AreTaken (with_rook (numbered_man king).side (numbered_castle king) men) result }
+{
+    let side = numbered_man(king).side;
+    let mut now = taken;
+    let Some(wing) = numbered_castle(king) else {
+        return now;
+    };
+    put(&mut now, rook_leaves(side, wing), false);
+    put(&mut now, rook_arrives(side, wing), true);
+    now
+}
+
+/// Squares that are known to be taken after the ply of three bytes, where these are before it.
+#[inline(always)]
+fn settle(taken: SquareSet, a: u8, b: u8, d: u8) -> SquareSet
+    ensures { (men : Placement) → AreTaken men taken → AreTaken (moved men (code_of a b d)) result }
+{
+    let mut now = taken;
+    put(&mut now, Square::of_index(d % 64), false);
+    put(&mut now, Square::of_index(b % 64), true);
+    put(&mut now, Square::of_index(a % 64), false);
+    if d >= 192 {
+        return settle_rook(now, b / 64 + 4 * (d / 64));
+    }
+    now
+}
+
+/// Whether the man who arrives by the ply has the number.
+#[inline(always)]
+fn is_arriving(number: u8, b: u8, d: u8) -> bool
+    ensures { (result ≡ true) ↔ (b / 64 + 4 * (d / 64) ≡ number) }
+{
+    b / 64 == number % 4 && d / 64 == number / 4
+}
+
+/// The squares of the man with the number after the ply of three bytes, where these are his before it.
+#[inline(always)]
+fn follow(number: u8, squares: SquareSet, a: u8, b: u8, d: u8) -> SquareSet
+    requires { number < 12 }
+    ensures { (man : Man) → man_number man None ≡ number → (men : Placement) → IsSquaresOf men man squares
+        → IsSquaresOf (moved men (code_of a b d)) man result }
+{
+    let mut now = squares;
+    put(&mut now, Square::of_index(d % 64), false);
+    if d >= 192 {
+        return follow_castling(number, now, a, b, b / 64 + 4 * (d / 64));
+    }
+    put(&mut now, Square::of_index(a % 64), false);
+    put(
+        &mut now,
+        Square::of_index(b % 64),
+        is_arriving(number, b, d),
+    );
+    now
+}
+
+/// Whether the man stands as is asked before the plies or after one of them. He stands on these squares before them.
+pub(crate) fn is_met_somewhere<T: StandTest>(
+    stand: &T,
     man: Man,
-    squares: &mut SquareSet,
-    wanted: &SquareSet,
+    start: SquareSet,
     plies: &[u8],
 ) -> bool
-    requires { (s : Place) → is_in wanted.now s ≡ true → IsOnBoard s }
-    ensures { (men : Placement) → IsSquaresOf men man squares.old → result ≡ false → Nowhere (StandsOn man wanted.now) men (codes_in plies.now) }
+    ensures { (men : Placement) → IsSquaresOf men man start → result ≡ false → Nowhere (T.stands stand.now man) men (codes_in plies.now) }
 {
-    if wanted.is_within(squares) {
+    let mut squares = start;
+    let mut taken = SquareSet::new();
+    if stand.is_met(&squares, &taken) {
         return true;
     }
+    let number = number_of(man);
     let mut rest = plies;
     while let [a, b, d, after @ ..] = rest {
-        follow(man, squares, *a, *b, *d);
+        squares = follow(number, squares, *a, *b, *d);
+        taken = settle(taken, *a, *b, *d);
         rest = after;
-        if wanted.is_within(squares) {
+        if stand.is_met(&squares, &taken) {
             return true;
         }
     }

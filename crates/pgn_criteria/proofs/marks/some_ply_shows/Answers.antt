@@ -4,7 +4,7 @@ use Rattle.pgn_criteria.proofs.StandFacts.{rest_is}
 use Rattle.pgn_criteria.proofs.marks.some_ply_shows.Goals as goal
 
 pub loop-rest-init : goal.loop-rest-init
-loop-rest-init c = λ all. all
+loop-rest-init c = c.after_eights-rest.ensures.lacks
 
 pub loop-rest-preserved : goal.loop-rest-preserved
 loop-rest-preserved c = λ later.

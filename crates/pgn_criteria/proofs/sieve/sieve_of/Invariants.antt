@@ -1,6 +1,7 @@
-use Rattle.std.specs.Prelude.{IfSome}
-use Rattle.pgn_criteria.specs.Tracks.{IsSieve}
+use Rattle.std.specs.Prelude.{IfSome, option_map}
+use Rattle.chess.specs.Placements.{Placement}
+use Rattle.pgn_criteria.specs.Tracks.{FitsSieve, LaidEither}
 use Rattle.pgn_criteria.proofs.sieve.sieve_of.Given as goal
 
-abbrev pub invariant-loop-asked : goal.invariant-loop-asked
-invariant-loop-asked l = IfSome l.best (λ sieve. IsSieve l.all sieve.man sieve.wanted)
+abbrev pub invariant-loop-number : goal.invariant-loop-number
+invariant-loop-number l = IfSome l.best (λ sieve. (men : Placement) → LaidEither men l.straight (option_map (λ layout. layout.now) l.turned) → FitsSieve sieve men)

@@ -1,6 +1,4 @@
-use Rattle.std.proofs.Common.{List, ℕ, Vec, Global, map, subst}
-use Rattle.std.specs.Prelude.{IfSome}
-use Rattle.pgn_criteria.specs.Tracks.{IsSieve}
+use Rattle.std.proofs.Common.{List, ℕ, Vec, Global, map}
 use Rattle.pgn_criteria.specs.Planning.{Plans}
 use Rattle.pgn_criteria.specs.Stages.{AllOfPatterns, seen}
 use Rattle.pgn_criteria.specs.declared.condition.Condition.{Condition}
@@ -22,5 +20,5 @@ invariant_of-result c =
         λ so p planned. (plans.enough so p planned tt).1,
       );
       bare = (rw c.deref-2.ensures.value at c.are_patterns-is_bare.ensures).0;
-      sieved = subst (λ all. IfSome c.sieve_of-sieve.result (λ sieve. IsSieve all sieve.man sieve.wanted)) c.asked.ensures c.sieve_of-sieve.ensures;
+      sieved = c.sieve-sieve.ensures;
     }

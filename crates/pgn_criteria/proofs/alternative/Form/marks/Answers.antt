@@ -1,0 +1,18 @@
+use Rattle.std.proofs.Common.{ℕ, List, map, IsTrue, subst, Vec, Global}
+use Rattle.std.specs.Prelude.{IfSome}
+use Rattle.chess.specs.Placements.{Placement}
+use Rattle.pgn_criteria.specs.Marks.{AreMarksOf}
+use Rattle.pgn_criteria.specs.declared.condition.Condition.{Condition}
+use Rattle.pgn_criteria.specs.Stages.{AllSaid, AreFreeOfMoves, seen}
+use Rattle.pgn_criteria.proofs.alternative.Form.marks.Goals as goal
+
+abbrev view : List (Condition (Vec ℕ Global)) → List (Condition (List ℕ))
+view conditions = map (seen (λ text. text.items)) conditions
+
+abbrev Tells : List (Condition (List ℕ)) → ℕ → Type 0
+Tells conditions set = AreFreeOfMoves conditions × ((men : Placement) → AreMarksOf set (λ turn check stuck. AllSaid men turn (IsTrue check) (IsTrue stuck) conditions))
+
+pub returns : goal.returns
+returns c =
+    subst (λ x. IfSome c.marks_of_all.result (Tells x)) c.self.view_is
+    (subst (λ x. IfSome c.marks_of_all.result (Tells (view x))) c.deref.ensures.value c.marks_of_all.ensures)

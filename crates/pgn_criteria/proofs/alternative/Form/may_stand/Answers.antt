@@ -1,0 +1,12 @@
+use Rattle.std.proofs.Common.{sym, subst}
+use Rattle.std.specs.Prelude.{IfSome}
+use Rattle.pgn_criteria.specs.Stages.{AllOfPatterns}
+use Rattle.pgn_criteria.specs.Tracks.{Sifts}
+use Rattle.pgn_criteria.proofs.alternative.Form.may_stand.Goals as goal
+
+pub returns-in-Some : goal.returns-in-Some
+returns-in-Some g c = λ none all.
+    let own = c.in-Some.sieve in
+    let men = g.S.Seen.men c.args.position.now in
+    let sifts : Sifts c.self.inside.plan own = subst (λ o. IfSome o (Sifts c.self.inside.plan)) c.in-Some.is c.self.invariant.sieved in
+    c.may_be_met.ensures none (sifts men (c.self.invariant.planned.0 men (subst (AllOfPatterns men) (sym c.self.view_is) all)))

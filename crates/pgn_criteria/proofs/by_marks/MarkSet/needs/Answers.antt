@@ -1,0 +1,5 @@
+use Rattle.pgn_criteria.proofs.ByMarkFacts.{masks_need, masks_stuck}
+use Rattle.pgn_criteria.proofs.by_marks.MarkSet.needs.Goals as goal
+
+pub returns : goal.returns
+returns c = (masks_need c.args.self.bits, masks_stuck c.args.self.bits)

@@ -1,0 +1,16 @@
+use Rattle.std.proofs.Common.{◌↔◌, ◌⊎◌, ℕ, Bool, IsTrue, drop}
+use Rattle.chess.specs.Positions.{State}
+use Rattle.pgn_game.specs.PlyCodes.{AreMarks}
+use Rattle.pgn_game.specs.Replays.{Replay}
+use Rattle.pgn_criteria.specs.ByMarks.{has_marks}
+use Rattle.pgn_criteria.specs.Meeting.{SomeHold}
+use Rattle.pgn_criteria.specs.Stages.{AllGood}
+use Rattle.pgn_criteria.proofs.meets.Criteria.marks_of_heading.Given as goal
+
+abbrev pub invariant-loop-alternative : goal.invariant-loop-alternative
+invariant-loop-alternative g l = record {
+  good : AllGood (drop l.alternative-index l.alternative-items);
+  held : (P : State) (check stuck : Bool) → AreMarks P check stuck → (replay : Replay) (ply : ℕ)
+      → (IsTrue (has_marks l.bits P.turn check stuck) ⊎ SomeHold (g.H.Headed.heading l.game) replay ply P (drop l.alternative-index l.alternative-items))
+      ↔ SomeHold (g.H.Headed.heading l.game) replay ply P l.self;
+}

@@ -1,0 +1,18 @@
+use Rattle.std.proofs.Common.{◌≡◌, Some, refl, subst}
+use Rattle.chess.specs.Squares.{Place}
+use Rattle.chess.specs.Placements.{man_at}
+use Rattle.pgn_criteria.specs.Items.{IsOf}
+use Rattle.pgn_criteria.specs.declared.sieve.Stand.{Stand}
+use Rattle.pgn_criteria.proofs.SieveFacts.{bars}
+use Rattle.pgn_criteria.proofs.sieve.Stand.add.Goals as goal
+
+pub returns-then-bars : goal.returns-then-bars
+returns-then-bars c = λ men asked so.
+    let own = c.args.self.now in
+    let man = c.args.man in
+    let square = c.place-then-bars.result in
+    let less : Stand = record { wanted = own.wanted; free = c.remove.new.self } in
+    bars own less man men square c.remove.ensures refl
+    (λ stands.
+    let here : man_at men c.args.asked.now.square ≡ Some man = subst (λ (t : Place). man_at men t ≡ Some man) c.place-then-bars.ensures.square stands in
+    c.bars.ensures c.if-bars.true (subst (IsOf c.args.asked.now.class) here asked)) so

@@ -1,0 +1,8 @@
+use Rattle.std.proofs.Common.{drop}
+use Rattle.chess.specs.Placements.{Placement}
+use Rattle.pgn_criteria.specs.Layouts.{AllStand}
+use Rattle.pgn_criteria.specs.Tracks.{StaysOn}
+use Rattle.pgn_criteria.proofs.sieve.Stand.add_all.Given as goal
+
+abbrev pub invariant-loop-asked : goal.invariant-loop-asked
+invariant-loop-asked l = (men : Placement) → AllStand men l.all → StaysOn l.fn.self l.man men → StaysOn l.self l.man men × AllStand men (drop l.asked-index l.all)
