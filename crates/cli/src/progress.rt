@@ -118,6 +118,19 @@ impl fmt::Display for Megabytes {
     }
 }
 
+/// Games after a comma, and nothing where none begin, as in a pack.
+#[derive(Clone, Copy)]
+struct Games(u64);
+
+impl fmt::Display for Games {
+    fn fmt<W: fmt::Write>(&self, f: &mut fmt::Formatter<W>) -> fmt::Result {
+        match self.0 {
+            0 => Ok(()),
+            count => write!(f, ", {count} games"),
+        }
+    }
+}
+
 /// How far one input is read.
 #[derive(Drop)]
 pub struct Progress<'a> {
@@ -206,19 +219,19 @@ impl<'a> Progress<'a> {
     fn text(&self, passed: u64) -> Result<String, AllocError> {
         // (bytes a millisecond)
         let rate = self.read / passed.max(1);
-        let games = self.games.count;
+        let games = Games(self.games.count);
         let name = self.name.as_str();
         let speed = Megabytes(rate.saturating_mul(1000));
         let Some(size) = self.size else {
             let read = Megabytes(self.read);
-            return format!(in self.alloc; "\r{name}: {read}, {games} games, {speed}/s\x1b[K");
+            return format!(in self.alloc; "\r{name}: {read}{games}, {speed}/s\x1b[K");
         };
         let percent = self.read.min(size).saturating_mul(100) / size.max(1);
         let left = size.saturating_sub(self.read) / rate.max(1) / 1000;
         let size = Megabytes(size);
         let (minutes, seconds) = (left / 60, left % 60);
         format!(in self.alloc;
-            "\r{name}: {percent} % of {size}, {games} games, {speed}/s, {minutes}:{seconds:02} left\x1b[K"
+            "\r{name}: {percent} % of {size}{games}, {speed}/s, {minutes}:{seconds:02} left\x1b[K"
         )
     }
 }
