@@ -21,9 +21,9 @@ _pgn_extract() {
         # --list, --index, --moves, --uci and --pack exclude each other, what only a list shows, and most of what chooses games; --others and --faulty exclude each other; names too. A pack is searched as a whole, for plain lines.
         options=" ${COMP_WORDS[*]:0:COMP_CWORD} "
         [[ $options == *' --list '* ]] && _pgn_extract_without --index --others --faulty --as-is --moves --uci --pack
-        [[ $options == *' --packed '* ]] && _pgn_extract_without --fen --next --index --others --faulty --as-is --moves --uci --pack --from --until --with-names --no-names
+        [[ $options == *' --packed '* ]] && _pgn_extract_without --fen --next --others --faulty --as-is --moves --uci --pack --from --until --with-names --no-names
         [[ $options =~ ' '--(fen|next|from|until)' ' ]] && _pgn_extract_without --packed
-        [[ $options == *' --index '* ]] && _pgn_extract_without --list --fen --next --packed --others --faulty --as-is --moves --uci --pack
+        [[ $options == *' --index '* ]] && _pgn_extract_without --list --fen --next --others --faulty --as-is --moves --uci --pack
         [[ $options == *' --moves '* ]] && _pgn_extract_without --list --fen --next --packed --index --faulty --as-is --uci --pack
         [[ $options == *' --uci '* ]] && _pgn_extract_without --list --fen --next --packed --index --faulty --as-is --moves --pack
         [[ $options == *' --pack '* ]] && _pgn_extract_without --list --fen --next --packed --index --faulty --as-is --moves --uci -C --no-comments -N --no-glyphs -V --no-variations --roster -w --width

@@ -114,6 +114,17 @@ finds_none aim number offset game asked text on asks off = record {
     no_met replay ply P [] empty hold = hold
     no_met replay ply P (first ∷ more) empty hold = absurd (omega arith)
 
+-- and where one may be
+pub finds_open : (aim : Aim) (number offset : ℕ) (game : GameText) (text : List ℕ) → Finds aim number offset game [] text text true
+finds_open aim number offset game text = record {
+  found = [];
+  written = sym (append-nil text);
+  completes = λ replay own rest is later chosen.
+      subst (λ ps. AreChosen number offset (IsEntry aim (heading_of game) replay) (AreFields aim.fields replay) (plies_of 0 ps) later) (sym is) chosen;
+  quiet = λ is first replay own rest at n less. absurd (omega arith);
+  shut = λ off. absurd (cc);
+}
+
 -- all are asked
 pub finds_all : {aim : Aim} {number offset : ℕ} {game : GameText} {asked : List State} {old new : List ℕ} {on : Bool} (all : Finds aim number offset game asked old new on)
     (replay : Replay) → IsOfGame game replay → replay.positions ≡ asked → AreListed aim number offset (heading_of game) replay all.found

@@ -26,6 +26,7 @@ pub mod PackTaken
 pub mod PackFits
 pub mod SearchFacts
 pub mod Sifted
+pub mod MarkedFacts
 pub mod OneOfThree
 pub mod OneReport
 pub mod OneVerdict

@@ -106,4 +106,4 @@ listed_pack packing io summary whole exports all short few offset known run =
       each = exported.each;
       exported = exported.are;
     } in
-    (exported.pieces, exported.text, exported.each, exported.exported, λ aim out out' searched entries search are. search.lists packing.name packing.number exported.pieces pack entries are)
+    (exported.pieces, exported.text, exported.each, exported.exported, λ aim left out out' searched entries list search are. search.lists list packing.name packing.number exported.pieces pack entries are)

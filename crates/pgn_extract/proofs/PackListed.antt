@@ -1,40 +1,46 @@
--- The listing of a pack is that of the text that was packed.
-use Rattle.std.proofs.Common.{◌≡◌, ℕ, ◌+◌, List, [], ◌∷◌, ◌++◌, Option, refl, sym, ap, ◌∙◌, subst, append_assoc, append-nil}
+-- The listing of a pack is that of the text that was packed, and its index is that of the sound games.
+use Rattle.std.proofs.Common.{◌≡◌, ◌⊎◌, ℕ, ◌+◌, inl, inr, List, [], ◌∷◌, ◌++◌, Option, refl, sym, ap, ◌∙◌, subst, append_assoc, append-nil}
 use Rattle.pgn_text.specs.GameTexts.{GameText, ShowsGame}
+use Rattle.pgn_text.specs.Games.{items_of, first_tag}
 use Rattle.pgn_text.specs.Marks.{PieceKind, ReadableGame, UnreadableRest, TooLongBlock, MarkedPiece}
 use Rattle.pgn_text.specs.Parts.{Part}
+use Rattle.pgn_game.proofs.OneReplay.{no_fault}
 use Rattle.pgn_game.proofs.PackOnce.{one_pack}
 use Rattle.pgn_game.specs.PackedGames.{PackedGame, IsPacked, pack_bytes}
+use Rattle.pgn_game.specs.Starts.{fen_tag}
 use Rattle.pgn_game.specs.declared.replayer.Lines.TheVariants.{Main}
 use Rattle.pgn_criteria.specs.Meeting.{Heading, heading_of}
 use Rattle.pgn_extract.specs.Aims.{Aim}
 use Rattle.pgn_extract.specs.EntryRows.{AreGameEntries, sound as sound_rows, faulty as faulty_rows, ArePieceEntries, AreEntryRows}
 use Rattle.pgn_extract.specs.GameReports.{AreListed}
+use Rattle.pgn_extract.specs.Index.{mark_line}
 use Rattle.pgn_extract.specs.Listing.{Entry, AreEntries, listing, heading_in}
-use Rattle.pgn_extract.specs.Searching.{AreGameRecords, sound, faulty, ArePieceRecords, AreRecords, IsPackOf, IsRecordListing, IsPackListing, BeginsWithRecords}
+use Rattle.pgn_extract.specs.Searching.{AreGameRecords, sound, faulty, ArePieceRecords, AreRecords, IsPackOf, IsRecordListing, AreRecordLines, ArePackLines, BeginsWithRecords, IsSoundPiece, IsIndexOfSoundGames, none as no_pieces, keep, leave}
+use Rattle.pgn_extract.specs.declared.settings.Mode.{Mode}
+use Rattle.pgn_extract.specs.declared.settings.Mode.TheVariants as modes
 use Rattle.pgn_extract.proofs.ExactEntries.{are_entries}
 use Rattle.pgn_extract.proofs.GameExport.{own_replay}
 use Rattle.pgn_extract.proofs.ModeOutputs.{listing-append}
 use Rattle.pgn_extract.proofs.OneListing.{one_listing}
 
--- the listing of records, and then of others
-listing_cut : (aim : Aim) (own rest : List PackedGame) (text : List ℕ) → IsPackListing aim (own ++ rest) text
-    → (front : List ℕ) × (back : List ℕ) × (text ≡ front ++ back) × IsPackListing aim own front × IsPackListing aim rest back
-listing_cut aim [] rest text listed = ([], text, refl, refl, listed)
-listing_cut aim (packed ∷ more) rest text (lines, others, parted, of, listed) =
-    let cut = listing_cut aim more rest others listed in
+-- the lines of records, and then of others
+lines_cut : (aim : Aim) (own rest : List PackedGame) (text : List ℕ) → ArePackLines aim (own ++ rest) text
+    → (front : List ℕ) × (back : List ℕ) × (text ≡ front ++ back) × ArePackLines aim own front × ArePackLines aim rest back
+lines_cut aim [] rest text listed = ([], text, refl, refl, listed)
+lines_cut aim (packed ∷ more) rest text (lines, others, parted, of, listed) =
+    let cut = lines_cut aim more rest others listed in
     (lines ++ cut.0, cut.1, parted ∙ ap (λ t. lines ++ t) cut.2 ∙ sym (append_assoc lines cut.0 cut.1), (lines, cut.0, refl, of, cut.3), cut.4)
 
--- the listing of records, and of one more
-pub one_more_listed : (aim : Aim) (before : List PackedGame) (packed : PackedGame) (text own : List ℕ) → IsPackListing aim before text → IsRecordListing aim packed own
-    → IsPackListing aim (before ++ packed ∷ []) (text ++ own)
-one_more_listed aim [] packed text own none of = (own, [], ap (λ t. t ++ own) none ∙ sym (append-nil own), of, refl)
-one_more_listed aim (first ∷ before) packed text own (lines, others, parted, here, listed) of = (
+-- the lines of records, and of one more
+pub one_more_record : (aim : Aim) (before : List PackedGame) (packed : PackedGame) (text own : List ℕ) → ArePackLines aim before text → AreRecordLines aim.mode aim packed own
+    → ArePackLines aim (before ++ packed ∷ []) (text ++ own)
+one_more_record aim [] packed text own none of = (own, [], ap (λ t. t ++ own) none ∙ sym (append-nil own), of, refl)
+one_more_record aim (first ∷ before) packed text own (lines, others, parted, here, listed) of = (
   lines,
   others ++ own,
   ap (λ t. t ++ own) parted ∙ append_assoc lines others own,
   here,
-  one_more_listed aim before packed others own listed of,
+  one_more_record aim before packed others own listed of,
 )
 
 -- the heading of a game is that of its parts
@@ -42,11 +48,11 @@ same_heading : (game : GameText) (at : ℕ) (parts : List Part) → ShowsGame ga
 same_heading game at parts shows = λ i. record { named = λ name. shows.tags name i; result = shows.result i }
 
 -- what is listed of a record is listed of the game
-game_rows : (aim : Aim) (name : Option (List ℕ)) (number offset : ℕ) (parts : List Part) (own : List PackedGame) (text : List ℕ)
-    → AreGameRecords name number offset parts own → IsPackListing aim own text
+game_rows : (aim : Aim) → aim.mode ≡ modes.List → (name : Option (List ℕ)) (number offset : ℕ) (parts : List Part) (own : List PackedGame) (text : List ℕ)
+    → AreGameRecords name number offset parts own → ArePackLines aim own text
     → (rows : List Entry) × AreGameEntries aim number offset parts rows × (text ≡ listing name rows)
-game_rows aim name number offset parts own text (sound game replay packed good shows is packs one) listed =
-    let (lines, others, parted, of, none) = subst (λ r. IsPackListing aim r text) one listed in
+game_rows aim list name number offset parts own text (sound game replay packed good shows is packs one) listed =
+    let (lines, others, parted, of, none) = subst (λ r. ArePackLines aim r text) one listed in
     let played = own_replay Main game parts replay shows is in
     let own_mark : IsPacked packed.name packed.number packed.offset game replay packed = record {
       name = refl;
@@ -59,7 +65,8 @@ game_rows aim name number offset parts own text (sound game replay packed good s
       marks = packs.marks;
       plies = packs.plies;
     } in
-    let found = of game replay good played own_mark in
+    let here : IsRecordListing aim packed lines = subst (λ (m : Mode). AreRecordLines m aim packed lines) list of in
+    let found = here game replay good played own_mark in
     let headed : AreListed aim packed.number packed.offset (heading_in parts) replay found.0 =
     subst (λ (heading : Heading). AreListed aim packed.number packed.offset heading replay found.0) (same_heading game game.at parts shows) found.1 in
     let numbered : AreListed aim number packed.offset (heading_in parts) replay found.0 = subst (λ (n : ℕ). AreListed aim n packed.offset (heading_in parts) replay found.0) packs.number headed in
@@ -68,33 +75,87 @@ game_rows aim name number offset parts own text (sound game replay packed good s
       sound_rows replay is marked,
       parted ∙ ap (λ t. lines ++ t) none ∙ append-nil lines ∙ found.2 ∙ ap (λ (title : Option (List ℕ)). listing title found.0) packs.name,
     )
-game_rows aim name number offset parts own text (faulty fault is none) listed = ([], faulty_rows fault is refl, subst (λ r. IsPackListing aim r text) none listed)
+game_rows aim list name number offset parts own text (faulty fault is none) listed = ([], faulty_rows fault is refl, subst (λ r. ArePackLines aim r text) none listed)
 
-piece_rows : (aim : Aim) (name : Option (List ℕ)) (kind : PieceKind) (number offset : ℕ) (own : List PackedGame) (text : List ℕ)
-    → ArePieceRecords name kind number offset own → IsPackListing aim own text
+piece_rows : (aim : Aim) → aim.mode ≡ modes.List → (name : Option (List ℕ)) (kind : PieceKind) (number offset : ℕ) (own : List PackedGame) (text : List ℕ)
+    → ArePieceRecords name kind number offset own → ArePackLines aim own text
     → (rows : List Entry) × ArePieceEntries aim kind number offset rows × (text ≡ listing name rows)
-piece_rows aim name (ReadableGame parts) number offset own text are listed = game_rows aim name number offset parts own text are listed
-piece_rows aim name (UnreadableRest bytes) number offset own text none listed = ([], refl, subst (λ r. IsPackListing aim r text) none listed)
-piece_rows aim name TooLongBlock number offset own text none listed = ([], refl, subst (λ r. IsPackListing aim r text) none listed)
+piece_rows aim list name (ReadableGame parts) number offset own text are listed = game_rows aim list name number offset parts own text are listed
+piece_rows aim list name (UnreadableRest bytes) number offset own text none listed = ([], refl, subst (λ r. ArePackLines aim r text) none listed)
+piece_rows aim list name TooLongBlock number offset own text none listed = ([], refl, subst (λ r. ArePackLines aim r text) none listed)
 
-all_rows : (aim : Aim) (name : Option (List ℕ)) (number : ℕ) (pieces : List MarkedPiece) (records : List PackedGame) (text : List ℕ)
-    → AreRecords name number pieces records → IsPackListing aim records text
+all_rows : (aim : Aim) → aim.mode ≡ modes.List → (name : Option (List ℕ)) (number : ℕ) (pieces : List MarkedPiece) (records : List PackedGame) (text : List ℕ)
+    → AreRecords name number pieces records → ArePackLines aim records text
     → (rows : List Entry) × AreEntryRows aim number pieces rows × (text ≡ listing name rows)
-all_rows aim name number [] records text none listed = ([], refl, subst (λ r. IsPackListing aim r text) none listed)
-all_rows aim name number (piece ∷ more) records text (own, rest, parted, here, others) listed =
-    let cut = listing_cut aim own rest text (subst (λ r. IsPackListing aim r text) parted listed) in
-    let first = piece_rows aim name piece.kind number piece.offset own cut.0 here cut.3 in
-    let later = all_rows aim name (number + 1) more rest cut.1 others cut.4 in (
+all_rows aim list name number [] records text none listed = ([], refl, subst (λ r. ArePackLines aim r text) none listed)
+all_rows aim list name number (piece ∷ more) records text (own, rest, parted, here, others) listed =
+    let cut = lines_cut aim own rest text (subst (λ r. ArePackLines aim r text) parted listed) in
+    let first = piece_rows aim list name piece.kind number piece.offset own cut.0 here cut.3 in
+    let later = all_rows aim list name (number + 1) more rest cut.1 others cut.4 in (
       first.0 ++ later.0,
       (first.0, later.0, refl, first.1, later.1),
       cut.2 ∙ ap (λ t. t ++ cut.1) first.2 ∙ ap (λ t. listing name first.0 ++ t) later.2 ∙ sym (listing-append name first.0 later.0),
     )
 
+-- the records of a pack are those of the text
+same_records : (aim : Aim) (whole : List ℕ) (records : List PackedGame) (text : List ℕ) → BeginsWithRecords aim whole records [] text
+    → (name : Option (List ℕ)) (number : ℕ) (pieces : List MarkedPiece) (pack : IsPackOf name number pieces whole) → pack.records ≡ records
+same_records aim whole records text read name number pieces pack = one_pack pack.records records pack.fit read.fit (sym pack.packed ∙ read.parted ∙ append-nil (pack_bytes records))
+
 -- whatever text the bytes are the pack of, what is listed of their records is its listing
-pub packed_listing : (aim : Aim) (whole : List ℕ) (records : List PackedGame) (text : List ℕ) → BeginsWithRecords aim whole records [] text
+pub packed_listing : (aim : Aim) → aim.mode ≡ modes.List → (whole : List ℕ) (records : List PackedGame) (text : List ℕ) → BeginsWithRecords aim whole records [] text
     → (name : Option (List ℕ)) (number : ℕ) (pieces : List MarkedPiece) → IsPackOf name number pieces whole
     → (entries : List Entry) → AreEntries aim number pieces entries → text ≡ listing name entries
-packed_listing aim whole records text read name number pieces pack entries are =
-    let same : pack.records ≡ records = one_pack pack.records records pack.fit read.fit (sym pack.packed ∙ read.parted ∙ append-nil (pack_bytes records)) in
-    let rows = all_rows aim name number pieces records text (subst (AreRecords name number pieces) same pack.are) read.listed in
+packed_listing aim list whole records text read name number pieces pack entries are =
+    let same = same_records aim whole records text read name number pieces pack in
+    let rows = all_rows aim list name number pieces records text (subst (AreRecords name number pieces) same pack.are) read.lines in
     rows.2 ∙ ap (listing name) (one_listing aim number pieces rows.0 entries (are_entries aim number pieces rows.0 rows.1) are)
+
+-- ---- the index
+
+-- the line of a piece in the index: its mark where it is a sound game, and else nothing
+abbrev IsPieceLine : Option (List ℕ) → ℕ → ℕ → PieceKind → List ℕ → Type 0
+IsPieceLine name number offset kind line =
+    (IsSoundPiece kind × (line ≡ mark_line name number offset)) ⊎ ((IsSoundPiece kind → ⊥) × (line ≡ []))
+
+game_line : (aim : Aim) → aim.mode ≡ modes.Index → (name : Option (List ℕ)) (number offset : ℕ) (parts : List Part) (own : List PackedGame) (text : List ℕ)
+    → AreGameRecords name number offset parts own → ArePackLines aim own text → IsPieceLine name number offset (ReadableGame parts) text
+game_line aim index name number offset parts own text (sound game replay packed good shows is packs one) lines =
+    let (line, others, parted, of, empty) = subst (λ r. ArePackLines aim r text) one lines in
+    let marked : line ≡ mark_line packed.name packed.number packed.offset = subst (λ (m : Mode). AreRecordLines m aim packed line) index of in
+    inl (
+      (replay, is),
+      parted ∙ ap (λ t. line ++ t) empty ∙ append-nil line ∙ marked ∙ ap (λ (title : Option (List ℕ)). mark_line title packed.number packed.offset) packs.name
+          ∙ ap (λ n. mark_line name n packed.offset) packs.number ∙ ap (λ o. mark_line name number o) packs.offset,
+    )
+game_line aim index name number offset parts own text (faulty fault is empty) lines =
+    inr (λ good. no_fault Main (first_tag fen_tag parts) (items_of parts) fault good is, subst (λ r. ArePackLines aim r text) empty lines)
+
+piece_line : (aim : Aim) → aim.mode ≡ modes.Index → (name : Option (List ℕ)) (kind : PieceKind) (number offset : ℕ) (own : List PackedGame) (text : List ℕ)
+    → ArePieceRecords name kind number offset own → ArePackLines aim own text → IsPieceLine name number offset kind text
+piece_line aim index name (ReadableGame parts) number offset own text are lines = game_line aim index name number offset parts own text are lines
+piece_line aim index name (UnreadableRest bytes) number offset own text empty lines = inr (λ no. no, subst (λ r. ArePackLines aim r text) empty lines)
+piece_line aim index name TooLongBlock number offset own text empty lines = inr (λ no. no, subst (λ r. ArePackLines aim r text) empty lines)
+
+-- the index of pieces, and of one more before them
+one_before : (name : Option (List ℕ)) (number : ℕ) (piece : MarkedPiece) (more : List MarkedPiece) (line text : List ℕ) → IsPieceLine name number piece.offset piece.kind line
+    → IsIndexOfSoundGames name (number + 1) more text → IsIndexOfSoundGames name number (piece ∷ more) (line ++ text)
+one_before name number piece more line text (inl (good, is)) rest =
+    subst (λ t. IsIndexOfSoundGames name number (piece ∷ more) (t ++ text)) (sym is) (keep number piece more text good rest)
+one_before name number piece more line text (inr (bad, is)) rest =
+    subst (λ t. IsIndexOfSoundGames name number (piece ∷ more) (t ++ text)) (sym is) (leave number piece more text bad rest)
+
+sound_index : (aim : Aim) → aim.mode ≡ modes.Index → (name : Option (List ℕ)) (number : ℕ) (pieces : List MarkedPiece) (records : List PackedGame) (text : List ℕ)
+    → AreRecords name number pieces records → ArePackLines aim records text → IsIndexOfSoundGames name number pieces text
+sound_index aim index name number [] records text empty lines = subst (IsIndexOfSoundGames name number []) (sym (subst (λ r. ArePackLines aim r text) empty lines)) (no_pieces number)
+sound_index aim index name number (piece ∷ more) records text (own, rest, parted, here, others) lines =
+    let cut = lines_cut aim own rest text (subst (λ r. ArePackLines aim r text) parted lines) in
+    subst (IsIndexOfSoundGames name number (piece ∷ more)) (sym cut.2)
+    (one_before name number piece more cut.0 cut.1 (piece_line aim index name piece.kind number piece.offset own cut.0 here cut.3)
+    (sound_index aim index name (number + 1) more rest cut.1 others cut.4))
+
+-- whatever text the bytes are the pack of, the marks of their records are the index of its sound games
+pub packed_index : (aim : Aim) → aim.mode ≡ modes.Index → (whole : List ℕ) (records : List PackedGame) (text : List ℕ) → BeginsWithRecords aim whole records [] text
+    → (name : Option (List ℕ)) (number : ℕ) (pieces : List MarkedPiece) → IsPackOf name number pieces whole → IsIndexOfSoundGames name number pieces text
+packed_index aim index whole records text read name number pieces pack =
+    sound_index aim index name number pieces records text (subst (AreRecords name number pieces) (same_records aim whole records text read name number pieces pack) pack.are) read.lines

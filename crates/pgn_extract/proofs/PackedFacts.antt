@@ -1,5 +1,5 @@
 -- A walk over the plies of a packed game shows the positions of its main line.
-use Rattle.std.proofs.Common.{◌≡◌, ℕ, suc, ◌+◌, ◌*◌, ◌≤◌, Bool, false, List, [], ◌∷◌, ◌++◌, length, drop, Some, refl, sym, ap, ◌∙◌, subst, append_assoc, append-nil, length-append, arith}
+use Rattle.std.proofs.Common.{◌≡◌, ◌⊎◌, ℕ, suc, ◌+◌, ◌*◌, ◌≤◌, Bool, inl, inr, false, List, [], ◌∷◌, ◌++◌, length, drop, Some, refl, sym, ap, ◌∙◌, subst, append_assoc, append-nil, length-append, arith}
 use Rattle.std.specs.Prelude.{◌==◌, ◌/◌, ◌%◌}
 use Rattle.std.specs.List.{slice_get}
 use Rattle.std.proofs.Math.ListN.{drop_of_length-le}
@@ -26,7 +26,9 @@ use Rattle.pgn_extract.specs.Finding.{AsksFor, Finds}
 use Rattle.pgn_extract.specs.GameReports.{AreListed}
 use Rattle.pgn_extract.specs.Listing.{Entry, listing}
 use Rattle.pgn_extract.specs.Packed.{PutsRecord, IsOfRecord, HasNoText, HasItsMarks, GoesOnSeen, ListsRecord}
-use Rattle.pgn_extract.specs.Searching.{IsOfNoGame}
+use Rattle.pgn_extract.specs.Searching.{AreRecordLines, IsOfNoGame, IsRecordListing}
+use Rattle.pgn_extract.specs.declared.settings.Mode.{Mode}
+use Rattle.pgn_extract.specs.declared.settings.Mode.TheVariants as modes
 use Rattle.pgn_extract.proofs.Found.{finds_none, finds_all, leaves_shut}
 
 -- ---- the start
@@ -155,29 +157,39 @@ next_ply here later (word ∷ words) (m ∷ moves) c more (n, rest, others, posi
           (subst (λ (cs : List PlyCode). AreCodes (after here m) moves cs) (sym (same_rest c d more left codes_is)) are);
     }
 
-pub walked_on : {aim : Aim} {number offset : ℕ} {game : GameText} {replay : Replay} {packed : PackedGame} {seen : Sight} {ply : ℕ} {old new next : List ℕ} {on still : Bool}
-    (asked : List (List (Condition (List ℕ)))) (c : PlyCode) (beyond : Sight) → IsWalkedTo aim number offset game replay packed seen ply old new on
-    → drop ply packed.plies ≡ c ∷ drop (ply + 1) packed.plies → AsksFor aim game asked → beyond ≡ stepped seen c
-    → GoesOnSeen aim number offset asked beyond (ply + 1) new next on still → IsWalkedTo aim number offset game replay packed beyond (ply + 1) old next still
-walked_on {aim} {number} {offset} {game} {replay} {packed} {seen} {ply} {old} {new} {next} {on} {still} asked c beyond at front asks step goes =
+pub walked_by : {aim : Aim} {number offset : ℕ} {game : GameText} {replay : Replay} {packed : PackedGame} {seen : Sight} {ply : ℕ} {old new next : List ℕ} {on still : Bool}
+    (c : PlyCode) → IsWalkedTo aim number offset game replay packed seen ply old new on → drop ply packed.plies ≡ c ∷ drop (ply + 1) packed.plies
+    → ((before : List State) (P : State) (rest : List State) → replay.positions ≡ before ++ P ∷ rest → length before ≡ ply + 1 → IsSightOf P (stepped seen c)
+    → Finds aim number offset game before old new on → Finds aim number offset game (before ++ P ∷ []) old next still)
+    → IsWalkedTo aim number offset game replay packed (stepped seen c) (ply + 1) old next still
+walked_by {aim} {number} {offset} {game} {replay} {packed} {seen} {ply} {old} {new} {next} {on} {still} c at front goes =
     let one = next_ply at.here at.later at.words at.moves c (drop (ply + 1) packed.plies) at.line (subst (AreCodes at.here at.moves) front at.codes) in
     let before = at.before ++ at.here ∷ [] in
     let count : length before ≡ ply + 1 = length-append at.before (at.here ∷ []) ∙ ap (λ n. n + 1) at.count in
-    let sight : IsSightOf (after at.here one.m) beyond =
-    subst (IsSightOf (after at.here one.m)) (sym step) (step_shows_next_position at.here one.m c seen one.legal one.code at.sight) in
+    let sight : IsSightOf (after at.here one.m) (stepped seen c) = step_shows_next_position at.here one.m c seen one.legal one.code at.sight in
+    let parts : replay.positions ≡ before ++ after at.here one.m ∷ one.rest =
+    at.parts ∙ ap (λ (ps : List State). at.before ++ at.here ∷ ps) one.parts ∙ sym (append_assoc at.before (at.here ∷ []) (after at.here one.m ∷ one.rest)) in
     record {
       before = before;
       here = after at.here one.m;
       later = one.rest;
       words = one.words;
       moves = one.moves;
-      parts = at.parts ∙ ap (λ (ps : List State). at.before ++ at.here ∷ ps) one.parts ∙ sym (append_assoc at.before (at.here ∷ []) (after at.here one.m ∷ one.rest));
+      parts = parts;
       count = count;
       sight = sight;
       line = one.line;
       codes = one.codes;
-      finds = goes game asks before (after at.here one.m) count sight old at.finds;
+      finds = goes before (after at.here one.m) one.rest parts count sight at.finds;
     }
+
+pub walked_on : {aim : Aim} {number offset : ℕ} {game : GameText} {replay : Replay} {packed : PackedGame} {seen : Sight} {ply : ℕ} {old new next : List ℕ} {on still : Bool}
+    (asked : List (List (Condition (List ℕ)))) (c : PlyCode) (beyond : Sight) → IsWalkedTo aim number offset game replay packed seen ply old new on
+    → drop ply packed.plies ≡ c ∷ drop (ply + 1) packed.plies → AsksFor aim game asked → beyond ≡ stepped seen c
+    → GoesOnSeen aim number offset asked beyond (ply + 1) new next on still → IsWalkedTo aim number offset game replay packed beyond (ply + 1) old next still
+walked_on {aim} {number} {offset} {game} {replay} {packed} {seen} {ply} {old} {new} {next} {on} {still} asked c beyond at front asks step goes =
+    subst (λ s. IsWalkedTo aim number offset game replay packed s (ply + 1) old next still) (sym step)
+    (walked_by c at front (λ before P rest parts count sight found. goes game asks before P count (subst (IsSightOf P) (sym step) sight) old found))
 
 -- ---- the end
 
@@ -218,17 +230,24 @@ appended_same : (old own other : List ℕ) → old ++ own ≡ old ++ other → o
 appended_same [] own other is = is
 appended_same (b ∷ old) own other is = appended_same old own other (same_rest b b (old ++ own) (old ++ other) is)
 
+-- outside the index the listing of a record is its lines
+listed_lines : (aim : Aim) (packed : PackedGame) (text : List ℕ) → (aim.mode ≡ modes.List) ⊎ (aim.mode ≡ modes.Export) → IsRecordListing aim packed text
+    → AreRecordLines aim.mode aim packed text
+listed_lines aim packed text (inl list) listed = subst (λ (m : Mode). AreRecordLines m aim packed text) (sym list) listed
+listed_lines aim packed text (inr export) listed = subst (λ (m : Mode). AreRecordLines m aim packed text) (sym export) listed
+
 -- the lines of each game that has the record are the lines of the record
-pub puts_record : (aim : Aim) (raw : RawRecord) (old new : List ℕ) → ListsRecord aim raw old new → PutsRecord aim raw old new
-puts_record aim raw old new lists = (
+pub puts_record : (aim : Aim) (raw : RawRecord) (old new : List ℕ) → (aim.mode ≡ modes.List) ⊎ (aim.mode ≡ modes.Export) → ListsRecord aim raw old new
+    → PutsRecord aim raw old new
+puts_record aim raw old new mode lists = (
   lists.0.0,
   lists.0.1,
-  λ packed fits shows game replay text is_replay kept.
+  λ packed fits shows. listed_lines aim packed lists.0.0 mode (λ game replay text is_replay kept.
       let own : IsOfRecord raw game replay packed = record { fits = fits; shows = shows; text = text; is_replay = is_replay; kept = kept } in
       let of = lists.1 game replay packed own in
       let there : (entries : List Entry) × AreListed aim (raw_of packed).number (raw_of packed).offset (heading_of game) replay entries × (new ≡ old ++ listing (raw_of packed).name entries) =
       subst (λ (r : RawRecord). (entries : List Entry) × AreListed aim r.number r.offset (heading_of game) replay entries × (new ≡ old ++ listing r.name entries)) (sym shows) of in
-      (there.0, there.1, appended_same old lists.0.0 (listing packed.name there.0) (sym lists.0.1 ∙ there.2)),
+      (there.0, there.1, appended_same old lists.0.0 (listing packed.name there.0) (sym lists.0.1 ∙ there.2))),
 )
 
 -- and where there is no such game, the record is that of none

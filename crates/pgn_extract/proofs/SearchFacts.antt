@@ -1,5 +1,5 @@
 -- How far a search of a pack has come, and what stands where it ends.
-use Rattle.std.proofs.Common.{◌≡◌, ◌≢◌, ℕ, ◌+◌, ◌<◌, ◌≤◌, Bool, inl, inr, List, [], ◌∷◌, ◌++◌, length, take, Option, Some, None, Ok, Err, refl, sym, ap, ◌∙◌, subst, append_assoc, append-nil, length-append, arith}
+use Rattle.std.proofs.Common.{◌≡◌, ◌≢◌, ℕ, ◌+◌, ◌≤◌, Bool, inl, inr, List, [], ◌∷◌, ◌++◌, length, take, Option, Some, None, Ok, Err, refl, sym, ap, ◌∙◌, subst, append_assoc, append-nil, length-append, arith}
 use Rattle.std.specs.Prelude.{IfSome}
 use Rattle.std.specs.Io.KnownBytes.{Appends, Consumes, IsAtEnd}
 use Rattle.std.specs.List.{AllByRecursion}
@@ -7,7 +7,7 @@ use Rattle.std.proofs.KnownBytes.{Appends-nil, Appends-trans, Consumes-nil, Cons
 use Rattle.std.proofs.lemmas.List.Concat.{flat_map-cons, flat_map-append}
 use Rattle.std.proofs.Math.Seq.{take-append-add, take-length}
 use Rattle.pgn_text.specs.Limits.{largest_offset}
-use Rattle.pgn_game.specs.PackStreams.{Window, fresh_window, HasNoRecord, PassesOn, StepGives}
+use Rattle.pgn_game.specs.PackStreams.{Window, fresh_window, HasNoRecord, BreaksOff, IsPastEnd, PassesOn, StepGives}
 use Rattle.pgn_game.specs.PackedGames.{PackedGame, FitsRecord, record_bytes, pack_bytes}
 use Rattle.pgn_game.specs.declared.pack.records.RecordsError.{RecordsError}
 use Rattle.pgn_game.specs.declared.pack.records.RecordsError.TheVariants as cause
@@ -15,10 +15,10 @@ use Rattle.pgn_game.proofs.PackOnce.{one_record}
 use Rattle.pgn_game.proofs.PackStreamFacts.{record_size}
 use Rattle.pgn_extract.specs.Aims.{Aim}
 use Rattle.pgn_extract.specs.Outcomes.{AppendsFront}
-use Rattle.pgn_extract.specs.Searching.{IsRecordListing, IsOfNoGame, HasNoGame, BeginsWithRecords, Searches, ListsWhatWasPacked, StopsAtBytes, StopsAfter, StopsWithin, StopsSearch, IsSearch}
+use Rattle.pgn_extract.specs.Searching.{AreRecordLines, IsOfNoGame, HasNoGame, BeginsWithRecords, Searches, ListsWhatWasPacked, IndexesWhatWasPacked, StopsAtBytes, StopsAtLimit, StopsAtRead, StopsWithin, StopsSearch, IsSearch}
 use Rattle.pgn_extract.specs.SearchSteps.{HasSearched, PutsRest, PutsSome, search_error_of}
 use Rattle.pgn_extract.specs.declared.searching.SearchError.{SearchError}
-use Rattle.pgn_extract.proofs.PackListed.{one_more_listed, packed_listing}
+use Rattle.pgn_extract.proofs.PackListed.{one_more_record, packed_listing, packed_index}
 
 -- what holds of the bytes that are read and those that are left holds of the whole
 of_whole : (left left' : Option (List ℕ)) (read : List ℕ) (Q : List ℕ → Type 0) → Consumes left left' read
@@ -53,7 +53,7 @@ searched_none aim left out = record {
   place = refl;
   small = omega arith;
   all = [];
-  listed = refl;
+  lines = refl;
   put = [];
   written = Appends-nil out;
   gathered = refl;
@@ -68,7 +68,7 @@ module _ {aim : Aim} {old : Window} {left left' out out' : Option (List ℕ)} {t
 
   -- one record more is read, and its lines are gathered
   pub searched_more : (new : Window) (left'' : Option (List ℕ)) (game : PackedGame) (gathered own : List ℕ) → PassesOn old new left' left'' → FitsRecord game → new.current ≡ record_bytes game
-      → new.place ≡ old.place + length old.current → new.place + length new.current ≤ largest_offset → gathered ≡ text ++ own → IsRecordListing aim game own
+      → new.place ≡ old.place + length old.current → new.place + length new.current ≤ largest_offset → gathered ≡ text ++ own → AreRecordLines aim.mode aim game own
       → HasSearched aim new left left'' out out' gathered (count + 1)
   searched_more new left'' game gathered own passes fits current place small added of =
       let whole : pack_bytes (on.before ++ game ∷ []) ≡ pack_bytes on.before ++ new.current = one_more on.before game ∙ ap (λ b. pack_bytes on.before ++ b) (sym current) in
@@ -81,7 +81,7 @@ module _ {aim : Aim} {old : Window} {left left' out out' : Option (List ℕ)} {t
         place = (let p = on.place in omega (arith, size, place));
         small = small;
         all = on.all ++ own;
-        listed = one_more_listed aim on.before game on.all own on.listed of;
+        lines = one_more_record aim on.before game on.all own on.lines of;
         put = on.put;
         written = on.written;
         gathered = ap (λ t. t ++ own) on.gathered ∙ append_assoc on.put text own ∙ ap (λ t. on.put ++ t) (sym added);
@@ -97,7 +97,7 @@ module _ {aim : Aim} {old : Window} {left left' out out' : Option (List ℕ)} {t
     place = on.place;
     small = on.small;
     all = on.all;
-    listed = on.listed;
+    lines = on.lines;
     put = on.put ++ put;
     written = Appends-trans out out' out'' on.put put on.written written;
     gathered = on.gathered ∙ ap (λ t. on.put ++ t) parted ∙ sym (append_assoc on.put put rest);
@@ -114,27 +114,35 @@ module _ {aim : Aim} {old : Window} {left left' out out' : Option (List ℕ)} {t
   all_written out'' last = subst (Appends out out'') (sym on.gathered) (Appends-trans out out' out'' on.put text on.written last)
 
   pub ends_well : (new : Window) (left'' out'' : Option (List ℕ)) → PassesOn old new left' left'' → new.current ≡ [] → new.ahead ≡ [] → IsAtEnd left'' → Appends out' out'' text
-      → IsSearch aim left out out'' (Ok (record { records = count }))
+      → IsSearch aim left left'' out out'' (Ok (record { records = count }))
   ends_well new left'' out'' passes no_current no_ahead end last =
       let empty : pack_bytes on.before ++ (new.current ++ new.ahead) ≡ pack_bytes on.before ++ [] = ap (λ b. pack_bytes on.before ++ b) (ap (λ c. c ++ new.ahead) no_current ∙ no_ahead) in
       let taken : Consumes left left'' (pack_bytes on.before ++ []) = subst (Consumes left left'') empty (read_on new left'' passes) in
-      let read : BeginsWithRecords aim (pack_bytes on.before ++ []) on.before [] on.all = record { fit = on.fit; parted = refl; listed = on.listed } in
+      let read : BeginsWithRecords aim (pack_bytes on.before ++ []) on.before [] on.all = record { fit = on.fit; parted = refl; lines = on.lines } in
       let all = all_written out'' last in
       record {
         done = Consumes-whole left left'' (pack_bytes on.before ++ []) (λ whole. Searches aim whole out out'' (record { records = count })) taken end
             (record { records = on.before; text = on.all; read = read; counted = on.counted; written = all });
         lists = Consumes-whole left left'' (pack_bytes on.before ++ []) (λ whole. ListsWhatWasPacked aim whole out out'') taken end
-            (λ name number pieces pack entries are. subst (Appends out out'') (packed_listing aim (pack_bytes on.before ++ []) on.before on.all read name number pieces pack entries are) all);
+            (λ list name number pieces pack entries are. subst (Appends out out'') (packed_listing aim list (pack_bytes on.before ++ []) on.before on.all read name number pieces pack entries are) all);
+        indexes = Consumes-whole left left'' (pack_bytes on.before ++ []) (λ whole. IndexesWhatWasPacked aim whole out out'') taken end
+            (λ index name number pieces pack. (on.all, packed_index aim index (pack_bytes on.before ++ []) on.before on.all read name number pieces pack, all));
         stopped = tt;
       }
 
-  pub stops_after : (out'' : Option (List ℕ)) → Appends out' out'' text → IfSome left (λ whole. StopsAfter aim whole out out'')
-  stops_after out'' last =
-      of_whole left left' (pack_bytes on.before ++ old.ahead) (λ whole. StopsAfter aim whole out out'') on.bytes (λ rest is. record {
+  stops_at_read : (left'' out'' : Option (List ℕ)) → BreaksOff old left' left'' → Appends out' out'' text → IfSome left (λ whole. StopsAtRead aim whole left'' out out'')
+  stops_at_read left'' out'' off last =
+      let taken : List ℕ = pack_bytes on.before ++ (old.ahead ++ off.read) in
+      of_whole left left'' taken (λ whole. StopsAtRead aim whole left'' out out'')
+      (subst (Consumes left left'') (append_assoc (pack_bytes on.before) old.ahead off.read) (Consumes-trans left left' left'' (pack_bytes on.before ++ old.ahead) off.read on.bytes off.bytes))
+      (λ rest is. record {
+        taken = taken;
+        bytes = subst (λ (l : Option (List ℕ)). Consumes (Some (taken ++ rest)) l taken) (sym is) refl;
         before = on.before;
-        rest = old.ahead ++ rest;
+        rest = old.ahead ++ off.read;
         text = on.all;
-        read = record { fit = on.fit; parted = append_assoc (pack_bytes on.before) old.ahead rest; listed = on.listed };
+        read = record { fit = on.fit; parted = refl; lines = on.lines };
+        none = off.none;
         written = all_written out'' last;
       })
 
@@ -144,7 +152,7 @@ module _ {aim : Aim} {old : Window} {left left' out out' : Option (List ℕ)} {t
         before = on.before;
         rest = old.ahead ++ rest;
         text = on.all;
-        read = record { fit = on.fit; parted = append_assoc (pack_bytes on.before) old.ahead rest; listed = on.listed };
+        read = record { fit = on.fit; parted = append_assoc (pack_bytes on.before) old.ahead rest; lines = on.lines };
         written = (
           length on.put + size,
           subst (Appends out out'') (sym (ap (take (length on.put + size)) on.gathered ∙ take-append-add on.put text size))
@@ -164,7 +172,7 @@ module _ {aim : Aim} {old : Window} {left left' out out' : Option (List ℕ)} {t
         before = on.before;
         rest = (new.current ++ new.ahead) ++ rest;
         text = on.all;
-        read = record { fit = on.fit; parted = append_assoc (pack_bytes on.before) (new.current ++ new.ahead) rest; listed = on.listed };
+        read = record { fit = on.fit; parted = append_assoc (pack_bytes on.before) (new.current ++ new.ahead) rest; lines = on.lines };
         place = place ∙ on.place;
         some = (bad rest is).0;
         bad = (bad rest is).1;
@@ -181,33 +189,34 @@ module _ {aim : Aim} {old : Window} {left left' out out' : Option (List ℕ)} {t
         λ packed more own e. subst IsOfNoGame (one_record game packed (new.ahead ++ rest) more fits own (sym front ∙ e)).0 none,
       ))
 
+  -- the record in front of what is held ends past the largest offset
+  stops_at_limit : (new : Window) (left'' out'' : Option (List ℕ)) → PassesOn old new left' left'' → new.current ≡ [] → IsPastEnd new → new.place ≡ old.place + length old.current
+      → Appends out' out'' text → IfSome left (λ whole. StopsAtLimit aim whole out out'')
+  stops_at_limit new left'' out'' passes none (front, rest, (next, fits, spelled), parted, far) place last =
+      let p = on.place in
+      let ahead : new.current ++ new.ahead ≡ record_bytes next ++ rest = ap (λ c. c ++ new.ahead) none ∙ parted ∙ ap (λ f. f ++ rest) spelled in
+      of_whole left left'' (pack_bytes on.before ++ (new.current ++ new.ahead)) (λ whole. StopsAtLimit aim whole out out'') (read_on new left'' passes) (λ more is. record {
+        before = on.before;
+        next = next;
+        rest = rest ++ more;
+        text = on.all;
+        read = record {
+          fit = on.fit;
+          parted = append_assoc (pack_bytes on.before) (new.current ++ new.ahead) more
+              ∙ ap (λ b. pack_bytes on.before ++ b) (ap (λ a. a ++ more) ahead ∙ append_assoc (record_bytes next) rest more);
+          lines = on.lines;
+        };
+        fits = fits;
+        far = omega (arith, far, place, p, ap length spelled);
+        written = all_written out'' last;
+      })
+
   -- what stands where a step fails
   pub stops_at_step : (new : Window) (left'' out'' : Option (List ℕ)) (error : RecordsError) → StepGives old new left' left'' (Err error) → new.place ≡ old.place + length old.current
-      → Appends out' out'' text → IfSome left (λ whole. StopsSearch (search_error_of error new.place) aim whole out out'')
-  stops_at_step new left'' out'' cause.Read gives place last = stops_after out'' last
+      → Appends out' out'' text → IfSome left (λ whole. StopsSearch (search_error_of error new.place) aim whole left'' out out'')
+  stops_at_step new left'' out'' cause.Read off place last = stops_at_read left'' out'' off last
   stops_at_step new left'' out'' cause.OutOfMemory gives place last = within out'' last
-  stops_at_step new left'' out'' cause.InputTooLong (passes, none, (front, rest, is_record, parted, far)) place last =
-      of_whole left left'' (pack_bytes on.before ++ (new.current ++ new.ahead)) (λ whole. (largest_offset < length whole) × StopsAfter aim whole out out'')
-      (read_on new left'' passes) (λ more is. (
-        let p = on.place in
-            omega (
-              arith,
-              far,
-              place,
-              length-append (pack_bytes on.before ++ (new.current ++ new.ahead)) more,
-              length-append (pack_bytes on.before) (new.current ++ new.ahead),
-              length-append new.current new.ahead,
-              ap length parted,
-              length-append front rest,
-            ),
-        record {
-          before = on.before;
-          rest = (new.current ++ new.ahead) ++ more;
-          text = on.all;
-          read = record { fit = on.fit; parted = append_assoc (pack_bytes on.before) (new.current ++ new.ahead) more; listed = on.listed };
-          written = all_written out'' last;
-        },
-      ))
+  stops_at_step new left'' out'' cause.InputTooLong (passes, none, past) place last = stops_at_limit new left'' out'' passes none past place last
   stops_at_step new left'' out'' cause.BadPack (passes, none, bad) place last =
       stops_at new left'' out'' passes place last (λ rest is.
       let same : (new.current ++ new.ahead) ++ rest ≡ new.ahead ++ rest = ap (λ c. (c ++ new.ahead) ++ rest) none in
@@ -219,15 +228,17 @@ module _ {aim : Aim} {old : Window} {left left' out out' : Option (List ℕ)} {t
   stops_here = stops_within out' (0, Appends-nil out')
 
 -- a search that stops
-pub stopped : {aim : Aim} {left out out' : Option (List ℕ)} (error : SearchError) → IfSome left (λ whole. StopsSearch error aim whole out out') → IsSearch aim left out out' (Err error)
-stopped error stands = record { done = tt; lists = tt; stopped = stands }
+pub stopped : {aim : Aim} {left left' out out' : Option (List ℕ)} (error : SearchError) → IfSome left (λ whole. StopsSearch error aim whole left' out out')
+    → IsSearch aim left left' out out' (Err error)
+stopped error stands = record { done = tt; lists = tt; indexes = tt; stopped = stands }
 
 -- a search that stops writes the rest of the lines first
 pub stopped_after : {aim : Aim} {old : Window} {left left' out out' : Option (List ℕ)} {text : List ℕ} {count : ℕ} (on : HasSearched aim old left left' out out' text count)
-    (error result : SearchError) (out'' : Option (List ℕ)) (faulted : Bool) (gathered : List ℕ) → gathered ≡ text → PutsRest error out' out'' faulted gathered result
-    → (Appends out' out'' text → IfSome left (λ whole. StopsSearch error aim whole out out'')) → IsSearch aim left out out'' (Err result)
-stopped_after {aim} {old} {left} {left'} {out} {out'} on error result out'' faulted gathered same (inl (is, sound, put)) stands =
-    stopped result (subst (λ (e : SearchError). IfSome left (λ whole. StopsSearch e aim whole out out'')) (sym is) (stands (subst (Appends out' out'') same put)))
-stopped_after {aim} {old} {left} {left'} {out} {out'} on error result out'' faulted gathered same (inr (is, failed, front)) stands =
+    (left'' : Option (List ℕ)) (error result : SearchError) (out'' : Option (List ℕ)) (faulted : Bool) (gathered : List ℕ) → gathered ≡ text
+    → PutsRest error out' out'' faulted gathered result
+    → (Appends out' out'' text → IfSome left (λ whole. StopsSearch error aim whole left'' out out'')) → IsSearch aim left left'' out out'' (Err result)
+stopped_after {aim} {old} {left} {left'} {out} {out'} on left'' error result out'' faulted gathered same (inl (is, sound, put)) stands =
+    stopped result (subst (λ (e : SearchError). IfSome left (λ whole. StopsSearch e aim whole left'' out out'')) (sym is) (stands (subst (Appends out' out'') same put)))
+stopped_after {aim} {old} {left} {left'} {out} {out'} on left'' error result out'' faulted gathered same (inr (is, failed, front)) stands =
     stopped result
-    (subst (λ (e : SearchError). IfSome left (λ whole. StopsSearch e aim whole out out'')) (sym is) (stops_within on out'' (subst (AppendsFront out' out'') same front)))
+    (subst (λ (e : SearchError). IfSome left (λ whole. StopsSearch e aim whole left'' out out'')) (sym is) (stops_within on out'' (subst (AppendsFront out' out'') same front)))

@@ -24,7 +24,7 @@ use Rattle.pgn_extract.proofs.PackedFacts.{begins, first_is, kept_start, same_st
 use Rattle.pgn_extract.proofs.Picks.{leaves_all}
 
 -- the bytes of codes spell these codes
-codes_again : (cs : List PlyCode) → AllByRecursion FitsCode cs → codes_in (flat_map code_bytes cs) ≡ cs
+pub codes_again : (cs : List PlyCode) → AllByRecursion FitsCode cs → codes_in (flat_map code_bytes cs) ≡ cs
 codes_again [] fits = refl
 codes_again (c ∷ cs) fits = ap (λ (d : PlyCode). d ∷ codes_in (flat_map code_bytes cs)) (code_again c fits.0) ∙ ap (λ (ds : List PlyCode). c ∷ ds) (codes_again cs fits.1)
 

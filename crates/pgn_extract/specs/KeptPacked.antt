@@ -1,14 +1,12 @@
 -- Private words: the entries of a packed game whose line is replayed and kept.
-use Rattle.std.specs.Prelude.{◌≡◌, ℕ, Bool, List}
+use Rattle.std.specs.Prelude.{◌≡◌}
 use Rattle.chess.specs.Positions.{State}
 use Rattle.pgn_text.specs.GameTexts.{tag_in}
 use Rattle.pgn_game.specs.CodeLines.{IsLegalLine}
 use Rattle.pgn_game.specs.PackReading.{RawRecord}
 use Rattle.pgn_game.specs.Replays.{Replay}
 use Rattle.pgn_game.specs.Starts.{fen_tag, IsStart}
-use Rattle.pgn_extract.specs.Aims.{Aim}
-use Rattle.pgn_extract.specs.Finding.{GoesOnAt}
-use Rattle.pgn_extract.specs.Packed.{EachOfRecord, Grows, record_aim}
+use Rattle.pgn_extract.specs.Packed.{EachOfRecord}
 
 -- each game that has the record starts from this position
 abbrev pub IsStartOf : RawRecord → State → Type 0
@@ -19,7 +17,3 @@ pub record IsKeptOf (raw : RawRecord) (kept : Replay) : Type 0 where
   pub start : State
   pub line : IsLegalLine start kept
   pub same : EachOfRecord raw (λ game replay packed. replay ≡ kept)
-
--- the text grew, and after so many plies, of which it is said whether they are met, no entry is left out
-abbrev pub GoesOnKept : Aim → RawRecord → Replay → ℕ → Bool → List ℕ → List ℕ → Bool → Bool → Type 0
-GoesOnKept aim raw kept ply met old new on still = Grows old new × GoesOnAt (record_aim aim raw) raw.number raw.offset kept ply met old new on still

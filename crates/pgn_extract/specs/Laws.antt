@@ -73,15 +73,15 @@ TextHasOneExport =
     (aim : Aim) (number : ℕ) (pieces : List MarkedPiece) (text other : List ℕ)
     → AreExports aim number pieces text → AreExports aim number pieces other → text ≡ other
 
--- a run packs each sound game of its input, and answers `Ok`. A search of what it wrote that answers `Ok` writes the listing of the input
+-- a run packs each sound game of its input, and answers `Ok`. A search of what it wrote that lists and answers `Ok` writes the listing of the input
 abbrev pub PackIsListedAsItsText : Type 0
 PackIsListedAsItsText =
     (packing : Settings) (io : Io) (summary : Summary) (whole : List ℕ)
     → packing.mode ≡ modes.Export → PacksAll (aim_of packing) → IfSome packing.name (λ name. length name ≤ longest_name)
     → packing.number ≤ 2 ^ 62 → packing.offset ≤ largest_offset → io.input.old.bytes ≡ Some whole → IsRun (job_of packing) io (Ok summary)
     → (pieces : List MarkedPiece) × (bytes : List ℕ) × ArePieces (job_of packing) whole pieces × Adds io.out bytes
-    × ((aim : Aim) (out out' : Option (List ℕ)) (searched : Searched) (entries : List Entry) → IsSearch aim (Some bytes) out out' (Ok searched)
-    → AreEntries aim packing.number pieces entries → Appends out out' (listing packing.name entries))
+    × ((aim : Aim) (left out out' : Option (List ℕ)) (searched : Searched) (entries : List Entry) → aim.mode ≡ modes.List
+    → IsSearch aim (Some bytes) left out out' (Ok searched) → AreEntries aim packing.number pieces entries → Appends out out' (listing packing.name entries))
 
 -- the aim that asks for all entries of each game, or for the first alone
 abbrev pub with_first : Bool → Aim → Aim

@@ -19,6 +19,7 @@ pub mod Finding
 pub mod Packed
 pub mod SearchSteps
 pub mod KeptPacked
+pub mod MarkedPacked
 pub mod RunParts
 pub mod NoteTexts
 pub mod MoveNotes

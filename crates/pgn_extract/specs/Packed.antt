@@ -1,4 +1,4 @@
--- The lines of a packed game: those of the entries of the text that it was packed from.
+-- The lines of a packed game: in the mode of the index its mark, else those of the entries of the text that it was packed from.
 use Rattle.std.specs.Prelude.{◌≡◌, ◌++◌, ◌∷◌, ℕ, Bool, List, [], length, Some, ◌==◌, ◌/◌, ◌%◌}
 use Rattle.std.specs.List.{slice_get}
 use Rattle.chess.specs.Positions.{State}
@@ -16,12 +16,12 @@ use Rattle.pgn_extract.specs.Aims.{Aim}
 use Rattle.pgn_extract.specs.Finding.{AsksFor, Finds}
 use Rattle.pgn_extract.specs.GameReports.{AreListed}
 use Rattle.pgn_extract.specs.Listing.{Entry, listing}
-use Rattle.pgn_extract.specs.Searching.{IsRecordListing, IsOfNoGame}
+use Rattle.pgn_extract.specs.Searching.{AreRecordLines, IsOfNoGame}
 
 -- the lines of a record are added to the text, of whatever packed game it is
 abbrev pub PutsRecord : Aim → RawRecord → List ℕ → List ℕ → Type 0
 PutsRecord aim raw old new =
-    (own : List ℕ) × (new ≡ old ++ own) × ((packed : PackedGame) → FitsRecord packed → raw_of packed ≡ raw → IsRecordListing aim packed own)
+    (own : List ℕ) × (new ≡ old ++ own) × ((packed : PackedGame) → FitsRecord packed → raw_of packed ≡ raw → AreRecordLines aim.mode aim packed own)
 
 -- no game has the record, and the text stays as it was
 abbrev pub LeavesRecord : RawRecord → List ℕ → List ℕ → Type 0

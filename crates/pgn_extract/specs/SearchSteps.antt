@@ -9,11 +9,11 @@ use Rattle.pgn_game.specs.declared.pack.records.RecordsError.{RecordsError}
 use Rattle.pgn_game.specs.declared.pack.records.RecordsError.TheVariants as cause
 use Rattle.pgn_extract.specs.Aims.{Aim}
 use Rattle.pgn_extract.specs.Outcomes.{AppendsFront}
-use Rattle.pgn_extract.specs.Searching.{IsPackListing}
+use Rattle.pgn_extract.specs.Searching.{ArePackLines}
 use Rattle.pgn_extract.specs.declared.searching.SearchError.{SearchError}
 use Rattle.pgn_extract.specs.declared.searching.SearchError.TheVariants.{Read, Write, OutOfMemory, InputTooLong, BadPack}
 
--- these records are read, the last of them the one that is held; their listing is written in part, and the text has the rest of it
+-- these records are read, the last of them the one that is held; their lines are written in part, and the text has the rest of them
 pub record HasSearched (aim : Aim) (window : Window) (left left' out out' : Option (List ℕ)) (text : List ℕ) (count : ℕ) : Type 0 where
   pub before : List PackedGame
   pub fit : AllByRecursion FitsRecord before
@@ -22,7 +22,7 @@ pub record HasSearched (aim : Aim) (window : Window) (left left' out out' : Opti
   pub place : window.place + length window.current ≡ length (pack_bytes before)
   pub small : window.place + length window.current ≤ largest_offset
   pub all : List ℕ
-  pub listed : IsPackListing aim before all
+  pub lines : ArePackLines aim before all
   pub put : List ℕ
   pub written : Appends out out' put
   pub gathered : all ≡ put ++ text

@@ -1,6 +1,6 @@
--- The search of a pack: what is written of it is the listing of the text that was packed.
-use Rattle.std.specs.Prelude.{◌≡◌, ◌≢◌, ℕ, ◌+◌, ◌^◌, ◌<◌, ◌≤◌, List, [], ◌∷◌, ◌++◌, length, Option, None, Result, IfSome, IfOk, IfErr}
-use Rattle.std.specs.Io.KnownBytes.{Appends}
+-- The search of a pack: what is written of it is the listing of the text that was packed, or the marks of its sound games.
+use Rattle.std.specs.Prelude.{◌≡◌, ◌≢◌, ℕ, ◌+◌, ◌^◌, ◌<◌, ◌≤◌, List, [], ◌∷◌, ◌++◌, length, Option, None, Some, Result, IfSome, IfOk, IfErr}
+use Rattle.std.specs.Io.KnownBytes.{Appends, Consumes}
 use Rattle.std.specs.List.{AllByRecursion}
 use Rattle.pgn_text.specs.GameTexts.{GameText, IsGameText, ShowsGame, tag_in}
 use Rattle.pgn_text.specs.Limits.{block_limit, depth_limit, largest_offset}
@@ -8,13 +8,17 @@ use Rattle.pgn_text.specs.Marks.{PieceKind, ReadableGame, UnreadableRest, TooLon
 use Rattle.pgn_text.specs.Parts.{Part}
 use Rattle.pgn_game.specs.Faults.{Fault}
 use Rattle.pgn_game.specs.PackedGames.{PackedGame, FitsRecord, IsPacked, record_bytes, pack_bytes, longest_name}
+use Rattle.pgn_game.specs.PackStreams.{HasNoRecord}
 use Rattle.pgn_game.specs.Replays.{Replay, IsReplay}
 use Rattle.pgn_game.specs.Starts.{fen_tag}
 use Rattle.pgn_game.specs.declared.replayer.Lines.TheVariants.{Main}
 use Rattle.pgn_criteria.specs.Meeting.{heading_of}
 use Rattle.pgn_extract.specs.Aims.{Aim}
 use Rattle.pgn_extract.specs.Exports.{AreExports}
+use Rattle.pgn_extract.specs.Index.{mark_line}
 use Rattle.pgn_extract.specs.declared.settings.Form.TheVariants.{Record}
+use Rattle.pgn_extract.specs.declared.settings.Mode.{Mode}
+use Rattle.pgn_extract.specs.declared.settings.Mode.TheVariants as modes
 use Rattle.pgn_extract.specs.declared.settings.Select.TheVariants.{Matching}
 use Rattle.pgn_extract.specs.GameReports.{AreListed, IsReplayOf, IsFaultOf}
 use Rattle.pgn_extract.specs.Listing.{Entry, AreEntries, listing}
@@ -75,12 +79,18 @@ PackedTextIsAPack =
 
 -- What is found in a pack.
 
--- the lines of a record: of whatever game it is kept, those of the entries of that game
+-- the listing of a record: of whatever game it is kept, the lines of the entries of that game
 abbrev pub IsRecordListing : Aim → PackedGame → List ℕ → Type 0
 IsRecordListing aim packed text =
     (game : GameText) (replay : Replay) → IsGameText game → IsReplay Main (tag_in fen_tag game.tags) game.elements replay
     → IsPacked packed.name packed.number packed.offset game replay packed
     → (entries : List Entry) × AreListed aim packed.number packed.offset (heading_of game) replay entries × (text ≡ listing packed.name entries)
+
+-- the lines of a record in a mode: in that of the index its mark, else its listing
+abbrev pub AreRecordLines : Mode → Aim → PackedGame → List ℕ → Type 0
+AreRecordLines modes.Index aim packed text = text ≡ mark_line packed.name packed.number packed.offset
+AreRecordLines modes.List aim packed text = IsRecordListing aim packed text
+AreRecordLines modes.Export aim packed text = IsRecordListing aim packed text
 
 -- no game has the record
 abbrev pub IsOfNoGame : PackedGame → Type 0
@@ -93,20 +103,20 @@ abbrev pub HasNoGame : List ℕ → Type 0
 HasNoGame bytes = (packed : PackedGame) (rest : List ℕ) → FitsRecord packed → bytes ≡ record_bytes packed ++ rest → IsOfNoGame packed
 
 -- the lines of records: those of the first, and then those of the others
-abbrev pub IsPackListing : Aim → List PackedGame → List ℕ → Type 0
-IsPackListing aim [] text = text ≡ []
-IsPackListing aim (packed ∷ more) text =
-    (own : List ℕ) × (rest : List ℕ) × (text ≡ own ++ rest) × IsRecordListing aim packed own × IsPackListing aim more rest
+abbrev pub ArePackLines : Aim → List PackedGame → List ℕ → Type 0
+ArePackLines aim [] text = text ≡ []
+ArePackLines aim (packed ∷ more) text =
+    (own : List ℕ) × (rest : List ℕ) × (text ≡ own ++ rest) × AreRecordLines aim.mode aim packed own × ArePackLines aim more rest
 
--- the bytes begin with these records, and this is their listing
+-- the bytes begin with these records, and these are their lines
 pub record BeginsWithRecords (aim : Aim) (whole : List ℕ) (before : List PackedGame) (rest text : List ℕ) : Type 0 where
   pub fit : AllByRecursion FitsRecord before
   pub parted : whole ≡ pack_bytes before ++ rest
-  pub listed : IsPackListing aim before text
+  pub lines : ArePackLines aim before text
 
 -- What stands at the end of a search.
 
--- at `Ok`: all bytes are records, each is counted, and their listing is written
+-- at `Ok`: all bytes are records, each is counted, and their lines are written
 pub record Searches (aim : Aim) (whole : List ℕ) (out out' : Option (List ℕ)) (searched : Searched) : Type 0 where
   pub records : List PackedGame
   pub text : List ℕ
@@ -114,13 +124,33 @@ pub record Searches (aim : Aim) (whole : List ℕ) (out out' : Option (List ℕ)
   pub counted : searched.records ≡ length records
   pub written : Appends out out' text
 
--- so of whatever text the bytes are the pack, its listing is written
+-- so in the mode of the listing, of whatever text the bytes are the pack, its listing is written
 abbrev pub ListsWhatWasPacked : Aim → List ℕ → Option (List ℕ) → Option (List ℕ) → Type 0
 ListsWhatWasPacked aim whole out out' =
-    (name : Option (List ℕ)) (number : ℕ) (pieces : List MarkedPiece) → IsPackOf name number pieces whole
+    aim.mode ≡ modes.List → (name : Option (List ℕ)) (number : ℕ) (pieces : List MarkedPiece) → IsPackOf name number pieces whole
     → (entries : List Entry) → AreEntries aim number pieces entries → Appends out out' (listing name entries)
 
--- where something is the record of no game: it stands after records of so many bytes, whose listing is written
+-- the piece is a game whose main line is sound
+abbrev pub IsSoundPiece : PieceKind → Type 0
+IsSoundPiece (ReadableGame parts) = (replay : Replay) × IsReplayOf Main parts replay
+IsSoundPiece (UnreadableRest bytes) = ⊥
+IsSoundPiece TooLongBlock = ⊥
+
+-- the index of the sound games among pieces that are numbered from a number on
+pub data IsIndexOfSoundGames (name : Option (List ℕ)) : ℕ → List MarkedPiece → List ℕ → Type 0 where
+  none : (number : ℕ) → IsIndexOfSoundGames name number [] []
+  keep : (number : ℕ) (piece : MarkedPiece) (more : List MarkedPiece) (text : List ℕ) → IsSoundPiece piece.kind → IsIndexOfSoundGames name (number + 1) more text
+      → IsIndexOfSoundGames name number (piece ∷ more) (mark_line name number piece.offset ++ text)
+  leave : (number : ℕ) (piece : MarkedPiece) (more : List MarkedPiece) (text : List ℕ) → (IsSoundPiece piece.kind → ⊥) → IsIndexOfSoundGames name (number + 1) more text
+      → IsIndexOfSoundGames name number (piece ∷ more) text
+
+-- and in that of the index, the index of its sound games is
+abbrev pub IndexesWhatWasPacked : Aim → List ℕ → Option (List ℕ) → Option (List ℕ) → Type 0
+IndexesWhatWasPacked aim whole out out' =
+    aim.mode ≡ modes.Index → (name : Option (List ℕ)) (number : ℕ) (pieces : List MarkedPiece) → IsPackOf name number pieces whole
+    → (text : List ℕ) × IsIndexOfSoundGames name number pieces text × Appends out out' text
+
+-- where something is the record of no game: it stands after records of so many bytes, whose lines are written
 pub record StopsAtBytes (aim : Aim) (whole : List ℕ) (at : ℕ) (out out' : Option (List ℕ)) : Type 0 where
   pub before : List PackedGame
   pub rest : List ℕ
@@ -131,15 +161,29 @@ pub record StopsAtBytes (aim : Aim) (whole : List ℕ) (at : ℕ) (out out' : Op
   pub bad : HasNoGame rest
   pub written : Appends out out' text
 
--- where the input fails: the listing of the records before is written
-pub record StopsAfter (aim : Aim) (whole : List ℕ) (out out' : Option (List ℕ)) : Type 0 where
+-- where a read fails: of the bytes that were taken until then, the lines of each whole record are written
+pub record StopsAtRead (aim : Aim) (whole : List ℕ) (left out out' : Option (List ℕ)) : Type 0 where
+  pub taken : List ℕ
+  pub bytes : Consumes (Some whole) left taken
   pub before : List PackedGame
   pub rest : List ℕ
   pub text : List ℕ
-  pub read : BeginsWithRecords aim whole before rest text
+  pub read : BeginsWithRecords aim taken before rest text
+  pub none : HasNoRecord rest
   pub written : Appends out out' text
 
--- where a write fails, or memory runs out: a beginning of it is
+-- where a record ends past the largest offset: the lines of those before it are written
+pub record StopsAtLimit (aim : Aim) (whole : List ℕ) (out out' : Option (List ℕ)) : Type 0 where
+  pub before : List PackedGame
+  pub next : PackedGame
+  pub rest : List ℕ
+  pub text : List ℕ
+  pub read : BeginsWithRecords aim whole before (record_bytes next ++ rest) text
+  pub fits : FitsRecord next
+  pub far : largest_offset < length (pack_bytes before) + length (record_bytes next)
+  pub written : Appends out out' text
+
+-- where a write fails, or memory runs out: a beginning of them is
 pub record StopsWithin (aim : Aim) (whole : List ℕ) (out out' : Option (List ℕ)) : Type 0 where
   pub before : List PackedGame
   pub rest : List ℕ
@@ -147,15 +191,17 @@ pub record StopsWithin (aim : Aim) (whole : List ℕ) (out out' : Option (List �
   pub read : BeginsWithRecords aim whole before rest text
   pub written : AppendsFront out out' text
 
-abbrev pub StopsSearch : SearchError → Aim → List ℕ → Option (List ℕ) → Option (List ℕ) → Type 0
-StopsSearch Read aim whole out out' = StopsAfter aim whole out out'
-StopsSearch InputTooLong aim whole out out' = (largest_offset < length whole) × StopsAfter aim whole out out'
-StopsSearch Write aim whole out out' = StopsWithin aim whole out out'
-StopsSearch OutOfMemory aim whole out out' = StopsWithin aim whole out out'
-StopsSearch (BadPack at) aim whole out out' = StopsAtBytes aim whole at out out'
+-- what stands at an error, where the input had the bytes `whole`, and has those that are left
+abbrev pub StopsSearch : SearchError → Aim → List ℕ → Option (List ℕ) → Option (List ℕ) → Option (List ℕ) → Type 0
+StopsSearch Read aim whole left out out' = StopsAtRead aim whole left out out'
+StopsSearch InputTooLong aim whole left out out' = StopsAtLimit aim whole out out'
+StopsSearch Write aim whole left out out' = StopsWithin aim whole out out'
+StopsSearch OutOfMemory aim whole left out out' = StopsWithin aim whole out out'
+StopsSearch (BadPack at) aim whole left out out' = StopsAtBytes aim whole at out out'
 
 -- So a search ends, of an input whose bytes are known.
-pub record IsSearch (aim : Aim) (left out out' : Option (List ℕ)) (result : Result Searched SearchError) : Type 0 where
+pub record IsSearch (aim : Aim) (left left' out out' : Option (List ℕ)) (result : Result Searched SearchError) : Type 0 where
   pub done : IfOk result (λ searched. IfSome left (λ whole. Searches aim whole out out' searched))
   pub lists : IfOk result (λ _. IfSome left (λ whole. ListsWhatWasPacked aim whole out out'))
-  pub stopped : IfErr result (λ error. IfSome left (λ whole. StopsSearch error aim whole out out'))
+  pub indexes : IfOk result (λ _. IfSome left (λ whole. IndexesWhatWasPacked aim whole out out'))
+  pub stopped : IfErr result (λ error. IfSome left (λ whole. StopsSearch error aim whole left' out out'))

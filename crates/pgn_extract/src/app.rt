@@ -123,8 +123,8 @@ fn refused_packs(request: &Request<'_>, mode: Mode) -> Option<&'static str> {
     if !request.packed {
         return None;
     }
-    if mode != Mode::List {
-        return Some(messages::PACKS_ARE_LISTED);
+    if mode == Mode::Export {
+        return Some(messages::PACKS_GIVE_LINES);
     }
     let has_fields = request.fen || request.next;
     let has_mark = request.from.is_some() || request.until.is_some();

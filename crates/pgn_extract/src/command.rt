@@ -150,8 +150,8 @@ fn mode_options<'a>(alloc: Global, command: Command<'a>) -> Result<Command<'a>, 
         .arg(flag(
             alloc,
             "packed",
-            "With --list, the FILEs are packs: the listing of the\n\
-             games that were packed, much sooner",
+            "With --list or --index, the FILEs are packs: lines of\n\
+             the games that were packed, lists much sooner",
         ))?
         .arg(flag(
             alloc,

@@ -5,14 +5,14 @@ ghost use Rattle.pgn_game.specs.Starts.{fen_tag};
 ghost use Rattle.pgn_game.specs.PackReading.{IsRawOfGame};
 ghost use Rattle.pgn_extract.specs.Aims.{aim_of};
 ghost use Rattle.pgn_extract.specs.Finding.{named_mark};
-ghost use Rattle.pgn_extract.specs.KeptPacked.{IsStartOf, IsKeptOf, GoesOnKept};
+ghost use Rattle.pgn_extract.specs.KeptPacked.{IsStartOf, IsKeptOf};
 ghost use Rattle.pgn_extract.specs.Listing.{is_plain};
 ghost use Rattle.pgn_extract.specs.Packed.{EachOfRecord, HasNoText, ListsRecord};
 
 use crate::listing::MARK_ROOM;
 use crate::packed::{PackedFault, push_record_mark, start_fault};
+use crate::record_lines::RecordLines;
 use crate::settings::Settings;
-use crate::texts::push_entry;
 use pgn_criteria::Criteria;
 use pgn_game::pack::{CodesError, RawRecord, replay_codes};
 use pgn_game::{GamePosition, Replayed, given_position};
@@ -66,53 +66,23 @@ fn replay_record(alloc: Global, raw: &RawRecord<'_>) -> Result<Replayed, PackedF
     }
 }
 
-/// A packed game whose line is kept, and what the lines of its entries begin with.
-#[derive(Drop)]
-struct KeptRecord<'s, 'r, 'a> {
-    settings: &'s Settings,
-    raw: &'r RawRecord<'a>,
-    replayed: Replayed,
-    mark: Vec<u8>,
-}
-
-impl<'s, 'r, 'a> KeptRecord<'s, 'r, 'a> {
-    /// Adds the line of a ply of which it is known whether it meets the criteria, if it is an entry. Answers whether a later one may be one.
-    fn ask(
-        &self,
-        text: &mut Vec<u8>,
-        ply: usize,
-        is_met: bool,
-        is_open: bool,
-    ) -> Result<bool, AllocError>
-        requires plain { is_plain self.now.settings.now.fields ≡ true }
-        requires marked { self.now.mark.items ≡ named_mark self.now.raw.now.name self.now.raw.now.number self.now.raw.now.offset }
-        ensures { IfOk result (GoesOnKept (aim_of self.now.settings.now) self.now.raw.now self.now.replayed ply is_met text.old.items text.new.items is_open) }
-    {
-        if !is_open || ply > self.settings.max_ply as usize {
-            return Ok(false);
-        }
-        if ply < (self.settings.min_ply as usize) || !is_met {
-            return Ok(true);
-        }
-        push_entry(text, &self.mark, ply)?;
-        Ok(!self.settings.first)
-    }
-
-    /// Adds the lines of the entries of the game.
-    fn push_entries(
+impl<'s, 'r, 'a> RecordLines<'s, 'r, 'a> {
+    /// Adds the lines of the entries of the game, whose line is replayed.
+    fn push_kept(
         &self,
         alloc: Global,
         text: &mut Vec<u8>,
         criteria: &'a Criteria,
+        replayed: &Replayed,
     ) -> Result<(), AllocError>
         requires plain { is_plain self.now.settings.now.fields ≡ true }
         requires criteria { self.now.settings.now.criteria ≡ Some criteria.now }
         requires shows { IsRawOfGame self.now.raw.now }
-        requires kept { IsKeptOf self.now.raw.now self.now.replayed }
+        requires kept { IsKeptOf self.now.raw.now replayed.now }
         requires marked { self.now.mark.items ≡ named_mark self.now.raw.now.name self.now.raw.now.number self.now.raw.now.offset }
         ensures { OnOk result (ListsRecord (aim_of self.now.settings.now) self.now.raw.now text.old.items text.new.items) }
     {
-        let met = criteria.met_packed(alloc, self.raw, &self.replayed)?;
+        let met = criteria.met_packed(alloc, self.raw, replayed)?;
         let mut is_open = true;
         let mut ply = 0;
         while ply < met.len() {
@@ -143,12 +113,11 @@ pub fn push_kept_record<'a>(
     };
     let mut mark = Vec::with_capacity(alloc, MARK_ROOM)?;
     push_record_mark(&mut mark, raw)?;
-    let kept = KeptRecord {
+    let lines = RecordLines {
         settings,
         raw,
-        replayed,
         mark,
     };
-    kept.push_entries(alloc, text, criteria)?;
+    lines.push_kept(alloc, text, criteria, &replayed)?;
     Ok(())
 }

@@ -49,8 +49,8 @@ pub fn parts()
     ensures reported { PartsAreReported }
 {}
 
-/// Where each sound game of a text is packed, what the export writes is the pack of the text. So a search of what such a run wrote writes
-/// the listing of the text.
+/// Where each sound game of a text is packed, what the export writes is the pack of the text. So a search that lists what such a run wrote
+/// writes the listing of the text.
 pub fn packs()
     ensures pack { PackedTextIsAPack }
     ensures listing { PackIsListedAsItsText }

@@ -1,16 +1,17 @@
 //! Runs over memory: what each clause of `run` says where all bytes are known.
-ghost use Rattle.std.specs.Prelude.{◌≡◌, ◌≢◌, ◌↔◌, ◌⊎◌, ◌≤◌, ◌<◌, ◌^◌, ◌++◌, ℕ, true, false, List, [], Option, codes, drop, length, take, count_by, IfErr, IfOk, OnOk, IsErrOf};
+ghost use Rattle.std.specs.Prelude.{◌≡◌, ◌≢◌, ◌↔◌, ◌⊎◌, ◌≤◌, ◌<◌, ◌^◌, ◌+◌, ◌++◌, ℕ, true, false, List, [], Option, codes, drop, length, take, count_by, IfErr, IfOk, OnOk, IsErrOf};
 ghost use Rattle.pgn_text.specs.Complete.{AreCompletePieces};
 ghost use Rattle.pgn_text.specs.Limits.{block_limit, depth_limit, largest_offset};
 ghost use Rattle.pgn_text.specs.Marks.{MarkedPiece, AreMarkedPieces};
-ghost use Rattle.pgn_game.specs.PackedGames.{PackedGame, pack_bytes};
+ghost use Rattle.pgn_game.specs.PackedGames.{PackedGame, pack_bytes, record_bytes};
+ghost use Rattle.pgn_game.specs.PackStreams.{HasNoRecord};
 ghost use Rattle.pgn_extract.specs.Aims.{aim_of};
 ghost use Rattle.pgn_extract.specs.Exports.{AreExports};
 ghost use Rattle.pgn_extract.specs.Index.{index};
 ghost use Rattle.pgn_extract.specs.Listing.{Entry, AreEntries, entries_at_least, is_plain, listing};
 ghost use Rattle.pgn_extract.specs.Resuming.{IsMarkAmong, verdicts_at_least};
 ghost use Rattle.pgn_extract.specs.Runs.{ArePieces, job_of};
-ghost use Rattle.pgn_extract.specs.Searching.{HasNoGame, IsPackListing, IsPackOf};
+ghost use Rattle.pgn_extract.specs.Searching.{ArePackLines, HasNoGame, IsIndexOfSoundGames, IsPackOf};
 ghost use Rattle.pgn_extract.specs.Several.{IsReport, NamesUnopened};
 ghost use Rattle.pgn_extract.specs.Verdicts.{Verdict, AreVerdicts, IsSameReport, fault_lines, is_faulty, output_text};
 
@@ -201,12 +202,14 @@ pub fn report_some<'a>(
     run(alloc, input, out, err, settings)
 }
 
-/// What the search of a pack in memory writes: whatever text the bytes are the pack of, its listing. Bytes that are no pack are refused at the
-/// first record of no game.
+/// What the search of a pack in memory writes: whatever text the bytes are the pack of, its listing, or the index of its sound games. Bytes that
+/// are no pack are refused at the first record of no game.
 pub fn search_pack(alloc: Global, bytes: &[u8], settings: &Settings) -> Result<Vec<u8>, SearchError>
     requires plain { is_plain settings.now.fields ≡ true }
-    ensures listed { IfOk result (λ out. (name : Option (List ℕ)) (number : ℕ) (pieces : List MarkedPiece) → IsPackOf name number pieces bytes.now
-        → (entries : List Entry) → AreEntries (aim_of settings.now) number pieces entries → out.items ≡ listing name entries) }
+    ensures listed { IfOk result (λ out. settings.now.mode ≡ Mode.List → (name : Option (List ℕ)) (number : ℕ) (pieces : List MarkedPiece)
+        → IsPackOf name number pieces bytes.now → (entries : List Entry) → AreEntries (aim_of settings.now) number pieces entries → out.items ≡ listing name entries) }
+    ensures indexed { IfOk result (λ out. settings.now.mode ≡ Mode.Index → (name : Option (List ℕ)) (number : ℕ) (pieces : List MarkedPiece)
+        → IsPackOf name number pieces bytes.now → IsIndexOfSoundGames name number pieces out.items) }
     ensures bad { IfErr result (λ error. (at : ℕ) → error ≡ SearchError.BadPack at → (before : List PackedGame) × (rest : List ℕ)
         × (bytes.now ≡ pack_bytes before ++ rest) × (at ≡ length (pack_bytes before)) × (rest ≢ []) × HasNoGame rest) }
 {
@@ -229,18 +232,22 @@ pub fn search_records<'a>(
     requires plain { is_plain settings.now.fields ≡ true }
     // Each record is counted, and its lines are written.
     ensures searched { IfOk result (λ searched. (records : List PackedGame) × (text : List ℕ) × (input.old.inner.now ≡ pack_bytes records)
-        × IsPackListing (aim_of settings.now) records text × (searched.records ≡ length records) × (out.new.inner.items ≡ out.old.inner.items ++ text)) }
-    // A record of no game: those before it are listed, and nothing else.
+        × ArePackLines (aim_of settings.now) records text × (searched.records ≡ length records) × (out.new.inner.items ≡ out.old.inner.items ++ text)) }
+    // A record of no game: the lines of those before it are written, and nothing else.
     ensures bad { IfErr result (λ error. (at : ℕ) → error ≡ SearchError.BadPack at → (before : List PackedGame) × (rest : List ℕ) × (text : List ℕ)
         × (input.old.inner.now ≡ pack_bytes before ++ rest) × (at ≡ length (pack_bytes before)) × HasNoGame rest
-        × IsPackListing (aim_of settings.now) before text × (out.new.inner.items ≡ out.old.inner.items ++ text)) }
-    // A read failed: those before it are.
-    ensures read { IfErr result (λ error. error ≡ SearchError.Read → (before : List PackedGame) × (rest : List ℕ) × (text : List ℕ)
-        × (input.old.inner.now ≡ pack_bytes before ++ rest) × IsPackListing (aim_of settings.now) before text
-        × (out.new.inner.items ≡ out.old.inner.items ++ text)) }
-    // A write failed: a beginning of their listing is written.
+        × ArePackLines (aim_of settings.now) before text × (out.new.inner.items ≡ out.old.inner.items ++ text)) }
+    // A read failed: the lines of all records that were read are.
+    ensures read { IfErr result (λ error. error ≡ SearchError.Read → (taken : List ℕ) × (before : List PackedGame) × (rest : List ℕ) × (text : List ℕ)
+        × (input.old.inner.now ≡ taken ++ input.new.inner.now) × (taken ≡ pack_bytes before ++ rest) × HasNoRecord rest
+        × ArePackLines (aim_of settings.now) before text × (out.new.inner.items ≡ out.old.inner.items ++ text)) }
+    // A record ends past the largest offset: those of the records before it are.
+    ensures limit { IfErr result (λ error. error ≡ SearchError.InputTooLong → (before : List PackedGame) × (next : PackedGame) × (rest : List ℕ) × (text : List ℕ)
+        × (input.old.inner.now ≡ pack_bytes before ++ (record_bytes next ++ rest)) × (largest_offset < length (pack_bytes before) + length (record_bytes next))
+        × ArePackLines (aim_of settings.now) before text × (out.new.inner.items ≡ out.old.inner.items ++ text)) }
+    // A write failed: a beginning of their lines is written.
     ensures write { IfErr result (λ error. error ≡ SearchError.Write → (before : List PackedGame) × (rest : List ℕ) × (text : List ℕ) × (n : ℕ)
-        × (input.old.inner.now ≡ pack_bytes before ++ rest) × IsPackListing (aim_of settings.now) before text
+        × (input.old.inner.now ≡ pack_bytes before ++ rest) × ArePackLines (aim_of settings.now) before text
         × (out.new.inner.items ≡ out.old.inner.items ++ take n text)) }
     ensures flushed { OnOk result (out.new.flushed ≡ true) }
     ensures faulted { IsErrOf result SearchError.Write ↔ (out.new.faulted ≡ true) }

@@ -30,8 +30,8 @@ pub const NO_PACK: &str =
 /// Names are asked for, and refused.
 pub const BOTH_NAMINGS: &str = "pgn-extract: --with-names and --no-names exclude each other\n";
 
-/// A pack is searched, and nothing else is done with it.
-pub const PACKS_ARE_LISTED: &str = "pgn-extract: --packed goes with --list\n";
+/// A pack is listed or indexed, and nothing else is done with it.
+pub const PACKS_GIVE_LINES: &str = "pgn-extract: --packed goes with --list or --index\n";
 
 /// The lines of a pack have the names that were packed, and end after the ply; and a pack is searched as a whole.
 pub const PACKS_ARE_PLAIN: &str =

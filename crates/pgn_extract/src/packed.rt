@@ -1,5 +1,5 @@
 //! The entries of a packed game: a walk over the codes of its plies shows its positions.
-ghost use Rattle.std.specs.Prelude.{◌≡◌, ◌≢◌, ◌+◌, ◌<◌, ◌≤◌, ◌++◌, ℕ, length, true, Some, None, codes, OnOk, IfOk, IfErr};
+ghost use Rattle.std.specs.Prelude.{◌≡◌, ◌≢◌, ◌+◌, ◌<◌, ◌≤◌, ◌++◌, ◌==◌, ◌/◌, ◌%◌, ℕ, length, true, false, Some, None, codes, OnOk, IfOk, IfErr};
 ghost use Rattle.pgn_text.specs.GameTexts.{tag_in};
 ghost use Rattle.pgn_game.specs.Faults.{Fault};
 ghost use Rattle.pgn_game.specs.Replays.{fault_of};
@@ -7,16 +7,21 @@ ghost use Rattle.pgn_game.specs.Starts.{fen_tag};
 ghost use Rattle.pgn_game.specs.PackReading.{IsRawOfGame};
 ghost use Rattle.pgn_extract.specs.Aims.{aim_of};
 ghost use Rattle.pgn_extract.specs.Finding.{named_mark, AsksFor};
-ghost use Rattle.pgn_extract.specs.Index.{titled};
+ghost use Rattle.pgn_extract.specs.Index.{mark_line, titled};
 ghost use Rattle.pgn_extract.specs.Listing.{is_plain};
+ghost use Rattle.pgn_criteria.specs.ByMarks.{has_marks, NoneMeets};
+ghost use Rattle.pgn_criteria.specs.Meeting.{heading_of};
+ghost use Rattle.pgn_criteria.specs.Sieves.{codes_in};
+ghost use Rattle.pgn_extract.specs.MarkedPacked.{StartsWith, AreMetWith};
 ghost use Rattle.pgn_extract.specs.Packed.{PutsRecord, LeavesRecord, EachOfRecord, HasNoText, record_aim, Grows, ShowsInitial, StartsThere, GoesOnSeen, ListsRecord};
 
 use crate::kept_packed::push_kept_record;
 use crate::listing::{MARK_ROOM, push_lines};
-use crate::settings::Settings;
+use crate::record_lines::RecordLines;
+use crate::settings::{Mode, Settings};
 use crate::texts::{push_entry, push_mark};
 use chess::{Bits, Board, Side};
-use pgn_criteria::{Criteria, Search, Walk};
+use pgn_criteria::{Criteria, MarkSet, Search, Seen, Walk};
 use pgn_game::pack::RawRecord;
 use pgn_game::{GameFault, given_position};
 use pgn_text::is_contents;
@@ -166,6 +171,61 @@ impl<'s, 'r, 'a> Walker<'s, 'r, 'a> {
     }
 }
 
+/// The side to move where the game of the record starts.
+fn side_at_start(alloc: Global, record: &RawRecord<'_>) -> Result<Side, PackedFault>
+    ensures ok { IfOk result (StartsWith record.now) }
+    ensures err { IfErr result (λ fault. fault ≡ PackedFault.NoGame → HasNoText record.now) }
+{
+    let Some(contents) = record.tag(b"FEN") else {
+        return Ok(Side::White);
+    };
+    let (check, stuck) = (record.in_check(), record.is_stuck());
+    let mut walk = Walk::new(Bits::initial(), Side::White, check, stuck);
+    match begin_at(alloc, &mut walk, record, contents) {
+        Ok(()) => Ok(walk.to_move()),
+        Err(fault) => Err(fault),
+    }
+}
+
+/// Whether the set has the marks of the start of the game, where that side is to move, or of a position after a ply.
+fn has_some(marks: MarkSet, turn: Side, record: &RawRecord<'_>) -> bool
+    ensures { result ≡ false → (has_marks marks.bits turn (record.now.head % 2 == 1) (record.now.head / 2 % 2 == 1) ≡ false) × NoneMeets marks.bits turn (codes_in record.now.plies) }
+{
+    marks.has(turn, record.in_check(), record.is_stuck())
+        || marks.next(turn, record.plies()).is_some()
+}
+
+/// Adds the lines of the entries of a packed game whose positions meet the criteria where they have these marks.
+fn push_marked(
+    text: &mut Vec<u8>,
+    alloc: Global,
+    settings: &Settings,
+    marks: MarkSet,
+    record: &RawRecord<'_>,
+) -> Result<(), PackedFault>
+    requires plain { is_plain settings.now.fields ≡ true }
+    requires met { EachOfRecord record.now (λ game replay packed. AreMetWith marks.bits (heading_of game) settings.now.criteria) }
+    ensures ok { OnOk result (ListsRecord (aim_of settings.now) record.now text.old.items text.new.items) }
+    ensures err { IfErr result (λ fault. fault ≡ PackedFault.NoGame → (text.new.items ≡ text.old.items) × HasNoText record.now) }
+{
+    let turn = match side_at_start(alloc, record) {
+        Ok(turn) => turn,
+        Err(fault) => return Err(fault),
+    };
+    if !has_some(marks, turn, record) {
+        return Ok(());
+    }
+    let mut mark = Vec::with_capacity(alloc, MARK_ROOM)?;
+    push_record_mark(&mut mark, record)?;
+    let lines = RecordLines {
+        settings,
+        raw: record,
+        mark,
+    };
+    lines.push_marked(text, marks, turn)?;
+    Ok(())
+}
+
 /// Adds the lines of the entries of a packed game by criteria. Where these speak of its moves or of several plies, its line is replayed.
 fn push_walked<'a>(
     text: &mut Vec<u8>,
@@ -180,6 +240,9 @@ fn push_walked<'a>(
     ensures ok { OnOk result (ListsRecord (aim_of settings.now) record.now text.old.items text.new.items) }
     ensures err { IfErr result (λ fault. fault ≡ PackedFault.NoGame → (text.new.items ≡ text.old.items) × HasNoText record.now) }
 {
+    if let Some(marks) = criteria.marks_packed(record) {
+        return push_marked(text, alloc, settings, marks, record);
+    }
     let Some(search) = criteria.watch_packed(alloc, record)? else {
         return push_kept_record(text, alloc, settings, criteria, record);
     };
@@ -223,6 +286,33 @@ fn push_plain(
 }
 
 /// Adds the lines of the entries of a packed game. Where it is found to be the record of no game, nothing is added.
+fn push_entries<'a>(
+    text: &mut Vec<u8>,
+    alloc: Global,
+    settings: &'a Settings,
+    record: &RawRecord<'a>,
+) -> Result<(), PackedFault>
+    requires plain { is_plain settings.now.fields ≡ true }
+    requires shows { IsRawOfGame record.now }
+    ensures ok { OnOk result (ListsRecord (aim_of settings.now) record.now text.old.items text.new.items) }
+    ensures err { IfErr result (λ fault. fault ≡ PackedFault.NoGame → (text.new.items ≡ text.old.items) × HasNoText record.now) }
+{
+    match &settings.criteria {
+        Some(criteria) => push_walked(text, alloc, settings, criteria, record),
+        None => push_plain(text, alloc, settings, record),
+    }
+}
+
+/// Adds the line of a packed game in the index. Its plies are not read.
+fn push_record_line(text: &mut Vec<u8>, record: &RawRecord<'_>) -> Result<(), AllocError>
+    ensures { OnOk result (text.new.items ≡ text.old.items ++ mark_line record.now.name record.now.number record.now.offset) }
+{
+    push_record_mark(text, record)?;
+    text.push(b'\n')?;
+    Ok(())
+}
+
+/// Adds the lines of a packed game: in the index its mark, else those of its entries. Where it is found to be the record of no game, nothing is added.
 pub fn push_packed<'a>(
     text: &mut Vec<u8>,
     alloc: Global,
@@ -234,8 +324,11 @@ pub fn push_packed<'a>(
     ensures ok { OnOk result (PutsRecord (aim_of settings.now) record.now text.old.items text.new.items) }
     ensures err { IfErr result (λ fault. fault ≡ PackedFault.NoGame → LeavesRecord record.now text.old.items text.new.items) }
 {
-    match &settings.criteria {
-        Some(criteria) => push_walked(text, alloc, settings, criteria, record),
-        None => push_plain(text, alloc, settings, record),
+    match settings.mode {
+        Mode::Index => {
+            push_record_line(text, record)?;
+            Ok(())
+        }
+        Mode::List | Mode::Export => push_entries(text, alloc, settings, record),
     }
 }

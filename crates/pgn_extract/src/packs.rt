@@ -2,7 +2,7 @@
 ghost use Rattle.std.specs.Prelude.{◌≡◌, false, true, IfSome, OnOk};
 ghost use Rattle.pgn_extract.specs.Aims.{aim_of};
 ghost use Rattle.pgn_extract.specs.Listing.{is_plain};
-ghost use Rattle.pgn_extract.specs.Searching.{ListsWhatWasPacked};
+ghost use Rattle.pgn_extract.specs.Searching.{IndexesWhatWasPacked, ListsWhatWasPacked};
 
 use crate::app::end_runs;
 use crate::endings::{flush_rest, line_of, report_bytes, report_line};
@@ -55,6 +55,8 @@ where
     requires plain { is_plain task.now.settings.fields ≡ true }
     ensures listed { OnOk result (IfSome (I.remaining input)
         (λ whole. ListsWhatWasPacked (aim_of task.now.settings) whole (O.contents out.old.inner) (O.contents out.new.inner))) }
+    ensures indexed { OnOk result (IfSome (I.remaining input)
+        (λ whole. IndexesWhatWasPacked (aim_of task.now.settings) whole (O.contents out.old.inner) (O.contents out.new.inner))) }
     ensures sound { OnOk result (out.new.faulted ≡ false) }
 {
     let mut input = Tally::new(input);

@@ -113,7 +113,7 @@ fn put_rest<O: Write>(out: &mut Tally<O>, text: &[u8], error: SearchError) -> Se
     }
 }
 
-/// Writes the listing of a pack. It is that of the text that was packed.
+/// Writes the listing of a pack, which is that of the text that was packed; or in the index the marks of its records.
 pub fn search<R: Read, O: Write>(
     alloc: Global,
     input: &mut Tally<R>,
@@ -122,7 +122,7 @@ pub fn search<R: Read, O: Write>(
 ) -> Result<Searched, SearchError>
     requires sound { (input.old.faulted ≡ false) × (out.old.faulted ≡ false) }
     requires plain { is_plain settings.now.fields ≡ true }
-    ensures stands { IsSearch (aim_of settings.now) (R.remaining input.old.inner) (O.contents out.old.inner) (O.contents out.new.inner) result }
+    ensures stands { IsSearch (aim_of settings.now) (R.remaining input.old.inner) (R.remaining input.new.inner) (O.contents out.old.inner) (O.contents out.new.inner) result }
     ensures flushed { OnOk result (out.new.flushed ≡ true) }
     ensures read { IsErrOf result SearchError.Read ↔ ((input.new.faulted ≡ true) × (out.new.faulted ≡ false)) }
     ensures write { IsErrOf result SearchError.Write ↔ (out.new.faulted ≡ true) }

@@ -32,11 +32,17 @@ pub record IsPart (bytes : List ℕ) : Type 0 where
   pub short : 4 ≤ length bytes → length bytes < size_in bytes + 4
   pub small : 4 ≤ length bytes → size_in bytes ≤ largest_body
 
+-- a read failed before the bytes showed whether a record stands in front of them
+pub record ReadsPart (old : List ℕ) (left left' : Option (List ℕ)) : Type 0 where
+  pub read : List ℕ
+  pub bytes : Consumes left left' read
+  pub part : IsPart (old ++ read)
+
 -- what reading up to the whole of a record does, by its answer: the bytes show whether there is one; or there are none
 abbrev pub HoldsWhole : List ℕ → List ℕ → Option (List ℕ) → Option (List ℕ) → Result Bool RecordsError → Type 0
 HoldsWhole old new left left' (Ok true) = ReadsOn old new left left' × IsWhole new
 HoldsWhole old new left left' (Ok false) = ReadsOn old new left left' × (new ≡ []) × IsAtEnd left'
 HoldsWhole old new left left' (Err BadPack) = ReadsOn old new left left' × (new ≢ []) × IsPart new × IsAtEnd left'
 HoldsWhole old new left left' (Err InputTooLong) = ⊥
-HoldsWhole old new left left' (Err Read) = Unit {0}
+HoldsWhole old new left left' (Err Read) = ReadsPart old left left'
 HoldsWhole old new left left' (Err OutOfMemory) = Unit {0}

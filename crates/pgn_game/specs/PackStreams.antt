@@ -30,6 +30,12 @@ pub record PassesOn (old new : Window) (left left' : Option (List ℕ)) : Type 0
   pub bytes : Consumes left left' read
   pub parted : old.ahead ++ read ≡ new.current ++ new.ahead
 
+-- a read failed: in front of the bytes after the record that was held, as far as they are read, no record stands
+pub record BreaksOff (old : Window) (left left' : Option (List ℕ)) : Type 0 where
+  pub read : List ℕ
+  pub bytes : Consumes left left' read
+  pub none : HasNoRecord (old.ahead ++ read)
+
 -- the record in front goes past the largest offset
 abbrev pub IsPastEnd : Window → Type 0
 IsPastEnd new = (record_in_front : List ℕ) × (rest : List ℕ) × IsRecord record_in_front × (new.ahead ≡ record_in_front ++ rest) × (largest_offset < new.place + length record_in_front)
@@ -41,5 +47,5 @@ StepGives old new left left' (Ok false) = PassesOn old new left left' × (new.cu
 StepGives old new left left' (Err BadPack) =
     PassesOn old new left left' × (new.current ≡ []) × IfSome left' (λ rest. (new.ahead ++ rest ≢ []) × HasNoRecord (new.ahead ++ rest))
 StepGives old new left left' (Err InputTooLong) = PassesOn old new left left' × (new.current ≡ []) × IsPastEnd new
-StepGives old new left left' (Err Read) = Unit {0}
+StepGives old new left left' (Err Read) = BreaksOff old left left'
 StepGives old new left left' (Err OutOfMemory) = Unit {0}

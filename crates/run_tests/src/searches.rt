@@ -1,4 +1,4 @@
-//! The search of packs: worked ones, bad ones, and what is refused.
+//! The search of packs: worked ones and their indexes, bad ones, and what is refused.
 use crate::runs::{Ending, Row, holds, run_arguments};
 use pgn_extract::Files;
 use std::alloc::{AllocError, Global};
@@ -94,6 +94,59 @@ const SEARCHES: [Row; 12] = [
     ),
 ];
 
+const INDEXES: [Row; 8] = [
+    (&["--index", "--packed"], b"", b"", b"", 0),
+    (&["--index", "--packed"], PACK, b"1@0\n2@22\n", b"", 0),
+    (&["--index", "--packed"], NAMED, b"a.pgn:1@0\n", b"", 0),
+    (
+        &["--index", "--packed", "games.pgn", "games.pgn"],
+        PACK,
+        b"1@0\n2@22\n1@0\n2@22\n",
+        b"",
+        0,
+    ),
+    // Neither criteria nor bounds change it.
+    (
+        &[
+            "--index",
+            "--packed",
+            "--first",
+            "--min-ply",
+            "5",
+            "--max-ply",
+            "2",
+            "--where",
+            "mate",
+        ],
+        PACK,
+        b"1@0\n2@22\n",
+        b"",
+        0,
+    ),
+    (
+        &["--index", "--packed", "--where", "checkmate"],
+        PACK,
+        b"",
+        b"pgn-extract: criteria line 1\n",
+        2,
+    ),
+    // A pawn that goes from e2 to e5: no move is played.
+    (
+        &["--index", "--packed", "--where", "moves e4"],
+        b"\0\0\0\x17\0\0\0\0\0\0\0\x01\0\0\0\0\0\0\0\0\0\0\0\0\x0C\x64\x64",
+        b"1@0\n",
+        b"",
+        0,
+    ),
+    (
+        &["--index", "--packed", "--summary"],
+        PACK,
+        b"1@0\n2@22\n",
+        b"pgn-extract: 2 games, 0 of them faulty\n",
+        0,
+    ),
+];
+
 /// Criteria of moves and of several plies.
 const MOVES: [Row; 9] = [
     (
@@ -178,7 +231,7 @@ const MOVES: [Row; 9] = [
 ];
 
 /// What is no pack: what stands before it is listed.
-const BAD: [Row; 7] = [
+const BAD: [Row; 8] = [
     (
         &["--list", "--packed"],
         b"\0\0\0\x17\0\0\0\0\0\0\0\x01\0\0\0\0\0\0\0\0\0\0\0\0\x0C\x5C\x5C\0",
@@ -191,6 +244,13 @@ const BAD: [Row; 7] = [
         b"\0\0\0\x17\0\0\0\0\0\0\0\x01\0\0\0\0\0\0\0\0\0\0\0\0\x0C\x5C\x5C\0",
         b"1@0 0\n1@0 1\n",
         b"pgn-extract: bad pack: games.pgn\n  at byte 27 is no record of a game\n",
+        3,
+    ),
+    (
+        &["--index", "--packed", "--explain"],
+        b"\0\0\0\x17\0\0\0\0\0\0\0\x01\0\0\0\0\0\0\0\0\0\0\0\0\x0C\x5C\x5C\0",
+        b"1@0\n",
+        b"pgn-extract: bad pack: (standard input)\n  at byte 27 is no record of a game\n",
         3,
     ),
     // A size that no record has, for which no memory is asked.
@@ -234,19 +294,33 @@ const BAD: [Row; 7] = [
     ),
 ];
 
-const REFUSED: [Row; 5] = [
+const REFUSED: [Row; 7] = [
     (
         &["--packed"],
         PACK,
         b"",
-        b"pgn-extract: --packed goes with --list\n",
+        b"pgn-extract: --packed goes with --list or --index\n",
         2,
     ),
     (
-        &["--packed", "--index"],
+        &["--packed", "--moves"],
         PACK,
         b"",
-        b"pgn-extract: --packed goes with --list\n",
+        b"pgn-extract: --packed goes with --list or --index\n",
+        2,
+    ),
+    (
+        &["--index", "--packed", "--until", "2@22"],
+        PACK,
+        b"",
+        b"pgn-extract: --packed goes with none of --fen, --next, --from, --until, --with-names and --no-names\n",
+        2,
+    ),
+    (
+        &["--index", "--packed", "--others"],
+        PACK,
+        b"",
+        b"pgn-extract: --others, --faulty and --as-is go with neither --list nor --index\n",
         2,
     ),
     (
@@ -310,6 +384,14 @@ fn run_there(alloc: Global, arguments: &[&str], piece: usize) -> Result<Ending, 
 #[test]
 fn lists_what_was_packed(rt: HostRuntime) -> Result<(), Fail> {
     for row in &SEARCHES {
+        assert!(rt; holds(rt.alloc(), row)?, "{row:?}");
+    }
+    Ok(())
+}
+
+#[test]
+fn indexes_what_was_packed(rt: HostRuntime) -> Result<(), Fail> {
+    for row in &INDEXES {
         assert!(rt; holds(rt.alloc(), row)?, "{row:?}");
     }
     Ok(())

@@ -1,5 +1,6 @@
 //! The records of a pack, one after another, as a reader gives them.
 ghost use Rattle.std.specs.Prelude.{◌≡◌, ◌≢◌, ◌↔◌, ◌⊎◌, ℕ, ◌+◌, ◌^◌, ◌<◌, ◌≤◌, true, false, List, [], ◌++◌, length, take, drop, IfOk, IfErr, IsErrOf, MatchOption, MatchResult};
+ghost use Rattle.std.specs.Io.KnownBytes.{Consumes};
 ghost use Rattle.pgn_text.specs.Limits.{largest_offset};
 ghost use Rattle.pgn_text.specs.Tallies.{AppendsRead};
 ghost use Rattle.pgn_game.specs.PackedGames.{PackedGame, FitsRecord, record_bytes};
@@ -87,7 +88,8 @@ impl Ahead {
         ensures ok { IfOk result (λ count. (room : ℕ) × AppendsRead self.old self.new
             (R.remaining input.old.inner) (R.remaining input.new.inner)
             input.old.moved input.new.moved room count) }
-        ensures err { IfErr result (λ error. (error ≡ RecordsError.Read) ⊎ (error ≡ RecordsError.OutOfMemory)) }
+        ensures err { IfErr result (λ error. ((error ≡ RecordsError.Read) ⊎ (error ≡ RecordsError.OutOfMemory))
+            × Consumes (R.remaining input.old.inner) (R.remaining input.new.inner) []) }
         ensures fault { IsErrOf result RecordsError.Read ↔ (input.new.faulted ≡ true) }
     {
         self.buf.give_up(self.at);

@@ -12,14 +12,10 @@ so_at_err : {X E : Type 0} {A B : E → Type 0} (r : Result X E) → ((e : E) �
 so_at_err (Ok x) so here = tt
 so_at_err (Err e) so here = so e here
 
-pub returns-in-Some-clause-ok : goal.returns-in-Some-clause-ok
-returns-in-Some-clause-ok c =
-    so_at_ok c.push_walked.result (puts_record (aim_of c.args.settings.now) c.args.record.now c.args.text.now.items c.push_walked.new.text.items) c.push_walked.ensures.ok
+pub returns-in-List-clause-ok : goal.returns-in-List-clause-ok
+returns-in-List-clause-ok c =
+    so_at_ok c.push_entries.result (puts_record (aim_of c.args.settings.now) c.args.record.now c.args.text.now.items c.push_entries.new.text.items c.in-List.is) c.push_entries.ensures.ok
 
-pub returns-in-Some-clause-err : goal.returns-in-Some-clause-err
-returns-in-Some-clause-err c =
-    so_at_err c.push_walked.result (λ fault so is. ((so is).0, leaves_record c.args.record.now (so is).1)) c.push_walked.ensures.err
-
-pub returns-in-None-clause-ok : goal.returns-in-None-clause-ok
-returns-in-None-clause-ok c =
-    so_at_ok c.push_plain.result (puts_record (aim_of c.args.settings.now) c.args.record.now c.args.text.now.items c.push_plain.new.text.items) c.push_plain.ensures.ok
+pub returns-in-List-clause-err : goal.returns-in-List-clause-err
+returns-in-List-clause-err c =
+    so_at_err c.push_entries.result (λ fault so is. ((so is).0, leaves_record c.args.record.now (so is).1)) c.push_entries.ensures.err

@@ -40,14 +40,14 @@ returns-in_err-put_large-in-Ok-clause-stands g c =
     (added.2 read.0 read.1 (sym read.3)) in
     let front = c.in_err-put_large-in-Ok.ensures.err in
     let p = err_from_is_err_and c.from_residual.result c.from_residual.ensures.1 in
-    rw (p.1, p.2, front.0) (stopped {out' = g.O.Write.contents c.put_large.new.out.inner} Write (stops_within more _ front.1))
+    rw (p.1, p.2, front.0) (stopped {left' = g.R.Read.remaining c.step.new.input.inner} {out' = g.O.Write.contents c.put_large.new.out.inner} Write (stops_within more _ front.1))
 
 pub returns-in-Err-NoGame-clause-stands : goal.returns-in-Err-NoGame-clause-stands
 returns-in-Err-NoGame-clause-stands g c =
     let gives = rw c.in-Ok-true.field-0-test at c.in-Ok-true.ensures.gives in
     let read = c.record.ensures in
     let left = c.in-Err-NoGame.ensures.err c.in-Err-NoGame.field-0-is in
-    stopped_after c.loop-text.invariant.0 (BadPack c.place.result) c.put_rest.result _ _ _ (c.deref.ensures.value ∙ left.0) c.put_rest.ensures
+    stopped_after c.loop-text.invariant.0 _ (BadPack c.place.result) c.put_rest.result _ _ _ (c.deref.ensures.value ∙ left.0) c.put_rest.ensures
     (λ last. rw c.place.ensures (stops_at_game c.loop-text.invariant.0 c.step.new.self _ _ read.0 gives.0 c.in-Ok-true.ensures.place last read.1 read.2 (left.1 read.0 read.1 (sym read.3))))
 
 pub returns-in-Err-OutOfMemory-clause-stands : goal.returns-in-Err-OutOfMemory-clause-stands
@@ -57,7 +57,7 @@ pub returns-in_err-end-in-Ok-false-clause-stands : goal.returns-in_err-end-in-Ok
 returns-in_err-end-in-Ok-false-clause-stands g c =
     let front = c.in_err-end-in-Ok-false.ensures.err in
     let p = err_from_is_err_and c.from_residual-in_err-end-in-Ok-false.result c.from_residual-in_err-end-in-Ok-false.ensures.1 in
-    rw (p.1, p.2, front.0) (stopped {out' = g.O.Write.contents c.end.new.out.inner} Write (stops_within c.loop-text.invariant.0 _ (rw (← c.deref-in-Ok-false.ensures.value) front.1)))
+    rw (p.1, p.2, front.0) (stopped {left' = g.R.Read.remaining c.step.new.input.inner} {out' = g.O.Write.contents c.end.new.out.inner} Write (stops_within c.loop-text.invariant.0 _ (rw (← c.deref-in-Ok-false.ensures.value) front.1)))
 
 pub returns-in-Ok-false-clause-stands : goal.returns-in-Ok-false-clause-stands
 returns-in-Ok-false-clause-stands g c =
@@ -66,5 +66,5 @@ returns-in-Ok-false-clause-stands g c =
 
 pub returns-in-Err-clause-stands : goal.returns-in-Err-clause-stands
 returns-in-Err-clause-stands g c =
-    stopped_after c.loop-text.invariant.0 c.of_records-error.result c.put_rest-in-Err.result _ _ _ c.deref-in-Err.ensures.value c.put_rest-in-Err.ensures
+    stopped_after c.loop-text.invariant.0 _ c.of_records-error.result c.put_rest-in-Err.result _ _ _ c.deref-in-Err.ensures.value c.put_rest-in-Err.ensures
     (λ last. rw (c.of_records-error.ensures, c.place-in-Err.ensures) (stops_at_step c.loop-text.invariant.0 c.step.new.self _ _ _ c.in-Err.ensures.gives c.in-Err.ensures.place last))

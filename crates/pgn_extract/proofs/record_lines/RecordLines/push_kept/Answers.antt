@@ -12,7 +12,7 @@ use Rattle.pgn_extract.specs.GameReports.{AreListed}
 use Rattle.pgn_extract.specs.Packed.{record_aim}
 use Rattle.pgn_extract.proofs.Found.{finds_all}
 use Rattle.pgn_extract.proofs.KeptFacts.{looked_none, looks_on, looks_whole}
-use Rattle.pgn_extract.proofs.kept_packed.KeptRecord.push_entries.Goals as goal
+use Rattle.pgn_extract.proofs.record_lines.RecordLines.push_kept.Goals as goal
 
 pub loop-ply-init : goal.loop-ply-init
 loop-ply-init c =
@@ -21,13 +21,13 @@ loop-ply-init c =
       within = omega arith;
       grown = ([], sym (append-nil c.args.text.now.items));
       looked = λ game replay packed own.
-          looked_none (record_aim (aim_of c.args.self.now.settings.now) raw) raw.number raw.offset game c.args.self.now.replayed c.args.criteria.now c.args.text.now.items c.requires.criteria;
+          looked_none (record_aim (aim_of c.args.self.now.settings.now) raw) raw.number raw.offset game c.args.replayed.now c.args.criteria.now c.args.text.now.items c.requires.criteria;
     }
 
 pub loop-ply-preserved : goal.loop-ply-preserved
 loop-ply-preserved c =
     let start = c.args.text.now.items in
-    let kept = c.args.self.now.replayed in
+    let kept = c.args.replayed.now in
     let ply = c.loop-ply.ply in
     let is_met = c.index.result.now in
     let grown = c.loop-ply.invariant.grown in
@@ -44,7 +44,7 @@ loop-ply-preserved c =
           let reports : IsTrue is_met ↔ IsMet c.args.self.now.settings.now.criteria (heading_of game) kept ply =
           subst (λ (o : Option (List (List (Condition (List ℕ))))). IsTrue is_met ↔ IsMet o (heading_of game) kept ply) (sym c.requires.criteria) (met.reports ply is_met here) in
           looks_on (c.loop-ply.invariant.looked game replay packed own) (omega (arith, met.each, c.len.ensures, c.loop-ply-test.true))
-          (λ before P rest parts count so_far. c.in_ok-is_open.ensures.1 game (Main, is_replay) reports before P rest parts count start so_far);
+          (λ before P rest parts count so_far. c.in_ok-is_open.ensures.1 kept game (Main, is_replay) reports before P rest parts count start so_far);
     }
 
 pub returns : goal.returns
@@ -52,7 +52,7 @@ returns c = (
   c.loop-ply.invariant.grown,
   λ game replay packed own.
       let raw = c.args.self.now.raw.now in
-      let kept = c.args.self.now.replayed in
+      let kept = c.args.replayed.now in
       let same = c.requires.kept.same game replay packed own in
       let met = c.in_ok-met.ensures game replay packed own.kept own.fits own.shows in
       let is_replay : IsReplay Main (tag_in fen_tag game.tags) game.elements kept =
