@@ -8,7 +8,7 @@ pub mod FlatGames
 pub mod OnBoard
 pub mod Spelling
 pub mod RunFacts
-pub mod MainFacts
+pub mod KeptSteps
 pub mod ReachedLines
 pub mod RefusalSearch
 pub mod RefusalExamples

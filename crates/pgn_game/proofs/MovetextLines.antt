@@ -14,20 +14,24 @@ use Rattle.pgn_game.specs.AllLines.{Line, LineEnd, ThenMove, ThenGlyph, ThenComm
 use Rattle.pgn_game.specs.Comments.{comment_tokens}
 use Rattle.pgn_game.specs.Exports.{number_tokens, kept, lines_with, AreMovetextTokens, AreTokens, IsReplayFor}
 use Rattle.pgn_game.specs.Faults.{Fault, HasLineFault, IsMoveFault}
-use Rattle.pgn_game.specs.LineWalks.{Stops, first_level, gone_on}
+use Rattle.pgn_game.specs.LineWalks.{Stops, begun, first_level, gone_on, is_inside}
 use Rattle.pgn_game.specs.MainLines.{main_words, IsMainLine}
-use Rattle.pgn_game.specs.MovetextWalks.{outside, shown_if, shown_items, in_variation, moved_on, set_apart, varied, first_line, Draws}
+use Rattle.pgn_game.specs.MovetextWalks.{WritesStep}
+use Rattle.pgn_game.specs.Pens.{HasPut}
+use Rattle.pgn_game.specs.Steps.{Step, Visits, Walks, WalksOn, around, outside, shown_if, shown_items}
 use Rattle.pgn_game.specs.Replays.{Replay, AreTurns, IsReplay, IsSoundGame, fault_of}
 use Rattle.pgn_game.specs.Starts.{IsStart}
-use Rattle.pgn_game.specs.declared.all_lines.Level.{Level}
+use Rattle.pgn_game.specs.declared.walk.Level.{Level}
 use Rattle.pgn_game.specs.declared.fault.GameFault.{GameFault}
-use Rattle.pgn_game.specs.declared.movetext.WrittenLine.{WrittenLine}
+use Rattle.pgn_game.specs.declared.line_stack.LineStack.{LineStack}
+use Rattle.pgn_game.specs.declared.movetext.MovetextWriter.{MovetextWriter}
 use Rattle.pgn_game.specs.declared.replayer.Lines.TheVariants.{All}
 use Rattle.pgn_game.specs.declared.style.Style.{Style}
 use Rattle.pgn_game.specs.declared.line_move.LineMove.{LineMove}
 use Rattle.pgn_game.specs.declared.line_move.LineMove.TheVariants.{Played, Passed}
 use Rattle.pgn_game.proofs.OneLine.{main_words_of}
 use Rattle.pgn_game.proofs.OneReplay.{line_head, no_fault}
+use Rattle.pgn_game.proofs.PenFacts.{put_both}
 use Rattle.pgn_game.proofs.RunFacts.{stops_faulty}
 use Rattle.pgn_game.proofs.Spelling.{one_spelt}
 use Rattle.pgn_game.proofs.WalkFacts.{same_state}
@@ -82,65 +86,118 @@ starts_there style fen items replay now (lines, all, is) here =
 
 -- ---- the tokens of all lines
 
--- a line has tokens, and what stands after it from some line on
-abbrev pub DrawnThen : WrittenLine → List WrittenLine → Line → List Item → Style → List (List ℕ) → Type 0
-DrawnThen at outer line rest style tokens =
-    (own : List (List ℕ)) × (more : List (List ℕ)) × (last : WrittenLine) × (tokens ≡ own ++ more)
-    × AreTokens style (in_variation outer) at.before at.now at.apart line own × Draws rest style last outer more
+-- a line has tokens that are written, and what stands after it is gone over from there on
+record WrittenThen (style : Style) (apart : Bool) (at : Level) (outer : List Level) (line : Line) (rest : List Item) (old new : MovetextWriter) : Type 0 where
+  own : List (List ℕ)
+  mid : MovetextWriter
+  more : List Step
+  last : Level
+  put : HasPut old.pen mid.pen old.out.items mid.out.items own
+  tokens : AreTokens style (is_inside outer) at.before at.now apart line own
+  walks : Walks rest last outer more
+  visits : Visits WritesStep mid more new
+  same : mid.style ≡ style
 
-line_draws : (line : Line) (rest : List Item) (style : Style) → style.variations ≡ true → (at : WrittenLine) (outer : List WrittenLine) (tokens : List (List ℕ))
-    → Draws (spelled line ++ rest) style at outer tokens → DrawnThen at outer line rest style tokens
-line_draws LineEnd rest style shown at outer tokens draws = ([], tokens, at, refl, refl, draws)
-line_draws (ThenMove word line) rest style shown at outer tokens (turn, text, more, says, spells, is, draws) =
-    let there = line_draws line rest style shown (moved_on at turn) outer more draws in
-    let number = number_tokens at.now.turn at.now.fullmove_number at.apart in (
-      number ++ text ∷ there.0,
-      there.1,
-      there.2,
-      is ∙ ap (λ ts. number ++ text ∷ ts) there.3 ∙ sym (append_assoc number (text ∷ there.0) there.1),
-      (turn, text, there.0, says, spells, refl, there.4),
-      there.5,
-    )
-line_draws (ThenGlyph number line) rest style shown at outer tokens (more, is, draws) =
-    let there = line_draws line rest style shown at outer more draws in
-    let glyph = kept style.glyphs ((36 ∷ decimal number) ∷ []) in
-    (glyph ++ there.0, there.1, there.2, is ∙ ap (λ ts. glyph ++ ts) there.3 ∙ sym (append_assoc glyph there.0 there.1), (there.0, refl, there.4), there.5)
-line_draws (ThenComment text line) rest style shown at outer tokens (more, is, draws) =
-    let there = line_draws line rest style shown (set_apart style.comments at) outer more draws in
-    let remark = kept style.comments (comment_tokens text) in (
-      remark ++ there.0,
-      there.1,
-      there.2,
-      is ∙ ap (λ ts. remark ++ ts) there.3 ∙ sym (append_assoc remark there.0 there.1),
-      (there.0, refl, subst (λ apart. AreTokens style (in_variation outer) at.before at.now apart line there.0) (or_comm style.comments at.apart) there.4),
-      there.5,
-    )
-line_draws (ThenVariation inner line) rest style shown at outer tokens (more, is, draws) =
-    let inside = line_draws inner (VariationClose ∷ (spelled line ++ rest)) style shown (varied at) (set_apart true at ∷ outer) more
-    (subst (λ items. Draws items style (varied at) (set_apart true at ∷ outer) more) (append_assoc (spelled inner) (VariationClose ∷ spelled line) rest) draws) in
-    let there = line_draws line rest style shown (set_apart true at) outer inside.5.0 inside.5.2 in (
-      codes "(" ∷ (inside.0 ++ codes ")" ∷ there.0),
-      there.1,
-      there.2,
-      is ∙ ap (λ ts. codes "(" ∷ ts) (inside.3 ∙ ap (λ ts. inside.0 ++ ts) (inside.5.1 ∙ ap (λ ts. codes ")" ∷ ts) there.3)
-          ∙ sym (append_assoc inside.0 (codes ")" ∷ there.0) there.1)),
-      (
-        inside.0,
-        there.0,
-        ap (λ ts. codes "(" ∷ ts) (sym (append_assoc inside.0 (codes ")" ∷ []) there.0))
-            ∙ ap (λ b. kept b (codes "(" ∷ inside.0 ++ codes ")" ∷ []) ++ there.0) (sym shown),
-        (λ _. inside.4),
-        subst (λ apart. AreTokens style (in_variation outer) at.before at.now apart line there.0) (or_comm true at.apart ∙ ap (λ b. at.apart || b) (sym shown)) there.4,
-      ),
-      there.5,
-    )
-
-all_draw : (line : Line) (style : Style) → style.variations ≡ true → (start : State) (tokens : List (List ℕ)) → Draws (spelled line) style (first_line start) [] tokens
-    → AreTokens style false start start true line tokens
-all_draw line style shown start tokens draws =
-    let there = line_draws line [] style shown (first_line start) [] tokens
-    (subst (λ items. Draws items style (first_line start) [] tokens) (sym (append-nil (spelled line))) draws) in
-    subst (AreTokens style false start start true line) (sym (there.3 ∙ ap (λ ts. there.0 ++ ts) there.5 ∙ append-nil there.0)) there.4
+module _ (style : Style) where
+  line_written : (line : Line) (rest : List Item) (apart : Bool) (at : Level) (outer : List Level) (steps : List Step) (old new : MovetextWriter) → style.variations ≡ true
+      → old.style ≡ style → old.apart ≡ apart → Walks (spelled line ++ rest) at outer steps → Visits WritesStep old steps new → WrittenThen style apart at outer line rest old new
+  line_written LineEnd rest apart at outer steps old new shown same stands walks visits = record {
+    own = [];
+    mid = old;
+    more = steps;
+    last = at;
+    put = λ more. refl;
+    tokens = refl;
+    walks = walks;
+    visits = visits;
+    same = same;
+  }
+  line_written (ThenMove word line) rest apart at outer steps old new shown same stands (turn, more, is, says, walks) visits =
+      let first = subst (λ ss. Visits WritesStep old ss new) is visits in
+      let text = first.1.0 in
+      let puts = first.1.2 in
+      let there = line_written line rest false (gone_on at turn) outer more first.0 new shown (puts.same ∙ same) puts.stands walks first.2 in
+      let number = number_tokens at.now.turn at.now.fullmove_number apart in
+      let put : HasPut old.pen first.0.pen old.out.items first.0.out.items (number ++ text ∷ []) =
+      subst (λ a. HasPut old.pen first.0.pen old.out.items first.0.out.items (number_tokens at.now.turn at.now.fullmove_number a ++ text ∷ [])) stands puts.put in
+      record {
+        own = number ++ text ∷ there.own;
+        mid = there.mid;
+        more = there.more;
+        last = there.last;
+        put = subst (HasPut old.pen there.mid.pen old.out.items there.mid.out.items) (append_assoc number (text ∷ []) there.own)
+            (put_both old.pen first.0.pen there.mid.pen old.out.items first.0.out.items there.mid.out.items (number ++ text ∷ []) there.own put there.put);
+        tokens = (turn, text, there.own, says, first.1.1, refl, there.tokens);
+        walks = there.walks;
+        visits = there.visits;
+        same = there.same;
+      }
+  line_written (ThenGlyph number line) rest apart at outer steps old new shown same stands (more, is, walks) visits =
+      let first = subst (λ ss. Visits WritesStep old ss new) is visits in
+      let puts = first.1 in
+      let there = line_written line rest apart at outer more first.0 new shown (puts.same ∙ same) (puts.stands ∙ stands) walks first.2 in
+      let glyph = kept style.glyphs ((36 ∷ decimal number) ∷ []) in
+      let put : HasPut old.pen first.0.pen old.out.items first.0.out.items glyph =
+      subst (λ (s : Style). HasPut old.pen first.0.pen old.out.items first.0.out.items (kept s.glyphs ((36 ∷ decimal number) ∷ []))) same puts.put in
+      record {
+        own = glyph ++ there.own;
+        mid = there.mid;
+        more = there.more;
+        last = there.last;
+        put = put_both old.pen first.0.pen there.mid.pen old.out.items first.0.out.items there.mid.out.items glyph there.own put there.put;
+        tokens = (there.own, refl, there.tokens);
+        walks = there.walks;
+        visits = there.visits;
+        same = there.same;
+      }
+  line_written (ThenComment text line) rest apart at outer steps old new shown same stands (more, is, walks) visits =
+      let first = subst (λ ss. Visits WritesStep old ss new) is visits in
+      let puts = first.1 in
+      let there = line_written line rest (apart || style.comments) at outer more first.0 new shown (puts.same ∙ same)
+      (puts.stands ∙ ap (λ a. a || old.style.comments) stands ∙ ap (λ (s : Style). apart || s.comments) same) walks first.2 in
+      let remark = kept style.comments (comment_tokens text) in
+      let put : HasPut old.pen first.0.pen old.out.items first.0.out.items remark =
+      subst (λ (s : Style). HasPut old.pen first.0.pen old.out.items first.0.out.items (kept s.comments (comment_tokens text))) same puts.put in
+      record {
+        own = remark ++ there.own;
+        mid = there.mid;
+        more = there.more;
+        last = there.last;
+        put = put_both old.pen first.0.pen there.mid.pen old.out.items first.0.out.items there.mid.out.items remark there.own put there.put;
+        tokens = (there.own, refl, there.tokens);
+        walks = there.walks;
+        visits = there.visits;
+        same = there.same;
+      }
+  line_written (ThenVariation inner line) rest apart at outer steps old new shown same stands (more, is, walks) visits =
+      let first = subst (λ ss. Visits WritesStep old ss new) is visits in
+      let opens = first.1 in
+      let inside = line_written inner (VariationClose ∷ (spelled line ++ rest)) true (begun at) (at ∷ outer) more first.0 new shown (opens.same ∙ same) opens.stands
+      (subst (λ items. Walks items (begun at) (at ∷ outer) more) (append_assoc (spelled inner) (VariationClose ∷ spelled line) rest) walks) first.2 in
+      let second = subst (λ ss. Visits WritesStep inside.mid ss new) inside.walks.1 inside.visits in
+      let closes = second.1 in
+      let there = line_written line rest true at outer inside.walks.0 second.0 new shown (closes.same ∙ inside.same) closes.stands inside.walks.2 second.2 in
+      let put = put_both old.pen second.0.pen there.mid.pen old.out.items second.0.out.items there.mid.out.items ((codes "(" ∷ inside.own) ++ codes ")" ∷ []) there.own
+      (put_both old.pen inside.mid.pen second.0.pen old.out.items inside.mid.out.items second.0.out.items (codes "(" ∷ inside.own) (codes ")" ∷ [])
+      (put_both old.pen first.0.pen inside.mid.pen old.out.items first.0.out.items inside.mid.out.items (codes "(" ∷ []) inside.own opens.put inside.put) closes.put)
+      there.put in
+      record {
+        own = (codes "(" ∷ inside.own ++ codes ")" ∷ []) ++ there.own;
+        mid = there.mid;
+        more = there.more;
+        last = there.last;
+        put = put;
+        tokens = (
+          inside.own,
+          there.own,
+          ap (λ b. kept b (codes "(" ∷ inside.own ++ codes ")" ∷ []) ++ there.own) (sym shown),
+          (λ _. inside.tokens),
+          subst (λ a. AreTokens style (is_inside outer) at.before at.now a line there.own) (or_comm true apart ∙ ap (λ b. apart || b) (sym shown)) there.tokens,
+        );
+        walks = there.walks;
+        visits = there.visits;
+        same = there.same;
+      }
 
 -- ---- the tokens of the main line
 
@@ -161,38 +218,108 @@ skipped (ThenVariation inner line) more depth inside =
     ∙ skipped inner (VariationClose ∷ (spelled line ++ more)) (depth + 1) (omega arith)
     ∙ ap (outside (spelled line ++ more)) back ∙ skipped line more depth inside
 
-main_draws : (line : Line) (style : Style) → style.variations ≡ false → (at : WrittenLine) (tokens : List (List ℕ)) → Draws (outside (spelled line) 0) style at [] tokens
-    → AreTokens style false at.before at.now at.apart line tokens
-main_draws LineEnd style hidden at tokens draws = draws
-main_draws (ThenMove word line) style hidden at tokens (turn, text, more, says, spells, is, draws) =
-    (turn, text, more, says, spells, is, main_draws line style hidden (moved_on at turn) more draws)
-main_draws (ThenGlyph number line) style hidden at tokens (more, is, draws) = (more, is, main_draws line style hidden at more draws)
-main_draws (ThenComment text line) style hidden at tokens (more, is, draws) = (
-  more,
-  is,
-  subst (λ apart. AreTokens style false at.before at.now apart line more) (or_comm style.comments at.apart) (main_draws line style hidden (set_apart style.comments at) more draws),
-)
-main_draws (ThenVariation inner line) style hidden at tokens draws = (
-  [],
-  tokens,
-  ap (λ b. kept b (codes "(" ∷ codes ")" ∷ []) ++ tokens) (sym hidden),
-  (λ shown. let never : true ≡ false = sym shown ∙ hidden in absurd (cc)),
-  subst (λ apart. AreTokens style false at.before at.now apart line tokens) (or_comm false at.apart ∙ ap (λ b. at.apart || b) (sym hidden))
-      (main_draws line style hidden at tokens (subst (λ items. Draws items style at [] tokens) (skipped inner (VariationClose ∷ spelled line) 1 (omega arith)) draws)),
-)
+-- the line has tokens, and they are written
+record WrittenMain (style : Style) (apart : Bool) (at : Level) (line : Line) (old new : MovetextWriter) : Type 0 where
+  own : List (List ℕ)
+  put : HasPut old.pen new.pen old.out.items new.out.items own
+  tokens : AreTokens style false at.before at.now apart line own
+
+module _ (style : Style) where
+  main_written : (line : Line) (apart : Bool) (at : Level) (steps : List Step) (old new : MovetextWriter) → style.variations ≡ false → old.style ≡ style → old.apart ≡ apart
+      → Walks (outside (spelled line) 0) at [] steps → Visits WritesStep old steps new → WrittenMain style apart at line old new
+  main_written LineEnd apart at steps old new hidden same stands none visits =
+      let last : new ≡ old = subst (λ ss. Visits WritesStep old ss new) none visits in
+      record { own = []; put = subst (λ (w : MovetextWriter). HasPut old.pen w.pen old.out.items w.out.items []) (sym last) (λ more. refl); tokens = refl }
+  main_written (ThenMove word line) apart at steps old new hidden same stands (turn, more, is, says, walks) visits =
+      let first = subst (λ ss. Visits WritesStep old ss new) is visits in
+      let text = first.1.0 in
+      let puts = first.1.2 in
+      let there = main_written line false (gone_on at turn) more first.0 new hidden (puts.same ∙ same) puts.stands walks first.2 in
+      let number = number_tokens at.now.turn at.now.fullmove_number apart in
+      let put : HasPut old.pen first.0.pen old.out.items first.0.out.items (number ++ text ∷ []) =
+      subst (λ a. HasPut old.pen first.0.pen old.out.items first.0.out.items (number_tokens at.now.turn at.now.fullmove_number a ++ text ∷ [])) stands puts.put in
+      record {
+        own = number ++ text ∷ there.own;
+        put = subst (HasPut old.pen new.pen old.out.items new.out.items) (append_assoc number (text ∷ []) there.own)
+            (put_both old.pen first.0.pen new.pen old.out.items first.0.out.items new.out.items (number ++ text ∷ []) there.own put there.put);
+        tokens = (turn, text, there.own, says, first.1.1, refl, there.tokens);
+      }
+  main_written (ThenGlyph number line) apart at steps old new hidden same stands (more, is, walks) visits =
+      let first = subst (λ ss. Visits WritesStep old ss new) is visits in
+      let puts = first.1 in
+      let there = main_written line apart at more first.0 new hidden (puts.same ∙ same) (puts.stands ∙ stands) walks first.2 in
+      let glyph = kept style.glyphs ((36 ∷ decimal number) ∷ []) in
+      let put : HasPut old.pen first.0.pen old.out.items first.0.out.items glyph =
+      subst (λ (s : Style). HasPut old.pen first.0.pen old.out.items first.0.out.items (kept s.glyphs ((36 ∷ decimal number) ∷ []))) same puts.put in
+      record {
+        own = glyph ++ there.own;
+        put = put_both old.pen first.0.pen new.pen old.out.items first.0.out.items new.out.items glyph there.own put there.put;
+        tokens = (there.own, refl, there.tokens);
+      }
+  main_written (ThenComment text line) apart at steps old new hidden same stands (more, is, walks) visits =
+      let first = subst (λ ss. Visits WritesStep old ss new) is visits in
+      let puts = first.1 in
+      let there = main_written line (apart || style.comments) at more first.0 new hidden (puts.same ∙ same)
+      (puts.stands ∙ ap (λ a. a || old.style.comments) stands ∙ ap (λ (s : Style). apart || s.comments) same) walks first.2 in
+      let remark = kept style.comments (comment_tokens text) in
+      let put : HasPut old.pen first.0.pen old.out.items first.0.out.items remark =
+      subst (λ (s : Style). HasPut old.pen first.0.pen old.out.items first.0.out.items (kept s.comments (comment_tokens text))) same puts.put in
+      record {
+        own = remark ++ there.own;
+        put = put_both old.pen first.0.pen new.pen old.out.items first.0.out.items new.out.items remark there.own put there.put;
+        tokens = (there.own, refl, there.tokens);
+      }
+  main_written (ThenVariation inner line) apart at steps old new hidden same stands walks visits =
+      let there = main_written line apart at steps old new hidden same stands
+      (subst (λ items. Walks items at [] steps) (skipped inner (VariationClose ∷ spelled line) 1 (omega arith)) walks) visits in
+      record {
+        own = there.own;
+        put = there.put;
+        tokens = (
+          [],
+          there.own,
+          ap (λ b. kept b (codes "(" ∷ codes ")" ∷ []) ++ there.own) (sym hidden),
+          (λ shown. let never : true ≡ false = sym shown ∙ hidden in absurd (cc)),
+          subst (λ a. AreTokens style false at.before at.now a line there.own) (or_comm false apart ∙ ap (λ b. apart || b) (sym hidden)) there.tokens,
+        );
+      }
 
 -- ---- the tokens of a game
 
-pub drawn_tokens : (style : Style) (start : State) (items : List Item) (tokens : List (List ℕ)) → IsPaired 0 items
-    → Draws (shown_items style.variations 0 items) style (first_line start) [] tokens → (line : Line) × (items ≡ spelled line) × AreTokens style false start start true line tokens
-drawn_tokens style start items tokens paired draws =
-    let line = one_spelt items paired in
-    (line.0, line.1, by style.variations refl line.0 (subst (λ xs. Draws (shown_items style.variations 0 xs) style (first_line start) [] tokens) line.1 draws))
+-- the elements have tokens, and they are written
+pub record WrittenTokens (style : Style) (start : State) (items : List Item) (old new : MovetextWriter) : Type 0 where
+  pub line : Line
+  pub own : List (List ℕ)
+  pub spells : items ≡ spelled line
+  pub tokens : AreTokens style false start start true line own
+  pub put : HasPut old.pen new.pen old.out.items new.out.items own
+
+pub written_tokens : (start : State) (items : List Item) (stack : LineStack Level) (steps : List Step) (old new : MovetextWriter) → IsPaired 0 items
+    → around stack ≡ [] → stack.line ≡ first_level start → old.apart ≡ true → WalksOn stack (shown_items old.style.variations 0 items) steps → Visits WritesStep old steps new
+    → WrittenTokens old.style start items old new
+written_tokens start items stack steps old new paired none begins stands on visits =
+    let spelt = one_spelt items paired in
+    let walks = subst (λ xs. Walks (shown_items old.style.variations 0 xs) (first_level start) [] steps) spelt.1
+    (subst (λ level. Walks (shown_items old.style.variations 0 items) level [] steps) begins
+    (subst (λ outer. Walks (shown_items old.style.variations 0 items) stack.line outer steps) none on)) in
+    by old.style.variations refl spelt.0 spelt.1 walks
   where
-    by : (variations : Bool) → style.variations ≡ variations → (line : Line) → Draws (shown_items variations 0 (spelled line)) style (first_line start) [] tokens
-        → AreTokens style false start start true line tokens
-    by true shown line all = all_draw line style shown start tokens all
-    by false hidden line main = main_draws line style hidden (first_line start) tokens main
+    by : (variations : Bool) → old.style.variations ≡ variations → (line : Line) → items ≡ spelled line → Walks (shown_items variations 0 (spelled line)) (first_level start) [] steps
+        → WrittenTokens old.style start items old new
+    by true shown line spells walks =
+        let there = line_written old.style line [] true (first_level start) [] steps old new shown refl stands
+        (subst (λ xs. Walks xs (first_level start) [] steps) (sym (append-nil (spelled line))) walks) visits in
+        let last : new ≡ there.mid = subst (λ ss. Visits WritesStep there.mid ss new) there.walks there.visits in
+        record {
+          line = line;
+          own = there.own;
+          spells = spells;
+          tokens = there.tokens;
+          put = subst (λ (w : MovetextWriter). HasPut old.pen w.pen old.out.items w.out.items there.own) (sym last) there.put;
+        }
+    by false hidden line spells walks =
+        let there = main_written old.style line true (first_level start) steps old new hidden refl stands walks visits in
+        record { line = line; own = there.own; spells = spells; tokens = there.tokens; put = there.put }
 
 -- ---- what is written is played
 

@@ -1,9 +1,8 @@
 -- The first word that is refused: what its search keeps, and what is known where it ends.
-use Rattle.std.proofs.Common.{◌≡◌, ℕ, ◌+◌, ◌<◌, ◌≤◌, true, false, List, [], ◌∷◌, ◌++◌, length, get_or, take, map, reverse, refl, sym, ap, ◌∙◌, subst, inl, inr, append_assoc, append-nil, arith}
+use Rattle.std.proofs.Common.{◌≡◌, ℕ, ◌+◌, ◌<◌, ◌≤◌, true, false, List, [], ◌∷◌, ◌++◌, length, get_or, take, map, refl, sym, ap, ◌∙◌, subst, inl, inr, append_assoc, append-nil, arith}
 use Rattle.std.specs.Prelude.{Option, Some, None, IfSome, MatchOption, option_map}
 use Rattle.std.specs.List.{slice_get}
 use Rattle.std.proofs.lemmas.List.{take_more, take_all}
-use Rattle.std.proofs.lemmas.List.Elements.{All-weaker}
 use Rattle.std.proofs.lemmas.Option.{slice_get_within, get_or_from_slice_get, slice_get-map, slice_get-get_or}
 use Rattle.chess.specs.Positions.{State}
 use Rattle.chess.specs.declared.moves.Move.{Move}
@@ -12,22 +11,23 @@ use Rattle.pgn_text.specs.Games.{Item, MoveText}
 use Rattle.pgn_text.specs.GameTexts.{IsPaired}
 use Rattle.pgn_text.specs.declared.game.Element.{Element}
 use Rattle.pgn_game.specs.Faults.{Fault, BadStart, IllegalMove, AmbiguousMove, NamesNone, NamesSeveral, IsRefusedWord, IsRefusedTurn, HasLineFault, IsFault}
-use Rattle.pgn_game.specs.LineWalks.{is_inside, gone_on, first_level, Runs, Stops, Leads, RunsOn, StopsOn, AreWithin}
+use Rattle.pgn_game.specs.LineWalks.{is_inside, gone_on, first_level, Runs, Stops, Leads}
 use Rattle.pgn_game.specs.MainLines.{main_words, IsMainLine}
 use Rattle.pgn_game.specs.Refusals.{played_items, IsReached, IsRefusedFrom, IsRefusedAt}
 use Rattle.pgn_game.specs.Starts.{IsStart}
+use Rattle.pgn_game.specs.Steps.{AreWithin, StopsAt, Walks, WalksOn, around}
 use Rattle.pgn_game.specs.RefusalWalks.{IsCounted, GoesOn, IsRefusedHere, IsSearched}
-use Rattle.pgn_game.specs.declared.all_lines.Level.{Level}
-use Rattle.pgn_game.specs.declared.all_lines.LinesWalk.{LinesWalk}
+use Rattle.pgn_game.specs.declared.walk.Level.{Level}
+use Rattle.pgn_game.specs.declared.line_stack.LineStack.{LineStack}
 use Rattle.pgn_game.specs.declared.explain.Refused.{Refused}
 use Rattle.pgn_game.specs.declared.replayer.Lines.{Lines}
 use Rattle.pgn_game.specs.declared.replayer.Lines.TheVariants.{Main, All}
 use Rattle.pgn_game.specs.declared.line_move.LineMove.{LineMove}
 use Rattle.pgn_game.specs.declared.line_move.LineMove.TheVariants.{Played, Passed}
-use Rattle.pgn_game.proofs.MainFacts.{inside_reverse, runs_begin, within_begin}
 use Rattle.pgn_game.proofs.OneReplay.{all_or_fault, line_or_fault, one_start, start_or_bad}
 use Rattle.pgn_game.proofs.ReachedLines.{line_of, leads_to}
 use Rattle.pgn_game.proofs.RunFacts.{runs_played}
+use Rattle.pgn_game.proofs.StepFacts.{turns_of, walks_run, within_more}
 
 -- ---- a word that is refused
 
@@ -47,14 +47,11 @@ some_fault : (met : Fault → Type 0) (reports : Option Fault) → (reports ≡ 
 some_fault met None some is = absurd (some refl)
 some_fault met (Some fault) some is = (fault, is)
 
-pub refused_here : (walk : LinesWalk) (word : List ℕ) (reports : Option Fault) → (reports ≡ None → ⊥) → ((items : List Item) → IfSome reports (StopsOn walk (MoveText word ∷ items)))
-    → (fault : Fault) × IsRefusedTurn (is_inside walk.outer.items) walk.line.now walk.line.plies word fault
-refused_here walk word reports some stuck =
-    let stops = some_fault (StopsOn walk (MoveText word ∷ [])) reports some (stuck []) in (
-      stops.0,
-      subst (λ b. IsRefusedTurn b walk.line.now walk.line.plies word stops.0) (inside_reverse walk.outer.items)
-          (stops_here word walk.line (reverse walk.outer.items) stops.0 stops.1),
-    )
+pub refused_here : (stack : LineStack Level) (word : List ℕ) (reports : Option Fault) → (reports ≡ None → ⊥) → ((items : List Item) → IfSome reports (StopsAt stack (MoveText word ∷ items)))
+    → (fault : Fault) × IsRefusedTurn (is_inside (around stack)) stack.line.now stack.line.plies word fault
+refused_here stack word reports some stuck =
+    let stops = some_fault (StopsAt stack (MoveText word ∷ [])) reports some (stuck []) in
+    (stops.0, stops_here word stack.line (around stack) stops.0 stops.1)
 
 -- ---- the words of the main line, played
 
@@ -81,14 +78,17 @@ nothing_played : (lines : Lines) (depth : ℕ) → played_items lines [] depth �
 nothing_played Main depth = refl
 nothing_played All depth = refl
 
-pub search_begins : (lines : Lines) (start : State) (items : List Item) (walk : LinesWalk) → walk.turns.items ≡ [] → walk.outer.items ≡ [] → walk.line ≡ first_level start
-    → IsSearched lines start items 0 walk 0
-search_begins lines start items walk none outside line = record {
-  runs = λ more turns on. runs_begin walk start (played_items lines more 0) turns none outside line on;
+pub search_begins : (lines : Lines) (start : State) (items : List Item) (stack : LineStack Level) → around stack ≡ [] → stack.line ≡ first_level start
+    → IsSearched lines start items 0 stack 0
+search_begins lines start items stack outside line = record {
+  walks = λ more steps on. (
+    steps,
+    subst (λ level. Walks (played_items lines more 0) level [] steps) line (subst (λ outer. Walks (played_items lines more 0) stack.line outer steps) outside on),
+  );
   leads = λ more inside last on. subst (λ xs. Leads (xs ++ more) (first_level start) [] inside last) (sym (nothing_played lines 0))
-      (subst (λ level. Leads more level [] inside last) line (subst (λ xs. Leads more walk.line (reverse xs) inside last) outside on));
+      (subst (λ level. Leads more level [] inside last) line (subst (λ outer. Leads more stack.line outer inside last) outside on));
   parted = λ more. ap (λ xs. xs ++ played_items lines more 0) (sym (nothing_played lines 0));
-  within = within_begin walk start outside line;
+  within = (let plies : stack.line.plies ≡ 0 = ap (λ (level : Level). level.plies) line in omega arith, subst (AreWithin 0) (sym outside) tt);
   depth_within = omega arith;
 }
 
@@ -98,13 +98,7 @@ front_more items i item more here =
     ap (λ xs. xs ++ more) (take_more items i item (slice_get_within items i item here)
     ∙ ap (λ (x : Item). take i items ++ x ∷ []) (get_or_from_slice_get items i item item here)) ∙ append_assoc (take i items) (item ∷ []) more
 
-within_more : (n : ℕ) (walk : LinesWalk) → AreWithin n walk → AreWithin (n + 1) walk
-within_more n walk within = (
-  (let low : walk.line.plies ≤ n = within.0 in omega arith),
-  All-weaker (λ level. level.plies ≤ n) (λ level. level.plies ≤ n + 1) (λ level low. omega arith) walk.outer.items within.1,
-)
-
-module _ (lines : Lines) (start : State) (items : List Item) (i : ℕ) (old : LinesWalk) (depth next : ℕ) (item : Item) (here : slice_get items i ≡ Some item)
+module _ (lines : Lines) (start : State) (items : List Item) (i : ℕ) (old : LineStack Level) (depth next : ℕ) (item : Item) (here : slice_get items i ≡ Some item)
     (so_far : IsSearched lines start items i old depth) (low : next ≤ depth + 1) where
   -- what is played of the elements in front, and of one more
   abbrev front : List Item
@@ -114,13 +108,15 @@ module _ (lines : Lines) (start : State) (items : List Item) (i : ℕ) (old : Li
   one_more own is =
       ap (λ xs. played_items lines xs 0) (sym (append-nil (take (i + 1) items)) ∙ front_more items i item [] here) ∙ so_far.parted (item ∷ []) ∙ ap (λ xs. front ++ xs) is
 
-  pub search_on : (new : LinesWalk) → IsCounted lines item depth next true → GoesOn old item new → IsSearched lines start items (i + 1) new next
+  pub search_on : (new : LineStack Level) → IsCounted lines item depth next true → GoesOn old item new → IsSearched lines start items (i + 1) new next
   search_on new counted on =
       let grown : played_items lines (take (i + 1) items) 0 ≡ front ++ item ∷ [] =
       one_more (item ∷ []) (counted.0 [] ∙ ap (λ xs. item ∷ xs) (nothing_played lines next)) in
       record {
-        runs = λ more turns runs. subst (λ xs. Runs (played_items lines xs 0) (first_level start) [] turns) (sym (front_more items i item more here))
-            (so_far.runs (item ∷ more) turns (subst (λ xs. RunsOn old xs turns) (sym (counted.0 more)) (on.runs (played_items lines more next) turns runs)));
+        walks = λ more left walks.
+            let there = on.walks (played_items lines more next) left walks in
+            let all = so_far.walks (item ∷ more) there.0 (subst (λ xs. WalksOn old xs there.0) (sym (counted.0 more)) there.1) in
+            (all.0, subst (λ xs. Walks (played_items lines xs 0) (first_level start) [] all.0) (sym (front_more items i item more here)) all.1);
         leads = λ more inside last leads. subst (λ xs. Leads xs (first_level start) [] inside last)
             (sym (append_assoc front (item ∷ []) more) ∙ ap (λ xs. xs ++ more) (sym grown)) (so_far.leads (item ∷ more) inside last (on.leads more inside last leads));
         parted = λ more. ap (λ xs. played_items lines xs 0) (front_more items i item more here) ∙ so_far.parted (item ∷ more)
@@ -134,42 +130,42 @@ module _ (lines : Lines) (start : State) (items : List Item) (i : ℕ) (old : Li
   search_past counted =
       let kept : played_items lines (take (i + 1) items) 0 ≡ front = one_more [] (counted [] ∙ nothing_played lines next) ∙ append-nil front in
       record {
-        runs = λ more turns runs. subst (λ xs. Runs (played_items lines xs 0) (first_level start) [] turns) (sym (front_more items i item more here))
-            (so_far.runs (item ∷ more) turns (subst (λ xs. RunsOn old xs turns) (sym (counted more)) runs));
+        walks = λ more left walks.
+            let all = so_far.walks (item ∷ more) left (subst (λ xs. WalksOn old xs left) (sym (counted more)) walks) in
+            (all.0, subst (λ xs. Walks (played_items lines xs 0) (first_level start) [] all.0) (sym (front_more items i item more here)) all.1);
         leads = λ more inside last leads. subst (λ xs. Leads (xs ++ more) (first_level start) [] inside last) (sym kept) (so_far.leads more inside last leads);
         parted = λ more. ap (λ xs. played_items lines xs 0) (front_more items i item more here) ∙ so_far.parted (item ∷ more)
             ∙ ap (λ xs. front ++ xs) (counted more) ∙ ap (λ xs. xs ++ played_items lines more next) (sym kept);
-        within = within_more i old so_far.within;
+        within = within_more i (old.line ∷ around old) so_far.within;
         depth_within = (let d : depth ≤ i = so_far.depth_within in omega arith);
       }
 
   -- what stands there is played in the line that is reached
-  reached_there : IsCounted lines item depth next true → IsReached lines start items i (is_inside old.outer.items) (line_of old.line)
+  reached_there : IsCounted lines item depth next true → IsReached lines start items i (is_inside (around old)) (line_of old.line)
   reached_there counted = (
-    leads_to front (first_level start) [] (is_inside old.outer.items) old.line
-        (subst (λ xs. Leads xs (first_level start) [] (is_inside old.outer.items) old.line) (append-nil front)
-        (so_far.leads [] (is_inside old.outer.items) old.line (sym (inside_reverse old.outer.items), refl))),
+    leads_to front (first_level start) [] (is_inside (around old)) old.line
+        (subst (λ xs. Leads xs (first_level start) [] (is_inside (around old)) old.line) (append-nil front) (so_far.leads [] (is_inside (around old)) old.line (refl, refl))),
     (λ word. so_far.parted (MoveText word ∷ []) ∙ ap (λ xs. front ++ xs) (counted.1 word [] ∙ ap (λ xs. MoveText word ∷ xs) (nothing_played lines depth))),
   )
 
   pub search_ends : (refused : Refused) → IsCounted lines item depth next true → IsRefusedHere old item i refused → IsRefusedFrom lines start items refused
   search_ends refused counted reports = record {
     here = subst (λ k. slice_get items k ≡ Some (MoveText refused.word.now)) (sym reports.element) (here ∙ ap (λ (x : Item). Some x) reports.word);
-    inside = is_inside old.outer.items;
+    inside = is_inside (around old);
     line = line_of old.line;
-    reached = subst (λ k. IsReached lines start items k (is_inside old.outer.items) (line_of old.line)) (sym reports.element) (reached_there counted);
+    reached = subst (λ k. IsReached lines start items k (is_inside (around old)) (line_of old.line)) (sym reports.element) (reached_there counted);
     position = reports.position;
     why = reports.why;
   }
 
-pub search_finds_none : (lines : Lines) (start : State) (items : List Item) (walk : LinesWalk) (depth : ℕ) → IsPaired 0 items
-    → IsSearched lines start items (length items) walk depth → (fault : Fault) → HasLineFault lines start items fault → ⊥
-search_finds_none lines start items walk depth paired searched fault met =
+pub search_finds_none : (lines : Lines) (start : State) (items : List Item) (stack : LineStack Level) (depth : ℕ) → IsPaired 0 items
+    → IsSearched lines start items (length items) stack depth → (fault : Fault) → HasLineFault lines start items fault → ⊥
+search_finds_none lines start items stack depth paired searched fault met =
     let whole : take (length items) items ++ [] ≡ items = append-nil (take (length items) items) ∙ take_all (length items) items (omega arith) in
-    runs_from lines start items walk.turns.items fault paired
-    (subst (λ xs. Runs (played_items lines xs 0) (first_level start) [] walk.turns.items) whole
-    (searched.runs [] walk.turns.items
-    (subst (λ xs. RunsOn walk xs walk.turns.items) (sym (nothing_played lines depth)) ([], sym (append-nil walk.turns.items), refl)))) met
+    let walked = searched.walks [] [] (subst (λ xs. WalksOn stack xs []) (sym (nothing_played lines depth)) refl) in
+    runs_from lines start items (turns_of walked.0) fault paired
+    (walks_run (played_items lines items 0) (first_level start) [] walked.0
+    (subst (λ xs. Walks (played_items lines xs 0) (first_level start) [] walked.0) whole walked.1)) met
 
 -- ---- the whole
 

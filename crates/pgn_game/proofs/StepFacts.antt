@@ -1,12 +1,12 @@
 -- A walk's steps, one after another.
-use Rattle.std.proofs.Common.{◌≡◌, ℕ, ◌+◌, List, [], ◌∷◌, ◌++◌, refl, sym, ap, subst, arith}
+use Rattle.std.proofs.Common.{◌≡◌, ℕ, ◌+◌, Bool, true, false, List, [], ◌∷◌, ◌++◌, refl, sym, ap, subst, arith}
 use Rattle.pgn_text.specs.Games.{Item, MoveText, GlyphNumber, CommentText, VariationOpen, VariationClose}
 use Rattle.std.specs.Prelude.{Result, Ok, Err, OnOk}
-use Rattle.pgn_game.specs.Steps.{AreWithin, IsBack, IsWithin, Step, Turned, Beside, Visits, Walks, around}
+use Rattle.pgn_game.specs.Steps.{AreWithin, IsBack, IsWithin, Step, Turned, Beside, Visits, Walks, around, shown_items}
 use Rattle.pgn_game.specs.LineWalks.{Runs, begun, gone_on}
 use Rattle.pgn_game.specs.declared.line_stack.LineStack.{LineStack}
 use Rattle.pgn_game.specs.declared.line_move.LineMove.{LineMove}
-use Rattle.pgn_game.specs.declared.all_lines.Level.{Level}
+use Rattle.pgn_game.specs.declared.walk.Level.{Level}
 
 pub visits_one_more : {V : Type 0} (does : V → Step → V → Type 0) (done : List Step) (old mid new : V) (step : Step) → Visits does old done mid → does mid step new
     → Visits does old (done ++ step ∷ []) new
@@ -39,6 +39,11 @@ within_turned n old new turn line outer all =
     let here = all.0 in
     subst (λ l. AreWithin (n + 1) (l ∷ around new)) (sym line) (subst (λ ls. AreWithin (n + 1) (gone_on old.line turn ∷ ls)) (sym outer)
     (omega arith, within_more n (around old) all.1))
+
+-- of no elements none are gone over
+pub none_shown : (variations : Bool) (depth : ℕ) → shown_items variations depth [] ≡ []
+none_shown true depth = refl
+none_shown false depth = refl
 
 -- the turns of a walk
 abbrev pub turns_of : List Step → List LineMove

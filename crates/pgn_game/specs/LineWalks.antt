@@ -1,16 +1,11 @@
 -- All lines while they are played: what is left of the elements completes the whole. Nothing but the proof of the replay cites these.
-use Rattle.std.specs.Prelude.{◌≡◌, ◌⊎◌, ◌≤◌, ℕ, ◌+◌, ◌-◌, Bool, true, false, List, [], ◌∷◌, ◌++◌, length, reverse}
-use Rattle.std.specs.List.{All}
+use Rattle.std.specs.Prelude.{◌≡◌, ◌⊎◌, ◌+◌, ◌-◌, Bool, true, false, List, [], ◌∷◌}
 use Rattle.chess.specs.Positions.{State}
-use Rattle.chess.specs.declared.moves.Move.{Move}
 use Rattle.pgn_text.specs.Games.{Item, MoveText, GlyphNumber, CommentText, VariationOpen, VariationClose}
-use Rattle.pgn_game.specs.MainLines.{main_words, IsMainLine}
 use Rattle.pgn_game.specs.Faults.{Fault, IsRefusedTurn}
 use Rattle.pgn_game.specs.AllLines.{IsTurn, after_turn}
 use Rattle.pgn_game.specs.declared.line_move.LineMove.{LineMove}
-use Rattle.pgn_game.specs.declared.line_move.LineMove.TheVariants.{Played, Passed}
-use Rattle.pgn_game.specs.declared.all_lines.Level.{Level}
-use Rattle.pgn_game.specs.declared.all_lines.LinesWalk.{LinesWalk}
+use Rattle.pgn_game.specs.declared.walk.Level.{Level}
 
 -- the lines around this one, the innermost first: where there is one, this one is a variation
 abbrev pub is_inside : {T : Type 0} → List T → Bool
@@ -66,40 +61,6 @@ Leads (VariationClose ∷ items) level (next ∷ outer) inside last = Leads item
 abbrev pub main_now : Level → List Level → State
 main_now level [] = level.now
 main_now level (next ∷ outer) = main_now next outer
-
--- what is left of the elements completes the turns, or the main line, or has the fault, or leads to a line
-abbrev pub RunsOn : LinesWalk → List Item → List LineMove → Type 0
-RunsOn walk items turns = (more : List LineMove) × (turns ≡ walk.turns.items ++ more) × Runs items walk.line (reverse walk.outer.items) more
-
-abbrev pub StopsOn : LinesWalk → List Item → Fault → Type 0
-StopsOn walk items fault = Stops items walk.line (reverse walk.outer.items) fault
-
-abbrev pub LeadsOn : LinesWalk → List Item → Bool → Level → Type 0
-LeadsOn walk items inside last = Leads items walk.line (reverse walk.outer.items) inside last
-
-abbrev pub MainOn : LinesWalk → List Item → List State → List Move → Type 0
-MainOn walk items positions played =
-    (later : List State) × (more : List Move) × (positions ≡ walk.positions.items ++ later) × (played ≡ walk.played.items ++ more)
-    × IsMainLine (main_now walk.line (reverse walk.outer.items)) (main_words items (length (reverse walk.outer.items))) later more
-
--- a turn of the main line was kept in it: a move, and the position before it
-abbrev pub Keeps : Bool → List State → List State → List Move → List Move → State → LineMove → Type 0
-Keeps true before next moves grown now turn = (next ≡ before) × (grown ≡ moves)
-Keeps false before next moves grown now (Played m) = (next ≡ before ++ now ∷ []) × (grown ≡ moves ++ m ∷ [])
-Keeps false before next moves grown now Passed = ⊥
-
--- the walk went on by a turn
-pub record HasTurned (old : LinesWalk) (word : List ℕ) (new : LinesWalk) : Type 0 where
-  pub turn : LineMove
-  pub is_turn : IsTurn (is_inside old.outer.items) old.line.now word turn
-  pub turns : new.turns.items ≡ old.turns.items ++ turn ∷ []
-  pub line : new.line ≡ gone_on old.line turn
-  pub outer : new.outer.items ≡ old.outer.items
-  pub main : Keeps (is_inside old.outer.items) old.positions.items new.positions.items old.played.items new.played.items old.line.now turn
-
--- no line has more plies
-abbrev pub AreWithin : ℕ → LinesWalk → Type 0
-AreWithin n walk = (walk.line.plies ≤ n) × All (λ level. level.plies ≤ n) walk.outer.items
 
 -- no variation begins among the elements
 abbrev pub IsFlat : List Item → Type 0

@@ -1,13 +1,16 @@
 -- One walk over the lines of a game: its steps, and what a visitor of them does. Nothing but the proofs of the walk and its visitors cites these.
-use Rattle.std.specs.Prelude.{◌≡◌, ◌≤◌, ℕ, Bool, List, [], ◌∷◌, reverse}
+use Rattle.std.specs.Prelude.{◌≡◌, ◌==◌, ◌≤◌, ℕ, ◌+◌, ◌-◌, Bool, true, false, List, [], ◌∷◌, ◌++◌, reverse}
 use Rattle.chess.specs.Positions.{State}
+use Rattle.chess.specs.declared.moves.Move.{Move}
 use Rattle.pgn_text.specs.Games.{Item, MoveText, GlyphNumber, CommentText, VariationOpen, VariationClose}
-use Rattle.pgn_game.specs.AllLines.{IsTurn}
+use Rattle.pgn_game.specs.AllLines.{IsTurn, after_turn}
 use Rattle.pgn_game.specs.Faults.{Fault}
-use Rattle.pgn_game.specs.LineWalks.{Stops, begun, gone_on, is_inside}
+use Rattle.pgn_game.specs.LineWalks.{Leads, Stops, begun, gone_on, is_inside}
+use Rattle.pgn_game.specs.declared.all_lines.ReplayKeeper.{ReplayKeeper}
 use Rattle.pgn_game.specs.declared.line_stack.LineStack.{LineStack}
 use Rattle.pgn_game.specs.declared.line_move.LineMove.{LineMove}
-use Rattle.pgn_game.specs.declared.all_lines.Level.{Level}
+use Rattle.pgn_game.specs.declared.line_move.LineMove.TheVariants.{Played, Passed}
+use Rattle.pgn_game.specs.declared.walk.Level.{Level}
 
 -- the lines around the one that is gone along, the innermost first
 abbrev pub around : {T : Type 0} → LineStack T → List T
@@ -22,6 +25,25 @@ IsBack line (next ∷ outer) new left = (new ≡ next) × (left ≡ outer)
 pub data Step : Type 0 where
   Turned : Bool → State → LineMove → Step
   Beside : Item → Step
+
+-- an element that is gone over or left out
+abbrev pub shown_if : Bool → Item → List Item → List Item
+shown_if true item items = item ∷ items
+shown_if false item items = items
+
+-- the elements that stand in no variation, where so many are open before them
+abbrev pub outside : List Item → ℕ → List Item
+outside [] depth = []
+outside (MoveText word ∷ items) depth = shown_if (depth == 0) (MoveText word) (outside items depth)
+outside (GlyphNumber number ∷ items) depth = shown_if (depth == 0) (GlyphNumber number) (outside items depth)
+outside (CommentText text ∷ items) depth = shown_if (depth == 0) (CommentText text) (outside items depth)
+outside (VariationOpen ∷ items) depth = outside items (depth + 1)
+outside (VariationClose ∷ items) depth = outside items (depth - 1)
+
+-- the elements that are gone over: all, with variations or without
+abbrev pub shown_items : Bool → ℕ → List Item → List Item
+shown_items true depth items = items
+shown_items false depth items = outside items depth
 
 -- with these lines around this one, what is left of the elements has these steps
 abbrev pub Walks : List Item → Level → List Level → List Step → Type 0
@@ -46,6 +68,23 @@ WalksOn stack items steps = Walks items stack.line (around stack) steps
 
 abbrev pub StopsAt : LineStack Level → List Item → Fault → Type 0
 StopsAt stack items fault = Stops items stack.line (around stack) fault
+
+-- what is left leads to that line, which is a variation or not
+abbrev pub LeadsAt : LineStack Level → List Item → Bool → Level → Type 0
+LeadsAt stack items inside last = Leads items stack.line (around stack) inside last
+
+-- a turn of the main line was kept: a move, and the position after it; of a variation neither
+abbrev pub Keeps : Bool → List State → List State → List Move → List Move → LineMove → State → Type 0
+Keeps true before next moves grown turn now = (next ≡ before) × (grown ≡ moves)
+Keeps false before next moves grown (Played m) now = (next ≡ before ++ now ∷ []) × (grown ≡ moves ++ m ∷ [])
+Keeps false before next moves grown Passed now = ⊥
+
+-- what is kept at a step
+abbrev pub KeepsStep : ReplayKeeper → Step → ReplayKeeper → Type 0
+KeepsStep old (Turned inside before turn) new =
+    (new.turns.items ≡ old.turns.items ++ turn ∷ [])
+    × Keeps inside old.positions.items new.positions.items old.played.items new.played.items turn (after_turn before turn)
+KeepsStep old (Beside item) new = new ≡ old
 
 -- no line has more plies
 abbrev pub AreWithin : ℕ → List Level → Type 0

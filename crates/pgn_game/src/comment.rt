@@ -130,23 +130,22 @@ fn push_front(out: &mut Vec<u8>, front: &[u8]) -> Result<(), AllocError>
     Ok(())
 }
 
-/// Writes a word as a token after what it begins with; the last one has the closing brace.
+/// Writes a word that was found as a token, after what it begins with; the last one has the closing brace.
 fn put_word(
     pen: &mut Pen,
     out: &mut Vec<u8>,
     front: &[u8],
-    word: &[u8],
-    bare: bool,
+    found: Found<'_>,
     is_last: bool,
 ) -> Result<(), AllocError>
-    requires { bare ≡ true → IsBare word.now }
-    ensures text { OnOk result (HasPut pen.old pen.new out.old.items out.new.items ((front.now ++ unbraced word.now ++ closing is_last) ∷ [])) }
+    requires { found.bare ≡ true → IsBare found.word.now }
+    ensures text { OnOk result (HasPut pen.old pen.new out.old.items out.new.items ((front.now ++ unbraced found.entry.word.now ++ closing is_last) ∷ [])) }
     ensures kept { (some : List ℕ) × (out.new.items ≡ out.old.items ++ some) }
     ensures width { pen.new.width ≡ pen.old.width }
 {
-    pen.start(out, front.len() + word.len() + usize::from(is_last))?;
+    pen.start(out, front.len() + found.word.len() + usize::from(is_last))?;
     push_front(out, front)?;
-    push_unbraced(out, word, bare)?;
+    push_unbraced(out, found.word, found.bare)?;
     if is_last {
         out.push(b'}')?;
     }
@@ -179,7 +178,7 @@ fn put_later(pen: &mut Pen, out: &mut Vec<u8>, first: Option<Found<'_>>) -> Resu
     while let Some(found) = next {
         next = first_word(found.rest);
         let (front, word) = guarded(found.word);
-        put_word(pen, out, front, word, found.bare, next.is_none())?;
+        put_word(pen, out, front, Found { word, ..found }, next.is_none())?;
     }
     Ok(())
 }
@@ -245,7 +244,7 @@ fn put_words(pen: &mut Pen, out: &mut Vec<u8>, text: &[u8]) -> Result<(), AllocE
         return pen.put(out, b"{}");
     };
     let next = first_word(first.rest);
-    put_word(pen, out, b"{", first.word, first.bare, next.is_none())?;
+    put_word(pen, out, b"{", first, next.is_none())?;
     put_later(pen, out, next)
 }
 

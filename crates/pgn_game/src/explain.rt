@@ -8,12 +8,13 @@ ghost use Rattle.pgn_game.specs.Refusals.{AreNamed, IsWhy, IsRefusedAt, IsRefuse
 ghost use Rattle.pgn_game.specs.RefusalWalks.{AddsFrom, IsCounted, GoesOn, IsRefusedHere};
 ghost use Rattle.pgn_game.specs.Replays.{fault_of};
 
-use crate::all_lines::LinesWalk;
 use crate::fault::GameFault;
+use crate::line_stack::LineStack;
 use crate::replayed::GamePosition;
 use crate::replayer::Lines;
 use crate::saying::is_null_move;
 use crate::starting::starting_position;
+use crate::walk::{Discard, Level, step};
 use chess::{Move, Refusal, SanError, Square, named_from, resolve, why_unnamed};
 use pgn_text::{Element, RawGame};
 use std::alloc::{AllocError, Global};
@@ -93,16 +94,16 @@ fn is_played(lines: Lines, element: Element<'_>, depth: &mut usize) -> bool
 
 /// Goes on by the element, or answers why its word is refused; it has this index.
 fn go_on<'a>(
-    walk: &mut LinesWalk,
+    stack: &mut LineStack<Level>,
     element: Element<'a>,
     index: usize,
 ) -> Result<Option<Refused<'a>>, AllocError>
-    requires { walk.old.line.plies < usize.MAX }
-    ensures { IfOk result (λ found. MatchOption found (GoesOn walk.old (item_of element.entry) walk.new) (IsRefusedHere walk.old (item_of element.entry) index)) }
+    requires { stack.old.line.plies < usize.MAX }
+    ensures { IfOk result (λ found. MatchOption found (GoesOn stack.old (item_of element.entry) stack.new) (IsRefusedHere stack.old (item_of element.entry) index)) }
 {
-    let inside = walk.is_inside();
-    let position = walk.position();
-    let Err(fault) = walk.step(element) else {
+    let inside = stack.is_inside();
+    let position = stack.line.now.copy();
+    let Err(fault) = step(stack, element, &mut Discard) else {
         return Ok(None);
     };
     match element {
@@ -131,12 +132,12 @@ fn first_refused<'a>(
         ((fault : Fault) → HasLineFault lines start.now (map item_of elements.now) fault → ⊥)
         (IsRefusedFrom lines start.now (map item_of elements.now))) }
 {
-    let mut walk = LinesWalk::new(alloc, start);
+    let mut stack = LineStack::new(alloc, Level::first(start));
     let mut depth = 0usize;
     for index in 0..elements.len() {
         let element = elements[index];
         if is_played(lines, element, &mut depth) {
-            if let Some(refused) = go_on(&mut walk, element, index)? {
+            if let Some(refused) = go_on(&mut stack, element, index)? {
                 return Ok(Some(refused));
             }
         }

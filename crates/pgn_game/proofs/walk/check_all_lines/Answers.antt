@@ -15,7 +15,7 @@ returns c =
     let start = c.args.start.now in
     let stack = c.new-stack.result in
     let line = c.new-stack.ensures.line ∙ c.first.ensures in
-    MatchResult-weaker c.walk.result c.walk.ensures
+    MatchResult-weaker c.walk.result c.walk.ensures.walked
     (λ _ walked.
     let walks = subst (λ l. Walks items l [] walked.0) line (subst (λ outer. Walks items stack.line outer walked.0) c.new-stack.ensures.around walked.1) in
     (turns_of walked.0, runs_played start items (turns_of walked.0) c.requires (walks_run items (first_level start) [] walked.0 walks)))

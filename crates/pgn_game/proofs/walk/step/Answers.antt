@@ -12,7 +12,9 @@ returns-in_ok-beside-in_default g c =
     record {
       walks = (Beside (item_of c.args.element), is.does, is.walks);
       sticks = is.sticks;
+      leads = is.leads;
       stuck = tt;
+      kept = is.kept;
       within = λ n all. within_more n (new.line ∷ around new) (is.within n all);
     }
 

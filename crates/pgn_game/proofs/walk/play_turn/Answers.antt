@@ -3,7 +3,7 @@ use Rattle.std.specs.Prelude.{IfSome}
 use Rattle.std.proofs.lemmas.Result.{err_from_is_err_and}
 use Rattle.pgn_game.specs.Faults.{RefusesTurn}
 use Rattle.pgn_game.specs.Replays.{fault_of}
-use Rattle.pgn_game.proofs.all_lines.play_turn.Goals as goal
+use Rattle.pgn_game.proofs.walk.play_turn.Goals as goal
 
 pub returns-in_err-m : goal.returns-in_err-m
 returns-in_err-m c =
