@@ -1,33 +1,24 @@
 -- The entries of a game where there are no criteria: plies in a row.
-use Rattle.std.proofs.Common.{◌≡◌, ◌↔◌, ℕ, zero, suc, ◌+◌, ◌-◌, ◌<◌, ◌≤◌, List, [], ◌∷◌, ◌++◌, length, drop, Option, None, true, sym, ap, ◌∙◌, subst, arith, append_assoc, append-nil, inl, inr}
+use Rattle.std.proofs.Common.{◌≡◌, ◌↔◌, ℕ, zero, suc, ◌+◌, ◌-◌, ◌<◌, ◌≤◌, List, [], ◌∷◌, ◌++◌, length, drop, Option, None, true, sym, refl, ap, subst, arith, inl, inr}
 use Rattle.std.proofs.lemmas.Bool.{cases_lt}
 use Rattle.chess.specs.Positions.{State}
 use Rattle.pgn_game.specs.Replays.{Replay}
 use Rattle.pgn_criteria.specs.Meeting.{Heading}
 use Rattle.pgn_criteria.specs.declared.condition.Condition.{Condition}
 use Rattle.pgn_extract.specs.Aims.{Aim, IsMet, IsEntry}
-use Rattle.pgn_extract.specs.Blockwise.{IsPlainEntry}
+use Rattle.pgn_extract.specs.Blockwise.{IsPlainEntry, lines_from}
+use Rattle.pgn_extract.specs.Finding.{named_mark}
 use Rattle.pgn_extract.specs.Listing.{Entry, AreFields, is_plain, entry_line, listing}
 use Rattle.pgn_extract.specs.GameReports.{plies_of, AreListed, AreChosen}
 use Rattle.pgn_extract.specs.GameReports.AreChosen.{keep}
 use Rattle.pgn_extract.proofs.Chosen.{entry_at}
 use Rattle.pgn_extract.proofs.FieldTexts.{no_fields}
-use Rattle.pgn_extract.proofs.ModeOutputs.{listing-append}
 use Rattle.pgn_extract.proofs.Picks.{leaves, leaves_all, dropped}
 
 -- the entries of a game at so many plies in a row
 pub plies_from : ℕ → ℕ → ℕ → ℕ → List Entry
 plies_from number offset ply zero = []
 plies_from number offset ply (suc count) = entry_at number offset ply [] ∷ plies_from number offset (ply + 1) count
-
--- one ply more
-plies_more : (number offset ply count : ℕ) → plies_from number offset ply (suc count) ≡ plies_from number offset ply count ++ entry_at number offset (ply + count) [] ∷ []
-unfolding plies_from
-plies_more number offset ply zero = ap (λ n. entry_at number offset n [] ∷ []) (omega arith)
-plies_more number offset ply (suc count) =
-    let next : ply + 1 + count ≡ ply + suc count = omega arith in
-    ap (λ (es : List Entry). entry_at number offset ply [] ∷ es) (plies_more number offset (ply + 1) count
-    ∙ ap (λ n. plies_from number offset (ply + 1) count ++ entry_at number offset n [] ∷ []) next)
 
 module _ (number offset : ℕ) (P : ℕ → Type 0) (S : ℕ → List ℕ → Type 0) (bare : (ply : ℕ) → S ply []) where
   -- of positions in a row the first so many are chosen
@@ -94,23 +85,9 @@ listed_plies aim number offset plies end no_criteria plain range tags replay siz
     (λ entry. (range n).0 (plain.0 entry), λ bounds. plain.1 ((range n).1 bounds)))
     (λ some. let last = (range (end - 1)).1 (omega arith, omega arith) in let within = last.0 in omega arith)
 
--- one line more
-pub adds_line : (name : Option (List ℕ)) (number offset from ply : ℕ) (before now next line : List ℕ) → from ≤ ply → now ≡ before ++ listing name (plies_from number offset from (ply - from))
-    → line ≡ entry_line name (entry_at number offset ply []) → next ≡ now ++ line → next ≡ before ++ listing name (plies_from number offset from (ply + 1 - from))
-adds_line name number offset from ply before now next line above written is added =
-    let count = ply - from in
-    let more : ply + 1 - from ≡ suc count = omega arith in
-    let here : from + count ≡ ply = omega arith in
-    let picked = plies_from number offset from count in
-    let entry = entry_at number offset ply [] in
-    let all : plies_from number offset from (ply + 1 - from) ≡ picked ++ entry ∷ [] =
-    ap (plies_from number offset from) more ∙ plies_more number offset from count ∙ ap (λ n. picked ++ entry_at number offset n [] ∷ []) here in
-    added ∙ ap (λ t. t ++ line) written ∙ ap (λ t. (before ++ listing name picked) ++ t) is ∙ append_assoc before (listing name picked) (entry_line name entry)
-    ∙ ap (λ t. before ++ t) (ap (λ t. listing name picked ++ t) (sym (append-nil (entry_line name entry))) ∙ sym (listing-append name picked (entry ∷ [])) ∙ ap (listing name) (sym all))
-
--- at first none is
-pub no_line : (name : Option (List ℕ)) (number offset from : ℕ) (text : List ℕ) → text ≡ text ++ listing name (plies_from number offset from (from - from))
-unfolding plies_from
-no_line name number offset from text =
-    let none : from - from ≡ 0 = omega arith in
-    sym (ap (λ n. text ++ listing name (plies_from number offset from n)) none ∙ append-nil text)
+-- their lines are the lines in a row
+pub lines_listed : (name : Option (List ℕ)) (number offset ply count : ℕ) → lines_from (named_mark name number offset) ply count ≡ listing name (plies_from number offset ply count)
+unfolding lines_from plies_from
+lines_listed name number offset ply zero = refl
+lines_listed name number offset ply (suc count) =
+    ap (λ t. entry_line name (entry_at number offset ply []) ++ t) (lines_listed name number offset (ply + 1) count)

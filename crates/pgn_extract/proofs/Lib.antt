@@ -46,6 +46,7 @@ pub mod Writing
 pub mod NextLine
 pub mod NoteLines
 pub mod EachPly
+pub mod TenLines
 pub mod RunEnds
 pub mod NoteOnce
 pub mod FirstExports

@@ -5,7 +5,7 @@ use Rattle.std.proofs.lemmas.Bool.{cases_lt}
 use Rattle.std.proofs.lemmas.Fmt.{decimal_digit, decimal_step}
 
 -- the last digit of a number, if it is not 9, is one less than that of the next number, and the others are the same
-next_digit : (n : ℕ) → n + 1 < 2 ^ 64 → (n % 10 ≡ 9 → ⊥)
+pub next_digit : (n : ℕ) → n + 1 < 2 ^ 64 → (n % 10 ≡ 9 → ⊥)
     → (front : List ℕ) × (decimal n ≡ front ++ (48 + n % 10) ∷ []) × (decimal (n + 1) ≡ front ++ (48 + n % 10 + 1) ∷ [])
 next_digit n fits stays = elim (cases_lt n 10) [
   | inl less ↦
@@ -22,7 +22,7 @@ next_digit n fits stays = elim (cases_lt n 10) [
 ]
 
 -- a line by its last digit
-parted : (mark front : List ℕ) (digit : ℕ) → mark ++ 32 ∷ (front ++ digit ∷ []) ++ 10 ∷ [] ≡ (mark ++ 32 ∷ front) ++ digit ∷ 10 ∷ []
+pub parted : (mark front : List ℕ) (digit : ℕ) → mark ++ 32 ∷ (front ++ digit ∷ []) ++ 10 ∷ [] ≡ (mark ++ 32 ∷ front) ++ digit ∷ 10 ∷ []
 parted mark front digit =
     ap (λ t. t ++ 10 ∷ []) (sym (append_assoc mark (32 ∷ front) (digit ∷ []))) ∙ append_assoc (mark ++ 32 ∷ front) (digit ∷ []) (10 ∷ [])
 

@@ -1,6 +1,6 @@
 -- What the parts of a run do with the bytes dropped, with one block and with the blocks in a row: the words between the code and
 -- those of `Outcomes`.
-use Rattle.std.specs.Prelude.{◌≡◌, ◌⊎◌, ℕ, ◌+◌, ◌<◌, ◌≤◌, Bool, true, false, List, [], ◌∷◌, ◌++◌, length, drop, count_by, Option, None, IfSome, codes, if◌then◌else◌, ◌==◌}
+use Rattle.std.specs.Prelude.{◌≡◌, ◌⊎◌, ℕ, zero, suc, ◌+◌, ◌<◌, ◌≤◌, Bool, true, false, List, [], ◌∷◌, ◌++◌, length, drop, count_by, Option, None, IfSome, codes, decimal, if◌then◌else◌, ◌==◌}
 use Rattle.std.specs.Io.KnownBytes.{Appends}
 use Rattle.pgn_text.specs.GameTexts.{GameText, ShowsGame, tag_in}
 use Rattle.pgn_game.specs.Exports.{IsExport}
@@ -71,6 +71,11 @@ AddsListed aim old new number offset game =
 -- where there are no criteria, the ply is listed of a main line with so many plies
 abbrev pub IsPlainEntry : Aim → ℕ → ℕ → Type 0
 IsPlainEntry aim plies ply = (ply ≤ plies) × (aim.min_ply ≤ ply) × (ply ≤ aim.max_ply) × (aim.first ≡ true → ply ≡ aim.min_ply)
+
+-- the lines that begin with a mark at so many plies in a row
+unfoldable pub lines_from : List ℕ → ℕ → ℕ → List ℕ
+lines_from marked ply zero = []
+lines_from marked ply (suc count) = (marked ++ 32 ∷ decimal ply ++ 10 ∷ []) ++ lines_from marked (ply + 1) count
 
 -- the lines of the entries of any main line with so many plies are added
 abbrev pub AddsPlies : Aim → ℕ → ℕ → ℕ → List ℕ → List ℕ → Type 0

@@ -6,9 +6,8 @@ ghost use Rattle.pgn_extract.specs.Finding.{named_mark, AsksFor, AddsEntries, St
 ghost use Rattle.pgn_extract.specs.Listing.{is_plain};
 
 use crate::kept::push_kept;
-use crate::listing::MARK_ROOM;
 use crate::settings::Settings;
-use crate::texts::{push_entry, push_named_mark};
+use crate::texts::{MARK_ROOM, push_entry, push_named_mark};
 use pgn_criteria::{Criteria, Search};
 use pgn_game::{GameFault, MainLine};
 use pgn_text::RawGame;

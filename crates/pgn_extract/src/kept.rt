@@ -10,10 +10,9 @@ ghost use Rattle.pgn_extract.specs.Finding.{named_mark, AddsEntries, StopsAtFaul
 ghost use Rattle.pgn_extract.specs.Listing.{IsNextField, AreFields};
 
 use crate::entries::{GameContext, GameMark};
-use crate::listing::MARK_ROOM;
 use crate::settings::Settings;
 use crate::showing::push_fen;
-use crate::texts::{push_named_mark, push_ply};
+use crate::texts::{MARK_ROOM, push_named_mark, push_ply};
 use chess::san;
 use pgn_criteria::Criteria;
 use pgn_game::{GameFault, Lines, Replayed, replay};

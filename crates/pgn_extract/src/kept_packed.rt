@@ -9,10 +9,10 @@ ghost use Rattle.pgn_extract.specs.KeptPacked.{IsStartOf, IsKeptOf};
 ghost use Rattle.pgn_extract.specs.Listing.{is_plain};
 ghost use Rattle.pgn_extract.specs.Packed.{EachOfRecord, HasNoText, ListsRecord};
 
-use crate::listing::MARK_ROOM;
 use crate::packed::{PackedFault, push_record_mark, start_fault};
 use crate::record_lines::RecordLines;
 use crate::settings::Settings;
+use crate::texts::MARK_ROOM;
 use pgn_criteria::Criteria;
 use pgn_game::pack::{CodesError, RawRecord, replay_codes};
 use pgn_game::{GamePosition, Replayed, given_position};

@@ -46,6 +46,7 @@ mod settings;
 mod showing;
 mod skip;
 pub mod status;
+mod ten_lines;
 mod texts;
 mod write_all;
 

@@ -1,23 +1,19 @@
 //! Which plies are listed where no criteria are given.
-ghost use Rattle.std.specs.Prelude.{◌≡◌, ◌↔◌, ℕ, ◌<◌, ◌≤◌, None, true, OnOk};
+ghost use Rattle.std.specs.Prelude.{◌≡◌, ◌↔◌, ℕ, ◌^◌, ◌<◌, ◌≤◌, None, true, OnOk};
 ghost use Rattle.pgn_extract.specs.Aims.{aim_of};
 ghost use Rattle.pgn_extract.specs.Blockwise.{IsPlainEntry, AddsPlies, AddsLines};
 ghost use Rattle.pgn_extract.specs.Listing.{is_plain};
 
 use crate::entries::GameContext;
 use crate::settings::Settings;
-use crate::texts::{count_up, push_entry, push_named_mark};
+use crate::ten_lines::push_range;
+use crate::texts::{MARK_ROOM, push_named_mark};
 use std::alloc::{AllocError, Global};
-
-/// The most bytes that a mark without a name has: two numbers of at most 20 digits, and `@`.
-pub const MARK_ROOM: usize = 41;
-
-/// The most bytes that the line of an entry without a name has: a mark, a space, 20 digits and the end of the line.
-const LINE_ROOM: usize = MARK_ROOM + 22;
 
 /// The ply after the last one that is listed of a main line with so many plies, where there are no criteria.
 fn end_ply(settings: &Settings, plies: usize) -> usize
-    ensures { (ply : ℕ) → IsPlainEntry (aim_of settings.now) plies ply ↔ (settings.now.min_ply ≤ ply) × (ply < result) }
+    ensures fits { result ≤ 2 ^ 32 }
+    ensures exactly { (ply : ℕ) → IsPlainEntry (aim_of settings.now) plies ply ↔ (settings.now.min_ply ≤ ply) × (ply < result) }
 {
     let most = if settings.first {
         settings.min_ply.min(settings.max_ply)
@@ -60,11 +56,6 @@ pub fn push_lines(
     ensures { OnOk result (AddsLines (aim_of settings.now) mark.now plies text.old.items text.new.items) }
 {
     let least = settings.min_ply as usize;
-    let mut line = Vec::with_capacity(alloc, LINE_ROOM)?;
-    push_entry(&mut line, mark, least)?;
-    for ply in least..end_ply(settings, plies) {
-        text.extend_from_slice(&line)?;
-        count_up(&mut line, mark, ply)?;
-    }
+    push_range(text, alloc, mark, least, end_ply(settings, plies))?;
     Ok(())
 }

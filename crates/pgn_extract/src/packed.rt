@@ -16,10 +16,10 @@ ghost use Rattle.pgn_extract.specs.MarkedPacked.{StartsWith, AreMetWith};
 ghost use Rattle.pgn_extract.specs.Packed.{PutsRecord, LeavesRecord, EachOfRecord, HasNoText, record_aim, Grows, ShowsInitial, StartsThere, GoesOnSeen, ListsRecord};
 
 use crate::kept_packed::push_kept_record;
-use crate::listing::{MARK_ROOM, push_lines};
+use crate::listing::push_lines;
 use crate::record_lines::RecordLines;
 use crate::settings::{Mode, Settings};
-use crate::texts::{push_entry, push_mark};
+use crate::texts::{MARK_ROOM, push_entry, push_mark};
 use chess::{Bits, Board, Side};
 use pgn_criteria::{Criteria, MarkSet, Search, Seen, Walk};
 use pgn_game::pack::RawRecord;

@@ -7,9 +7,8 @@ ghost use Rattle.pgn_extract.specs.Finding.{named_mark, AsksFor, AddsEntries, St
 
 use crate::entries::{GameContext, GameMark};
 use crate::kept::push_kept;
-use crate::listing::MARK_ROOM;
 use crate::settings::{Fields, Settings};
-use crate::texts::{push_named_mark, push_ply};
+use crate::texts::{MARK_ROOM, push_named_mark, push_ply};
 use pgn_criteria::Search;
 use pgn_game::{GameFault, GamePosition, MainLine};
 use pgn_text::RawGame;

@@ -11,6 +11,9 @@ use itoa::Buffer;
 use pgn_game::GameFault;
 use std::alloc::AllocError;
 
+/// The most bytes that a mark without a name has: two numbers of at most 20 digits, and `@`.
+pub const MARK_ROOM: usize = 41;
+
 /// Appends a number in decimal.
 pub fn push_number(text: &mut Vec<u8>, number: usize) -> Result<(), AllocError>
     ensures { OnOk result (text.new.items ≡ text.old.items ++ decimal number) }
