@@ -1,11 +1,11 @@
 -- The squares from which a man attacks, out of those from which he sees the target.
-use Rattle.std.proofs.Common.{◌≡◌, ◌↔◌, ◌⊎◌, ◌∙◌, ◌<◌, ◌^◌, ◌&&◌, ◌||◌, ℕ, Bool, true, false, inl, inr, ap, sym, bit_and, Some, None, IsTrue}
+use Rattle.std.proofs.Common.{◌≡◌, ◌↔◌, ◌⊎◌, ◌∙◌, ◌<◌, ◌^◌, ◌&&◌, ◌||◌, ℕ, Bool, true, false, inl, inr, ap, sym, subst, bit_and, Some, None, IsTrue}
 use Rattle.std.proofs.lemmas.Bool.{and_parts, and_from}
 use Rattle.chess.specs.Squares.{Place, IsOnBoard, index_of, same_square}
 use Rattle.chess.specs.Attacks.{Reaches}
 use Rattle.chess.specs.Placements.{Placement, IsEmpty, man_at}
 use Rattle.chess.specs.Sets.{Places, is_in, no_places, HoldsExactly}
-use Rattle.chess.specs.SetWords.{has_bit, IsTakenFirst}
+use Rattle.chess.specs.SetWords.{has_bit, HasOnly, IsTakenFirst}
 use Rattle.chess.specs.SetFacts.{false_of}
 use Rattle.chess.specs.BitWords.{IsWordOf, IsMan, IsRunner, IsHitStraight, IsHitDiagonal}
 use Rattle.chess.specs.MoveWords.{IsLeft, IsSifted}
@@ -18,7 +18,7 @@ use Rattle.chess.proofs.PlaceFacts.{true_not_false}
 use Rattle.chess.proofs.FillFacts.{bit_of_both, no_bit}
 use Rattle.chess.proofs.BitFacts.{no_man_or}
 use Rattle.chess.proofs.HitFacts.{common_square, no_common_square}
-use Rattle.chess.proofs.LoopFacts.{left_start, sifted_start, sifted_more, sifted_none, was_left}
+use Rattle.chess.proofs.LoopFacts.{left_start, sifted_start, sifted_more, sifted_none, was_left, not_in}
 use Rattle.chess.proofs.OpenFacts.{reaches_is}
 
 -- no square of the word stands between the two
@@ -161,3 +161,24 @@ pub found_open : (p : Placement) (t : Place) (squares occupied : ℕ) (s : Place
     → IsOpenFrom t squares occupied s ↔ ((has_bit squares (index_of s) ≡ true) × IsUnblocked p s t)
 found_open p t squares occupied s men =
     let clear_way = open_word p occupied s t men in ((λ h. (h.0, clear_way.0 h.1)), (λ h. (h.0, clear_way.1 h.1)))
+
+-- ---- the search where one square alone is seen
+
+pub one_open : (t : Place) (seen occupied : ℕ) (left : Places) (s : Place) → HoldsExactly (λ u. has_bit seen (index_of u) ≡ true) left → HasOnly left s
+    → HasNoneBetween occupied s t → HoldsExactly (IsOpenFrom t seen occupied) left
+one_open t seen occupied left s all only clear_way u = (
+  (λ here.
+      let bit = (all u).0 here in
+      let same = ((only.1 u).0 here).1 in
+      (bit.0, (bit.1, subst (λ (v : Place). HasNoneBetween occupied v t) (sym same) clear_way))),
+  (λ h. (all u).1 (h.0, h.1.0)),
+)
+
+pub one_blocked : (t : Place) (seen occupied : ℕ) (left set : Places) (s : Place) → HoldsExactly (λ u. has_bit seen (index_of u) ≡ true) left
+    → HasOnly left s → set ≡ no_places → (HasNoneBetween occupied s t → ⊥) → HoldsExactly (IsOpenFrom t seen occupied) set
+one_blocked t seen occupied left set s all only none blocked u = (
+  (λ here. absurd (true_not_false (is_in set u) here (not_in set u none))),
+  (λ h.
+      let same = ((only.1 u).0 ((all u).1 (h.0, h.1.0))).1 in
+      absurd (blocked (subst (λ (v : Place). HasNoneBetween occupied v t) same h.1.1))),
+)

@@ -6,6 +6,7 @@ use Rattle.chess.specs.Squares.{Place}
 use Rattle.chess.specs.Placements.{Placement, man_at, opposite, IsEmpty}
 use Rattle.chess.specs.Attacks.{IsForward}
 use Rattle.chess.specs.Positions.{State, king_of, rook_of, pawn_of, king_to, rook_from, rook_to, IsOnlyKing, FitsEnPassant}
+use Rattle.chess.specs.Codes.{IsFollowed}
 use Rattle.chess.specs.Moves.{Goes, Castles, arriving, taken, is_pawn, is_square, is_en_passant, men_after, IsPawnMove}
 use Rattle.chess.specs.declared.board.man.Man.{Man}
 use Rattle.chess.specs.declared.board.man.Side.{Side}
@@ -13,7 +14,7 @@ use Rattle.chess.specs.declared.board.man.Kind.TheVariants.{King, Queen, Rook, B
 use Rattle.chess.specs.declared.board.man.Wing.{Wing}
 use Rattle.chess.specs.declared.board.man.Wing.TheVariants.{KingSide, QueenSide}
 use Rattle.chess.specs.declared.moves.Move.{Move}
-use Rattle.chess.proofs.PlaceFacts.{same_square-then, cases_side, same_kind, some_not_none}
+use Rattle.chess.proofs.PlaceFacts.{same_square-then, cases_place, cases_side, same_kind, some_not_none}
 use Rattle.chess.proofs.GoesFacts.{IsTried, goes_castle, goes_promote, no_king_taken, has_arrived}
 use Rattle.chess.proofs.AfterFacts.{IsNoRook, IsApart, after_apart, after_to, has_come}
 
@@ -181,3 +182,15 @@ king_moves P m x side s k moves =
         ]
       ];
     }
+
+-- the king of a side is followed: he stands where the man arrived, if that man is he
+pub king_follows : (P : State) (m : Move) → IsTried P m → (man : Man) → man_at P.men m.from ≡ Some man → (side : Side) (old new : Place)
+    → IsOnlyKing P.men side old → IsFollowed man m.to side old new → IsOnlyKing (men_after P m) side new
+king_follows P m x man here side old new k followed = elim (cases_place old m.from) [
+  | inl moves ↦
+      let is_king : man ≡ king_of side = let f = sym here ∙ ap (man_at P.men) (sym moves) ∙ k.here in cc in
+      subst (IsOnlyKing (men_after P m) side) (sym (followed.moved is_king)) (king_moves P m x side old k moves)
+  | inr stays ↦
+      let other : man ≡ king_of side → ⊥ = λ is_king. stays (sym (k.only m.from (here ∙ ap Some is_king))) in
+      subst (IsOnlyKing (men_after P m) side) (sym (followed.stays other)) (king_stays P m x side old k stays)
+]

@@ -7,7 +7,7 @@ use Rattle.chess.specs.Squares.{Place, IsOnBoard, place_cmp, same_square}
 use Rattle.chess.specs.OrderFacts.{place_total, place_exact}
 use Rattle.chess.specs.SetFacts.{is_in-empty, tied, ties, false_of}
 use Rattle.chess.specs.Sets.{Places, is_in, no_places, size_of, HoldsExactly}
-use Rattle.chess.specs.SetWords.{IsTakenFirst}
+use Rattle.chess.specs.SetWords.{HasOnly, IsTakenFirst}
 use Rattle.chess.specs.MoveWords.{HasEach, IsLeft, IsSifted}
 use Rattle.chess.proofs.PlaceFacts.{cases_place, same_square-same, same_square-then, true_not_false}
 
@@ -149,3 +149,32 @@ sifted_none fact old new found so_far none s = (
 pub taken_none : (old new : Places) (o : Option Place) → IsTakenFirst old new o → o ≡ None → old ≡ no_places
 taken_none old new None taken e = taken.0
 taken_none old new (Some t) taken e = absurd (cc)
+
+-- ---- a set of one square
+
+-- after its first square was taken out no square is left, so it had no other
+pub only_first : (old new : Places) (t : Place) → ((u : Place) → is_in old u ≡ true → IsOnBoard u) → IsTakenFirst old new (Some t)
+    → ((u : Place) × IsOnBoard u × (is_in new u ≡ true) → ⊥) → HasOnly old t
+only_first old new t on_board taken none = (
+  taken.0,
+  λ u. (
+    (λ here. (
+      on_board u here,
+      elim (same_square u t) as (λ b. same_square u t ≡ b → u ≡ t) [
+        | true ↦ λ e. same_square-then u t e
+        | false ↦ λ e. absurd (none (u, on_board u here, still_left old new t u taken here (λ same. true_not_false _ (same_square-same u t same) e)))
+      ] refl,
+    )),
+    (λ h. ap (is_in old) h.1 ∙ taken.1),
+  ),
+)
+
+-- after its first square was taken out one is left
+pub not_only : (old new : Places) (t : Place) → IsTakenFirst old new (Some t) → (u : Place) × IsOnBoard u × (is_in new u ≡ true)
+    → (s : Place) → HasOnly old s → ⊥
+not_only old new t taken left s only =
+    let rest = was_left old new t left.0 taken left.2 in
+    rest.1 (((only.1 left.0).0 rest.0).1 ∙ sym ((only.1 t).0 taken.1).1)
+
+pub none_only : (old : Places) → old ≡ no_places → (s : Place) → HasOnly old s → ⊥
+none_only old none s only = true_not_false (is_in old s) ((only.1 s).1 (only.0, refl)) (not_in old s none)

@@ -5,7 +5,7 @@ use Rattle.std.specs.FinMap.{code}
 use Rattle.chess.specs.Squares.{Place}
 use Rattle.chess.specs.PlaceCodes.{coded_place}
 use Rattle.chess.specs.Placements.{Placement}
-use Rattle.chess.specs.Positions.{State, IsOnlyKing, IsSound}
+use Rattle.chess.specs.Positions.{State, IsOnlyKing, IsSound, king_of}
 use Rattle.chess.specs.declared.board.man.Man.{Man}
 use Rattle.chess.specs.declared.board.man.Side.{Side}
 use Rattle.chess.specs.declared.board.man.Side.TheVariants.{White, Black}
@@ -79,3 +79,8 @@ pub record IsKept (P : State) (white_king black_king : Place) : Type 0 where
   pub sound : IsSound P
   pub white : IsOnlyKing P.men White white_king
   pub black : IsOnlyKing P.men Black black_king
+
+-- where the king of a side stands after a man arrived: on that square if the man is he, else where he stood
+pub record IsFollowed (man : Man) (to : Place) (side : Side) (old new : Place) : Type 0 where
+  pub moved : man ≡ king_of side → new ≡ to
+  pub stays : (man ≡ king_of side → ⊥) → new ≡ old

@@ -5,7 +5,7 @@ use Rattle.std.specs.Int.{bit_at}
 use Rattle.std.specs.FinSet.{empty, insert, code}
 use Rattle.chess.specs.Squares.{Place, IsOnBoard, square_at, index_of, same_square}
 use Rattle.chess.specs.PlaceCodes.{coded_place}
-use Rattle.chess.specs.Sets.{Places, no_places, is_in}
+use Rattle.chess.specs.Sets.{Places, HoldsExactly, no_places, is_in}
 
 -- those of the first n squares that pass the test
 unfoldable pub first_places : (ℕ → Bool) → ℕ → Places
@@ -26,6 +26,10 @@ IsTakenFirst old new None = (old ≡ no_places) × (new ≡ old)
 IsTakenFirst old new (Some t) = IsOnBoard t × (is_in old t ≡ true)
     × ((s : Place) → is_in old s ≡ true → index_of t ≤ index_of s)
     × ((s : Place) → is_in new s ≡ (is_in old s && not (same_square s t)))
+
+-- the square is in the set, and no other one is
+abbrev pub HasOnly : Places → Place → Type 0
+HasOnly set s = IsOnBoard s × HoldsExactly (λ t. t ≡ s) set
 
 -- a set is stored as its squares in order
 abbrev pub coded_places : Coded Places

@@ -66,6 +66,12 @@ pub(crate) fn attackers_of(man: Man, target: Square, own: u64, occupied: u64) ->
 {
     let seen = own & pseudo_attacks_on(man, target);
     let mut left = SquareSet::of_word(seen);
+    if let Some(square) = left.only() {
+        if is_unblocked(square, target, occupied) {
+            return left;
+        }
+        return SquareSet::new();
+    }
     let mut set = SquareSet::new();
     while let Some(square) = left.take_first() {
         set.insert_if(square, is_unblocked(square, target, occupied));

@@ -126,15 +126,11 @@ fn initial_words() -> [u64; 12]
 
 /// The number of a man's word.
 #[inline(always)]
-pub(crate) fn row(man: Man) -> u8
+pub(crate) fn row(man: Man) -> usize
     ensures row { result ≡ row_of man }
     ensures below { result < 12 }
 {
-    let side = match man.side {
-        Side::White => 0u8,
-        Side::Black => 6,
-    };
-    side + number_of(man.kind)
+    6 * (man.side as usize) + man.kind as usize
 }
 
 /// The number of a kind in the order of `Kind`.
@@ -143,14 +139,7 @@ pub(crate) fn number_of(kind: Kind) -> u8
     ensures number { result ≡ number_of_kind kind }
     ensures below { result < 6 }
 {
-    match kind {
-        Kind::King => 0,
-        Kind::Queen => 1,
-        Kind::Rook => 2,
-        Kind::Bishop => 3,
-        Kind::Knight => 4,
-        Kind::Pawn => 5,
-    }
+    kind as u8
 }
 
 /// The man of a word.
@@ -199,7 +188,7 @@ fn clear(words: &mut [u64; 12], squares: u64)
 fn set(words: &mut [u64; 12], square: Square, man: Man)
     ensures { IsBitSet words.old words.new (row_of man) (index_of square) }
 {
-    words[row(man) as usize] |= word_of(square);
+    words[row(man)] |= word_of(square);
 }
 
 /// Puts the man, or none, on the square. No other square changes.
@@ -244,7 +233,7 @@ fn move_piece_words(
 fn slide(words: &mut [u64; 12], man: Man, from: Square, to: Square)
     ensures { IsSlid words.old words.new (row_of man) (index_of from) (index_of to) }
 {
-    words[row(man) as usize] ^= word_of(from) | word_of(to);
+    words[row(man)] ^= word_of(from) | word_of(to);
 }
 
 /// Takes the men off two squares, and puts the man, or none, on a third. No other square changes.
@@ -302,7 +291,7 @@ fn squares_with(words: &[u64; 12], side: Side, kind: Kind) -> u64
     requires { AreApart words.now }
     ensures { IsWordOf (IsMan (words_men words.now) side kind) result }
 {
-    words[row(Man { side, kind }) as usize]
+    words[row(Man { side, kind })]
 }
 
 /// The squares of the side's queens and of another kind of its men.

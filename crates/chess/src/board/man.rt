@@ -11,15 +11,16 @@ pub enum Side {
     Black,
 }
 
+/// The other sides of White and Black.
+static OPPOSITES: [Side; 2] = [Side::Black, Side::White];
+
 impl Side {
     /// The other side.
+    #[inline(always)]
     pub fn opposite(self) -> Side
         ensures { result ≡ opposite self }
     {
-        match self {
-            Side::White => Side::Black,
-            Side::Black => Side::White,
-        }
+        OPPOSITES[self as usize]
     }
 
     /// Whether the second rank is the next one forward for a pawn of the side.

@@ -1,8 +1,8 @@
 //! Sets of squares.
-ghost use Rattle.std.specs.Prelude.{◌≡◌, ◌&&◌, ◌||◌, ◌↔◌, ◌<◌, ◌≤◌, IsTrue, IsSome, Some, None, true, not};
+ghost use Rattle.std.specs.Prelude.{◌≡◌, ◌&&◌, ◌||◌, ◌↔◌, ◌<◌, ◌≤◌, IsTrue, IsSome, MatchOption, Some, None, true, not};
 ghost use Rattle.chess.specs.Squares.{Place, IsOnBoard, same_square, index_of};
 ghost use Rattle.chess.specs.Sets.{is_in, no_places, size_of, HoldsExactly};
-ghost use Rattle.chess.specs.SetWords.{has_bit, IsTakenFirst};
+ghost use Rattle.chess.specs.SetWords.{has_bit, HasOnly, IsTakenFirst};
 
 use crate::board::Square;
 use std::marker::Model;
@@ -173,5 +173,20 @@ impl SquareSet {
         // One less than the word differs from it in its lowest bit and those below.
         self.word = word & (word - 1);
         Some(Square::of_index(place))
+    }
+
+    /// Its square, where it has one alone.
+    #[inline(always)]
+    pub(crate) fn only(&self) -> Option<Square>
+        ensures { MatchOption result ((s : Place) → HasOnly self.now s → ⊥) (HasOnly self.now) }
+    {
+        let mut rest = SquareSet { word: self.word };
+        let Some(first) = rest.take_first() else {
+            return None;
+        };
+        if rest.has_some() {
+            return None;
+        }
+        Some(first)
     }
 }

@@ -57,7 +57,8 @@ fn only_played<B: Board>(position: &mut Position<B>, text: &[u8]) -> Result<Move
         }
         _ => {}
     }
-    play_read(position, text)
+    let m = play_read(position, text)?;
+    Ok(m)
 }
 
 /// Plays the only legal move that the text names, of whatever form it is.
@@ -111,7 +112,8 @@ fn play_candidate<B: Board>(
         return Err(SanError::None);
     };
     if candidates.has_some() {
-        return play_found(position, text);
+        let m = play_found(position, text)?;
+        return Ok(m);
     }
     let man = Man {
         side: position.side(),

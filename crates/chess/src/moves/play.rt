@@ -5,6 +5,8 @@ ghost use Rattle.chess.specs.Positions.{IsSound, IsOnlyKing, IsCheck, king_from,
 ghost use Rattle.chess.specs.Moves.{is_pawn, is_en_passant, taken, arriving, men_after, keeps_right, rights_after, en_passant_after, one_more, halfmove_clock_after, fullmove_number_after, after, IsPseudoLegal, IsLegal};
 ghost use Rattle.chess.specs.Placements.{man_at, opposite};
 ghost use Rattle.chess.specs.San.{is_capture};
+ghost use Rattle.chess.specs.Codes.{IsFollowed};
+ghost use Rattle.chess.specs.declared.board.man.Side.TheVariants.{White, Black};
 
 use crate::board::{Board, CastlingRights, Kind, Man, Side, Square, Wing};
 use crate::moves::Move;
@@ -27,6 +29,54 @@ fn is_home(square: Square) -> bool
     ensures { (side : Side) (wing : Wing) → (square ≡ king_from side) ⊎ (square ≡ rook_from side wing) → IsTrue result }
 {
     (HOMES >> square.index()) & 1 == 1
+}
+
+/// Whether the right is still held after the move.
+fn keeps_right(rights: CastlingRights, m: &Move, side: Side, wing: Wing) -> bool
+    ensures { result ≡ keeps_right rights m.now side wing }
+{
+    rights.has(side, wing)
+        && !same(m.from, king_leaves(side))
+        && !same(m.from, rook_leaves(side, wing))
+        && !same(m.to, rook_leaves(side, wing))
+}
+
+/// The castling rights that are left after the move.
+#[cold]
+fn rights_left(rights: CastlingRights, m: Move) -> CastlingRights
+    ensures { result ≡ rights_after rights m }
+{
+    CastlingRights {
+        white_king_side: keeps_right(rights, &m, Side::White, Wing::KingSide),
+        white_queen_side: keeps_right(rights, &m, Side::White, Wing::QueenSide),
+        black_king_side: keeps_right(rights, &m, Side::Black, Wing::KingSide),
+        black_queen_side: keeps_right(rights, &m, Side::Black, Wing::QueenSide),
+    }
+}
+
+/// Takes away the castling rights that the move ends: none, where it touches no square of castling.
+#[inline(always)]
+fn end_rights(rights: &mut CastlingRights, m: &Move)
+    ensures { rights.new ≡ rights_after rights.old m.now }
+{
+    if is_home(m.from) || is_home(m.to) {
+        *rights = rights_left(*rights, *m);
+    }
+}
+
+/// Notes where the kings stand after the move of that man: he alone moves, if he is one.
+#[inline(always)]
+fn follow_kings(white_king: &mut Square, black_king: &mut Square, man: Man, m: &Move)
+    ensures white { IsFollowed man m.now.to White white_king.old white_king.new }
+    ensures black { IsFollowed man m.now.to Black black_king.old black_king.new }
+{
+    if man.kind != Kind::King {
+        return;
+    }
+    match man.side {
+        Side::White => *white_king = m.to,
+        Side::Black => *black_king = m.to,
+    }
 }
 
 /// A count goes up by one, and stays at the largest number.
@@ -119,40 +169,6 @@ impl<B: Board> Position<B> {
             );
         }
         board
-    }
-
-    /// Whether the right is still held after the move.
-    fn keeps_right(&self, m: &Move, side: Side, wing: Wing) -> bool
-        ensures { result ≡ keeps_right self.now.rights m.now side wing }
-    {
-        self.has_right(side, wing)
-            && !same(m.from, king_leaves(side))
-            && !same(m.from, rook_leaves(side, wing))
-            && !same(m.to, rook_leaves(side, wing))
-    }
-
-    /// The castling rights that are left after the move.
-    #[cold]
-    fn rights_left(&self, m: Move) -> CastlingRights
-        ensures { result ≡ rights_after self.now.rights m }
-    {
-        CastlingRights {
-            white_king_side: self.keeps_right(&m, Side::White, Wing::KingSide),
-            white_queen_side: self.keeps_right(&m, Side::White, Wing::QueenSide),
-            black_king_side: self.keeps_right(&m, Side::Black, Wing::KingSide),
-            black_queen_side: self.keeps_right(&m, Side::Black, Wing::QueenSide),
-        }
-    }
-
-    /// The castling rights after the move: as they were, where it touches no square of castling.
-    #[inline(always)]
-    fn rights_after(&self, m: &Move) -> CastlingRights
-        ensures { result ≡ rights_after self.now.rights m.now }
-    {
-        if is_home(m.from) || is_home(m.to) {
-            return self.rights_left(*m);
-        }
-        self.rights
     }
 
     /// The en passant square after the move of that man.
@@ -265,7 +281,6 @@ impl<B: Board> Position<B> {
     {
         self.invariant();
         let turn = self.turn_after();
-        let rights = self.rights_after(m);
         let en_passant = self.en_passant_after(man, m);
         let halfmove_clock = self.halfmove_clock_after(man, m);
         let fullmove_number = self.fullmove_number_after();
@@ -273,7 +288,7 @@ impl<B: Board> Position<B> {
         let black_king = self.king_after(m, Side::Black);
         self.board = board;
         self.turn = turn;
-        self.rights = rights;
+        end_rights(&mut self.rights, m);
         self.en_passant = en_passant;
         self.halfmove_clock = halfmove_clock;
         self.fullmove_number = fullmove_number;
@@ -339,22 +354,18 @@ impl<B: Board> Position<B> {
     {
         self.invariant();
         let turn = self.turn_after();
-        let rights = self.rights_after(m);
         let en_passant = self.en_passant_after(Some(man), m);
         let halfmove_clock = self.clock_after(man, m, takes);
         let fullmove_number = self.fullmove_number_after();
-        let white_king = self.king_after(m, Side::White);
-        let black_king = self.king_after(m, Side::Black);
         let taken = self.taken_by(Some(man), m);
         let arriving = self.becoming(man, m);
         self.board.move_piece(Some(arriving), m.from, taken, m.to);
         self.turn = turn;
-        self.rights = rights;
+        end_rights(&mut self.rights, m);
         self.en_passant = en_passant;
         self.halfmove_clock = halfmove_clock;
         self.fullmove_number = fullmove_number;
-        self.white_king = white_king;
-        self.black_king = black_king;
+        follow_kings(&mut self.white_king, &mut self.black_king, man, m);
     }
 
     /// The position after a legal move.

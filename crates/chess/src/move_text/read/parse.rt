@@ -165,17 +165,14 @@ fn number_given(byte: Option<u8>, zero: u8) -> Option<u8>
 pub(crate) fn plainly_said(letter: Option<u8>, file: u8, rank: u8) -> Option<ParsedSan>
     ensures { MatchOption result (Unit {0}) (SaysPlainly letter file rank) }
 {
-    if let Some(byte) = letter
-        && !is_of(ByteClass::KindLetter, byte)
-    {
-        return None;
+    let mut kind = None;
+    if let Some(byte) = letter {
+        let found = kind_of(byte)?;
+        kind = Some(found);
     }
-    if !is_of(ByteClass::FileLetter, file) || !is_of(ByteClass::Digit, rank) {
-        return None;
-    }
-    let target = Square::new(file.saturating_sub(b'`'), rank.saturating_sub(b'0'))?;
+    let target = Square::new(file.wrapping_sub(b'`'), rank.wrapping_sub(b'0'))?;
     Some(ParsedSan {
-        letter: kind_given(letter),
+        letter: kind,
         file: None,
         rank: None,
         target,
@@ -191,10 +188,7 @@ pub(crate) fn pawn_takes(from: u8, file: u8, rank: u8) -> Option<ParsedSan>
     if !is_of(ByteClass::FileLetter, from) {
         return None;
     }
-    if !is_of(ByteClass::FileLetter, file) || !is_of(ByteClass::Digit, rank) {
-        return None;
-    }
-    let target = Square::new(file.saturating_sub(b'`'), rank.saturating_sub(b'0'))?;
+    let target = Square::new(file.wrapping_sub(b'`'), rank.wrapping_sub(b'0'))?;
     Some(ParsedSan {
         letter: None,
         file: Some(from.saturating_sub(b'`')),

@@ -1,7 +1,11 @@
 use Rattle.std.proofs.Common.{◌≡◌, ◌∙◌, ap, sym, subst}
 use Rattle.chess.specs.Positions.{State}
 use Rattle.chess.specs.Codes.{IsKept}
-use Rattle.chess.specs.Moves.{after, men_after}
+use Rattle.chess.specs.Moves.{after, men_after, rights_after}
+use Rattle.chess.specs.declared.board.man.CastlingRights.{CastlingRights}
+use Rattle.chess.specs.declared.board.man.Side.TheVariants.{White, Black}
+use Rattle.chess.proofs.KingFacts.{king_follows}
+use Rattle.chess.proofs.GoesFacts.{IsTried}
 use Rattle.chess.proofs.CheckFacts.{men_plainly}
 use Rattle.chess.proofs.SoundFacts.{after_sound}
 use Rattle.chess.proofs.position.Position.advance.Goals as goal
@@ -13,10 +17,14 @@ invariant_of-self g c =
     let old : g.B.Board.men c.self.inside.board ≡ P.men = ap (λ (Q : State). Q.men) c.self.view_is in
     let men : g.B.Board.men c.move_piece.new.self ≡ men_after P m =
     c.move_piece.ensures ∙ men_plainly P m c.becoming-arriving.result c.taken_by-taken.result (g.B.Board.men c.self.inside.board) c.requires.plain old c.becoming-arriving.ensures c.taken_by-taken.ensures in
+    let rights : c.end_rights.new.rights ≡ rights_after P.rights m =
+    c.end_rights.ensures ∙ ap (λ (r : CastlingRights). rights_after r m) (ap (λ (Q : State). Q.rights) c.self.view_is) in
+    let kept = subst (λ (Q : State). IsKept Q c.self.inside.white_king c.self.inside.black_king) c.self.view_is c.self.invariant in
+    let tried : IsTried P m = record { sound = c.invariant.ensures; rules = c.requires.legal.pseudo_legal } in
     let shown : record {
       men = g.B.Board.men c.move_piece.new.self;
       turn = c.turn_after-turn.result;
-      rights = c.rights_after-rights.result;
+      rights = c.end_rights.new.rights;
       en_passant = c.en_passant_after-en_passant.result;
       halfmove_clock = c.clock_after-halfmove_clock.result;
       fullmove_number = c.fullmove_number_after-fullmove_number.result;
@@ -25,14 +33,14 @@ invariant_of-self g c =
     λ i. record {
       men = men i;
       turn = c.turn_after-turn.ensures i;
-      rights = c.rights_after-rights.ensures i;
+      rights = rights i;
       en_passant = c.en_passant_after-en_passant.ensures i;
       halfmove_clock = c.clock_after-halfmove_clock.ensures i;
       fullmove_number = c.fullmove_number_after-fullmove_number.ensures i;
     } in
-    subst (λ (Q : State). IsKept Q c.king_after-white_king.result c.king_after-black_king.result) (sym shown)
+    subst (λ (Q : State). IsKept Q c.follow_kings.new.white_king c.follow_kings.new.black_king) (sym shown)
     (record {
-      sound = after_sound P m (record { sound = c.invariant.ensures; rules = c.requires.legal.pseudo_legal }) c.requires.legal.safe;
-      white = c.king_after-white_king.ensures;
-      black = c.king_after-black_king.ensures;
+      sound = after_sound P m tried c.requires.legal.safe;
+      white = king_follows P m tried c.args.man c.requires.man White c.self.inside.white_king c.follow_kings.new.white_king kept.white c.follow_kings.ensures.white;
+      black = king_follows P m tried c.args.man c.requires.man Black c.self.inside.black_king c.follow_kings.new.black_king kept.black c.follow_kings.ensures.black;
     })

@@ -1,7 +1,8 @@
-use Rattle.std.proofs.Common.{◌≡◌, sym, subst}
+use Rattle.std.proofs.Common.{◌≡◌, ◌∙◌, ap, sym, subst}
 use Rattle.chess.specs.Positions.{State}
 use Rattle.chess.specs.Codes.{IsKept}
-use Rattle.chess.specs.Moves.{after}
+use Rattle.chess.specs.Moves.{after, rights_after}
+use Rattle.chess.specs.declared.board.man.CastlingRights.{CastlingRights}
 use Rattle.chess.proofs.SoundFacts.{after_sound}
 use Rattle.chess.proofs.position.Position.settle.Goals as goal
 
@@ -9,10 +10,12 @@ pub invariant_of-self : goal.invariant_of-self
 invariant_of-self g c =
     let P = c.args.self.now in
     let m = c.args.m.now in
+    let rights : c.end_rights.new.rights ≡ rights_after P.rights m =
+    c.end_rights.ensures ∙ ap (λ (r : CastlingRights). rights_after r m) (ap (λ (Q : State). Q.rights) c.self.view_is) in
     let shown : record {
       men = g.B.Board.men c.args.board;
       turn = c.turn_after-turn.result;
-      rights = c.rights_after-rights.result;
+      rights = c.end_rights.new.rights;
       en_passant = c.en_passant_after-en_passant.result;
       halfmove_clock = c.halfmove_clock_after-halfmove_clock.result;
       fullmove_number = c.fullmove_number_after-fullmove_number.result;
@@ -21,7 +24,7 @@ invariant_of-self g c =
     λ i. record {
       men = c.requires.board i;
       turn = c.turn_after-turn.ensures i;
-      rights = c.rights_after-rights.ensures i;
+      rights = rights i;
       en_passant = c.en_passant_after-en_passant.ensures i;
       halfmove_clock = c.halfmove_clock_after-halfmove_clock.ensures i;
       fullmove_number = c.fullmove_number_after-fullmove_number.ensures i;
