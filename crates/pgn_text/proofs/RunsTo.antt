@@ -1,5 +1,6 @@
 -- Longest runs between places of a block.
-use Rattle.std.proofs.Common.{◌≡◌, ℕ, ◌+◌, ◌-◌, ◌<◌, ◌≤◌, Bool, true, false, List, length, take, drop, get_or, sym, ap, ◌∙◌, arith, length-drop, drop-drop}
+use Rattle.std.proofs.Common.{◌≡◌, inl, inr, ℕ, ◌+◌, ◌-◌, ◌<◌, ◌≤◌, Bool, true, false, List, length, take, drop, get_or, sym, ap, ◌∙◌, arith, length-drop, drop-drop}
+use Rattle.std.proofs.lemmas.Bool.{cases_lt}
 use Rattle.std.proofs.lemmas.List.{get_or-drop}
 use Rattle.pgn_text.specs.Bytes.{run_of}
 use Rattle.pgn_text.specs.Tokens.{RunTo}
@@ -21,3 +22,31 @@ run_to test block from at forward within inside ends =
       forward = forward;
       within = within;
     }
+
+-- all bytes from one place up to another pass
+pub record AllPass (test : ℕ → Bool) (block : List ℕ) (from at : ℕ) : Type 0 where
+  pub forward : from ≤ at
+  pub within : at ≤ length block
+  pub inside : (k : ℕ) → k < at - from → test (get_or block (from + k) 0) ≡ true
+
+pub none_yet : (test : ℕ → Bool) (block : List ℕ) (from : ℕ) → from ≤ length block → AllPass test block from from
+none_yet test block from within = record { forward = omega arith; within = within; inside = λ k below. absurd (omega arith) }
+
+-- one more byte passes
+pub one_more : (test : ℕ → Bool) (block : List ℕ) (from at next : ℕ) → next ≡ at + 1 → AllPass test block from at → at < length block
+    → test (get_or block at 0) ≡ true → AllPass test block from next
+one_more test block from at next is_next pass below here = record {
+  forward = let forward = pass.forward in omega arith;
+  within = omega arith;
+  inside = λ k before.
+      elim (cases_lt k (at - from)) [
+        | inl less ↦ pass.inside k less
+        | inr more ↦
+            let last : from + k ≡ at = let forward = pass.forward in omega arith in
+            ap (λ n. test (get_or block n 0)) last ∙ here
+      ];
+}
+
+-- a place up to which all bytes pass, and at which one fails or the block ends, is the run's end
+pub passed_to : (test : ℕ → Bool) (block : List ℕ) (from at : ℕ) → AllPass test block from at → (at < length block → test (get_or block at 0) ≡ false) → RunTo test block from at
+passed_to test block from at pass ends = run_to test block from at pass.forward pass.within pass.inside ends

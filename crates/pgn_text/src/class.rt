@@ -102,6 +102,21 @@ pub(crate) fn run_end(class: ByteClass, block: &[u8], from: usize) -> usize
     ensures { RunTo (test_of class) block.now from result }
 {
     let mut at = from;
+    while at + 4 <= block.len() {
+        if !is_in(class, block[at]) {
+            return at;
+        }
+        if !is_in(class, block[at + 1]) {
+            return at + 1;
+        }
+        if !is_in(class, block[at + 2]) {
+            return at + 2;
+        }
+        if !is_in(class, block[at + 3]) {
+            return at + 3;
+        }
+        at += 4;
+    }
     while at < block.len() && is_in(class, block[at]) {
         at += 1;
     }
