@@ -45,12 +45,14 @@ impl MainWalk {
             (HasStepped self.old self.new (item_of element.entry))
             (IsStuck self.old (item_of element.entry)) }
     {
+        if let Element::Move(word) = element
+            && self.depth == 0
+        {
+            self.plies += 1;
+            let m = play_named(&mut self.position, word, self.plies)?;
+            return Ok(Some(m));
+        }
         match element {
-            Element::Move(word) if self.depth == 0 => {
-                self.plies += 1;
-                let m = play_named(&mut self.position, word, self.plies)?;
-                return Ok(Some(m));
-            }
             Element::Open => self.depth += 1,
             Element::Close => self.depth = self.depth.saturating_sub(1),
             _ => {}
