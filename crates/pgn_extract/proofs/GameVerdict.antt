@@ -10,10 +10,10 @@ use Rattle.pgn_text.proofs.StopsThere.{stops_alone}
 use Rattle.pgn_text.specs.Marks.{marked}
 use Rattle.pgn_text.specs.Parts.{Part}
 use Rattle.pgn_text.specs.Pieces as spec
-use Rattle.pgn_text.specs.declared.pieces.PieceStart.{PieceStart}
-use Rattle.pgn_text.specs.declared.pieces.PieceStart.TheVariants as marks
-use Rattle.pgn_text.specs.declared.pieces.Piece.{Piece}
-use Rattle.pgn_text.specs.declared.pieces.Piece.TheVariants as given
+use Rattle.pgn_text.specs.declared.game.pieces.PieceStart.{PieceStart}
+use Rattle.pgn_text.specs.declared.game.pieces.PieceStart.TheVariants as marks
+use Rattle.pgn_text.specs.declared.game.pieces.Piece.{Piece}
+use Rattle.pgn_text.specs.declared.game.pieces.Piece.TheVariants as given
 use Rattle.pgn_game.specs.Faults.{Fault, IsFault}
 use Rattle.pgn_game.specs.Replays.{Replay, IsReplay}
 use Rattle.pgn_game.specs.declared.replayer.Lines.{Lines}

@@ -7,8 +7,8 @@ use Rattle.pgn_text.specs.Left.{Left, ArePiecesLeft}
 use Rattle.pgn_text.specs.LeftMarks.{IsMark, TakesMark}
 use Rattle.pgn_text.specs.Marks.{marked, within as in_limit}
 use Rattle.pgn_text.specs.Pieces as spec
-use Rattle.pgn_text.specs.declared.pieces.PieceStart.{PieceStart}
-use Rattle.pgn_text.specs.declared.pieces.PieceStart.TheVariants.{Game, Unreadable}
+use Rattle.pgn_text.specs.declared.game.pieces.PieceStart.{PieceStart}
+use Rattle.pgn_text.specs.declared.game.pieces.PieceStart.TheVariants.{Game, Unreadable}
 use Rattle.pgn_extract.specs.Aims.{Aim}
 use Rattle.pgn_extract.specs.Blockwise.{Gathers, GathersBlock, Passes, BeginsBlock, AddsVerdict, IsPieceOf, IsMarkVerdict}
 use Rattle.pgn_extract.specs.Index.{mark_line}

@@ -6,7 +6,7 @@ use Rattle.pgn_text.specs.Limits.{block_limit, depth_limit}
 use Rattle.pgn_text.specs.Left.{Left, ArePiecesLeft, TakesPiece}
 use Rattle.pgn_text.specs.Marks.{marked, within as in_limit}
 use Rattle.pgn_text.specs.Pieces as spec
-use Rattle.pgn_text.specs.declared.pieces.Piece.{Piece}
+use Rattle.pgn_text.specs.declared.game.pieces.Piece.{Piece}
 use Rattle.pgn_text.proofs.Existence.{pieces_exist}
 use Rattle.pgn_extract.specs.Blockwise.{Gathers, GathersBlock, Passes, BeginsBlock, IsPieceOf, AddsPiece}
 use Rattle.pgn_extract.specs.Outcomes.{AppendsFront}

@@ -8,8 +8,8 @@ use Rattle.pgn_text.specs.Blocks.{IsFirstBlock}
 use Rattle.pgn_text.specs.Marks.{MarkedPiece, AreMarkedPieces}
 use Rattle.pgn_text.specs.Tallies.{Reads}
 use Rattle.pgn_text.specs.Windows.{Window, fresh_window, IsCutOff, FailsAfter}
-use Rattle.pgn_text.specs.declared.blocks.ReadError.{ReadError}
-use Rattle.pgn_text.specs.declared.blocks.ReadError.TheVariants as cause
+use Rattle.pgn_text.specs.declared.io.blocks.ReadError.{ReadError}
+use Rattle.pgn_text.specs.declared.io.blocks.ReadError.TheVariants as cause
 use Rattle.pgn_text.proofs.Joined.{reads_join, reads_none}
 use Rattle.pgn_text.proofs.OneBlocks.{empty_first}
 use Rattle.pgn_extract.specs.Blockwise.{WritesBlock, Begins, BeginsBlock, EndsBlocks, BeginsFirst, BreaksOff, StandsOver, run_error_of}

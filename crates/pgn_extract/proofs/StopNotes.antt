@@ -4,8 +4,8 @@ use Rattle.pgn_text.specs.Bytes.{begins}
 use Rattle.pgn_text.specs.Parts.{Part, spelled}
 use Rattle.pgn_text.specs.StopPlaces.{PartsThen, StandsWithin, is_open_brace, is_open_bracket}
 use Rattle.pgn_text.specs.Stops.{IsLongestViablePrefix}
-use Rattle.pgn_text.specs.declared.error_position.Within.{Within}
-use Rattle.pgn_text.specs.declared.error_position.Within.TheVariants.{Comment, TagName, TagValue, Tags, Variation, MainLine, Game}
+use Rattle.pgn_text.specs.declared.error.error_position.Within.{Within}
+use Rattle.pgn_text.specs.declared.error.error_position.Within.TheVariants.{Comment, TagName, TagValue, Tags, Variation, MainLine, Game}
 use Rattle.pgn_extract.specs.NoteTexts.{IsWithinBlock}
 
 pub stops_within : (max_depth : ℕ) (f : Bool) (block : List ℕ) (begin agreeing : ℕ) → begin ≤ length block

@@ -15,15 +15,15 @@ use Rattle.pgn_text.specs.Limits.{depth_limit, largest_offset}
 use Rattle.pgn_text.specs.Marks.{TooLongBlock, MarkedPiece, marked, AreOfBlock, AreMarkedPieces}
 use Rattle.pgn_text.specs.Parts.{Part}
 use Rattle.pgn_text.specs.Pieces as spec
-use Rattle.pgn_text.specs.declared.pieces.PieceStart.{PieceStart}
-use Rattle.pgn_text.specs.declared.pieces.PieceStart.TheVariants as mark
-use Rattle.pgn_text.specs.declared.pieces.Piece.{Piece}
+use Rattle.pgn_text.specs.declared.game.pieces.PieceStart.{PieceStart}
+use Rattle.pgn_text.specs.declared.game.pieces.PieceStart.TheVariants as mark
+use Rattle.pgn_text.specs.declared.game.pieces.Piece.{Piece}
 use Rattle.pgn_text.specs.Stops.{IsErrorPosition}
 use Rattle.pgn_text.specs.Tallies.{Reads}
-use Rattle.pgn_text.specs.declared.blocks.Body.{Body}
-use Rattle.pgn_text.specs.declared.blocks.Body.TheVariants.{Bytes, TooLong}
-use Rattle.pgn_text.specs.declared.blocks.ReadError.{ReadError}
-use Rattle.pgn_text.specs.declared.blocks.ReadError.TheVariants as cause
+use Rattle.pgn_text.specs.declared.io.blocks.Body.{Body}
+use Rattle.pgn_text.specs.declared.io.blocks.Body.TheVariants.{Bytes, TooLong}
+use Rattle.pgn_text.specs.declared.io.blocks.ReadError.{ReadError}
+use Rattle.pgn_text.specs.declared.io.blocks.ReadError.TheVariants as cause
 use Rattle.pgn_extract.specs.Notes.{IsNote, NamesByte}
 use Rattle.pgn_extract.specs.Outcomes.{AppendsFront, Writes, WritesComplete}
 use Rattle.pgn_extract.specs.Index.{fault_text, mark_line}

@@ -3,8 +3,8 @@ use Rattle.std.specs.Prelude.{◌≡◌, ℕ, ◌+◌, ◌/◌, ◌%◌, ◌<◌
 use Rattle.pgn_text.specs.Limits.{depth_limit}
 use Rattle.pgn_text.specs.StopPlaces.{StandsWithin, tag_name_of}
 use Rattle.pgn_text.specs.Stops.{IsErrorPosition}
-use Rattle.pgn_text.specs.declared.error_position.Within.{Within}
-use Rattle.pgn_text.specs.declared.error_position.Within.TheVariants.{Comment, TagName, TagValue, Tags, Variation, MainLine, Game}
+use Rattle.pgn_text.specs.declared.error.error_position.Within.{Within}
+use Rattle.pgn_text.specs.declared.error.error_position.Within.TheVariants.{Comment, TagName, TagValue, Tags, Variation, MainLine, Game}
 use Rattle.pgn_extract.specs.Notes.{indented}
 use Rattle.pgn_extract.specs.declared.notes.Origin.{Origin}
 

@@ -9,7 +9,7 @@ use Rattle.pgn_text.specs.Parts.{Part, ByteOrderMark, White, Brace, Line, Escape
 use Rattle.pgn_text.specs.Games.{is_tag}
 use Rattle.pgn_text.specs.Steps.{State}
 use Rattle.pgn_text.specs.PartFronts.{Follows, IsPartFront, Ends}
-use Rattle.pgn_text.specs.declared.error_position.InTag.TheVariants.{BeforeName}
+use Rattle.pgn_text.specs.declared.error.error_position.InTag.TheVariants.{BeforeName}
 use Rattle.pgn_text.proofs.InTag.{tag_is, tag_ends, tag_bytes}
 use Rattle.pgn_text.proofs.Lines.{cut_append}
 

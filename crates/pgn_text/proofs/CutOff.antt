@@ -5,7 +5,7 @@ use Rattle.pgn_text.specs.Limits.{block_limit}
 use Rattle.pgn_text.specs.Searches.{FindsEnd}
 use Rattle.pgn_text.specs.Tallies.{Reads}
 use Rattle.pgn_text.specs.Windows.{Window, EndsIn, HoldsTheRest, IsCutOff}
-use Rattle.pgn_text.specs.declared.blocks.BlockEnd.{BlockEnd}
+use Rattle.pgn_text.specs.declared.io.blocks.BlockEnd.{BlockEnd}
 use Rattle.pgn_text.specs.AnswerLaws.{DoneWithTheBlock}
 use Rattle.pgn_text.proofs.OneList.{same_fronts}
 

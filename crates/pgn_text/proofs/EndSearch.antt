@@ -11,8 +11,8 @@ use Rattle.pgn_text.specs.Limits.{block_limit, largest_offset, window_limit}
 use Rattle.pgn_text.specs.Searches.{IsNextCut, FindsMore, FindsEnd, FailsFrom, GivesUp}
 use Rattle.pgn_text.specs.Tallies.{AppendsRead, Reads}
 use Rattle.pgn_text.specs.Windows.{FailsAfter}
-use Rattle.pgn_text.specs.declared.blocks.ReadError.{ReadError}
-use Rattle.pgn_text.specs.declared.blocks.ReadError.TheVariants.{Read, OutOfMemory, InputTooLong, Failed}
+use Rattle.pgn_text.specs.declared.io.blocks.ReadError.{ReadError}
+use Rattle.pgn_text.specs.declared.io.blocks.ReadError.TheVariants.{Read, OutOfMemory, InputTooLong, Failed}
 use Rattle.pgn_text.proofs.BlockCuts.{cut_stays, cut_moved, no_cut_moved, no_cut_join, first_block_at_cut, first_block_at_end}
 use Rattle.pgn_text.proofs.Joined.{reads_join, reads_none}
 

@@ -5,8 +5,8 @@ use Rattle.pgn_text.specs.Left.{Left, ArePiecesLeft, IsPiece, GivesPiece}
 use Rattle.pgn_text.specs.LeftMarks.{IsMark, GivesMark}
 use Rattle.pgn_text.specs.Pieces.{ArePieces}
 use Rattle.pgn_text.specs.Pieces as spec
-use Rattle.pgn_text.specs.declared.pieces.PieceStart.{PieceStart}
-use Rattle.pgn_text.specs.declared.pieces.Piece.{Piece}
+use Rattle.pgn_text.specs.declared.game.pieces.PieceStart.{PieceStart}
+use Rattle.pgn_text.specs.declared.game.pieces.Piece.{Piece}
 use Rattle.pgn_text.proofs.Existence.{pieces_exist}
 
 -- the pieces of a block before the first call

@@ -7,7 +7,7 @@ use Rattle.pgn_text.specs.Pieces.{Game as GameOf, Unreadable as UnreadableOf, No
 use Rattle.pgn_text.specs.GameTexts.{GameText, ShowsGame}
 use Rattle.pgn_text.specs.Walk.{LongestGapTo, GameTo}
 use Rattle.pgn_text.specs.Left.{Left, GivesPiece}
-use Rattle.pgn_text.specs.declared.pieces.Piece.TheVariants.{Game, Unreadable}
+use Rattle.pgn_text.specs.declared.game.pieces.Piece.TheVariants.{Game, Unreadable}
 use Rattle.pgn_text.proofs.Cuts.{piece_game, piece_unreadable, piece_left}
 use Rattle.pgn_text.proofs.Existence.{pieces_exist}
 

@@ -6,7 +6,7 @@ use Rattle.pgn_text.specs.Pieces.{Game as GameOf, Unreadable as UnreadableOf, No
 use Rattle.pgn_text.specs.Walk.{LongestGapTo, GameTo}
 use Rattle.pgn_text.specs.Left.{Left}
 use Rattle.pgn_text.specs.LeftMarks.{GivesMark}
-use Rattle.pgn_text.specs.declared.pieces.PieceStart.TheVariants.{Game, Unreadable}
+use Rattle.pgn_text.specs.declared.game.pieces.PieceStart.TheVariants.{Game, Unreadable}
 use Rattle.pgn_text.proofs.Cuts.{piece_game, piece_unreadable}
 use Rattle.pgn_text.proofs.Gives.{left_at}
 

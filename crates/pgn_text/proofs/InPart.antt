@@ -10,7 +10,7 @@ use Rattle.pgn_text.specs.Games.{is_number, is_result_word, is_move_text, is_tag
 use Rattle.pgn_text.specs.Steps.{State, in_movetext, step}
 use Rattle.pgn_text.proofs.Classes.{is_white-word, is_word_byte-mark}
 use Rattle.pgn_text.specs.PartFronts.{Longest, Follows, IsPartFront, IsWordFront, is_glyph_front, Ends, IsTagFront}
-use Rattle.pgn_text.specs.declared.error_position.InTag.TheVariants.{BeforeName}
+use Rattle.pgn_text.specs.declared.error.error_position.InTag.TheVariants.{BeforeName}
 use Rattle.pgn_text.proofs.Furthest.{longest_after, longest_nothing, longest_take, greedy, longest_greedy}
 use Rattle.pgn_text.proofs.InTag.{tag_is, tag_ends}
 use Rattle.pgn_text.proofs.InWord.{bytes_same, move_far, result_far, move_goes, result_goes}

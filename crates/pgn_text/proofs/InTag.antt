@@ -11,8 +11,8 @@ use Rattle.pgn_text.specs.Parts.{Part, Tag, Standing, Stands, spelled_part}
 use Rattle.pgn_text.specs.Games.{is_tag}
 use Rattle.pgn_text.proofs.Classes.{is_name_byte-white, is_white-name}
 use Rattle.pgn_text.specs.PartFronts.{Longest, next_in, Ends, IsTagFront}
-use Rattle.pgn_text.specs.declared.error_position.InTag.{InTag}
-use Rattle.pgn_text.specs.declared.error_position.InTag.TheVariants.{BeforeName, Name, AfterName, Contents, AfterBackslash, AfterString, Closed}
+use Rattle.pgn_text.specs.declared.error.error_position.InTag.{InTag}
+use Rattle.pgn_text.specs.declared.error.error_position.InTag.TheVariants.{BeforeName, Name, AfterName, Contents, AfterBackslash, AfterString, Closed}
 use Rattle.pgn_text.proofs.Furthest.{longest_after, longest_nothing}
 
 -- each place goes on to the tag's end

@@ -10,8 +10,8 @@ use Rattle.pgn_text.specs.Bytes.{begins, is_not_brace}
 use Rattle.pgn_text.specs.Games.{is_open, is_result, is_meant, depth_after}
 use Rattle.pgn_text.specs.Parts.{Part, Open, Stands, standing_of, AllStand, spelled_part, spelled}
 use Rattle.pgn_text.specs.StopPlaces.{PartsThen, StandsWithin, is_open_brace, is_open_bracket, is_quote, is_before_movetext}
-use Rattle.pgn_text.specs.declared.error_position.Within.{Within}
-use Rattle.pgn_text.specs.declared.error_position.Within.TheVariants.{Comment, TagName, TagValue, Tags, Variation, MainLine, Game}
+use Rattle.pgn_text.specs.declared.error.error_position.Within.{Within}
+use Rattle.pgn_text.specs.declared.error.error_position.Within.TheVariants.{Comment, TagName, TagValue, Tags, Variation, MainLine, Game}
 use Rattle.pgn_text.proofs.Halfway.{spelled-append, stands_cut}
 use Rattle.pgn_text.proofs.Located.{rows}
 use Rattle.pgn_text.proofs.OneList.{same_fronts}

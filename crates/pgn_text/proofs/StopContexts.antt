@@ -14,8 +14,8 @@ use Rattle.pgn_text.specs.Reading.{Kept, is_kept_result}
 use Rattle.pgn_text.specs.Steps.{State, start}
 use Rattle.pgn_text.specs.StopPlaces.{PartsThen, StandsWithin, is_open_brace}
 use Rattle.pgn_text.specs.Walk.{PartAt, KeptAt}
-use Rattle.pgn_text.specs.declared.error_position.Within.{Within}
-use Rattle.pgn_text.specs.declared.error_position.Within.TheVariants.{Comment, TagName, TagValue, Tags, Variation, MainLine, Game}
+use Rattle.pgn_text.specs.declared.error.error_position.Within.{Within}
+use Rattle.pgn_text.specs.declared.error.error_position.Within.TheVariants.{Comment, TagName, TagValue, Tags, Variation, MainLine, Game}
 use Rattle.pgn_text.proofs.Halfway.{stands_join, spelled-append}
 use Rattle.pgn_text.proofs.InPart.{all_take}
 use Rattle.pgn_text.proofs.Lines.{Shows, shows_start, shows_more, depth_is}

@@ -7,7 +7,7 @@ use Rattle.pgn_text.specs.Parts.{Part, White, Word, Dot, AllStand, standing_of, 
 use Rattle.pgn_text.specs.Reading.{part_front}
 use Rattle.pgn_text.specs.Steps.{State, start}
 use Rattle.pgn_text.specs.Stops.{IsLongestViablePrefix}
-use Rattle.pgn_text.specs.declared.error_position.InTag.TheVariants.{BeforeName}
+use Rattle.pgn_text.specs.declared.error.error_position.InTag.TheVariants.{BeforeName}
 use Rattle.pgn_text.proofs.EachStops.{wrong_part}
 use Rattle.pgn_text.proofs.GameFronts.{stops_in_part}
 use Rattle.pgn_text.proofs.InPart.{stray_word, open_tag, open_brace}

@@ -10,7 +10,7 @@ use Rattle.pgn_text.specs.Games.{is_result, is_move_text, is_zero_castling, is_n
 use Rattle.pgn_text.specs.Steps.{State, in_movetext, step}
 use Rattle.pgn_text.proofs.Fronts.{run-append-after, list_all-run, stops-after_run}
 use Rattle.pgn_text.specs.PartFronts.{Longest, Follows, IsPartFront, NoneFollows, no_byte, IsFrontOf, front_length, IsMoveFront, IsResultFront, IsWordFront, is_glyph_front}
-use Rattle.pgn_text.specs.declared.error_position.InTag.TheVariants.{BeforeName}
+use Rattle.pgn_text.specs.declared.error.error_position.InTag.TheVariants.{BeforeName}
 use Rattle.pgn_text.proofs.Furthest.{longest_same, longest_take, longest_max, as_far, as_far_goes, as_far_front, greedy}
 use Rattle.pgn_text.proofs.InTag.{tag_far, tag_longest}
 use Rattle.pgn_text.proofs.InPart.{nothing_fronts, glyph_digits, open_brace, open_tag, stray_word, stray_glyph, nothing_begins, word_follows, no_result}

@@ -3,9 +3,9 @@ use Rattle.std.proofs.Common.{◌≡◌, ℕ, zero, suc, ◌<◌, Bool, true, fa
 use Rattle.std.specs.Bool.{beq}
 use Rattle.std.proofs.lemmas.Bool.{cases_eq}
 use Rattle.pgn_text.specs.Tokens.{test_of, flag_of}
-use Rattle.pgn_text.specs.declared.class.ByteClass.{ByteClass}
-use Rattle.pgn_text.specs.declared.class.ByteClass.TheVariants.{White, Digit, Letter, Name, Word, Mark, Single}
-use Rattle.pgn_text.specs.declared.class.TheConstants.{CLASSES}
+use Rattle.pgn_text.specs.declared.lex.class.ByteClass.{ByteClass}
+use Rattle.pgn_text.specs.declared.lex.class.ByteClass.TheVariants.{White, Digit, Letter, Name, Word, Mark, Single}
+use Rattle.pgn_text.specs.declared.lex.class.TheConstants.{CLASSES}
 
 -- the two tests agree below n
 unfoldable agree_below : (ℕ → Bool) → (ℕ → Bool) → ℕ → Bool

@@ -11,11 +11,11 @@ use Rattle.pgn_text.specs.Windows.{Window, IsCutOff, HoldsTheRest, FailsAfter}
 use Rattle.pgn_text.specs.Left.{Left, ArePiecesLeft, GivesPiece}
 use Rattle.pgn_text.specs.PartPlaces.{IsElementPlace, IsTagPlace}
 use Rattle.pgn_text.specs.StopPlaces.{StandsWithin}
-use Rattle.pgn_text.specs.declared.error_position.Within.{Within}
-use Rattle.pgn_text.specs.declared.error_position.Within.TheVariants.{Comment}
-use Rattle.pgn_text.specs.declared.blocks.ReadError.{ReadError}
-use Rattle.pgn_text.specs.declared.blocks.ReadError.TheVariants.{Read, InputTooLong}
-use Rattle.pgn_text.specs.declared.pieces.Piece.{Piece}
+use Rattle.pgn_text.specs.declared.error.error_position.Within.{Within}
+use Rattle.pgn_text.specs.declared.error.error_position.Within.TheVariants.{Comment}
+use Rattle.pgn_text.specs.declared.io.blocks.ReadError.{ReadError}
+use Rattle.pgn_text.specs.declared.io.blocks.ReadError.TheVariants.{Read, InputTooLong}
+use Rattle.pgn_text.specs.declared.game.pieces.Piece.{Piece}
 
 -- where parts with so many elements stand, the element of an index has one place
 abbrev pub OneElementPlace : Type 0

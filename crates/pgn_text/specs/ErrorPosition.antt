@@ -9,10 +9,10 @@ use Rattle.pgn_text.specs.Steps.{State, start, step}
 use Rattle.pgn_text.specs.Stops.{IsErrorPosition}
 use Rattle.pgn_text.specs.StopPlaces.{PartsThen, is_open_brace, is_open_bracket, is_quote}
 use Rattle.pgn_text.specs.Tokens.{state_of}
-use Rattle.pgn_text.specs.declared.error_position.Reached.{Reached}
-use Rattle.pgn_text.specs.declared.error_position.Reached.TheVariants.{GameTo, Stuck}
-use Rattle.pgn_text.specs.declared.error_position.Within.{Within}
-use Rattle.pgn_text.specs.declared.error_position.Within.TheVariants.{Comment, TagName, TagValue, Tags, Variation, MainLine, Game}
+use Rattle.pgn_text.specs.declared.error.error_position.Reached.{Reached}
+use Rattle.pgn_text.specs.declared.error.error_position.Reached.TheVariants.{GameTo, Stuck}
+use Rattle.pgn_text.specs.declared.error.error_position.Within.{Within}
+use Rattle.pgn_text.specs.declared.error.error_position.Within.TheVariants.{Comment, TagName, TagValue, Tags, Variation, MainLine, Game}
 
 -- the parts lead from one state to the other, and none of them is a result
 abbrev pub Walks : ℕ → State → List Part → State → Type 0

@@ -3,7 +3,7 @@ use Rattle.std.specs.Prelude.{◌≡◌, ℕ, List, Option, map}
 use Rattle.pgn_text.specs.Elements.{item_of}
 use Rattle.pgn_text.specs.TagOrder.{AreOrdered, tag_at}
 use Rattle.pgn_text.specs.Games.{Item}
-use Rattle.pgn_text.specs.declared.game_builder.GameBuilder.{GameBuilder}
+use Rattle.pgn_text.specs.declared.game.game_builder.GameBuilder.{GameBuilder}
 
 -- the game builder holds these tags, by name, and these elements
 pub record IsBuilderOf (game_builder : GameBuilder) (tags : List ℕ → Option (List ℕ)) (items : List Item) : Type 0 where

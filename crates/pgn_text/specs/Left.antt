@@ -4,8 +4,8 @@ use Rattle.std.specs.declared.alloc.AllocError.{AllocError}
 use Rattle.pgn_text.specs.GameTexts.{ShowsGame}
 use Rattle.pgn_text.specs.Pieces.{ArePieces}
 use Rattle.pgn_text.specs.Pieces as spec
-use Rattle.pgn_text.specs.declared.pieces.Piece.{Piece}
-use Rattle.pgn_text.specs.declared.pieces.Piece.TheVariants.{Game, Unreadable}
+use Rattle.pgn_text.specs.declared.game.pieces.Piece.{Piece}
+use Rattle.pgn_text.specs.declared.game.pieces.Piece.TheVariants.{Game, Unreadable}
 
 -- a block, whether it is at the start of the file, the place from which on its pieces are left, and whether memory ran out
 pub record Left : Type 0 where

@@ -2,8 +2,8 @@
 use Rattle.std.specs.Prelude.{◌≡◌, ℕ, ◌<◌, ◌≤◌, List, [], ◌∷◌, length, Option, Some, None}
 use Rattle.pgn_text.specs.Left.{Left, ArePiecesLeft}
 use Rattle.pgn_text.specs.Pieces as spec
-use Rattle.pgn_text.specs.declared.pieces.PieceStart.{PieceStart}
-use Rattle.pgn_text.specs.declared.pieces.PieceStart.TheVariants.{Game, Unreadable}
+use Rattle.pgn_text.specs.declared.game.pieces.PieceStart.{PieceStart}
+use Rattle.pgn_text.specs.declared.game.pieces.PieceStart.TheVariants.{Game, Unreadable}
 
 -- the mark gives the place and the kind of the piece
 abbrev pub IsMark : PieceStart → spec.Piece → Type 0

@@ -5,8 +5,8 @@ use Rattle.pgn_text.specs.Bytes.{is_white, is_digit, is_name_byte, is_check_mark
 use Rattle.pgn_text.specs.Parts.{Part, Standing, Stands, spelled_part, number_of}
 use Rattle.pgn_text.specs.Games.{is_result}
 use Rattle.pgn_text.specs.Steps.{State, step}
-use Rattle.pgn_text.specs.declared.error_position.InTag.{InTag}
-use Rattle.pgn_text.specs.declared.error_position.InTag.TheVariants.{BeforeName, Name, AfterName, Contents, AfterBackslash, AfterString, Closed}
+use Rattle.pgn_text.specs.declared.error.error_position.InTag.{InTag}
+use Rattle.pgn_text.specs.declared.error.error_position.InTag.TheVariants.{BeforeName, Name, AfterName, Contents, AfterBackslash, AfterString, Closed}
 
 -- so many of the text's first bytes have the property, and no more
 pub record Longest (P : List ℕ → Type 0) (text : List ℕ) (n : ℕ) : Type 0 where

@@ -1,7 +1,7 @@
 -- How far a `Blocks` has come, as tests.
 use Rattle.std.specs.Prelude.{Bool, true, false}
-use Rattle.pgn_text.specs.declared.blocks.Phase.{Phase}
-use Rattle.pgn_text.specs.declared.blocks.Phase.TheVariants.{Reading, Ended, Over, Failed}
+use Rattle.pgn_text.specs.declared.io.blocks.Phase.{Phase}
+use Rattle.pgn_text.specs.declared.io.blocks.Phase.TheVariants.{Reading, Ended, Over, Failed}
 
 -- an error was answered
 abbrev pub is_failed : Phase → Bool

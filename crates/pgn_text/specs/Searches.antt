@@ -6,9 +6,9 @@ use Rattle.pgn_text.specs.Limits.{block_limit, largest_offset, window_limit}
 use Rattle.pgn_text.specs.Cuts.{is_cut, NoCutBefore}
 use Rattle.pgn_text.specs.Tallies.{Reads}
 use Rattle.pgn_text.specs.Windows.{Window, IsCutOff, FailsAfter, EndsIn}
-use Rattle.pgn_text.specs.declared.blocks.BlockEnd.{BlockEnd}
-use Rattle.pgn_text.specs.declared.blocks.ReadError.{ReadError}
-use Rattle.pgn_text.specs.declared.blocks.ReadError.TheVariants.{Failed}
+use Rattle.pgn_text.specs.declared.io.blocks.BlockEnd.{BlockEnd}
+use Rattle.pgn_text.specs.declared.io.blocks.ReadError.{ReadError}
+use Rattle.pgn_text.specs.declared.io.blocks.ReadError.TheVariants.{Failed}
 
 -- the first place from `from` on where an event line begins, with all of its eight bytes
 pub record IsNextCut (text : List ℕ) (from cut : ℕ) : Type 0 where

@@ -4,8 +4,8 @@ use Rattle.std.specs.List.{list_all, list_any}
 use Rattle.pgn_text.specs.Bytes.{is_white, is_name_byte, is_not_brace, begins, run_of, after_run}
 use Rattle.pgn_text.specs.Parts.{Part, Stands, AllStand, standing_of, spelled_part, spelled}
 use Rattle.pgn_text.specs.Games.{is_gap_part, is_tag, is_result, is_meant, depth_after}
-use Rattle.pgn_text.specs.declared.error_position.Within.{Within}
-use Rattle.pgn_text.specs.declared.error_position.Within.TheVariants.{Comment, TagName, TagValue, Tags, Variation, MainLine, Game}
+use Rattle.pgn_text.specs.declared.error.error_position.Within.{Within}
+use Rattle.pgn_text.specs.declared.error.error_position.Within.TheVariants.{Comment, TagName, TagValue, Tags, Variation, MainLine, Game}
 
 -- an opening brace
 abbrev pub is_open_brace : ℕ → Bool

@@ -5,12 +5,12 @@ use Rattle.pgn_text.specs.Bytes.{is_white, is_digit, is_letter, is_name_byte, is
 use Rattle.pgn_text.specs.Parts.{Standing as StandingOf}
 use Rattle.pgn_text.specs.Reading.{is_single, contents_front, Kept, KeptGap, KeptComment, KeptTag, KeptMove, KeptNumber, KeptResult, KeptStray, KeptDot, KeptGlyph, KeptMarks, KeptOpen, KeptClose}
 use Rattle.pgn_text.specs.Steps.{State}
-use Rattle.pgn_text.specs.declared.class.ByteClass.{ByteClass}
-use Rattle.pgn_text.specs.declared.class.ByteClass.TheVariants.{White, Digit, Letter, Name, Word, Mark, Single}
-use Rattle.pgn_text.specs.declared.progress.Progress.{Progress}
-use Rattle.pgn_text.specs.declared.scan.Standing.{Standing}
-use Rattle.pgn_text.specs.declared.token.Token.{Token}
-use Rattle.pgn_text.specs.declared.token.Token.TheVariants.{Gap, Comment, Tag, Move, Number, Result, Stray, Dot, Glyph, Marks, Open, Close}
+use Rattle.pgn_text.specs.declared.lex.class.ByteClass.{ByteClass}
+use Rattle.pgn_text.specs.declared.lex.class.ByteClass.TheVariants.{White, Digit, Letter, Name, Word, Mark, Single}
+use Rattle.pgn_text.specs.declared.game.progress.Progress.{Progress}
+use Rattle.pgn_text.specs.declared.lex.scan.Standing.{Standing}
+use Rattle.pgn_text.specs.declared.lex.token.Token.{Token}
+use Rattle.pgn_text.specs.declared.lex.token.Token.TheVariants.{Gap, Comment, Tag, Move, Number, Result, Stray, Dot, Glyph, Marks, Open, Close}
 
 -- the test of a class
 abbrev pub test_of : ByteClass → ℕ → Bool

@@ -3,11 +3,11 @@ use Rattle.std.specs.Prelude.{◌≡◌, ◌≢◌, ℕ, ◌+◌, ◌-◌, ◌<�
 use Rattle.std.specs.Io.KnownBytes.{IsAtEnd}
 use Rattle.pgn_text.specs.Limits.{largest_offset}
 use Rattle.pgn_text.specs.Blocks.{IsFirstBlock}
-use Rattle.pgn_text.specs.declared.blocks.Block.{Block}
-use Rattle.pgn_text.specs.declared.blocks.Body.{Body}
-use Rattle.pgn_text.specs.declared.blocks.Body.TheVariants.{Bytes, TooLong}
-use Rattle.pgn_text.specs.declared.blocks.ReadError.{ReadError}
-use Rattle.pgn_text.specs.declared.blocks.ReadError.TheVariants.{Read, OutOfMemory, InputTooLong, Failed}
+use Rattle.pgn_text.specs.declared.io.blocks.Block.{Block}
+use Rattle.pgn_text.specs.declared.io.blocks.Body.{Body}
+use Rattle.pgn_text.specs.declared.io.blocks.Body.TheVariants.{Bytes, TooLong}
+use Rattle.pgn_text.specs.declared.io.blocks.ReadError.{ReadError}
+use Rattle.pgn_text.specs.declared.io.blocks.ReadError.TheVariants.{Read, OutOfMemory, InputTooLong, Failed}
 
 -- the bytes held: those done with, which end with the block answered last, and those ahead, the first of which has the
 -- offset `place`; and whether an error, the last block and the end have been answered

@@ -14,13 +14,17 @@ ghost use Rattle.pgn_text.specs.Readings.{IsReading, IsStep};
 ghost use Rattle.pgn_text.specs.Tokens.{state_of, token_of};
 ghost use Rattle.pgn_text.specs.Walk.{GameTo, GameRead, NoGapPartAt};
 
-use crate::class::{ByteClass, is_in, run_end};
-use crate::game_builder::GameBuilder;
-use crate::place::{after_dot, after_white, comment_at, number_at, part_at};
-use crate::progress::Progress;
-use crate::scan::glyph_at;
-use crate::tag::tag_at;
-use crate::token::Token;
+mod game_builder;
+pub(crate) mod pieces;
+pub(crate) mod progress;
+
+use crate::game::game_builder::GameBuilder;
+use crate::game::progress::Progress;
+use crate::lex::class::{ByteClass, is_in, run_end};
+use crate::lex::place::{after_dot, after_white, comment_at, number_at, part_at};
+use crate::lex::scan::glyph_at;
+use crate::lex::tag::tag_at;
+use crate::lex::token::Token;
 use std::alloc::{AllocError, Global};
 use std::collections::BTreeMap;
 use std::convert::Infallible;

@@ -3,36 +3,22 @@
 //! The module `memory` has a proved example of each call over a reader, a writer or a block.
 #![tactic(auto)]
 
-mod blocks;
-mod buffer;
-mod class;
-mod error_position;
+mod error;
 mod game;
-mod game_builder;
+mod io;
 pub mod laws;
-mod limits;
-mod locate;
+mod lex;
 pub mod memory;
-mod pieces;
-mod place;
-mod progress;
-mod quoted;
-mod scan;
-mod skip;
-mod tag;
-mod tally;
-mod token;
-mod unquoted;
 
-pub use blocks::{Block, Blocks, Body, ReadError};
-pub use buffer::Buffer;
-pub use error_position::{Stop, Within, error_position_of, locate_error, tag_name_at};
+pub use error::error_position::{Stop, Within, error_position_of, locate_error, tag_name_at};
+pub use error::locate::{element_place, tag_place};
+pub use game::pieces::start::{games, marks};
+pub use game::pieces::{Games, Marks, Piece, PieceStart};
 pub use game::{Element, RawGame};
-pub use limits::{BLOCK_LIMIT, LARGEST_OFFSET, MAX_DEPTH};
-pub use locate::{element_place, tag_place};
-pub use pieces::start::{games, marks};
-pub use pieces::{Games, Marks, Piece, PieceStart};
-pub use quoted::{is_contents, value};
-pub use skip::Skip;
-pub use tally::Tally;
-pub use unquoted::Value;
+pub use io::blocks::{Block, Blocks, Body, ReadError};
+pub use io::buffer::Buffer;
+pub use io::limits::{BLOCK_LIMIT, LARGEST_OFFSET, MAX_DEPTH};
+pub use io::skip::Skip;
+pub use io::tally::Tally;
+pub use lex::quoted::{is_contents, value};
+pub use lex::unquoted::Value;

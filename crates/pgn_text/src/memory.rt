@@ -9,10 +9,10 @@ ghost use Rattle.pgn_text.specs.Pieces.{ArePieces};
 ghost use Rattle.pgn_text.specs.Pieces as spec;
 ghost use Rattle.pgn_text.specs.Windows.{Shows};
 
-use crate::blocks::{Blocks, Body, ReadError};
-use crate::pieces::start::{games, marks};
-use crate::pieces::{Piece, PieceStart};
-use crate::tally::Tally;
+use crate::game::pieces::start::{games, marks};
+use crate::game::pieces::{Piece, PieceStart};
+use crate::io::blocks::{Blocks, Body, ReadError};
+use crate::io::tally::Tally;
 use std::alloc::{AllocError, Global};
 use std::io;
 

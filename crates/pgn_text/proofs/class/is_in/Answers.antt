@@ -1,6 +1,0 @@
-use Rattle.std.proofs.Common.{arith}
-use Rattle.pgn_text.proofs.Tables.{by_table}
-use Rattle.pgn_text.proofs.class.is_in.Goals as goal
-
-pub returns : goal.returns
-returns c = rw c.flag.ensures (by_table c.args.class c.args.byte (omega arith))

@@ -1,0 +1,13 @@
+use Rattle.std.proofs.Common.{◌-◌, ◌≡◌, ◌+◌, ◌≤◌, length, drop}
+use Rattle.pgn_text.specs.declared.error.error_position.InTag.TheVariants.{BeforeName}
+use Rattle.pgn_text.proofs.InTag.{tag_far}
+use Rattle.pgn_text.proofs.error.error_position.tag_stop.Given as goal
+
+abbrev pub invariant-loop-at : goal.invariant-loop-at
+invariant-loop-at l = record {
+  within : l.at ≤ length l.text;
+  so_far : tag_far BeforeName l.text ≡ l.at + tag_far l.place (drop l.at l.text);
+}
+
+abbrev pub decreases-loop-at : goal.decreases-loop-at
+decreases-loop-at l = length l.text - l.at

@@ -1,0 +1,11 @@
+use Rattle.std.proofs.Common.{◌≡◌, ◌+◌, ◌-◌, length, List}
+use Rattle.pgn_text.specs.Games.{items_of}
+use Rattle.pgn_text.specs.Parts.{Part}
+use Rattle.pgn_text.proofs.Located.{PassedTo}
+use Rattle.pgn_text.proofs.error.locate.element_place.Given as goal
+
+abbrev pub invariant-loop-token : goal.invariant-loop-token
+invariant-loop-token l = (done : List Part) × PassedTo l.file_start l.block l.begin l.at done × (l.index ≡ length (items_of done) + l.left)
+
+abbrev pub decreases-loop-token : goal.decreases-loop-token
+decreases-loop-token l = length l.block - l.at
