@@ -8,7 +8,7 @@ use Rattle.chess.specs.declared.moves.Move.{Move}
 use Rattle.pgn_text.specs.Games.{Item}
 use Rattle.pgn_game.specs.PlyCodes.{PlyCode, IsCode}
 use Rattle.pgn_game.specs.Replays.{Replay, IsReplay}
-use Rattle.pgn_game.specs.declared.replayer.Lines.{Lines}
+use Rattle.pgn_game.specs.declared.replays.replayer.Lines.{Lines}
 use Rattle.pgn_criteria.specs.Lines.{Accepts, IsRefused}
 use Rattle.pgn_criteria.specs.Meeting.{Heading, AllHold, Meets, is_turned}
 use Rattle.pgn_criteria.specs.Mirrors.{flipped_men, mirror}

@@ -7,7 +7,7 @@ ghost use Rattle.pgn_game.specs.Replays.{Replay, IsSomeReplay, fault_of};
 ghost use Rattle.pgn_game.specs.PackedGames.{PackedGame, IsPacked, FitsRecord};
 ghost use Rattle.pgn_game.specs.PackReading.{IsRawOfGame, raw_of};
 ghost use Rattle.pgn_game.specs.Starts.{fen_tag};
-ghost use Rattle.pgn_game.specs.declared.replayer.Lines.TheVariants.{Main};
+ghost use Rattle.pgn_game.specs.declared.replays.replayer.Lines.TheVariants.{Main};
 ghost use Rattle.pgn_criteria.specs.Sieves.{MeetsSeen, NowhereSeen, codes_in};
 ghost use Rattle.pgn_criteria.specs.Meeting.{Heading, heading_of, SomeHold, Meets};
 ghost use Rattle.pgn_criteria.specs.Stages.{AllGood, AreLegal, EachAsksWithin};

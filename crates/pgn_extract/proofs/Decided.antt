@@ -4,7 +4,7 @@ use Rattle.pgn_text.specs.Games.{items_of, first_tag}
 use Rattle.pgn_text.specs.Parts.{Part}
 use Rattle.pgn_game.specs.Replays.{Replay}
 use Rattle.pgn_game.specs.Starts.{fen_tag}
-use Rattle.pgn_game.specs.declared.replayer.Lines.{Lines}
+use Rattle.pgn_game.specs.declared.replays.replayer.Lines.{Lines}
 use Rattle.pgn_criteria.specs.declared.condition.Condition.{Condition}
 use Rattle.pgn_criteria.proofs.MeetSettled.{each_position_meets}
 use Rattle.pgn_extract.specs.Aims.{Aim, IsMet}

@@ -9,7 +9,7 @@ use Rattle.pgn_text.specs.Parts.{Part}
 use Rattle.pgn_text.specs.Games.{Item, items_of, first_tag}
 use Rattle.pgn_game.proofs.OneReplay.{one_replay, no_fault}
 use Rattle.pgn_game.specs.Replays.{Replay, IsReplay, IsMainReplay}
-use Rattle.pgn_game.specs.declared.replayer.Lines.TheVariants.{Main}
+use Rattle.pgn_game.specs.declared.replays.replayer.Lines.TheVariants.{Main}
 use Rattle.pgn_game.specs.Starts.{fen_tag}
 use Rattle.pgn_extract.specs.Aims.{Aim, IsEntry}
 use Rattle.pgn_extract.proofs.Chosen.{entry_at, none_in, in_front, Rise, IsPicked, chosen_from, chosen_all, chosen_ascend}

@@ -16,7 +16,7 @@ use Rattle.chess.proofs.SanSettled.{some_san}
 use Rattle.pgn_text.specs.Games.{Item}
 use Rattle.pgn_game.specs.MainLines.{main_words, IsMainLine}
 use Rattle.pgn_game.specs.Replays.{Replay, IsReplay}
-use Rattle.pgn_game.specs.declared.replayer.Lines.{Lines}
+use Rattle.pgn_game.specs.declared.replays.replayer.Lines.{Lines}
 use Rattle.pgn_game.proofs.StartTexts.{start_read_back}
 use Rattle.pgn_extract.specs.Listing.{IsFenField, IsNextMove, IsNextField, AreFields, is_plain}
 use Rattle.pgn_extract.specs.declared.settings.Fields.{Fields}

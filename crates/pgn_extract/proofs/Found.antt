@@ -15,7 +15,7 @@ use Rattle.pgn_game.specs.MainLines.{main_words, IsMainLine}
 use Rattle.pgn_game.specs.PlayedLines.{PlayedLine, IsBegun, PlaysWord, IsNextText}
 use Rattle.pgn_game.specs.Replays.{Replay, IsReplay, IsSomeReplay}
 use Rattle.pgn_game.specs.Starts.{fen_tag}
-use Rattle.pgn_game.specs.declared.replayer.Lines.TheVariants.{Main}
+use Rattle.pgn_game.specs.declared.replays.replayer.Lines.TheVariants.{Main}
 use Rattle.pgn_game.proofs.OneReplay.{one_move, one_start}
 use Rattle.pgn_criteria.specs.Meeting.{heading_of, Heading, SomeHold}
 use Rattle.pgn_criteria.specs.declared.condition.Condition.{Condition}

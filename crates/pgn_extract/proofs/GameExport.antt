@@ -12,9 +12,9 @@ use Rattle.pgn_game.specs.TagLines.{AreTagLines}
 use Rattle.pgn_game.proofs.OneExport.{one_export}
 use Rattle.pgn_game.proofs.SomeExport.{some_export}
 use Rattle.pgn_game.proofs.SomeRecord.{a_record, one_spelling}
-use Rattle.pgn_game.specs.declared.replayer.Lines.{Lines}
-use Rattle.pgn_game.specs.declared.replayer.Lines.TheVariants.{Main}
-use Rattle.pgn_game.specs.declared.style.Style.{Style}
+use Rattle.pgn_game.specs.declared.replays.replayer.Lines.{Lines}
+use Rattle.pgn_game.specs.declared.replays.replayer.Lines.TheVariants.{Main}
+use Rattle.pgn_game.specs.declared.exports.style.Style.{Style}
 use Rattle.pgn_extract.specs.Exports.{IsExportOf}
 use Rattle.pgn_extract.specs.GameReports.{IsReplayOf}
 

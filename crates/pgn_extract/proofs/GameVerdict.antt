@@ -16,8 +16,8 @@ use Rattle.pgn_text.specs.declared.game.pieces.Piece.{Piece}
 use Rattle.pgn_text.specs.declared.game.pieces.Piece.TheVariants as given
 use Rattle.pgn_game.specs.Faults.{Fault, IsFault}
 use Rattle.pgn_game.specs.Replays.{Replay, IsReplay}
-use Rattle.pgn_game.specs.declared.replayer.Lines.{Lines}
-use Rattle.pgn_game.specs.declared.replayer.Lines.TheVariants.{Main}
+use Rattle.pgn_game.specs.declared.replays.replayer.Lines.{Lines}
+use Rattle.pgn_game.specs.declared.replays.replayer.Lines.TheVariants.{Main}
 use Rattle.pgn_game.specs.Starts.{fen_tag}
 use Rattle.pgn_extract.specs.Blockwise.{AddsVerdict, AddsListed, AddsExported, AddsGame, IsGivenText, IsGameWritten, AddsMark, IsPieceOf, AddsPiece, NamesBlockStop, IsBlockVerdict, IsMarkVerdict}
 use Rattle.pgn_extract.specs.Index.{fault_text, mark_line}

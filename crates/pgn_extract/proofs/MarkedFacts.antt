@@ -12,7 +12,7 @@ use Rattle.pgn_game.specs.PackReading.{RawRecord, raw_of}
 use Rattle.pgn_game.specs.PackedGames.{PackedGame}
 use Rattle.pgn_game.specs.PlyCodes.{PlyCode, AreCodes, AreMarks}
 use Rattle.pgn_game.specs.Replays.{Replay}
-use Rattle.pgn_game.specs.declared.replayer.Lines.TheVariants.{Main}
+use Rattle.pgn_game.specs.declared.replays.replayer.Lines.TheVariants.{Main}
 use Rattle.pgn_game.proofs.HeadFacts.{head_shows}
 use Rattle.pgn_criteria.specs.ByMarks.{has_marks, NoneMeets, IsNextMet}
 use Rattle.pgn_criteria.specs.Meeting.{heading_of}

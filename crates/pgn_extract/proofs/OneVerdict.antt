@@ -6,7 +6,7 @@ use Rattle.pgn_text.specs.Parts.{Part}
 use Rattle.pgn_game.specs.Faults.{Fault}
 use Rattle.pgn_game.specs.Laws.{GameHasOneReplay, GameHasOneFault, SoundGameHasNoFault}
 use Rattle.pgn_game.specs.Replays.{Replay}
-use Rattle.pgn_game.specs.declared.replayer.Lines.TheVariants.{Main}
+use Rattle.pgn_game.specs.declared.replays.replayer.Lines.TheVariants.{Main}
 use Rattle.pgn_game.specs.Starts.{fen_tag}
 use Rattle.pgn_game.proofs.GameLineFacts.{one_game_line}
 use Rattle.pgn_extract.specs.declared.settings.Form.{Form}

@@ -9,7 +9,7 @@ use Rattle.pgn_text.specs.Pieces.{Piece, Game, Unreadable, ArePieces}
 use Rattle.pgn_text.proofs.MarkBounds.{mark_bounds}
 use Rattle.pgn_game.proofs.PackRoom.{game_fits}
 use Rattle.pgn_game.specs.PackedGames.{PackedGame, FitsRecord, longest_name}
-use Rattle.pgn_game.specs.declared.replayer.Lines.TheVariants.{Main}
+use Rattle.pgn_game.specs.declared.replays.replayer.Lines.TheVariants.{Main}
 use Rattle.pgn_extract.specs.Aims.{aim_of}
 use Rattle.pgn_extract.specs.Laws.{PackIsListedAsItsText}
 use Rattle.pgn_extract.specs.Runs.{job_of, Completes, Exports}

@@ -8,7 +8,7 @@ use Rattle.pgn_game.proofs.OneReplay.{no_fault}
 use Rattle.pgn_game.proofs.PackOnce.{one_pack}
 use Rattle.pgn_game.specs.PackedGames.{PackedGame, IsPacked, pack_bytes}
 use Rattle.pgn_game.specs.Starts.{fen_tag}
-use Rattle.pgn_game.specs.declared.replayer.Lines.TheVariants.{Main}
+use Rattle.pgn_game.specs.declared.replays.replayer.Lines.TheVariants.{Main}
 use Rattle.pgn_criteria.specs.Meeting.{Heading, heading_of}
 use Rattle.pgn_extract.specs.Aims.{Aim}
 use Rattle.pgn_extract.specs.EntryRows.{AreGameEntries, sound as sound_rows, faulty as faulty_rows, ArePieceEntries, AreEntryRows}

@@ -13,7 +13,7 @@ use Rattle.pgn_game.specs.PackedGames.{PackedGame, FitsRecord}
 use Rattle.pgn_game.specs.PlyCodes.{PlyCode, IsCode, AreCodes, AreMarks}
 use Rattle.pgn_game.specs.Replays.{Replay}
 use Rattle.pgn_game.specs.Starts.{fen_tag, IsStart}
-use Rattle.pgn_game.specs.declared.replayer.Lines.TheVariants.{Main}
+use Rattle.pgn_game.specs.declared.replays.replayer.Lines.TheVariants.{Main}
 use Rattle.pgn_game.proofs.HeadFacts.{head_shows}
 use Rattle.pgn_game.proofs.OneReplay.{one_start, line_length}
 use Rattle.pgn_game.proofs.RecordFacts.{plies_size}

@@ -9,7 +9,7 @@ use Rattle.pgn_game.specs.MainLines.{main_words, IsMainLine}
 use Rattle.pgn_game.specs.PackReading.{RawRecord}
 use Rattle.pgn_game.specs.PlyCodes.{PlyCode, FitsCode, AreCodes, code_bytes}
 use Rattle.pgn_game.specs.Replays.{Replay}
-use Rattle.pgn_game.specs.declared.replayer.Lines.TheVariants.{Main}
+use Rattle.pgn_game.specs.declared.replays.replayer.Lines.TheVariants.{Main}
 use Rattle.pgn_game.proofs.PlyCodeFacts.{code_again}
 use Rattle.pgn_criteria.specs.Sieves.{MeetsSeen, NowhereSeen, codes_in}
 use Rattle.pgn_criteria.specs.Meeting.{heading_of, Heading, SomeHold}

@@ -11,8 +11,8 @@ use Rattle.pgn_text.specs.Strings.{IsContents}
 use Rattle.pgn_text.proofs.ShownGame.{some_game_text}
 use Rattle.pgn_game.proofs.AnAnswer.{game_answer}
 use Rattle.pgn_game.specs.Faults.{Fault}
-use Rattle.pgn_game.specs.declared.replayer.Lines.{Lines}
-use Rattle.pgn_game.specs.declared.replayer.Lines.TheVariants.{Main}
+use Rattle.pgn_game.specs.declared.replays.replayer.Lines.{Lines}
+use Rattle.pgn_game.specs.declared.replays.replayer.Lines.TheVariants.{Main}
 use Rattle.pgn_game.specs.Starts.{fen_tag}
 use Rattle.pgn_extract.specs.Index.{fault_text, mark_line}
 use Rattle.pgn_extract.specs.Listing.{AreFields, listing, heading_in}

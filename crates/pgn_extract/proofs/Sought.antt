@@ -7,7 +7,7 @@ use Rattle.pgn_text.specs.GameTexts.{GameText, tag_in}
 use Rattle.pgn_game.specs.Faults.{Fault, IsFault}
 use Rattle.pgn_game.specs.MainLines.{main_words, IsMainLine}
 use Rattle.pgn_game.specs.Replays.{Replay, IsReplay}
-use Rattle.pgn_game.specs.declared.replayer.Lines.TheVariants.{Main}
+use Rattle.pgn_game.specs.declared.replays.replayer.Lines.TheVariants.{Main}
 use Rattle.pgn_game.specs.Starts.{fen_tag}
 use Rattle.pgn_game.proofs.OneReplay.{line_length, no_fault, one_line, one_start}
 use Rattle.pgn_criteria.specs.declared.condition.Condition.{Condition}

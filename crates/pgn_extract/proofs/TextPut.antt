@@ -7,8 +7,8 @@ use Rattle.pgn_game.specs.GameLines.{IsGameLine}
 use Rattle.pgn_game.specs.PackedGames.{IsRecordOf}
 use Rattle.pgn_game.specs.Replays.{Replay, IsReplay, IsSoundGame}
 use Rattle.pgn_game.specs.Starts.{fen_tag}
-use Rattle.pgn_game.specs.declared.notation.Notation.{Notation}
-use Rattle.pgn_game.specs.declared.replayer.Lines.TheVariants.{Main}
+use Rattle.pgn_game.specs.declared.exports.notation.Notation.{Notation}
+use Rattle.pgn_game.specs.declared.replays.replayer.Lines.TheVariants.{Main}
 use Rattle.pgn_extract.specs.Aims.{Aim}
 use Rattle.pgn_extract.specs.Blockwise.{IsGivenText, PutsText}
 use Rattle.pgn_extract.specs.Exports.{as_it_stands, line_with, lines_in, written_lines}

@@ -1,7 +1,7 @@
 -- What a run is to report, wherever in the text it begins.
 use Rattle.std.specs.Prelude.{◌≡◌, ◌<◌, ◌≤◌, ℕ, Bool, true, List, Option, Some, None}
 use Rattle.pgn_game.specs.Replays.{Replay}
-use Rattle.pgn_game.specs.declared.style.Style.{Style}
+use Rattle.pgn_game.specs.declared.exports.style.Style.{Style}
 use Rattle.pgn_criteria.specs.Meeting.{Heading, Meets}
 use Rattle.pgn_criteria.specs.declared.condition.Condition.{Condition}
 use Rattle.pgn_extract.specs.declared.settings.Fields.{Fields}

@@ -4,7 +4,7 @@ use Rattle.pgn_text.specs.Marks.{PieceKind, ReadableGame, UnreadableRest, TooLon
 use Rattle.pgn_text.specs.Parts.{Part}
 use Rattle.pgn_game.specs.Faults.{Fault}
 use Rattle.pgn_game.specs.Replays.{Replay}
-use Rattle.pgn_game.specs.declared.replayer.Lines.TheVariants.{Main}
+use Rattle.pgn_game.specs.declared.replays.replayer.Lines.TheVariants.{Main}
 use Rattle.pgn_extract.specs.Aims.{Aim}
 use Rattle.pgn_extract.specs.GameReports.{AreListed, IsReplayOf, IsFaultOf}
 use Rattle.pgn_extract.specs.Listing.{Entry, heading_in}

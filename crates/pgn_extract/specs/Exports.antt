@@ -11,10 +11,10 @@ use Rattle.pgn_game.specs.GameLines.{IsGameLine}
 use Rattle.pgn_game.specs.PackedGames.{IsRecordOf}
 use Rattle.pgn_game.specs.Replays.{Replay}
 use Rattle.pgn_game.specs.Starts.{fen_tag}
-use Rattle.pgn_game.specs.declared.notation.Notation.{Notation}
-use Rattle.pgn_game.specs.declared.replayer.Lines.{Lines}
-use Rattle.pgn_game.specs.declared.replayer.Lines.TheVariants.{Main}
-use Rattle.pgn_game.specs.declared.style.Style.{Style}
+use Rattle.pgn_game.specs.declared.exports.notation.Notation.{Notation}
+use Rattle.pgn_game.specs.declared.replays.replayer.Lines.{Lines}
+use Rattle.pgn_game.specs.declared.replays.replayer.Lines.TheVariants.{Main}
+use Rattle.pgn_game.specs.declared.exports.style.Style.{Style}
 use Rattle.pgn_criteria.specs.Meeting.{Heading}
 use Rattle.pgn_extract.specs.Aims.{Aim, IsEntry}
 use Rattle.pgn_extract.specs.Index.{mark, titled}

@@ -10,7 +10,7 @@ use Rattle.pgn_game.specs.MainLines.{main_words, IsMainLine}
 use Rattle.pgn_game.specs.PlayedLines.{PlayedLine, IsNextText}
 use Rattle.pgn_game.specs.Replays.{Replay, IsReplay, IsSomeReplay, IsSoundGame}
 use Rattle.pgn_game.specs.Starts.{fen_tag, IsStart}
-use Rattle.pgn_game.specs.declared.replayer.Lines.TheVariants.{Main}
+use Rattle.pgn_game.specs.declared.replays.replayer.Lines.TheVariants.{Main}
 use Rattle.pgn_criteria.specs.Meeting.{heading_of, Meets}
 use Rattle.pgn_criteria.specs.declared.condition.Condition.{Condition}
 use Rattle.pgn_extract.specs.Aims.{Aim, IsMet, IsWanted, IsEntry}

@@ -8,7 +8,7 @@ use Rattle.pgn_game.specs.PackReading.{RawRecord, raw_of}
 use Rattle.pgn_game.specs.PackedGames.{PackedGame, FitsRecord, IsPacked}
 use Rattle.pgn_game.specs.Replays.{Replay, IsReplay}
 use Rattle.pgn_game.specs.Starts.{fen_tag}
-use Rattle.pgn_game.specs.declared.replayer.Lines.TheVariants.{Main}
+use Rattle.pgn_game.specs.declared.replays.replayer.Lines.TheVariants.{Main}
 use Rattle.pgn_criteria.specs.Meeting.{heading_of}
 use Rattle.pgn_criteria.specs.Walks.{Sight, IsSightOf}
 use Rattle.pgn_criteria.specs.declared.condition.Condition.{Condition}

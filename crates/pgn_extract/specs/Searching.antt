@@ -11,7 +11,7 @@ use Rattle.pgn_game.specs.PackedGames.{PackedGame, FitsRecord, IsPacked, record_
 use Rattle.pgn_game.specs.PackStreams.{HasNoRecord}
 use Rattle.pgn_game.specs.Replays.{Replay, IsReplay}
 use Rattle.pgn_game.specs.Starts.{fen_tag}
-use Rattle.pgn_game.specs.declared.replayer.Lines.TheVariants.{Main}
+use Rattle.pgn_game.specs.declared.replays.replayer.Lines.TheVariants.{Main}
 use Rattle.pgn_criteria.specs.Meeting.{heading_of}
 use Rattle.pgn_extract.specs.Aims.{Aim}
 use Rattle.pgn_extract.specs.Exports.{AreExports}

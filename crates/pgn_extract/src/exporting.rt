@@ -6,7 +6,7 @@ ghost use Rattle.pgn_game.specs.Faults.{IsFault};
 ghost use Rattle.pgn_game.specs.GameLines.{IsGameLine};
 ghost use Rattle.pgn_game.specs.Replays.{IsSoundGame, Replay, fault_of};
 ghost use Rattle.pgn_game.specs.Starts.{fen_tag};
-ghost use Rattle.pgn_game.specs.declared.replayer.Lines.TheVariants.{Main};
+ghost use Rattle.pgn_game.specs.declared.replays.replayer.Lines.TheVariants.{Main};
 ghost use Rattle.pgn_extract.specs.Aims.{aim_of};
 ghost use Rattle.pgn_extract.specs.Blockwise.{AddsText, IsGameSelected, LeavesText, PutsText, TakesAll};
 ghost use Rattle.pgn_extract.specs.Exports.{HasEntry, as_it_stands, faulty_text, line_with, written_lines};

@@ -19,10 +19,10 @@ use Rattle.pgn_game.specs.Starts.{IsValueOf, IsStart, IsBadStart}
 use Rattle.pgn_game.specs.AllLines.{Line, LineEnd, ThenMove, ThenGlyph, ThenComment, ThenVariation, is_pass, SaysTurn, after_turn, IsPlayed, ArePlayed, own_words}
 use Rattle.pgn_game.specs.Faults.{Fault, BadStart, IllegalMove, AmbiguousMove, IsMoveFault, RefusesTurn, IsLineFault, HasLineFault}
 use Rattle.pgn_game.specs.Replays.{AreTurns, IsSoundGame}
-use Rattle.pgn_game.specs.declared.replayer.Lines.{Lines}
-use Rattle.pgn_game.specs.declared.replayer.Lines.TheVariants.{Main, All}
-use Rattle.pgn_game.specs.declared.line_move.LineMove.{LineMove}
-use Rattle.pgn_game.specs.declared.line_move.LineMove.TheVariants.{Played, Passed}
+use Rattle.pgn_game.specs.declared.replays.replayer.Lines.{Lines}
+use Rattle.pgn_game.specs.declared.replays.replayer.Lines.TheVariants.{Main, All}
+use Rattle.pgn_game.specs.declared.turns.line_move.LineMove.{LineMove}
+use Rattle.pgn_game.specs.declared.turns.line_move.LineMove.TheVariants.{Played, Passed}
 use Rattle.pgn_game.proofs.OneLine.{main_of_all, main_words_of}
 use Rattle.pgn_game.proofs.Spelling.{one_spelt}
 

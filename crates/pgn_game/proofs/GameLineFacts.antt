@@ -12,8 +12,8 @@ use Rattle.pgn_game.specs.Faults.{IsMoveFault}
 use Rattle.pgn_game.specs.GameLines.{IsStartText, AreMoveTexts, IsGameLine, SoundGameHasALine, GameHasOneLine, LineIsTheGame}
 use Rattle.pgn_game.specs.LineTexts.{AreWritten, HasPutSome, PutsElement, PutsMove}
 use Rattle.pgn_game.specs.MainLines.{IsMainLine, main_words}
-use Rattle.pgn_game.specs.declared.main_line.MainWalk.{MainWalk}
-use Rattle.pgn_game.specs.declared.notation.Notation.{Notation}
+use Rattle.pgn_game.specs.declared.replays.main_line.MainWalk.{MainWalk}
+use Rattle.pgn_game.specs.declared.exports.notation.Notation.{Notation}
 use Rattle.pgn_game.proofs.MoveTexts.{some_move_text, one_move_text, move_unspaced, same_by_text}
 use Rattle.pgn_game.proofs.OneReplay.{one_line, one_start}
 use Rattle.pgn_game.proofs.WalkFacts.{main_word}

@@ -9,11 +9,11 @@ use Rattle.pgn_game.specs.AllLines.{IsTurn, after_turn}
 use Rattle.pgn_game.specs.LineWalks.{is_inside, gone_on, begun, first_level, main_now, Runs}
 use Rattle.pgn_game.specs.MainLines.{main_words, IsMainLine}
 use Rattle.pgn_game.specs.Steps.{Step, Turned, Visits, Walks, WalksOn, KeepsStep, around}
-use Rattle.pgn_game.specs.declared.all_lines.ReplayKeeper.{ReplayKeeper}
-use Rattle.pgn_game.specs.declared.line_move.LineMove.{LineMove}
-use Rattle.pgn_game.specs.declared.line_move.LineMove.TheVariants.{Played, Passed}
-use Rattle.pgn_game.specs.declared.line_stack.LineStack.{LineStack}
-use Rattle.pgn_game.specs.declared.walk.Level.{Level}
+use Rattle.pgn_game.specs.declared.replays.all_lines.ReplayKeeper.{ReplayKeeper}
+use Rattle.pgn_game.specs.declared.turns.line_move.LineMove.{LineMove}
+use Rattle.pgn_game.specs.declared.turns.line_move.LineMove.TheVariants.{Played, Passed}
+use Rattle.pgn_game.specs.declared.replays.line_stack.LineStack.{LineStack}
+use Rattle.pgn_game.specs.declared.replays.walk.Level.{Level}
 use Rattle.pgn_game.proofs.StepFacts.{turns_of, walks_run}
 
 -- what was kept from here on is the rest of the main line, and the turns of the steps

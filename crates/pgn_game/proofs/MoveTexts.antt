@@ -18,9 +18,9 @@ use Rattle.chess.proofs.SanNamesFacts.{san_names}
 use Rattle.chess.proofs.SanOnce.{one_san}
 use Rattle.chess.proofs.SanSettled.{some_san}
 use Rattle.pgn_game.specs.GameLines.{IsMoveText, promotion_letter, uci_text}
-use Rattle.pgn_game.specs.declared.notation.Notation.{Notation}
-use Rattle.pgn_game.specs.declared.notation.Notation.TheVariants.{San, Uci}
-use Rattle.pgn_game.specs.declared.line_move.LineMove.TheVariants.{Played}
+use Rattle.pgn_game.specs.declared.exports.notation.Notation.{Notation}
+use Rattle.pgn_game.specs.declared.exports.notation.Notation.TheVariants.{San, Uci}
+use Rattle.pgn_game.specs.declared.turns.line_move.LineMove.TheVariants.{Played}
 use Rattle.pgn_game.proofs.PlainTokens.{IsSolid, kind_high, turn_may}
 use Rattle.pgn_game.proofs.StartTexts.{IsUnspaced}
 

@@ -2,7 +2,7 @@
 use Rattle.std.proofs.Common.{◌≡◌, ℕ, false, List, [], ◌∷◌, ◌++◌, refl, ap, ◌∙◌, append_assoc, append-nil}
 use Rattle.pgn_game.specs.Pens.{HasPut, after_tokens}
 use Rattle.pgn_game.specs.TextLines.{IsLaid}
-use Rattle.pgn_game.specs.declared.pen.Pen.{Pen}
+use Rattle.pgn_game.specs.declared.exports.pen.Pen.{Pen}
 use Rattle.pgn_game.proofs.LaidFacts.{added_is_laid}
 
 -- what grew twice grew

@@ -21,14 +21,14 @@ use Rattle.pgn_game.specs.Pens.{HasPut}
 use Rattle.pgn_game.specs.Steps.{Step, Visits, Walks, WalksOn, around, outside, shown_if, shown_items}
 use Rattle.pgn_game.specs.Replays.{Replay, AreTurns, IsReplay, IsSoundGame, fault_of}
 use Rattle.pgn_game.specs.Starts.{IsStart}
-use Rattle.pgn_game.specs.declared.walk.Level.{Level}
-use Rattle.pgn_game.specs.declared.fault.GameFault.{GameFault}
-use Rattle.pgn_game.specs.declared.line_stack.LineStack.{LineStack}
-use Rattle.pgn_game.specs.declared.movetext.MovetextWriter.{MovetextWriter}
-use Rattle.pgn_game.specs.declared.replayer.Lines.TheVariants.{All}
-use Rattle.pgn_game.specs.declared.style.Style.{Style}
-use Rattle.pgn_game.specs.declared.line_move.LineMove.{LineMove}
-use Rattle.pgn_game.specs.declared.line_move.LineMove.TheVariants.{Played, Passed}
+use Rattle.pgn_game.specs.declared.replays.walk.Level.{Level}
+use Rattle.pgn_game.specs.declared.turns.fault.GameFault.{GameFault}
+use Rattle.pgn_game.specs.declared.replays.line_stack.LineStack.{LineStack}
+use Rattle.pgn_game.specs.declared.exports.movetext.MovetextWriter.{MovetextWriter}
+use Rattle.pgn_game.specs.declared.replays.replayer.Lines.TheVariants.{All}
+use Rattle.pgn_game.specs.declared.exports.style.Style.{Style}
+use Rattle.pgn_game.specs.declared.turns.line_move.LineMove.{LineMove}
+use Rattle.pgn_game.specs.declared.turns.line_move.LineMove.TheVariants.{Played, Passed}
 use Rattle.pgn_game.proofs.OneLine.{main_words_of}
 use Rattle.pgn_game.proofs.OneReplay.{line_head, no_fault}
 use Rattle.pgn_game.proofs.PenFacts.{put_both}

@@ -9,8 +9,8 @@ use Rattle.pgn_text.specs.Games.{Item, VariationClose}
 use Rattle.pgn_game.specs.MainLines.{main_words, IsMainLine}
 use Rattle.pgn_game.specs.Faults.{Fault, RefusesTurn, IsLineFault}
 use Rattle.pgn_game.specs.AllLines.{Line, LineEnd, ThenMove, ThenGlyph, ThenComment, ThenVariation, spelled, own_words, is_pass, SaysTurn, after_turn, IsPlayed}
-use Rattle.pgn_game.specs.declared.line_move.LineMove.{LineMove}
-use Rattle.pgn_game.specs.declared.line_move.LineMove.TheVariants.{Played, Passed}
+use Rattle.pgn_game.specs.declared.turns.line_move.LineMove.{LineMove}
+use Rattle.pgn_game.specs.declared.turns.line_move.LineMove.TheVariants.{Played, Passed}
 use Rattle.pgn_game.proofs.OneWord.{named_or_refused, one_refused}
 
 pub one_turn : (passes : Bool) (now : State) (word : List ℕ) (turn other : LineMove) → SaysTurn passes now word turn → SaysTurn passes now word other → turn ≡ other

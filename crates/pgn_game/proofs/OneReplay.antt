@@ -16,9 +16,9 @@ use Rattle.pgn_game.specs.AllLines.{IsPlayed, ArePlayed}
 use Rattle.pgn_game.specs.Faults.{Fault, IsMoveFault, IsLineFault, HaveFault, HasLineFault, IsFault}
 use Rattle.pgn_game.specs.Laws.{GameHasOneReplay, GameHasOneFault, SoundGameHasNoFault}
 use Rattle.pgn_game.specs.Replays.{Replay, AreTurns, IsReplay}
-use Rattle.pgn_game.specs.declared.replayer.Lines.{Lines}
-use Rattle.pgn_game.specs.declared.replayer.Lines.TheVariants.{Main, All}
-use Rattle.pgn_game.specs.declared.line_move.LineMove.{LineMove}
+use Rattle.pgn_game.specs.declared.replays.replayer.Lines.{Lines}
+use Rattle.pgn_game.specs.declared.replays.replayer.Lines.TheVariants.{Main, All}
+use Rattle.pgn_game.specs.declared.turns.line_move.LineMove.{LineMove}
 use Rattle.pgn_game.proofs.OneLine.{one_playing, one_fault_of, played_or_faulty}
 use Rattle.pgn_game.proofs.OneWord.{named_or_refused, one_refused}
 use Rattle.pgn_game.proofs.Spelling.{one_tree}

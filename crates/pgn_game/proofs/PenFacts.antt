@@ -4,7 +4,7 @@ use Rattle.std.specs.Prelude.{nat_le}
 use Rattle.std.proofs.lemmas.Bool.Decides.{nat_tests}
 use Rattle.pgn_game.specs.Pens.{HasPut, added, parted, column_after, after_tokens}
 use Rattle.pgn_game.specs.TextLines.{joined}
-use Rattle.pgn_game.specs.declared.pen.Pen.{Pen}
+use Rattle.pgn_game.specs.declared.exports.pen.Pen.{Pen}
 
 -- what was written in two goes is written in one
 pub put_both : (old middle new : Pen) (before between after : List ℕ) (first second : List (List ℕ))

@@ -11,7 +11,7 @@ use Rattle.pgn_text.specs.Strings.{Sign, Single, Escaped, is_sign, value_of_sign
 use Rattle.pgn_game.specs.Laws.{IsMisread, IsReadAsOne, ExportIsReadAsOne}
 use Rattle.pgn_game.specs.Starts.{fen_tag}
 use Rattle.pgn_game.specs.TagLines.{missing_text, escaped, IsTagText, tag_line, AreLinesOf, is_beside}
-use Rattle.pgn_game.specs.declared.style.Style.{Style}
+use Rattle.pgn_game.specs.declared.exports.style.Style.{Style}
 use Rattle.pgn_game.proofs.PlainLines.{HasNoFeed, IsRight, same_word, solid_feed, after_feed, line_right, feed_right, movetext_right, feed_alone}
 use Rattle.pgn_game.proofs.PlainTokens.{AllOf, IsInk, IsSolid, all_append, result_may}
 

@@ -8,7 +8,7 @@ use Rattle.pgn_text.specs.Games.{Item}
 use Rattle.pgn_game.specs.Exports.{AreMovetextTokens}
 use Rattle.pgn_game.specs.Laws.{BeginsLine, IsMisread, NoLineIsMisread}
 use Rattle.pgn_game.specs.TextLines.{joined, tokens_of, text_of, AreLines, IsLaid}
-use Rattle.pgn_game.specs.declared.style.Style.{Style}
+use Rattle.pgn_game.specs.declared.exports.style.Style.{Style}
 use Rattle.pgn_game.proofs.PlainTokens.{AllOf, IsInk, IsSolid, MayBegin, AllMayBegin, all_append, all_front, all_back, movetext_may}
 
 -- a byte between tokens or after the last one of a line

@@ -20,9 +20,9 @@ use Rattle.pgn_text.specs.Bytes.{is_white, is_empty, begins}
 use Rattle.pgn_game.specs.AllLines.{Line, LineEnd, ThenMove, ThenGlyph, ThenComment, ThenVariation, after_turn}
 use Rattle.pgn_game.specs.Comments.{in_first, cut_at_white, words_in, unbraced, later_word, closed, braced, comment_tokens}
 use Rattle.pgn_game.specs.Exports.{number_tokens, IsTurnText, kept, AreTokens, AreMovetextTokens}
-use Rattle.pgn_game.specs.declared.style.Style.{Style}
-use Rattle.pgn_game.specs.declared.line_move.LineMove.{LineMove}
-use Rattle.pgn_game.specs.declared.line_move.LineMove.TheVariants.{Played, Passed}
+use Rattle.pgn_game.specs.declared.exports.style.Style.{Style}
+use Rattle.pgn_game.specs.declared.turns.line_move.LineMove.{LineMove}
+use Rattle.pgn_game.specs.declared.turns.line_move.LineMove.TheVariants.{Played, Passed}
 
 -- each element has the property
 abbrev pub AllOf : {X : Type 0} → (X → Type 0) → List X → Type 0

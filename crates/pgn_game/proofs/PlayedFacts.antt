@@ -11,7 +11,7 @@ use Rattle.pgn_text.specs.declared.game.Element.{Element}
 use Rattle.pgn_game.specs.MainLines.{main_words}
 use Rattle.pgn_game.specs.PlayedLines.{PlayedLine, PlaysWord, HasEnded}
 use Rattle.pgn_game.specs.Walks.{HasStepped}
-use Rattle.pgn_game.specs.declared.main_line.MainWalk.{MainWalk}
+use Rattle.pgn_game.specs.declared.replays.main_line.MainWalk.{MainWalk}
 use Rattle.pgn_game.proofs.WalkFacts.{items_step}
 
 -- the elements after the first

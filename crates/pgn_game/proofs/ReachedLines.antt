@@ -11,10 +11,10 @@ use Rattle.pgn_game.specs.Faults.{Fault, IsRefusedTurn, IsMoveFault, HasLineFaul
 use Rattle.pgn_game.specs.LineWalks.{is_inside, gone_on, begun, first_level, Stops, Leads}
 use Rattle.pgn_game.specs.MainLines.{main_words}
 use Rattle.pgn_game.specs.Refusals.{played_items, PlayedLine, after_move, in_its_place, main_line, is_variation, LeadTo, IsPlayedThere, OneLineIsReached, RefusedWordIsTheFault}
-use Rattle.pgn_game.specs.declared.walk.Level.{Level}
-use Rattle.pgn_game.specs.declared.replayer.Lines.{Lines}
-use Rattle.pgn_game.specs.declared.replayer.Lines.TheVariants.{Main, All}
-use Rattle.pgn_game.specs.declared.line_move.LineMove.TheVariants.{Played, Passed}
+use Rattle.pgn_game.specs.declared.replays.walk.Level.{Level}
+use Rattle.pgn_game.specs.declared.replays.replayer.Lines.{Lines}
+use Rattle.pgn_game.specs.declared.replays.replayer.Lines.TheVariants.{Main, All}
+use Rattle.pgn_game.specs.declared.turns.line_move.LineMove.TheVariants.{Played, Passed}
 use Rattle.pgn_game.proofs.OneLine.{one_turn}
 use Rattle.pgn_game.proofs.RunFacts.{stops_faulty}
 

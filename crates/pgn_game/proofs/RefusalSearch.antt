@@ -17,13 +17,13 @@ use Rattle.pgn_game.specs.Refusals.{played_items, IsReached, IsRefusedFrom, IsRe
 use Rattle.pgn_game.specs.Starts.{IsStart}
 use Rattle.pgn_game.specs.Steps.{AreWithin, StopsAt, Walks, WalksOn, around}
 use Rattle.pgn_game.specs.RefusalWalks.{IsCounted, GoesOn, IsRefusedHere, IsSearched}
-use Rattle.pgn_game.specs.declared.walk.Level.{Level}
-use Rattle.pgn_game.specs.declared.line_stack.LineStack.{LineStack}
+use Rattle.pgn_game.specs.declared.replays.walk.Level.{Level}
+use Rattle.pgn_game.specs.declared.replays.line_stack.LineStack.{LineStack}
 use Rattle.pgn_game.specs.declared.explain.Refused.{Refused}
-use Rattle.pgn_game.specs.declared.replayer.Lines.{Lines}
-use Rattle.pgn_game.specs.declared.replayer.Lines.TheVariants.{Main, All}
-use Rattle.pgn_game.specs.declared.line_move.LineMove.{LineMove}
-use Rattle.pgn_game.specs.declared.line_move.LineMove.TheVariants.{Played, Passed}
+use Rattle.pgn_game.specs.declared.replays.replayer.Lines.{Lines}
+use Rattle.pgn_game.specs.declared.replays.replayer.Lines.TheVariants.{Main, All}
+use Rattle.pgn_game.specs.declared.turns.line_move.LineMove.{LineMove}
+use Rattle.pgn_game.specs.declared.turns.line_move.LineMove.TheVariants.{Played, Passed}
 use Rattle.pgn_game.proofs.OneReplay.{all_or_fault, line_or_fault, one_start, start_or_bad}
 use Rattle.pgn_game.proofs.ReachedLines.{line_of, leads_to}
 use Rattle.pgn_game.proofs.RunFacts.{runs_played}

@@ -8,8 +8,8 @@ use Rattle.pgn_game.specs.AllLines.{Line, LineEnd, ThenMove, ThenGlyph, ThenComm
 use Rattle.pgn_game.specs.LineWalks.{is_inside, gone_on, begun, first_level, Runs, Stops}
 use Rattle.pgn_text.specs.GameTexts.{IsPaired}
 use Rattle.pgn_game.proofs.Spelling.{one_spelt}
-use Rattle.pgn_game.specs.declared.line_move.LineMove.{LineMove}
-use Rattle.pgn_game.specs.declared.walk.Level.{Level}
+use Rattle.pgn_game.specs.declared.turns.line_move.LineMove.{LineMove}
+use Rattle.pgn_game.specs.declared.replays.walk.Level.{Level}
 
 -- a line is played, and what stands after it from some level on
 abbrev pub PlayedThen : Level → List Level → Line → List Item → List LineMove → Type 0

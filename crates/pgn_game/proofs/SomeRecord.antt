@@ -19,7 +19,7 @@ use Rattle.pgn_game.specs.PackedGames.{PackedGame, IsPacked, record_bytes}
 use Rattle.pgn_game.specs.PlyCodes.{PlyCode, AreMarks, IsCode, AreCodes}
 use Rattle.pgn_game.specs.Replays.{Replay}
 use Rattle.pgn_game.specs.Starts.{fen_tag}
-use Rattle.pgn_game.specs.declared.replayer.Lines.TheVariants.{Main}
+use Rattle.pgn_game.specs.declared.replays.replayer.Lines.TheVariants.{Main}
 use Rattle.pgn_game.proofs.AnAnswer.{start_on_board}
 use Rattle.pgn_game.proofs.OneReplay.{line_head, one_replay}
 use Rattle.pgn_game.proofs.PlyCodeFacts.{one_record_of_a_game}

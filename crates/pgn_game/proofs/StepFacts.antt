@@ -4,9 +4,9 @@ use Rattle.pgn_text.specs.Games.{Item, MoveText, GlyphNumber, CommentText, Varia
 use Rattle.std.specs.Prelude.{Result, Ok, Err, OnOk}
 use Rattle.pgn_game.specs.Steps.{AreWithin, IsBack, IsWithin, Step, Turned, Beside, Visits, Walks, around, shown_items}
 use Rattle.pgn_game.specs.LineWalks.{Runs, begun, gone_on}
-use Rattle.pgn_game.specs.declared.line_stack.LineStack.{LineStack}
-use Rattle.pgn_game.specs.declared.line_move.LineMove.{LineMove}
-use Rattle.pgn_game.specs.declared.walk.Level.{Level}
+use Rattle.pgn_game.specs.declared.replays.line_stack.LineStack.{LineStack}
+use Rattle.pgn_game.specs.declared.turns.line_move.LineMove.{LineMove}
+use Rattle.pgn_game.specs.declared.replays.walk.Level.{Level}
 
 pub visits_one_more : {V : Type 0} (does : V → Step → V → Type 0) (done : List Step) (old mid new : V) (step : Step) → Visits does old done mid → does mid step new
     → Visits does old (done ++ step ∷ []) new

@@ -4,7 +4,7 @@ use Rattle.chess.specs.Positions.{State}
 use Rattle.pgn_text.specs.Games.{Item, MoveText, GlyphNumber, CommentText, VariationOpen, VariationClose}
 use Rattle.pgn_game.specs.AllLines.{Line, LineEnd, ThenMove, ThenGlyph, ThenComment, ThenVariation, spelled, after_turn, IsPlayed}
 use Rattle.pgn_game.specs.Laws.{move_count, EachMoveHasATurn}
-use Rattle.pgn_game.specs.declared.line_move.LineMove.{LineMove}
+use Rattle.pgn_game.specs.declared.turns.line_move.LineMove.{LineMove}
 
 count_append : (items more : List Item) → move_count (items ++ more) ≡ move_count items + move_count more
 count_append [] more = omega arith

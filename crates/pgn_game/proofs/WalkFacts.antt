@@ -12,9 +12,9 @@ use Rattle.pgn_game.specs.MainLines.{main_words, IsMainLine}
 use Rattle.pgn_game.specs.Faults.{IsMoveFault}
 use Rattle.pgn_game.specs.Replays.{fault_of}
 use Rattle.pgn_game.specs.Walks.{HasPlayed, HasPassed, HasStepped, IsStuck, HasWalked, KeepsLine}
-use Rattle.pgn_game.specs.declared.fault.GameFault.{GameFault}
-use Rattle.pgn_game.specs.declared.main_line.LineKeeper.{LineKeeper}
-use Rattle.pgn_game.specs.declared.main_line.MainWalk.{MainWalk}
+use Rattle.pgn_game.specs.declared.turns.fault.GameFault.{GameFault}
+use Rattle.pgn_game.specs.declared.replays.main_line.LineKeeper.{LineKeeper}
+use Rattle.pgn_game.specs.declared.replays.main_line.MainWalk.{MainWalk}
 use Rattle.pgn_game.proofs.Openings.{joined}
 
 pub same_state : (a b : State) → Some a ≡ Some b → a ≡ b

@@ -5,8 +5,8 @@ use Rattle.chess.specs.Moves.{after}
 use Rattle.chess.specs.Passes.{passed}
 use Rattle.chess.specs.San.{IsOnlyNamed}
 use Rattle.pgn_text.specs.Games.{Item, MoveText, GlyphNumber, CommentText, VariationOpen, VariationClose}
-use Rattle.pgn_game.specs.declared.line_move.LineMove.{LineMove}
-use Rattle.pgn_game.specs.declared.line_move.LineMove.TheVariants.{Played, Passed}
+use Rattle.pgn_game.specs.declared.turns.line_move.LineMove.{LineMove}
+use Rattle.pgn_game.specs.declared.turns.line_move.LineMove.TheVariants.{Played, Passed}
 
 -- a line from some place on: nothing, or a move, a glyph, a comment or a whole variation, and the line after it
 pub data Line : Type 0 where

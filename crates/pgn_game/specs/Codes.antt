@@ -9,8 +9,8 @@ use Rattle.chess.specs.declared.board.man.Kind.{Kind}
 use Rattle.chess.specs.declared.board.man.Wing.{Wing}
 use Rattle.chess.specs.declared.board.man.Wing.TheVariants.{KingSide, QueenSide}
 use Rattle.chess.specs.declared.moves.Move.{Move}
-use Rattle.pgn_game.specs.declared.line_move.LineMove.{LineMove}
-use Rattle.pgn_game.specs.declared.line_move.LineMove.TheVariants.{Played, Passed}
+use Rattle.pgn_game.specs.declared.turns.line_move.LineMove.{LineMove}
+use Rattle.pgn_game.specs.declared.turns.line_move.LineMove.TheVariants.{Played, Passed}
 use Rattle.pgn_game.specs.Replays.{Replay}
 use Rattle.pgn_game.specs.PlayedLines.{PlayedLine}
 

@@ -4,8 +4,8 @@ use Rattle.pgn_text.specs.Bytes.{is_white}
 use Rattle.pgn_game.specs.Comments.{words_in, unbraced, later_word, closed, comment_tokens}
 use Rattle.pgn_game.specs.TextLines.{joined}
 use Rattle.pgn_game.specs.Pens.{after_tokens}
-use Rattle.pgn_game.specs.declared.comment.Found.{Found}
-use Rattle.pgn_game.specs.declared.pen.Pen.{Pen}
+use Rattle.pgn_game.specs.declared.exports.comment.Found.{Found}
+use Rattle.pgn_game.specs.declared.exports.pen.Pen.{Pen}
 
 -- the first run of bytes that are no white space, what follows it, and what follows the white space that a text begins with
 abbrev pub word_front : List ℕ → List ℕ

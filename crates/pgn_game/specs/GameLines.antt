@@ -12,9 +12,9 @@ use Rattle.pgn_text.specs.Games.{Item}
 use Rattle.pgn_game.specs.MainLines.{main_words, IsMainLine}
 use Rattle.pgn_game.specs.Replays.{IsSoundGame}
 use Rattle.pgn_game.specs.Starts.{IsStart}
-use Rattle.pgn_game.specs.declared.notation.Notation.{Notation}
-use Rattle.pgn_game.specs.declared.notation.Notation.TheVariants.{San, Uci}
-use Rattle.pgn_game.specs.declared.replayer.Lines.TheVariants.{Main}
+use Rattle.pgn_game.specs.declared.exports.notation.Notation.{Notation}
+use Rattle.pgn_game.specs.declared.exports.notation.Notation.TheVariants.{San, Uci}
+use Rattle.pgn_game.specs.declared.replays.replayer.Lines.TheVariants.{Main}
 
 -- a byte of a position's text: `_` in place of a space
 abbrev pub unspaced : ℕ → ℕ

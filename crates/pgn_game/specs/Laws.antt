@@ -21,9 +21,9 @@ use Rattle.pgn_game.specs.Replays.{Replay, IsReplay, IsSoundGame}
 use Rattle.pgn_game.specs.Exports.{AreMovetextTokens, IsReplayFor, IsExport}
 use Rattle.pgn_game.specs.Starts.{IsStart, fen_tag}
 use Rattle.pgn_game.specs.TextLines.{IsLaid}
-use Rattle.pgn_game.specs.declared.replayer.Lines.{Lines}
-use Rattle.pgn_game.specs.declared.replayer.Lines.TheVariants.{All, Main}
-use Rattle.pgn_game.specs.declared.style.Style.{Style}
+use Rattle.pgn_game.specs.declared.replays.replayer.Lines.{Lines}
+use Rattle.pgn_game.specs.declared.replays.replayer.Lines.TheVariants.{All, Main}
+use Rattle.pgn_game.specs.declared.exports.style.Style.{Style}
 
 -- whichever lines are replayed, each move of the main line is the only legal move that its word names in the position before it, and the
 -- position after it is the one after that move

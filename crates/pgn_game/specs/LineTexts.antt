@@ -8,8 +8,8 @@ use Rattle.pgn_text.specs.Games.{Item}
 use Rattle.pgn_game.specs.Faults.{Fault, IsMoveFault}
 use Rattle.pgn_game.specs.GameLines.{IsMoveText}
 use Rattle.pgn_game.specs.MainLines.{main_words}
-use Rattle.pgn_game.specs.declared.main_line.MainWalk.{MainWalk}
-use Rattle.pgn_game.specs.declared.notation.Notation.{Notation}
+use Rattle.pgn_game.specs.declared.replays.main_line.MainWalk.{MainWalk}
+use Rattle.pgn_game.specs.declared.exports.notation.Notation.{Notation}
 
 -- the words are played from the position, and the moves that they name written one after another
 abbrev pub AreWritten : Notation → State → List (List ℕ) → List ℕ → Type 0

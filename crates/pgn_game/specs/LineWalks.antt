@@ -4,8 +4,8 @@ use Rattle.chess.specs.Positions.{State}
 use Rattle.pgn_text.specs.Games.{Item, MoveText, GlyphNumber, CommentText, VariationOpen, VariationClose}
 use Rattle.pgn_game.specs.Faults.{Fault, IsRefusedTurn}
 use Rattle.pgn_game.specs.AllLines.{IsTurn, after_turn}
-use Rattle.pgn_game.specs.declared.line_move.LineMove.{LineMove}
-use Rattle.pgn_game.specs.declared.walk.Level.{Level}
+use Rattle.pgn_game.specs.declared.turns.line_move.LineMove.{LineMove}
+use Rattle.pgn_game.specs.declared.replays.walk.Level.{Level}
 
 -- the lines around this one, the innermost first: where there is one, this one is a variation
 abbrev pub is_inside : {T : Type 0} → List T → Bool

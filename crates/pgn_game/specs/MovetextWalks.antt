@@ -7,9 +7,9 @@ use Rattle.pgn_game.specs.Comments.{comment_tokens}
 use Rattle.pgn_game.specs.Exports.{number_tokens, IsTurnText, kept}
 use Rattle.pgn_game.specs.Pens.{HasPut}
 use Rattle.pgn_game.specs.Steps.{Step, Turned, Beside}
-use Rattle.pgn_game.specs.declared.movetext.MovetextWriter.{MovetextWriter}
-use Rattle.pgn_game.specs.declared.line_move.LineMove.{LineMove}
-use Rattle.pgn_game.specs.declared.line_move.LineMove.TheVariants.{Played, Passed}
+use Rattle.pgn_game.specs.declared.exports.movetext.MovetextWriter.{MovetextWriter}
+use Rattle.pgn_game.specs.declared.turns.line_move.LineMove.{LineMove}
+use Rattle.pgn_game.specs.declared.turns.line_move.LineMove.TheVariants.{Played, Passed}
 
 -- the turn may be taken in the position
 abbrev pub IsPlayable : State → LineMove → Type 0

@@ -9,7 +9,7 @@ use Rattle.pgn_game.specs.PlyCodes.{PlyCode, FitsCode, AreMarks, AreCodes, marks
 use Rattle.pgn_game.specs.Replays.{Replay, IsReplay}
 use Rattle.pgn_game.specs.Starts.{fen_tag}
 use Rattle.pgn_game.specs.declared.pack.origin.GameOrigin.{GameOrigin}
-use Rattle.pgn_game.specs.declared.replayer.Lines.TheVariants.{Main}
+use Rattle.pgn_game.specs.declared.replays.replayer.Lines.TheVariants.{Main}
 
 -- a tag: its name and its contents
 abbrev pub Tag : Type 0

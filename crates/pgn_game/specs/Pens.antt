@@ -2,7 +2,7 @@
 -- these.
 use Rattle.std.specs.Prelude.{◌≡◌, ℕ, ◌+◌, Bool, true, false, List, [], ◌∷◌, ◌++◌, length, nat_le}
 use Rattle.pgn_game.specs.TextLines.{IsLaid}
-use Rattle.pgn_game.specs.declared.pen.Pen.{Pen}
+use Rattle.pgn_game.specs.declared.exports.pen.Pen.{Pen}
 
 -- a token after another one: after a space where it is within the width, else in the next line
 abbrev pub parted : Bool → List ℕ → List ℕ

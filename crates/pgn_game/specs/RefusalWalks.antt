@@ -8,10 +8,10 @@ use Rattle.pgn_text.specs.Games.{Item, MoveText}
 use Rattle.pgn_game.specs.LineWalks.{is_inside, first_level, Leads}
 use Rattle.pgn_game.specs.Refusals.{IsWhy, played_items}
 use Rattle.pgn_game.specs.Steps.{Step, Walks, WalksOn, LeadsAt, IsWithin, around}
-use Rattle.pgn_game.specs.declared.walk.Level.{Level}
-use Rattle.pgn_game.specs.declared.line_stack.LineStack.{LineStack}
+use Rattle.pgn_game.specs.declared.replays.walk.Level.{Level}
+use Rattle.pgn_game.specs.declared.replays.line_stack.LineStack.{LineStack}
 use Rattle.pgn_game.specs.declared.explain.Refused.{Refused}
-use Rattle.pgn_game.specs.declared.replayer.Lines.{Lines}
+use Rattle.pgn_game.specs.declared.replays.replayer.Lines.{Lines}
 
 -- the element is played, and so would each other word be in its place; or it is not
 abbrev pub IsCounted : Lines → Item → ℕ → ℕ → Bool → Type 0

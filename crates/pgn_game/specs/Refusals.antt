@@ -16,9 +16,9 @@ use Rattle.pgn_game.specs.Starts.{IsStart}
 use Rattle.pgn_game.specs.declared.explain.Refused.{Refused}
 use Rattle.pgn_game.specs.declared.explain.Why.{Why}
 use Rattle.pgn_game.specs.declared.explain.Why.TheVariants.{PassInCheck, Ambiguous, Illegal}
-use Rattle.pgn_game.specs.declared.replayer.Lines.{Lines}
-use Rattle.pgn_game.specs.declared.replayer.Lines.TheVariants.{Main, All}
-use Rattle.pgn_game.specs.declared.line_move.LineMove.{LineMove}
+use Rattle.pgn_game.specs.declared.replays.replayer.Lines.{Lines}
+use Rattle.pgn_game.specs.declared.replays.replayer.Lines.TheVariants.{Main, All}
+use Rattle.pgn_game.specs.declared.turns.line_move.LineMove.{LineMove}
 
 -- why the word is refused in the position, in a variation or not
 abbrev pub IsWhy : Bool → State → List ℕ → Why → Type 0

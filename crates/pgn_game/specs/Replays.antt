@@ -7,11 +7,11 @@ use Rattle.pgn_game.specs.MainLines.{main_words, IsMainLine}
 use Rattle.pgn_game.specs.AllLines.{ArePlayed}
 use Rattle.pgn_game.specs.Starts.{IsStart}
 use Rattle.pgn_game.specs.Faults.{Fault, BadStart, IllegalMove, AmbiguousMove}
-use Rattle.pgn_game.specs.declared.line_move.LineMove.{LineMove}
-use Rattle.pgn_game.specs.declared.replayer.Lines.{Lines}
-use Rattle.pgn_game.specs.declared.replayer.Lines.TheVariants.{Main, All}
-use Rattle.pgn_game.specs.declared.fault.GameFault.{GameFault}
-use Rattle.pgn_game.specs.declared.fault.GameFault.TheVariants as answers
+use Rattle.pgn_game.specs.declared.turns.line_move.LineMove.{LineMove}
+use Rattle.pgn_game.specs.declared.replays.replayer.Lines.{Lines}
+use Rattle.pgn_game.specs.declared.replays.replayer.Lines.TheVariants.{Main, All}
+use Rattle.pgn_game.specs.declared.turns.fault.GameFault.{GameFault}
+use Rattle.pgn_game.specs.declared.turns.fault.GameFault.TheVariants as answers
 
 -- the positions of a main line from its start on, and the moves between them; and the turns of all lines in the order of the text
 pub record Replay : Type 0 where

@@ -6,11 +6,11 @@ use Rattle.pgn_text.specs.Games.{Item, MoveText, GlyphNumber, CommentText, Varia
 use Rattle.pgn_game.specs.AllLines.{IsTurn, after_turn}
 use Rattle.pgn_game.specs.Faults.{Fault}
 use Rattle.pgn_game.specs.LineWalks.{Leads, Stops, begun, gone_on, is_inside}
-use Rattle.pgn_game.specs.declared.all_lines.ReplayKeeper.{ReplayKeeper}
-use Rattle.pgn_game.specs.declared.line_stack.LineStack.{LineStack}
-use Rattle.pgn_game.specs.declared.line_move.LineMove.{LineMove}
-use Rattle.pgn_game.specs.declared.line_move.LineMove.TheVariants.{Played, Passed}
-use Rattle.pgn_game.specs.declared.walk.Level.{Level}
+use Rattle.pgn_game.specs.declared.replays.all_lines.ReplayKeeper.{ReplayKeeper}
+use Rattle.pgn_game.specs.declared.replays.line_stack.LineStack.{LineStack}
+use Rattle.pgn_game.specs.declared.turns.line_move.LineMove.{LineMove}
+use Rattle.pgn_game.specs.declared.turns.line_move.LineMove.TheVariants.{Played, Passed}
+use Rattle.pgn_game.specs.declared.replays.walk.Level.{Level}
 
 -- the lines around the one that is gone along, the innermost first
 abbrev pub around : {T : Type 0} → LineStack T → List T

@@ -3,7 +3,7 @@ use Rattle.std.specs.Prelude.{◌≡◌, ℕ, Bool, not, ◌&&◌, ◌||◌, ◌
 use Rattle.std.specs.List.{list_any}
 use Rattle.pgn_text.specs.GameTexts.{tag_in, tag_names}
 use Rattle.pgn_game.specs.Starts.{fen_tag, IsValueOf}
-use Rattle.pgn_game.specs.declared.style.Style.{Style}
+use Rattle.pgn_game.specs.declared.exports.style.Style.{Style}
 
 -- the names of the roster, in the order in which they are written (PGN 8.1.1)
 abbrev pub roster : List (List ℕ)

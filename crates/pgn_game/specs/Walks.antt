@@ -8,9 +8,9 @@ use Rattle.pgn_text.specs.Games.{Item}
 use Rattle.pgn_game.specs.MainLines.{main_words, IsMainLine}
 use Rattle.pgn_game.specs.Faults.{Fault, IsMoveFault}
 use Rattle.pgn_game.specs.Replays.{fault_of}
-use Rattle.pgn_game.specs.declared.fault.GameFault.{GameFault}
-use Rattle.pgn_game.specs.declared.main_line.LineKeeper.{LineKeeper}
-use Rattle.pgn_game.specs.declared.main_line.MainWalk.{MainWalk}
+use Rattle.pgn_game.specs.declared.turns.fault.GameFault.{GameFault}
+use Rattle.pgn_game.specs.declared.replays.main_line.LineKeeper.{LineKeeper}
+use Rattle.pgn_game.specs.declared.replays.main_line.MainWalk.{MainWalk}
 
 -- a main line of so many plies is played from the position by the words
 abbrev pub HasLinePlies : State → List (List ℕ) → ℕ → Type 0

@@ -8,13 +8,13 @@ ghost use Rattle.pgn_game.specs.Refusals.{AreNamed, IsWhy, IsRefusedAt, IsRefuse
 ghost use Rattle.pgn_game.specs.RefusalWalks.{AddsFrom, IsCounted, GoesOn, IsRefusedHere};
 ghost use Rattle.pgn_game.specs.Replays.{fault_of};
 
-use crate::fault::GameFault;
-use crate::line_stack::LineStack;
-use crate::replayed::GamePosition;
-use crate::replayer::Lines;
-use crate::saying::is_null_move;
-use crate::starting::starting_position;
-use crate::walk::{Discard, Level, step};
+use crate::replays::line_stack::LineStack;
+use crate::replays::replayer::Lines;
+use crate::replays::walk::{Discard, Level, step};
+use crate::turns::fault::GameFault;
+use crate::turns::replayed::GamePosition;
+use crate::turns::saying::is_null_move;
+use crate::turns::starting::starting_position;
 use chess::{Move, Refusal, SanError, Square, named_from, resolve, why_unnamed};
 use pgn_text::{Element, RawGame};
 use std::alloc::{AllocError, Global};

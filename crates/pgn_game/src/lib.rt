@@ -19,39 +19,23 @@
 //! ```
 #![tactic(auto)]
 
-mod all_lines;
-mod comment;
 mod explain;
-mod exporter;
-mod fault;
-mod game_line;
+mod exports;
 pub mod laws;
-mod line_move;
-mod line_stack;
-mod main_line;
-mod movetext;
-mod naming;
-mod notation;
 pub mod pack;
-mod pen;
-mod played_line;
-mod replayed;
-mod replayer;
-mod saying;
-mod starting;
-mod style;
-mod tag_lines;
-mod tokens;
-mod walk;
+mod replays;
+mod turns;
 
 pub use explain::{Refused, Why, named_moves, refused_word};
-pub use exporter::{export, export_played};
-pub use fault::GameFault;
-pub use game_line::push_line;
-pub use line_move::LineMove;
-pub use notation::Notation;
-pub use played_line::MainLine;
-pub use replayed::{GamePosition, Replayed};
-pub use replayer::{Lines, check_lines, check_variations, count_plies, replay, replay_opening};
-pub use starting::given_position;
-pub use style::Style;
+pub use exports::exporter::{export, export_played};
+pub use exports::game_line::push_line;
+pub use exports::notation::Notation;
+pub use exports::style::Style;
+pub use replays::played_line::MainLine;
+pub use replays::replayer::{
+    Lines, check_lines, check_variations, count_plies, replay, replay_opening,
+};
+pub use turns::fault::GameFault;
+pub use turns::line_move::LineMove;
+pub use turns::replayed::{GamePosition, Replayed};
+pub use turns::starting::given_position;

@@ -4,7 +4,7 @@ ghost use Rattle.chess.specs.Squares.{index_of};
 ghost use Rattle.chess.specs.Moves.{after, arriving, is_pawn, is_en_passant, taken, HasMove, IsPseudoLegal};
 ghost use Rattle.pgn_game.specs.PlyCodes.{PlyCode, AreMarks, IsCode, code_bytes, marks_number, castle_number, man_number};
 
-use crate::replayed::GamePosition;
+use crate::turns::replayed::GamePosition;
 use chess::{Kind, Man, Move, Side, Square, Wing};
 
 /// What is marked at a position: whether the side to move is in check, and whether it has no legal move.

@@ -5,14 +5,14 @@ ghost use Rattle.pgn_game.specs.Faults.{IsFault};
 ghost use Rattle.pgn_game.specs.PackedGames.{FitsRecord, IsRecordOf, name_of};
 ghost use Rattle.pgn_game.specs.Replays.{fault_of};
 ghost use Rattle.pgn_game.specs.Starts.{fen_tag};
-ghost use Rattle.pgn_game.specs.declared.fault.GameFault.TheVariants.{OutOfMemory};
-ghost use Rattle.pgn_game.specs.declared.replayer.Lines.TheVariants.{Main};
+ghost use Rattle.pgn_game.specs.declared.turns.fault.GameFault.TheVariants.{OutOfMemory};
+ghost use Rattle.pgn_game.specs.declared.replays.replayer.Lines.TheVariants.{Main};
 
-use crate::fault::GameFault;
 use crate::pack::error::PackError;
 use crate::pack::origin::GameOrigin;
 use crate::pack::writing::put_record;
-use crate::replayer::{Lines, replay};
+use crate::replays::replayer::{Lines, replay};
+use crate::turns::fault::GameFault;
 use pgn_text::RawGame;
 use std::alloc::Global;
 

@@ -7,7 +7,7 @@ ghost use Rattle.pgn_game.specs.PlyCodes.{code_of, numbered_man, numbered_castle
 
 use crate::pack::error::CodesError;
 use crate::pack::ply::is_pawn;
-use crate::replayed::{GamePosition, Replayed};
+use crate::turns::replayed::{GamePosition, Replayed};
 use chess::{Kind, Man, Move, Side, Square, Wing};
 use std::alloc::{AllocError, Global};
 

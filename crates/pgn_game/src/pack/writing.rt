@@ -12,7 +12,7 @@ use crate::pack::error::PackError;
 use crate::pack::origin::GameOrigin;
 use crate::pack::ply::{Marks, coded_move};
 use crate::pack::reading::LARGEST_BODY;
-use crate::replayed::Replayed;
+use crate::turns::replayed::Replayed;
 use pgn_text::RawGame;
 use std::alloc::AllocError;
 

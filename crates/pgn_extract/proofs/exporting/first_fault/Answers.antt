@@ -1,6 +1,6 @@
 use Rattle.std.proofs.lemmas.Option.{IfSome_then}
 use Rattle.pgn_game.specs.Replays.{fault_of}
-use Rattle.pgn_game.specs.declared.replayer.Lines.TheVariants.{All}
+use Rattle.pgn_game.specs.declared.replays.replayer.Lines.TheVariants.{All}
 use Rattle.pgn_extract.proofs.Sought.{main_fault}
 use Rattle.pgn_extract.proofs.exporting.first_fault.Goals as goal
 

@@ -1,7 +1,7 @@
 use Rattle.std.proofs.Common.{[], ◌∷◌, ◌++◌, refl, sym, append-nil, subst, inr}
 use Rattle.std.proofs.lemmas.Option.{IfSome_then}
 use Rattle.std.proofs.lemmas.Result.{err_from_is_err_and}
-use Rattle.pgn_game.specs.declared.replayer.Lines.TheVariants.{Main}
+use Rattle.pgn_game.specs.declared.replays.replayer.Lines.TheVariants.{Main}
 use Rattle.pgn_game.specs.Faults.{Fault, IsMoveFault}
 use Rattle.pgn_game.specs.Replays.{Replay}
 use Rattle.pgn_game.specs.PlayedLines.{PlaysWord, HasEnded, HasAdvanced}

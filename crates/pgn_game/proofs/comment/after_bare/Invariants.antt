@@ -1,9 +1,0 @@
-use Rattle.std.proofs.Common.{length}
-use Rattle.pgn_game.specs.CommentWords.{IsAfterBare}
-use Rattle.pgn_game.proofs.comment.after_bare.Given as goal
-
-abbrev pub invariant-loop-rest : goal.invariant-loop-rest
-invariant-loop-rest l = IsAfterBare l.text l.rest
-
-abbrev pub decreases-loop-rest : goal.decreases-loop-rest
-decreases-loop-rest l = length l.rest

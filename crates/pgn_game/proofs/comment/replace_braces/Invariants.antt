@@ -1,6 +1,0 @@
-use Rattle.std.proofs.Common.{◌≡◌, ◌++◌, take}
-use Rattle.pgn_game.specs.Comments.{unbraced}
-use Rattle.pgn_game.proofs.comment.replace_braces.Given as goal
-
-abbrev pub invariant-loop-byte : goal.invariant-loop-byte
-invariant-loop-byte l = l.out.items ≡ l.fn.out.items ++ unbraced (take l.byte-index l.word)

@@ -1,0 +1,31 @@
+use Rattle.std.proofs.Common.{◌≡◌, ◌<◌, ◌∷◌, [], List, ℕ, true, false, length, sym, ap, ◌∙◌, subst}
+use Rattle.std.specs.Prelude.{◌==◌}
+use Rattle.std.proofs.lemmas.Bool.{eqb-true}
+use Rattle.std.proofs.lemmas.List.{nil_from_length}
+use Rattle.pgn_game.specs.Comments.{words_in}
+use Rattle.pgn_game.specs.CommentWords.{word_front}
+use Rattle.pgn_game.proofs.CommentFacts.{no_word, some_word}
+use Rattle.pgn_game.proofs.exports.comment.first_word.Goals as goal
+
+pub returns-then-is_empty-clause-words : goal.returns-then-is_empty-clause-words
+returns-then-is_empty-clause-words c =
+    let rest = c.after_white-rest.result.now in
+    no_word c.args.text.now (sym c.after_white-rest.ensures ∙ nil_from_length rest (eqb-true (length rest) 0 (sym c.is_empty.ensures ∙ c.if-is_empty.true)))
+
+full : (rest : List ℕ) → (length rest == 0) ≡ false → rest ≡ [] → ⊥
+full rest some none = let clash : true ≡ false = sym (ap (λ r. length r == 0) none) ∙ some in cc
+
+pub returns-clause-words : goal.returns-clause-words
+returns-clause-words c =
+    let text = c.args.text.now in
+    let rest = c.after_white-rest.result.now in
+    let found = some_word text rest c.after_white-rest.ensures (full rest (sym c.is_empty.ensures ∙ c.if-is_empty.false)) in
+    ap (λ word. word ∷ words_in c.split_word.result.rest.now) c.split_word.ensures.word
+    ∙ ap (λ after. word_front rest ∷ words_in after) c.split_word.ensures.rest ∙ found.0
+
+pub returns-clause-shorter : goal.returns-clause-shorter
+returns-clause-shorter c =
+    let text = c.args.text.now in
+    let rest = c.after_white-rest.result.now in
+    let found = some_word text rest c.after_white-rest.ensures (full rest (sym c.is_empty.ensures ∙ c.if-is_empty.false)) in
+    subst (λ after. length after < length text) (sym c.split_word.ensures.rest) found.1

@@ -1,0 +1,6 @@
+use Rattle.std.proofs.Common.{◌≡◌, ◌++◌, take}
+use Rattle.pgn_game.specs.Comments.{unbraced}
+use Rattle.pgn_game.proofs.exports.comment.replace_braces.Given as goal
+
+abbrev pub invariant-loop-byte : goal.invariant-loop-byte
+invariant-loop-byte l = l.out.items ≡ l.fn.out.items ++ unbraced (take l.byte-index l.word)

@@ -1,0 +1,13 @@
+use Rattle.std.proofs.Common.{◌≤◌, drop, map}
+use Rattle.pgn_text.specs.Elements.{item_of}
+use Rattle.pgn_game.specs.LineTexts.{HasPutSome}
+use Rattle.pgn_game.specs.MainLines.{main_words}
+use Rattle.pgn_game.proofs.exports.game_line.push_moves.Given as goal
+
+abbrev pub invariant-loop-element : goal.invariant-loop-element
+invariant-loop-element l =
+    record {
+      plies : l.walk.plies ≤ l.element-index;
+      depth : l.walk.depth ≤ l.element-index;
+      put : HasPutSome l.notation l.fn.start (main_words (map item_of l.elements) 0) l.walk l.fn.out.items l.out.items (map item_of (drop l.element-index l.elements));
+    }

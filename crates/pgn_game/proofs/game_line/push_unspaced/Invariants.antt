@@ -1,6 +1,0 @@
-use Rattle.std.proofs.Common.{◌≡◌, ◌++◌, map, take}
-use Rattle.pgn_game.specs.GameLines.{unspaced}
-use Rattle.pgn_game.proofs.game_line.push_unspaced.Given as goal
-
-abbrev pub invariant-loop-byte : goal.invariant-loop-byte
-invariant-loop-byte l = l.out.items ≡ l.fn.out.items ++ map unspaced (take l.byte-index l.bytes)

@@ -1,0 +1,58 @@
+use Rattle.std.proofs.Common.{◌+◌, ◌∷◌, [], drop, map, sym, subst, ap, ◌∙◌, arith, append-nil}
+use Rattle.std.proofs.lemmas.Result.{err_from_is_err_and}
+use Rattle.pgn_text.specs.Elements.{item_of}
+use Rattle.pgn_game.specs.MainLines.{main_words, IsMainLine}
+use Rattle.pgn_game.specs.Walks.{HasWalked, KeepsLine}
+use Rattle.pgn_game.proofs.OneReplay.{line_length}
+use Rattle.pgn_game.proofs.WalkFacts.{walk_begins, stuck_at, items_step, items_end}
+use Rattle.pgn_game.proofs.replays.main_line.play_main_line.Goals as goal
+
+pub loop-element-init : goal.loop-element-init
+loop-element-init c =
+    let line = c.in_ok-line.line in
+    let items = map item_of c.args.elements.now in
+    let begun = c.in_ok-line.ensures.walk in
+    record {
+      plies = omega arith;
+      depth = omega arith;
+      keeps = record {
+        before = [];
+        positions = c.in_ok-line.ensures.positions ∙ ap (λ s. s ∷ []) (sym begun.0);
+        walked = subst (λ ms. HasWalked c.args.start (main_words items 0) line.walk [] ms items) (sym c.in_ok-line.ensures.played)
+            (walk_begins c.args.start line.walk items begun.0 begun.1 begun.2);
+        first = [];
+        parted = ap (main_words items) (sym begun.2);
+        opening = (c.in_ok-line.ensures.positions, c.in_ok-line.ensures.played);
+      };
+    }
+
+pub returns-in_err-step : goal.returns-in_err-step
+returns-in_err-step c =
+    let words = main_words (map item_of c.args.elements.now) 0 in
+    let i = c.loop-element.element-index in
+    let p = err_from_is_err_and c.from_residual-in_err-step.result c.from_residual-in_err-step.ensures.1 in
+    let keeps = subst (KeepsLine c.args.start words c.loop-element.line) (items_step c.args.elements.now i _ (omega arith)) c.loop-element.invariant.keeps in
+    rw (p.1, p.2) (stuck_at _ keeps.walked c.in_err-step.ensures.stuck)
+
+pub loop-element-preserved : goal.loop-element-preserved
+loop-element-preserved c =
+    let words = main_words (map item_of c.args.elements.now) 0 in
+    let i = c.loop-element.element-index in
+    record {
+      plies = omega arith;
+      depth = omega arith;
+      keeps = c.in_ok-step.ensures.kept c.args.start words (map item_of (drop (i + 1) c.args.elements.now))
+          (subst (KeepsLine c.args.start words c.loop-element.line) (items_step c.args.elements.now i _ (omega arith)) c.loop-element.invariant.keeps);
+    }
+
+pub replayed-requires : goal.replayed-requires
+replayed-requires c =
+    let keeps = c.loop-element.invariant.keeps in
+    line_length c.args.start keeps.first c.loop-element.line.positions.items c.loop-element.line.played.items keeps.opening
+
+pub returns : goal.returns
+returns c =
+    let words = main_words (map item_of c.args.elements.now) 0 in
+    let keeps = subst (KeepsLine c.args.start words c.loop-element.line) (items_end c.args.elements.now c.loop-element.element-index (omega arith)) c.loop-element.invariant.keeps in
+    let line = subst (λ ws. IsMainLine c.args.start ws c.loop-element.line.positions.items c.loop-element.line.played.items) (sym (append-nil keeps.first) ∙ sym keeps.parted) keeps.opening in
+    (rw (c.replayed.ensures.positions, c.replayed.ensures.played) line, c.replayed.ensures.turns)

@@ -1,0 +1,13 @@
+use Rattle.std.proofs.Common.{◌≤◌, drop, map}
+use Rattle.pgn_text.specs.Elements.{item_of}
+use Rattle.pgn_game.specs.MainLines.{main_words}
+use Rattle.pgn_game.specs.Walks.{KeepsLine}
+use Rattle.pgn_game.proofs.replays.main_line.play_main_line.Given as goal
+
+abbrev pub invariant-loop-element : goal.invariant-loop-element
+invariant-loop-element l =
+    record {
+      plies : l.line.walk.plies ≤ l.element-index;
+      depth : l.line.walk.depth ≤ l.element-index;
+      keeps : KeepsLine l.fn.start (main_words (map item_of l.elements) 0) l.line (map item_of (drop l.element-index l.elements));
+    }

@@ -1,0 +1,17 @@
+use Rattle.std.proofs.Common.{◌≡◌, ◌+◌, ◌<◌, ◌^◌, length, map}
+use Rattle.pgn_text.specs.Elements.{item_of}
+use Rattle.pgn_game.specs.MainLines.{main_words}
+use Rattle.pgn_game.proofs.replays.played_line.MainLine.advance.Given as goal
+
+abbrev pub invariant-loop-self : goal.invariant-loop-self
+invariant-loop-self l =
+    record {
+      plies_room : l.self-inside.walk.plies + length l.self-inside.rest.now < 2 ^ 64;
+      depth_room : l.self-inside.walk.depth + length l.self-inside.rest.now < 2 ^ 64;
+      words : main_words (map item_of l.self-inside.rest.now) l.self-inside.walk.depth ≡ l.fn.self.words;
+      position : l.self-inside.walk.position ≡ l.fn.self.position;
+      plies : l.self-inside.walk.plies ≡ l.fn.self.plies;
+    }
+
+abbrev pub decreases-loop-self : goal.decreases-loop-self
+decreases-loop-self l = length l.self-inside.rest.now

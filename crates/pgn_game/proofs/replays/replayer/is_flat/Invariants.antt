@@ -1,0 +1,7 @@
+use Rattle.std.proofs.Common.{drop, map}
+use Rattle.pgn_text.specs.Elements.{item_of}
+use Rattle.pgn_game.specs.LineWalks.{IsFlat}
+use Rattle.pgn_game.proofs.replays.replayer.is_flat.Given as goal
+
+abbrev pub invariant-loop-element : goal.invariant-loop-element
+invariant-loop-element l = IsFlat (map item_of (drop l.element-index l.elements)) → IsFlat (map item_of l.elements)

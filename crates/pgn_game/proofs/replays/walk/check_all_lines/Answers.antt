@@ -1,0 +1,24 @@
+use Rattle.std.proofs.Common.{[], map, ◌∙◌, subst}
+use Rattle.std.proofs.lemmas.Option.{IfSome_then}
+use Rattle.std.proofs.lemmas.Result.{MatchResult-weaker}
+use Rattle.pgn_text.specs.Elements.{item_of}
+use Rattle.pgn_game.specs.LineWalks.{Stops, first_level}
+use Rattle.pgn_game.specs.Replays.{fault_of}
+use Rattle.pgn_game.specs.Steps.{Walks}
+use Rattle.pgn_game.proofs.RunFacts.{runs_played, stops_faulty}
+use Rattle.pgn_game.proofs.StepFacts.{turns_of, walks_run}
+use Rattle.pgn_game.proofs.replays.walk.check_all_lines.Goals as goal
+
+pub returns : goal.returns
+returns c =
+    let items = map item_of c.args.elements.now in
+    let start = c.args.start.now in
+    let stack = c.new-stack.result in
+    let line = c.new-stack.ensures.line ∙ c.first.ensures in
+    MatchResult-weaker c.walk.result c.walk.ensures.walked
+    (λ _ walked.
+    let walks = subst (λ l. Walks items l [] walked.0) line (subst (λ outer. Walks items stack.line outer walked.0) c.new-stack.ensures.around walked.1) in
+    (turns_of walked.0, runs_played start items (turns_of walked.0) c.requires (walks_run items (first_level start) [] walked.0 walks)))
+    (λ fault reports. IfSome_then (fault_of fault) reports
+    (λ f stops. stops_faulty start items f c.requires
+    (subst (λ l. Stops items l [] f) line (subst (λ outer. Stops items stack.line outer f) c.new-stack.ensures.around stops))))

@@ -1,4 +1,0 @@
-use Rattle.pgn_game.proofs.tag_lines.put_text.Goals as goal
-
-pub returns-in-Some-clause-text : goal.returns-in-Some-clause-text
-returns-in-Some-clause-text c = rw c.in-Some.is c.put_value.ensures.text

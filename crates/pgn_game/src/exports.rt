@@ -1,0 +1,11 @@
+//! Games written: in the export format, or the main line on one line.
+
+mod comment;
+pub(crate) mod exporter;
+pub(crate) mod game_line;
+mod movetext;
+pub(crate) mod notation;
+mod pen;
+pub(crate) mod style;
+mod tag_lines;
+mod tokens;

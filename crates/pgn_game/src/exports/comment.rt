@@ -1,0 +1,261 @@
+//! Comments as tokens.
+ghost use Rattle.std.specs.Prelude.{◌≡◌, ◌+◌, ◌++◌, ◌∷◌, ◌<◌, ◌≤◌, ℕ, List, [], length, map, OnOk, IfSome, IsTrue, true};
+ghost use Rattle.pgn_text.specs.Bytes.{is_white};
+ghost use Rattle.pgn_game.specs.Comments.{words_in, unbraced, later_word, closed, comment_tokens};
+ghost use Rattle.pgn_game.specs.CommentWords.{word_front, after_front, after_white, found_words, closing, IsBare, IsFoundBare, IsAfterBare, IsAfterKept, IsSpaced};
+ghost use Rattle.pgn_game.specs.Pens.{HasPut};
+
+use crate::exports::pen::Pen;
+use std::alloc::AllocError;
+
+/// The first word of a text, whether it is known to have no closing brace, and what follows it.
+#[derive(Clone, Copy)]
+struct Found<'a> {
+    word: &'a [u8],
+    bare: bool,
+    rest: &'a [u8],
+}
+
+/// Whether the byte is white space.
+fn is_white(byte: u8) -> bool
+    ensures { result ≡ is_white byte }
+{
+    matches!(byte, 9..=13 | b' ')
+}
+
+/// The text after the white space that it begins with.
+fn after_white(text: &[u8]) -> &[u8]
+    ensures { result.now ≡ after_white text.now }
+{
+    let mut rest = text;
+    while let [first, after @ ..] = rest
+        && is_white(*first)
+    {
+        rest = after;
+    }
+    rest
+}
+
+/// The text from the first white space on.
+fn from_white(text: &[u8]) -> &[u8]
+    ensures { result.now ≡ after_front text.now }
+{
+    let mut rest = text;
+    while let [first, after @ ..] = rest
+        && !is_white(*first)
+    {
+        rest = after;
+    }
+    rest
+}
+
+/// The text after the bytes that it begins with which stand in words and are no closing braces: all of a word, for most words.
+#[inline(always)]
+fn after_bare(text: &[u8]) -> &[u8]
+    ensures { IsAfterBare text.now result.now }
+{
+    let mut rest = text;
+    while let [first, after @ ..] = rest
+        && *first > b' '
+        && *first != b'}'
+    {
+        rest = after;
+    }
+    rest
+}
+
+/// The bytes before the first white space, and those from it on.
+fn split_word(text: &[u8]) -> Found<'_>
+    ensures word { result.word.now ≡ word_front text.now }
+    ensures rest { result.rest.now ≡ after_front text.now }
+    ensures bare { result.bare ≡ true → IsBare result.word.now }
+{
+    let left = after_bare(text);
+    let rest = from_white(left);
+    Found {
+        word: &text[..text.len() - rest.len()],
+        bare: left.len() == rest.len(),
+        rest,
+    }
+}
+
+/// The first word of the text, if it has one.
+fn first_word(text: &[u8]) -> Option<Found<'_>>
+    ensures words { found_words result ≡ words_in text.now }
+    ensures shorter { IfSome result (λ found. length found.rest.now < length text.now) }
+    ensures bare { IsFoundBare result }
+{
+    let rest = after_white(text);
+    if rest.is_empty() {
+        return None;
+    }
+    Some(split_word(rest))
+}
+
+/// Writes the word without closing braces; where it is known to have none, as it is.
+#[inline(always)]
+fn push_unbraced(out: &mut Vec<u8>, word: &[u8], bare: bool) -> Result<(), AllocError>
+    requires { bare ≡ true → IsBare word.now }
+    ensures text { OnOk result (out.new.items ≡ out.old.items ++ unbraced word.now) }
+    ensures kept { (some : List ℕ) × (out.new.items ≡ out.old.items ++ some) }
+{
+    if bare {
+        out.extend_from_slice(word)?;
+        return Ok(());
+    }
+    replace_braces(out, word)
+}
+
+/// Writes the word with other brackets for closing braces.
+fn replace_braces(out: &mut Vec<u8>, word: &[u8]) -> Result<(), AllocError>
+    ensures text { OnOk result (out.new.items ≡ out.old.items ++ unbraced word.now) }
+    ensures kept { (some : List ℕ) × (out.new.items ≡ out.old.items ++ some) }
+{
+    for byte in word {
+        out.push(if *byte == b'}' { b')' } else { *byte })?;
+    }
+    Ok(())
+}
+
+/// Writes what a word begins with: for most words it is nothing.
+#[inline]
+fn push_front(out: &mut Vec<u8>, front: &[u8]) -> Result<(), AllocError>
+    ensures text { OnOk result (out.new.items ≡ out.old.items ++ front.now) }
+    ensures kept { (some : List ℕ) × (out.new.items ≡ out.old.items ++ some) }
+{
+    if front.is_empty() {
+        return Ok(());
+    }
+    out.extend_from_slice(front)?;
+    Ok(())
+}
+
+/// Writes a word that was found as a token, after what it begins with; the last one has the closing brace.
+fn put_word(
+    pen: &mut Pen,
+    out: &mut Vec<u8>,
+    front: &[u8],
+    found: Found<'_>,
+    is_last: bool,
+) -> Result<(), AllocError>
+    requires { found.bare ≡ true → IsBare found.word.now }
+    ensures text { OnOk result (HasPut pen.old pen.new out.old.items out.new.items ((front.now ++ unbraced found.entry.word.now ++ closing is_last) ∷ [])) }
+    ensures kept { (some : List ℕ) × (out.new.items ≡ out.old.items ++ some) }
+    ensures width { pen.new.width ≡ pen.old.width }
+{
+    pen.start(out, front.len() + found.word.len() + usize::from(is_last))?;
+    push_front(out, front)?;
+    push_unbraced(out, found.word, found.bare)?;
+    if is_last {
+        out.push(b'}')?;
+    }
+    Ok(())
+}
+
+/// What a word after the first one begins with, and what follows: it must be neither an event line nor an escape at the beginning of a
+/// line.
+fn guarded(word: &[u8]) -> (&[u8], &[u8])
+    ensures text { later_word word.now ≡ result.0.now ++ unbraced result.1.now }
+    ensures bare { IsBare word.now → IsBare result.1.now }
+{
+    if word == b"[Event".as_slice() {
+        return (b"(", b"Event");
+    }
+    match word.first() {
+        Some(b'%') => (b"(", word),
+        _ => (b"", word),
+    }
+}
+
+/// Writes the words after the first one.
+fn put_later(pen: &mut Pen, out: &mut Vec<u8>, first: Option<Found<'_>>) -> Result<(), AllocError>
+    requires { IsFoundBare first }
+    ensures text { OnOk result (HasPut pen.old pen.new out.old.items out.new.items (closed (map later_word (found_words first.entry)))) }
+    ensures kept { (some : List ℕ) × (out.new.items ≡ out.old.items ++ some) }
+    ensures width { pen.new.width ≡ pen.old.width }
+{
+    let mut next = first;
+    while let Some(found) = next {
+        next = first_word(found.rest);
+        let (front, word) = guarded(found.word);
+        put_word(pen, out, front, Found { word, ..found }, next.is_none())?;
+    }
+    Ok(())
+}
+
+/// Whether a word after the first one is written as it is, but for its closing braces.
+fn is_kept(word: &[u8]) -> bool
+    ensures { IsTrue result → later_word word.now ≡ unbraced word.now }
+{
+    word.first() != Some(&b'%') && word != b"[Event".as_slice()
+}
+
+/// What follows the first word of the text, if the text begins with a word, which is written as it is wherever it stands.
+#[inline(always)]
+fn after_kept(text: &[u8]) -> Option<&[u8]>
+    ensures { IfSome result (λ rest. IsAfterKept text.now rest.now) }
+{
+    let found = split_word(text);
+    if found.word.is_empty() || !found.bare || !is_kept(found.word) {
+        return None;
+    }
+    Some(found.rest)
+}
+
+/// Whether the text is words with one space between each two, all of which are written as they are.
+fn is_spaced(text: &[u8]) -> bool
+    ensures { IsTrue result → IsSpaced text.now }
+{
+    let Some(mut rest) = after_kept(text) else {
+        return false;
+    };
+    while let [b' ', more @ ..] = rest {
+        let Some(after) = after_kept(more) else {
+            return false;
+        };
+        rest = after;
+    }
+    rest.is_empty()
+}
+
+/// Writes a comment that stands in the line that is begun as it is.
+fn put_spaced(pen: &mut Pen, out: &mut Vec<u8>, text: &[u8]) -> Result<(), AllocError>
+    requires spaced { IsSpaced text.now }
+    requires begun { pen.old.begun ≡ true }
+    requires room { pen.old.column + 1 + (length text.now + 2) ≤ pen.old.width }
+    ensures text { OnOk result (HasPut pen.old pen.new out.old.items out.new.items (comment_tokens text.now)) }
+    ensures kept { (some : List ℕ) × (out.new.items ≡ out.old.items ++ some) }
+    ensures width { pen.new.width ≡ pen.old.width }
+{
+    pen.start(out, text.len() + 2)?;
+    out.push(b'{')?;
+    out.extend_from_slice(text)?;
+    out.push(b'}')?;
+    Ok(())
+}
+
+/// Writes a comment in braces, word by word.
+fn put_words(pen: &mut Pen, out: &mut Vec<u8>, text: &[u8]) -> Result<(), AllocError>
+    ensures text { OnOk result (HasPut pen.old pen.new out.old.items out.new.items (comment_tokens text.now)) }
+    ensures kept { (some : List ℕ) × (out.new.items ≡ out.old.items ++ some) }
+    ensures width { pen.new.width ≡ pen.old.width }
+{
+    let Some(first) = first_word(text) else {
+        return pen.put(out, b"{}");
+    };
+    let next = first_word(first.rest);
+    put_word(pen, out, b"{", first, next.is_none())?;
+    put_later(pen, out, next)
+}
+
+/// Writes a comment in braces: each of its words is a token. Where it stands in one line as it is, it is written at once.
+pub(crate) fn put_comment(pen: &mut Pen, out: &mut Vec<u8>, text: &[u8]) -> Result<(), AllocError>
+    ensures text { OnOk result (HasPut pen.old pen.new out.old.items out.new.items (comment_tokens text.now)) }
+    ensures kept { (some : List ℕ) × (out.new.items ≡ out.old.items ++ some) }
+    ensures width { pen.new.width ≡ pen.old.width }
+{
+    if pen.takes(text.len() + 2) && is_spaced(text) {
+        return put_spaced(pen, out, text);
+    }
+    put_words(pen, out, text)
+}

@@ -1,0 +1,131 @@
+//! The movetext of a game, written at each step of a walk over its lines.
+ghost use Rattle.std.specs.Prelude.{◌≡◌, ◌++◌, ◌∷◌, ℕ, List, [], codes, decimal, false, map, true, IfErr, IfSome, OnOk};
+ghost use Rattle.pgn_text.specs.Elements.{item_of};
+ghost use Rattle.pgn_game.specs.AllLines.{after_turn};
+ghost use Rattle.pgn_game.specs.Exports.{IsTurnText, AreMovetextTokens, lines_with, number_tokens};
+ghost use Rattle.pgn_game.specs.Faults.{HasLineFault};
+ghost use Rattle.pgn_game.specs.MovetextWalks.{IsPlayable, Puts, WritesStep};
+ghost use Rattle.pgn_game.specs.Replays.{fault_of};
+ghost use Rattle.pgn_game.specs.TextLines.{IsLaid};
+
+use crate::exports::comment::put_comment;
+use crate::exports::pen::Pen;
+use crate::exports::style::Style;
+use crate::exports::tokens::{put_glyph, put_number, put_turn};
+use crate::replays::line_stack::LineStack;
+use crate::replays::walk::{Level, Visitor, walk};
+use crate::turns::fault::GameFault;
+use crate::turns::line_move::LineMove;
+use crate::turns::replayed::GamePosition;
+use crate::turns::saying::said_turn;
+use pgn_text::{Element, RawGame};
+use std::alloc::{AllocError, Global};
+use std::mem;
+
+/// The movetext as far as it is written, after what stood in front of it; and whether the next move stands apart from the turn before it:
+/// as the first of its line, or with a comment or a variation between them.
+#[derive(Drop)]
+struct MovetextWriter {
+    out: Vec<u8>,
+    pen: Pen,
+    apart: bool,
+    style: Style,
+}
+
+impl MovetextWriter {
+    /// Writes a turn with its number, and takes it in the position.
+    fn put_turn(&mut self, position: &mut GamePosition, turn: &LineMove) -> Result<(), AllocError>
+        requires { IsPlayable position.old turn.now }
+        ensures text { OnOk result ((text : List ℕ) × IsTurnText position.old turn.now text
+            × Puts self.old self.new (number_tokens position.old.turn position.old.fullmove_number self.old.apart ++ text ∷ []) false) }
+        ensures taken { OnOk result (position.new ≡ after_turn position.old turn.now) }
+        ensures kept { (some : List ℕ) × (self.new.out.items ≡ self.old.out.items ++ some) }
+    {
+        let (side, number) = (position.side(), position.number());
+        put_number(&mut self.pen, &mut self.out, side, number, self.apart)?;
+        self.apart = false;
+        put_turn(&mut self.pen, &mut self.out, position, turn)
+    }
+
+    /// Writes a parenthesis; the next move stands apart after it.
+    fn put_parenthesis(&mut self, text: &[u8]) -> Result<(), AllocError>
+        ensures text { OnOk result (Puts self.old self.new (text.now ∷ []) true) }
+        ensures kept { (some : List ℕ) × (self.new.out.items ≡ self.old.out.items ++ some) }
+    {
+        self.apart = true;
+        self.pen.put(&mut self.out, text)
+    }
+}
+
+impl Visitor for MovetextWriter {
+    ghost does = { WritesStep };
+
+    ghost text = { λ writer. writer.out.items };
+
+    fn turn<'a>(
+        &mut self,
+        position: &mut GamePosition,
+        inside: bool,
+        word: &'a [u8],
+        ply: usize,
+    ) -> Result<LineMove, GameFault<'a>> {
+        let turn = said_turn(position, inside, word, ply)?;
+        self.put_turn(position, &turn)?;
+        Ok(turn)
+    }
+
+    fn beside(&mut self, element: Element<'_>) -> Result<(), AllocError> {
+        match element {
+            Element::Move(_) => Ok(()),
+            Element::Glyph(number) => {
+                if !self.style.glyphs {
+                    return Ok(());
+                }
+                put_glyph(&mut self.pen, &mut self.out, number)
+            }
+            Element::Comment(text) => {
+                if !self.style.comments {
+                    return Ok(());
+                }
+                self.apart = true;
+                put_comment(&mut self.pen, &mut self.out, text)
+            }
+            Element::Open => self.put_parenthesis(b"("),
+            Element::Close => self.put_parenthesis(b")"),
+        }
+    }
+}
+
+/// Plays the lines of the game that the style keeps from this start, and writes its movetext in lines of the style's width: its moves, with
+/// what the style keeps beside them, and its result. Where a line is faulty or memory runs out, some of it may stand in the vector.
+pub(crate) fn put_movetext<'a>(
+    alloc: Global,
+    game: &RawGame<'a>,
+    start: &GamePosition,
+    style: &Style,
+    out: &mut Vec<u8>,
+) -> Result<(), GameFault<'a>>
+    ensures text { OnOk result ((tokens : List (List ℕ)) × (movetext : List ℕ)
+        × AreMovetextTokens style.now start.now game.now.elements game.now.result tokens × IsLaid style.now.width tokens movetext
+        × (out.new.items ≡ out.old.items ++ movetext)) }
+    ensures fault { IfErr result (λ fault. IfSome (fault_of fault) (HasLineFault (lines_with style.now.variations) start.now game.now.elements)) }
+    ensures kept { (some : List ℕ) × (out.new.items ≡ out.old.items ++ some) }
+{
+    let mut stack = LineStack::new(alloc, Level::first(start));
+    let mut writer = MovetextWriter {
+        out: mem::replace(out, Vec::new(alloc)),
+        pen: Pen::new(style.width),
+        apart: true,
+        style: *style,
+    };
+    let walked = walk(&mut stack, game.elements(), style.variations, &mut writer);
+    let MovetextWriter {
+        out: text,
+        mut pen,
+        ..
+    } = writer;
+    *out = text;
+    walked?;
+    pen.put(out, game.result())?;
+    Ok(pen.finish(out)?)
+}

@@ -1,0 +1,36 @@
+//! Why a game can't be replayed.
+ghost use Rattle.std.specs.Prelude.{◌≡◌};
+ghost use Rattle.pgn_game.specs.declared.turns.fault.GameFault.TheVariants.{OutOfMemory};
+
+use std::alloc::AllocError;
+
+/// Why a game can't be replayed. A word is a slice of the block that the game stands in.
+#[derive(Clone, Copy, Debug, PartialEq, Eq)]
+pub enum GameFault<'a> {
+    /// The value of the FEN tag is refused.
+    BadPosition,
+    /// The word names no legal move.
+    Illegal {
+        /// The word as it stands.
+        word: &'a [u8],
+        /// One more than the plies before it in its line.
+        ply: usize,
+    },
+    /// The word names several legal moves.
+    Ambiguous {
+        /// The word as it stands.
+        word: &'a [u8],
+        /// One more than the plies before it in its line.
+        ply: usize,
+    },
+    /// Memory was refused.
+    OutOfMemory,
+}
+
+impl<'a> From<AllocError> for GameFault<'a> {
+    ghost from_gives = { λ _ fault. fault ≡ OutOfMemory };
+
+    fn from(_: AllocError) -> Self {
+        GameFault::OutOfMemory
+    }
+}

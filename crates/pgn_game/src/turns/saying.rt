@@ -1,0 +1,56 @@
+//! What a word says where it stands: a move, or in a variation a pass.
+ghost use Rattle.std.specs.Prelude.{◌≡◌, ◌+◌, ◌&&◌, ℕ, MatchResult, IfSome};
+ghost use Rattle.chess.specs.San.{IsOnlyNamed};
+ghost use Rattle.pgn_game.specs.AllLines.{IsTurn, is_pass};
+ghost use Rattle.pgn_game.specs.Faults.{IsRefusedTurn, IsRefusedWord};
+ghost use Rattle.pgn_game.specs.Replays.{fault_of};
+
+use crate::turns::fault::GameFault;
+use crate::turns::line_move::LineMove;
+use crate::turns::replayed::GamePosition;
+use chess::{Move, SanError, resolve};
+
+/// Whether the word is a pass: in a variation `--` and `Z0` are, in the main line no word is.
+pub(crate) fn is_null_move(inside: bool, word: &[u8]) -> bool
+    ensures { result ≡ (inside && is_pass word.now) }
+{
+    inside && (word == b"--".as_slice() || word == b"Z0".as_slice())
+}
+
+/// The only legal move that the word names, or the fault of this ply.
+pub(crate) fn named<'a>(
+    position: &GamePosition,
+    word: &'a [u8],
+    ply: usize,
+) -> Result<Move, GameFault<'a>>
+    ensures { MatchResult result
+        (IsOnlyNamed position.now word.now)
+        (λ fault. (plies : ℕ) → ply ≡ plies + 1 → IfSome (fault_of fault) (IsRefusedWord position.now plies word.now)) }
+{
+    match resolve(position, word) {
+        Ok(m) => Ok(m),
+        Err(SanError::None) => Err(GameFault::Illegal { word, ply }),
+        Err(SanError::Several) => Err(GameFault::Ambiguous { word, ply }),
+    }
+}
+
+/// What the word says in the position, in a variation or not; or the fault of this ply.
+pub(crate) fn said_turn<'a>(
+    position: &GamePosition,
+    inside: bool,
+    word: &'a [u8],
+    ply: usize,
+) -> Result<LineMove, GameFault<'a>>
+    ensures { MatchResult result
+        (IsTurn inside position.now word.now)
+        (λ fault. (plies : ℕ) → ply ≡ plies + 1 → IfSome (fault_of fault) (IsRefusedTurn inside position.now plies word.now)) }
+{
+    if !is_null_move(inside, word) {
+        let m = named(position, word, ply)?;
+        return Ok(LineMove::Played(m));
+    }
+    if position.in_check() {
+        return Err(GameFault::Illegal { word, ply });
+    }
+    Ok(LineMove::Passed)
+}
