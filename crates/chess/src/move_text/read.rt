@@ -30,6 +30,7 @@ pub fn resolve<B: Board>(position: &Position<B>, text: &[u8]) -> Result<Move, Sa
 
 /// The only legal move that the text names: what `resolve` answers, as one fact of the answer. The most frequent forms are recognized by their
 /// length.
+#[inline(always)]
 pub(crate) fn only_named<B: Board>(position: &Position<B>, text: &[u8]) -> Result<Move, SanError>
     ensures { IsAnswer (IsNamed position.now text.now) result }
 {
@@ -54,7 +55,8 @@ pub(crate) fn only_named<B: Board>(position: &Position<B>, text: &[u8]) -> Resul
         }
         _ => {}
     }
-    named_read(position, text)
+    let m = named_read(position, text)?;
+    Ok(m)
 }
 
 /// The only legal move that the text names, of whatever form it is.
@@ -122,7 +124,8 @@ fn moved_by<B: Board>(
         return Err(SanError::None);
     };
     if candidates.has_some() {
-        return moved_among(position, said);
+        let m = moved_among(position, said)?;
+        return Ok(m);
     }
     let man = Man {
         side: position.side(),
