@@ -8,7 +8,7 @@ use Rattle.pgn_extract.specs.Blockwise.{GathersBlock, WritesBlock, BeginsBlock}
 use Rattle.pgn_extract.specs.Outcomes.{AppendsFront}
 use Rattle.pgn_extract.specs.RunParts.{WriteFaultsAre}
 use Rattle.pgn_extract.specs.Runs.{Passage}
-use Rattle.pgn_extract.specs.declared.report.Report.{Report}
+use Rattle.pgn_extract.specs.declared.engine.report.Report.{Report}
 use Rattle.pgn_extract.specs.Aims.{Aim}
 use Rattle.pgn_extract.proofs.Gathered.{gathers_begun}
 use Rattle.pgn_extract.proofs.Writing.{appends_none, appends_join}

@@ -6,7 +6,7 @@ use Rattle.pgn_text.specs.Marks.{MarkedPiece}
 use Rattle.pgn_extract.specs.Blockwise.{Reports, Gathers, Passes, AddsMark, Begins}
 use Rattle.pgn_extract.specs.Outcomes.{AppendsFront}
 use Rattle.pgn_extract.specs.Verdicts.{Verdict, AreVerdicts, output_of, fault_line_of, is_faulty}
-use Rattle.pgn_extract.specs.declared.report.Report.{Report}
+use Rattle.pgn_extract.specs.declared.engine.report.Report.{Report}
 use Rattle.pgn_extract.specs.Aims.{Aim}
 use Rattle.pgn_extract.proofs.Beginnings.{front_join}
 use Rattle.pgn_extract.proofs.VerdictFacts.{output_text-append, fault_lines-append, verdicts-append, joined}

@@ -14,7 +14,7 @@ use Rattle.pgn_extract.specs.Blockwise.{Gathers, GathersBlock, Passes, BeginsBlo
 use Rattle.pgn_extract.specs.Index.{mark_line}
 use Rattle.pgn_extract.specs.Outcomes.{AppendsFront}
 use Rattle.pgn_extract.specs.Verdicts.{Verdict, SoundGame, is_faulty, IsVerdict, IsVerdictIn}
-use Rattle.pgn_extract.specs.declared.report.Report.{Report}
+use Rattle.pgn_extract.specs.declared.engine.report.Report.{Report}
 use Rattle.pgn_extract.specs.declared.settings.Mode.TheVariants as modes
 use Rattle.pgn_extract.proofs.GameVerdict.{unreadable_there}
 use Rattle.pgn_extract.proofs.Gathered.{gathers_none, gathers_more, gathers_passed}

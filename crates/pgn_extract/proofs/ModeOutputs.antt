@@ -8,7 +8,7 @@ use Rattle.pgn_extract.specs.EntryRows.{AreGameEntries, sound, faulty, ArePieceE
 use Rattle.pgn_extract.specs.Exports.{IsGameExport, sound as exported, faulty as unexported, IsPieceExport, AreExports, faulty_text}
 use Rattle.pgn_extract.specs.Runs.{Job, Io, Adds, Completes, Indexes, Exports}
 use Rattle.pgn_extract.specs.Verdicts.{Verdict, SoundGame, FaultyGame, output_of, output_text, IsListed, IsExported, IsVerdictIn, IsPieceVerdict, AreVerdicts}
-use Rattle.pgn_extract.specs.declared.outcome.Summary.{Summary}
+use Rattle.pgn_extract.specs.declared.output.outcome.Summary.{Summary}
 use Rattle.pgn_extract.specs.Aims.{Aim}
 use Rattle.pgn_extract.specs.declared.settings.Mode.TheVariants as modes
 

@@ -17,7 +17,7 @@ use Rattle.pgn_game.proofs.PlainTokens.{AreDigits, decimal_digits}
 use Rattle.pgn_extract.specs.Blockwise.{NamesBlockStop}
 use Rattle.pgn_extract.specs.Notes.{IsNote, NamesByte, NamesStop, AreLines, indented}
 use Rattle.pgn_extract.specs.NoteTexts.{line_feeds, column_after, position_text, place_in, place_text, begin_in, begin_text, hex_digit, byte_text, stopper_text, context_text, stop_line, hints, IsStopNote, too_long_text}
-use Rattle.pgn_extract.specs.declared.notes.Origin.{Origin}
+use Rattle.pgn_extract.specs.declared.explain.notes.Origin.{Origin}
 use Rattle.pgn_extract.proofs.StopNotes.{stops_within}
 
 -- a note may say nothing

@@ -7,7 +7,7 @@ use Rattle.pgn_text.proofs.ResumedText.{resumed_pieces}
 use Rattle.pgn_extract.specs.Runs.{Job, Io, Completes, Resumes}
 use Rattle.pgn_extract.specs.Resuming.{IsMarkAmong, WritesRest, verdicts_at_least}
 use Rattle.pgn_extract.specs.Verdicts.{Verdict, AreVerdicts, IsSameReport}
-use Rattle.pgn_extract.specs.declared.outcome.Summary.{Summary}
+use Rattle.pgn_extract.specs.declared.output.outcome.Summary.{Summary}
 use Rattle.pgn_extract.specs.Aims.{Aim}
 use Rattle.pgn_extract.proofs.OneReport.{same_report}
 

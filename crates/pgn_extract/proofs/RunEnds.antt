@@ -7,9 +7,9 @@ use Rattle.pgn_text.proofs.ResumedText.{resumed_pieces}
 use Rattle.pgn_extract.specs.Blockwise.{Drops, DropsSome, EndsBlocks, BreaksOff}
 use Rattle.pgn_extract.specs.Listing.{AreEntries, listing, entries_at_least}
 use Rattle.pgn_extract.specs.Runs.{Job, Io, Adds, Completes, FaultsAre, IsRun, Lists, ListsRest}
-use Rattle.pgn_extract.specs.declared.outcome.RunError.{RunError}
-use Rattle.pgn_extract.specs.declared.outcome.RunError.TheVariants.{Read}
-use Rattle.pgn_extract.specs.declared.outcome.Summary.{Summary}
+use Rattle.pgn_extract.specs.declared.output.outcome.RunError.{RunError}
+use Rattle.pgn_extract.specs.declared.output.outcome.RunError.TheVariants.{Read}
+use Rattle.pgn_extract.specs.declared.output.outcome.Summary.{Summary}
 use Rattle.pgn_extract.specs.declared.settings.Mode.TheVariants as mode
 use Rattle.pgn_extract.proofs.ExactEntries.{are_entries}
 use Rattle.pgn_extract.proofs.ModeOutputs.{exports_of, indexes_of, of_pieces}

@@ -14,10 +14,10 @@ use Rattle.pgn_text.proofs.Joined.{reads_join, reads_none}
 use Rattle.pgn_text.proofs.OneBlocks.{empty_first}
 use Rattle.pgn_extract.specs.Blockwise.{WritesBlock, Begins, BeginsBlock, EndsBlocks, BeginsFirst, BreaksOff, StandsOver, run_error_of}
 use Rattle.pgn_extract.specs.Outcomes.{Writes}
-use Rattle.pgn_extract.specs.declared.outcome.RunError.{RunError}
-use Rattle.pgn_extract.specs.declared.outcome.RunError.TheVariants.{Write, OutOfMemory}
+use Rattle.pgn_extract.specs.declared.output.outcome.RunError.{RunError}
+use Rattle.pgn_extract.specs.declared.output.outcome.RunError.TheVariants.{Write, OutOfMemory}
 use Rattle.pgn_extract.specs.Verdicts.{Verdict, is_faulty}
-use Rattle.pgn_extract.specs.declared.outcome.Summary.{Summary}
+use Rattle.pgn_extract.specs.declared.output.outcome.Summary.{Summary}
 use Rattle.pgn_extract.specs.Aims.{Aim}
 use Rattle.pgn_extract.proofs.Beginnings.{says_kept, writes_more, begins_written, begins_more}
 use Rattle.pgn_extract.proofs.BlocksGiven.{Given, none_given, one_given, all_given, all_but_last, goes_on}

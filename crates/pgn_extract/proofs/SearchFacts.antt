@@ -17,7 +17,7 @@ use Rattle.pgn_extract.specs.Aims.{Aim}
 use Rattle.pgn_extract.specs.Outcomes.{AppendsFront}
 use Rattle.pgn_extract.specs.Searching.{AreRecordLines, IsOfNoGame, HasNoGame, BeginsWithRecords, Searches, ListsWhatWasPacked, IndexesWhatWasPacked, StopsAtBytes, StopsAtLimit, StopsAtRead, StopsWithin, StopsSearch, IsSearch}
 use Rattle.pgn_extract.specs.SearchSteps.{HasSearched, PutsRest, PutsSome, search_error_of}
-use Rattle.pgn_extract.specs.declared.searching.SearchError.{SearchError}
+use Rattle.pgn_extract.specs.declared.packed.searching.SearchError.{SearchError}
 use Rattle.pgn_extract.proofs.PackListed.{one_more_record, packed_listing, packed_index}
 
 -- what holds of the bytes that are read and those that are left holds of the whole

@@ -11,7 +11,7 @@ use Rattle.pgn_extract.proofs.Writing.{appends_join}
 use Rattle.pgn_extract.specs.Runs.{Completes, Io}
 use Rattle.pgn_extract.specs.Several.{AreKnown, AreOfPaths, AtPath, FileOf, IsOfPath, IsRead, IsRefused, NamesUnopened, NoFile, Order, Unknown, is_no_file}
 use Rattle.pgn_extract.specs.Verdicts.{fault_lines, output_text}
-use Rattle.pgn_extract.specs.declared.outcome.Summary.{Summary}
+use Rattle.pgn_extract.specs.declared.output.outcome.Summary.{Summary}
 
 -- what is written of one path more
 pub paths_more : (order : List ℕ → Order) (known : List ℕ → AtPath) (before : List (List ℕ)) (path output report own own_report : List ℕ)

@@ -9,9 +9,9 @@ use Rattle.pgn_text.specs.Marks.{AreMarkedPieces}
 use Rattle.pgn_extract.specs.Blockwise.{Drops, DropsSome, EndsBlocks, BeginsFirst, BreaksOff, StandsOver}
 use Rattle.pgn_extract.specs.Outcomes.{WritesComplete, BeginsAll}
 use Rattle.pgn_extract.specs.Runs.{Job, Io, Completes, Stops}
-use Rattle.pgn_extract.specs.declared.outcome.RunError.{RunError}
-use Rattle.pgn_extract.specs.declared.outcome.RunError.TheVariants.{Read, Write, OutOfMemory, InputTooLong}
-use Rattle.pgn_extract.specs.declared.outcome.Summary.{Summary}
+use Rattle.pgn_extract.specs.declared.output.outcome.RunError.{RunError}
+use Rattle.pgn_extract.specs.declared.output.outcome.RunError.TheVariants.{Read, Write, OutOfMemory, InputTooLong}
+use Rattle.pgn_extract.specs.declared.output.outcome.Summary.{Summary}
 use Rattle.pgn_extract.proofs.BegunAll.{begun_all}
 use Rattle.pgn_extract.proofs.Writing.{appends_none}
 

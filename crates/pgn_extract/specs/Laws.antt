@@ -14,8 +14,8 @@ use Rattle.pgn_extract.specs.Runs.{Io, job_of, ArePieces, Adds, IsRun}
 use Rattle.pgn_extract.specs.Searching.{IsSearch, PacksAll}
 use Rattle.pgn_extract.specs.Verdicts.{Verdict, AreVerdicts, IsSameReport, output_text, fault_lines, is_faulty}
 use Rattle.pgn_extract.specs.Aims.{Aim, aim_of}
-use Rattle.pgn_extract.specs.declared.outcome.Summary.{Summary}
-use Rattle.pgn_extract.specs.declared.searching.Searched.{Searched}
+use Rattle.pgn_extract.specs.declared.output.outcome.Summary.{Summary}
+use Rattle.pgn_extract.specs.declared.packed.searching.Searched.{Searched}
 use Rattle.pgn_extract.specs.declared.settings.Settings.{Settings}
 use Rattle.pgn_extract.specs.declared.settings.Form.TheVariants.{AsItStands}
 use Rattle.pgn_extract.specs.declared.settings.Mode.TheVariants as modes

@@ -6,7 +6,7 @@ use Rattle.pgn_text.specs.Stops.{IsErrorPosition}
 use Rattle.pgn_text.specs.declared.error.error_position.Within.{Within}
 use Rattle.pgn_text.specs.declared.error.error_position.Within.TheVariants.{Comment, TagName, TagValue, Tags, Variation, MainLine, Game}
 use Rattle.pgn_extract.specs.Notes.{indented}
-use Rattle.pgn_extract.specs.declared.notes.Origin.{Origin}
+use Rattle.pgn_extract.specs.declared.explain.notes.Origin.{Origin}
 
 -- how many line feeds the bytes have
 abbrev pub line_feeds : List ℕ → ℕ

@@ -1,10 +1,10 @@
 -- What the parts of a run do, over the words of its contract. No public contract cites these.
 use Rattle.std.specs.Prelude.{◌≡◌, ◌↔◌, ◌⊎◌, ℕ, true, List, Result, IsErrOf}
 use Rattle.pgn_extract.specs.Blockwise.{GathersBlock, Passes, WritesBlock, BeginsBlock, EndsBlocks, BreaksOff}
-use Rattle.pgn_extract.specs.declared.outcome.RunError.{RunError}
-use Rattle.pgn_extract.specs.declared.outcome.RunError.TheVariants.{Write}
-use Rattle.pgn_extract.specs.declared.outcome.Summary.{Summary}
-use Rattle.pgn_extract.specs.declared.report.Report.{Report}
+use Rattle.pgn_extract.specs.declared.output.outcome.RunError.{RunError}
+use Rattle.pgn_extract.specs.declared.output.outcome.RunError.TheVariants.{Write}
+use Rattle.pgn_extract.specs.declared.output.outcome.Summary.{Summary}
+use Rattle.pgn_extract.specs.declared.engine.report.Report.{Report}
 use Rattle.pgn_extract.specs.Outcomes.{AppendsFront}
 use Rattle.pgn_extract.specs.Runs.{Adds, Job, Io, Passage}
 use Rattle.pgn_extract.specs.Several.{AtPath, IsOfPath, Order}

@@ -11,9 +11,9 @@ use Rattle.pgn_extract.specs.Listing.{Entry, AreEntries, entries_at_least, listi
 use Rattle.pgn_extract.specs.Outcomes.{Writes, WritesComplete, BeginsAll}
 use Rattle.pgn_extract.specs.Resuming.{IsMarkAmong, WritesRest}
 use Rattle.pgn_extract.specs.Verdicts.{Verdict, is_faulty}
-use Rattle.pgn_extract.specs.declared.outcome.RunError.{RunError}
-use Rattle.pgn_extract.specs.declared.outcome.RunError.TheVariants.{Read, Write, OutOfMemory, InputTooLong}
-use Rattle.pgn_extract.specs.declared.outcome.Summary.{Summary}
+use Rattle.pgn_extract.specs.declared.output.outcome.RunError.{RunError}
+use Rattle.pgn_extract.specs.declared.output.outcome.RunError.TheVariants.{Read, Write, OutOfMemory, InputTooLong}
+use Rattle.pgn_extract.specs.declared.output.outcome.Summary.{Summary}
 use Rattle.pgn_extract.specs.declared.settings.Mode.TheVariants as mode
 use Rattle.pgn_extract.specs.declared.settings.Settings.{Settings}
 

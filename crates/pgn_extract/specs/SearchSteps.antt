@@ -10,8 +10,8 @@ use Rattle.pgn_game.specs.declared.pack.records.RecordsError.TheVariants as caus
 use Rattle.pgn_extract.specs.Aims.{Aim}
 use Rattle.pgn_extract.specs.Outcomes.{AppendsFront}
 use Rattle.pgn_extract.specs.Searching.{ArePackLines}
-use Rattle.pgn_extract.specs.declared.searching.SearchError.{SearchError}
-use Rattle.pgn_extract.specs.declared.searching.SearchError.TheVariants.{Read, Write, OutOfMemory, InputTooLong, BadPack}
+use Rattle.pgn_extract.specs.declared.packed.searching.SearchError.{SearchError}
+use Rattle.pgn_extract.specs.declared.packed.searching.SearchError.TheVariants.{Read, Write, OutOfMemory, InputTooLong, BadPack}
 
 -- these records are read, the last of them the one that is held; their lines are written in part, and the text has the rest of them
 pub record HasSearched (aim : Aim) (window : Window) (left left' out out' : Option (List ℕ)) (text : List ℕ) (count : ℕ) : Type 0 where

@@ -23,9 +23,9 @@ use Rattle.pgn_extract.specs.declared.settings.Select.TheVariants.{Matching}
 use Rattle.pgn_extract.specs.GameReports.{AreListed, IsReplayOf, IsFaultOf}
 use Rattle.pgn_extract.specs.Listing.{Entry, AreEntries, listing}
 use Rattle.pgn_extract.specs.Outcomes.{AppendsFront}
-use Rattle.pgn_extract.specs.declared.searching.SearchError.{SearchError}
-use Rattle.pgn_extract.specs.declared.searching.SearchError.TheVariants.{Read, Write, OutOfMemory, InputTooLong, BadPack}
-use Rattle.pgn_extract.specs.declared.searching.Searched.{Searched}
+use Rattle.pgn_extract.specs.declared.packed.searching.SearchError.{SearchError}
+use Rattle.pgn_extract.specs.declared.packed.searching.SearchError.TheVariants.{Read, Write, OutOfMemory, InputTooLong, BadPack}
+use Rattle.pgn_extract.specs.declared.packed.searching.Searched.{Searched}
 
 -- What was packed.
 

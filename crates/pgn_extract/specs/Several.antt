@@ -7,7 +7,7 @@ use Rattle.pgn_extract.specs.Aims.{aim_of}
 use Rattle.pgn_extract.specs.Index.{shown_byte}
 use Rattle.pgn_extract.specs.Runs.{Adds, Job, ArePieces, Passage, job_of}
 use Rattle.pgn_extract.specs.Verdicts.{Verdict, AreVerdicts, fault_lines, output_text}
-use Rattle.pgn_extract.specs.declared.files.Task.{Task}
+use Rattle.pgn_extract.specs.declared.app.files.Task.{Task}
 
 -- What stands at a path.
 

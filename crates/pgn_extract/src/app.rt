@@ -2,18 +2,29 @@
 ghost use Rattle.std.specs.Prelude.{◌≡◌, ◌≤◌, ◌^◌, false, true, OnErr};
 ghost use Rattle.pgn_extract.specs.Listing.{is_plain};
 
-use crate::command::{DEFAULT_WIDTH, Request, read_arguments};
-use crate::conditions::{is_one_line, push_lines};
-use crate::endings::{flush_rest, line_of, put_summary, report_bytes, report_failure, report_line};
-use crate::files::{Files, Task, Total, name_file, run_files, run_input};
-use crate::mark::{Mark, read_mark};
-use crate::messages;
-use crate::packs::{PackTask, search_packs};
-use crate::read_prefix::read_prefix;
-use crate::refusal_notes::{file_note, line_note};
+mod command;
+mod conditions;
+mod endings;
+pub(crate) mod files;
+mod mark;
+pub mod messages;
+mod packs;
+mod prefix;
+pub mod status;
+
+use crate::app::command::{DEFAULT_WIDTH, Request, read_arguments};
+use crate::app::conditions::{is_one_line, push_lines};
+use crate::app::endings::{
+    flush_rest, line_of, put_summary, report_bytes, report_failure, report_line,
+};
+use crate::app::files::{Files, Task, Total, name_file, run_files, run_input};
+use crate::app::mark::{Mark, read_mark};
+use crate::app::packs::{PackTask, search_packs};
+use crate::app::prefix::read_prefix;
+use crate::app::status::{FAILED, FAULTY, REFUSED, SOUND};
+use crate::explain::refusal_notes::{file_note, line_note};
+use crate::output::write_all::write_all;
 use crate::settings::{Fields, Form, Mode, Select, Settings};
-use crate::status::{FAILED, FAULTY, REFUSED, SOUND};
-use crate::write_all::write_all;
 use clap::Error;
 use clap::error::ErrorKind;
 use pgn_criteria::{Criteria, CriteriaError};

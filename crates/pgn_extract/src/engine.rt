@@ -5,13 +5,18 @@ ghost use Rattle.pgn_text.specs.Limits.{largest_offset};
 ghost use Rattle.pgn_extract.specs.RunParts.{Broken, Finished, WriteFaultsAre};
 ghost use Rattle.pgn_extract.specs.Runs.{FaultsAre, IsReady, IsRun, io_of, job_of, passage};
 
-use crate::notes::first_line;
-use crate::outcome::{RunError, Summary, of_read};
-use crate::piecewise::{Work, put_block};
-use crate::report::Report;
+mod exporting;
+mod piecewise;
+mod report;
+mod skip;
+
+use crate::engine::piecewise::{Work, put_block};
+use crate::engine::report::Report;
+use crate::engine::skip::{drop_first, skip_first};
+use crate::explain::notes::first_line;
+use crate::output::outcome::{RunError, Summary, of_read};
+use crate::output::write_all::finish;
 use crate::settings::{Mode, Settings};
-use crate::skip::{drop_first, skip_first};
-use crate::write_all::finish;
 use pgn_text::{Blocks, Skip, Tally};
 use std::alloc::Global;
 use std::io::{Read, Write};

@@ -5,9 +5,15 @@ ghost use Rattle.pgn_extract.specs.Aims.{aim_of};
 ghost use Rattle.pgn_extract.specs.Finding.{named_mark, AsksFor, AddsEntries, StopsAtFault, GoesOn};
 ghost use Rattle.pgn_extract.specs.Listing.{is_plain};
 
-use crate::kept::push_kept;
+pub(crate) mod choosing;
+mod kept;
+pub(crate) mod listing;
+pub(crate) mod showing;
+mod ten_lines;
+
+use crate::entries::kept::push_kept;
+use crate::output::texts::{MARK_ROOM, push_entry, push_named_mark};
 use crate::settings::Settings;
-use crate::texts::{MARK_ROOM, push_entry, push_named_mark};
 use pgn_criteria::{Criteria, Search};
 use pgn_game::{GameFault, MainLine};
 use pgn_text::RawGame;

@@ -15,10 +15,10 @@ ghost use Rattle.pgn_extract.specs.Searching.{ArePackLines, HasNoGame, IsIndexOf
 ghost use Rattle.pgn_extract.specs.Several.{IsReport, NamesUnopened};
 ghost use Rattle.pgn_extract.specs.Verdicts.{Verdict, AreVerdicts, IsSameReport, fault_lines, is_faulty, output_text};
 
+use crate::app::files::{Files, Task, run_files};
 use crate::engine::run;
-use crate::files::{Files, Task, run_files};
-use crate::outcome::{RunError, Summary};
-use crate::searching::{SearchError, Searched, search};
+use crate::output::outcome::{RunError, Summary};
+use crate::packed::searching::{SearchError, Searched, search};
 use crate::settings::{Mode, Settings};
 use pgn_text::Tally;
 use std::alloc::Global;

@@ -15,11 +15,16 @@ ghost use Rattle.pgn_criteria.specs.Sieves.{codes_in};
 ghost use Rattle.pgn_extract.specs.MarkedPacked.{StartsWith, AreMetWith};
 ghost use Rattle.pgn_extract.specs.Packed.{PutsRecord, LeavesRecord, EachOfRecord, HasNoText, record_aim, Grows, ShowsInitial, StartsThere, GoesOnSeen, ListsRecord};
 
-use crate::kept_packed::push_kept_record;
-use crate::listing::push_lines;
-use crate::record_lines::RecordLines;
+mod kept_packed;
+mod marked_packed;
+mod record_lines;
+pub(crate) mod searching;
+
+use crate::entries::listing::push_lines;
+use crate::output::texts::{MARK_ROOM, push_entry, push_mark};
+use crate::packed::kept_packed::push_kept_record;
+use crate::packed::record_lines::RecordLines;
 use crate::settings::{Mode, Settings};
-use crate::texts::{MARK_ROOM, push_entry, push_mark};
 use chess::{Bits, Board, Side};
 use pgn_criteria::{Criteria, MarkSet, Search, Seen, Walk};
 use pgn_game::pack::RawRecord;

@@ -2,7 +2,7 @@
 ghost use Rattle.std.specs.Prelude.{◌≡◌};
 ghost use Rattle.pgn_extract.specs.Listing.{is_plain};
 
-use crate::file_name::FileName;
+use crate::output::file_name::FileName;
 use pgn_criteria::Criteria;
 use pgn_game::{Notation, Style};
 

@@ -1,0 +1,10 @@
+use Rattle.std.proofs.lemmas.Option.{IfSome_then}
+use Rattle.pgn_game.specs.Replays.{fault_of}
+use Rattle.pgn_game.specs.declared.replays.replayer.Lines.TheVariants.{All}
+use Rattle.pgn_extract.proofs.Sought.{main_fault}
+use Rattle.pgn_extract.proofs.engine.exporting.first_fault.Goals as goal
+
+pub returns-in-Ok : goal.returns-in-Ok
+returns-in-Ok c =
+    let sound = c.in-Ok.ensures in
+    IfSome_then (fault_of c.args.fault) c.requires (λ fault met. absurd (main_fault c.args.game.now fault met sound.0 (All, sound.1)))

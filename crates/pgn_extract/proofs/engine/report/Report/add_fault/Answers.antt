@@ -1,0 +1,43 @@
+use Rattle.std.proofs.Common.{[], ◌++◌, refl, sym, ap, subst, ◌∙◌, append_assoc, arith}
+use Rattle.std.proofs.lemmas.List.{append-nil}
+use Rattle.std.proofs.lemmas.Result.{on_ok_weaker}
+use Rattle.pgn_extract.specs.Index.{fault_text}
+use Rattle.pgn_extract.specs.GameReports.{cause_text}
+use Rattle.pgn_extract.specs.Notes.{IsNote}
+use Rattle.pgn_extract.proofs.NoteLines.{empty_note}
+use Rattle.pgn_extract.proofs.engine.report.Report.add_fault.Goals as goal
+
+pub returns-then-not-settings : goal.returns-then-not-settings
+returns-then-not-settings c =
+    let of = c.in_ok-push_game_fault.ensures in
+    let line = fault_text c.args.context.settings.now.name c.args.context.own.number c.args.context.own.offset (cause_text of.0) in (
+      of.0,
+      [],
+      of.1,
+      empty_note c.args.context.settings.now.explain,
+      record {
+        output = sym (append-nil c.args.self.now.output.items);
+        faults = of.2 ∙ ap (λ t. c.args.self.now.faults.items ++ t) (sym (append-nil line));
+        games = omega arith;
+        faulty = refl;
+      },
+    )
+
+pub returns : goal.returns
+returns c =
+    let of = c.in_ok-push_game_fault.ensures in
+    let line = fault_text c.args.context.settings.now.name c.args.context.own.number c.args.context.own.offset (cause_text of.0) in
+    on_ok_weaker c.push_game_note.result
+    (λ note. (
+      of.0,
+      note.0,
+      of.1,
+      subst (λ b. IsNote b note.0) (sym c.if-not-settings.false) note.1,
+      record {
+        output = sym (append-nil c.args.self.now.output.items);
+        faults = note.2 ∙ ap (λ t. t ++ note.0) of.2 ∙ append_assoc c.args.self.now.faults.items line note.0;
+        games = omega arith;
+        faulty = refl;
+      },
+    ))
+    c.push_game_note.ensures

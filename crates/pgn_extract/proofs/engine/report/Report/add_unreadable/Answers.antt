@@ -1,0 +1,50 @@
+use Rattle.std.proofs.Common.{◌+◌, drop, [], ◌++◌, refl, sym, ap, ◌∙◌, append_assoc, codes, arith}
+use Rattle.std.proofs.lemmas.List.{append-nil}
+use Rattle.std.proofs.lemmas.Result.{on_ok_weaker}
+use Rattle.pgn_extract.specs.Exports.{faulty_text}
+use Rattle.pgn_extract.specs.Index.{fault_text}
+use Rattle.pgn_extract.specs.Verdicts.{FaultyGame}
+use Rattle.pgn_extract.specs.declared.explain.notes.Origin.{Origin}
+use Rattle.pgn_extract.proofs.NoteLines.{no_note, stop_note, names_stop}
+use Rattle.pgn_extract.proofs.RestOfBlock.{rest_taken}
+use Rattle.pgn_extract.proofs.engine.report.Report.add_unreadable.Goals as goal
+
+pub returns : goal.returns
+returns c =
+    let line = fault_text c.args.context.settings.now.name c.args.context.number (c.args.context.offset + c.args.at) (codes "unreadable") in
+    let text = faulty_text c.args.context.settings.now.mode c.args.context.settings.now.select (drop c.args.at c.args.context.bytes.now) in
+    let written = c.in_ok-push_faulty.ensures ∙ ap (λ bytes. c.args.self.now.output.items ++ faulty_text c.args.context.settings.now.mode c.args.context.settings.now.select bytes) (rest_taken c.args.at c.args.context.bytes.now) in
+    let origin : Origin = record { offset = c.args.context.offset; line = c.args.self.now.line } in
+    on_ok_weaker c.push_stop_note.result
+    (λ note. (
+      FaultyGame text line note.0,
+      (
+        note.0,
+        stop_note c.args.context.settings.now.explain c.if-not-settings.false origin c.args.context.bytes.now c.args.at note.0 note.1,
+        names_stop c.args.context.settings.now.explain origin c.args.context.bytes.now c.args.at note.0 c.requires.place note.1,
+        refl,
+      ),
+      record {
+        output = written;
+        faults = note.2 ∙ ap (λ t. t ++ note.0) c.in_ok-push_fault_line.ensures ∙ append_assoc c.args.self.now.faults.items line note.0;
+        games = omega arith;
+        faulty = refl;
+      },
+    ))
+    c.push_stop_note.ensures
+
+pub returns-then-not-settings : goal.returns-then-not-settings
+returns-then-not-settings c =
+    let line = fault_text c.args.context.settings.now.name c.args.context.number (c.args.context.offset + c.args.at) (codes "unreadable") in
+    let text = faulty_text c.args.context.settings.now.mode c.args.context.settings.now.select (drop c.args.at c.args.context.bytes.now) in
+    let written = c.in_ok-push_faulty.ensures ∙ ap (λ bytes. c.args.self.now.output.items ++ faulty_text c.args.context.settings.now.mode c.args.context.settings.now.select bytes) (rest_taken c.args.at c.args.context.bytes.now) in
+    let none = no_note c.args.context.settings.now.explain c.if-not-settings.true c.args.context.offset c.args.context.bytes.now c.args.at in (
+      FaultyGame text line [],
+      ([], none.0, none.1, refl),
+      record {
+        output = written;
+        faults = c.in_ok-push_fault_line.ensures ∙ ap (λ t. c.args.self.now.faults.items ++ t) (sym (append-nil line));
+        games = omega arith;
+        faulty = refl;
+      },
+    )

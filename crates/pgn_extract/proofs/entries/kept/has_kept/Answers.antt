@@ -1,0 +1,18 @@
+use Rattle.std.proofs.Common.{◌↔◌, IsTrue, sym, subst}
+use Rattle.pgn_game.specs.declared.replays.replayer.Lines.TheVariants.{Main}
+use Rattle.pgn_criteria.specs.Meeting.{heading_of}
+use Rattle.pgn_extract.specs.Aims.{aim_of}
+use Rattle.pgn_extract.specs.Exports.{HasEntry}
+use Rattle.pgn_extract.proofs.KeptFacts.{first_entry}
+use Rattle.pgn_extract.proofs.entries.kept.has_kept.Goals as goal
+
+pub returns : goal.returns
+returns c =
+    let kept = c.in_ok-replayed.replayed in
+    let is = c.in_ok-replayed.ensures in
+    let game = c.args.game.now in
+    let aim = aim_of c.args.settings.now in (
+      (kept, is),
+      λ replay own. subst (λ r. IsTrue r ↔ HasEntry aim (heading_of game) replay) (sym c.is_some.ensures)
+          (first_entry aim game kept replay (Main, is) own c.args.criteria.now c.requires.criteria c.first.result c.first.ensures),
+    )

@@ -1,5 +1,0 @@
-use Rattle.pgn_extract.specs.MoveNotes.{KeepsLine}
-use Rattle.pgn_extract.proofs.move_notes.push_shown.Given as goal
-
-abbrev pub invariant-loop-byte : goal.invariant-loop-byte
-invariant-loop-byte l = KeepsLine l.fn.line.items l.line.items

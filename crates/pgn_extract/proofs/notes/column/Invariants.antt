@@ -1,6 +1,0 @@
-use Rattle.std.proofs.Common.{◌≡◌, ◌+◌, ◌≤◌, take}
-use Rattle.pgn_extract.specs.NoteTexts.{column_after}
-use Rattle.pgn_extract.proofs.notes.column.Given as goal
-
-abbrev pub invariant-loop-byte : goal.invariant-loop-byte
-invariant-loop-byte l = record { counted : l.column ≡ column_after (take l.byte-index l.front); fits : l.column ≤ l.byte-index + 1 }

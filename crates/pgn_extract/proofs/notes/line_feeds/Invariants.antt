@@ -1,6 +1,0 @@
-use Rattle.std.proofs.Common.{◌≡◌, ◌≤◌, take}
-use Rattle.pgn_extract.specs.NoteTexts.{line_feeds}
-use Rattle.pgn_extract.proofs.notes.line_feeds.Given as goal
-
-abbrev pub invariant-loop-byte : goal.invariant-loop-byte
-invariant-loop-byte l = record { counted : l.count ≡ line_feeds (take l.byte-index l.bytes); fits : l.count ≤ l.byte-index }

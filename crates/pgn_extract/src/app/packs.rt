@@ -1,0 +1,184 @@
+//! The packs of the command line, searched one after another.
+ghost use Rattle.std.specs.Prelude.{◌≡◌, false, true, IfSome, OnOk};
+ghost use Rattle.pgn_extract.specs.Aims.{aim_of};
+ghost use Rattle.pgn_extract.specs.Listing.{is_plain};
+ghost use Rattle.pgn_extract.specs.Searching.{IndexesWhatWasPacked, ListsWhatWasPacked};
+
+use crate::app::endings::{flush_rest, line_of, report_bytes, report_line};
+use crate::app::files::{Files, Total, put_unopened};
+use crate::app::status::FAILED;
+use crate::app::{end_runs, messages};
+use crate::output::file_name::FileName;
+use crate::output::outcome::{RunError, Summary};
+use crate::output::texts::push_number;
+use crate::packed::searching::{SearchError, search};
+use crate::settings::Settings;
+use pgn_text::Tally;
+use std::alloc::{AllocError, Global};
+use std::io::{Read, Write};
+
+/// The packs that are searched, and what is looked for in them.
+#[derive(Drop)]
+pub struct PackTask<'a> {
+    /// The memory that it takes.
+    pub alloc: Global,
+    /// What is looked for.
+    pub settings: Settings,
+    /// The paths of the packs; none for standard input.
+    pub paths: &'a [&'a str],
+    /// Whether a summary is asked for.
+    pub summary: bool,
+    /// Whether the place of a bad record is.
+    pub explain: bool,
+}
+
+/// Why the search of packs ended early.
+#[derive(Clone, Copy)]
+enum PackFailure<'a> {
+    /// The search of the pack with this name did.
+    Search(&'a str, SearchError),
+    /// What goes to standard error did.
+    Report(RunError),
+}
+
+/// Searches the pack that the input gives.
+fn search_input<'a, I: Read, O: Write>(
+    task: &PackTask<'_>,
+    name: &'a str,
+    input: I,
+    out: &mut Tally<O>,
+) -> Result<Summary, PackFailure<'a>>
+where
+    I: Drop,
+    requires sound { out.old.faulted ≡ false }
+    requires plain { is_plain task.now.settings.fields ≡ true }
+    ensures listed { OnOk result (IfSome (I.remaining input)
+        (λ whole. ListsWhatWasPacked (aim_of task.now.settings) whole (O.contents out.old.inner) (O.contents out.new.inner))) }
+    ensures indexed { OnOk result (IfSome (I.remaining input)
+        (λ whole. IndexesWhatWasPacked (aim_of task.now.settings) whole (O.contents out.old.inner) (O.contents out.new.inner))) }
+    ensures sound { OnOk result (out.new.faulted ≡ false) }
+{
+    let mut input = Tally::new(input);
+    match search(task.alloc, &mut input, out, &task.settings) {
+        Ok(searched) => Ok(Summary {
+            games: searched.records,
+            faulty: 0,
+        }),
+        Err(error) => Err(PackFailure::Search(name, error)),
+    }
+}
+
+/// Searches the pack at the path. One that cannot be opened is named.
+fn search_path<'a, F: Files, O: Write, E: Write>(
+    task: &PackTask<'_>,
+    files: &mut F,
+    path: &'a str,
+    out: &mut Tally<O>,
+    err: &mut Tally<E>,
+) -> Result<Option<Summary>, PackFailure<'a>>
+where
+    F::Input: Drop,
+    requires sound { (out.old.faulted ≡ false) × (err.old.faulted ≡ false) }
+    requires plain { is_plain task.now.settings.fields ≡ true }
+    ensures sound { OnOk result ((out.new.faulted ≡ false) × (err.new.faulted ≡ false)) }
+{
+    match files.open(path) {
+        Ok(input) => match search_input(task, path, input, out) {
+            Ok(own) => Ok(Some(own)),
+            Err(failure) => Err(failure),
+        },
+        Err(error) => match put_unopened(task.alloc, err, path, &error) {
+            Ok(()) => Ok(None),
+            Err(error) => Err(PackFailure::Report(error)),
+        },
+    }
+}
+
+/// Searches the packs in their order. One that cannot be opened is named, and the others are searched.
+fn search_paths<'a, F: Files, O: Write, E: Write>(
+    task: &PackTask<'a>,
+    files: &mut F,
+    out: &mut Tally<O>,
+    err: &mut Tally<E>,
+) -> Result<Total, PackFailure<'a>>
+where
+    F::Input: Drop,
+    requires sound { (out.old.faulted ≡ false) × (err.old.faulted ≡ false) }
+    requires plain { is_plain task.now.settings.fields ≡ true }
+    ensures sound { OnOk result ((out.new.faulted ≡ false) × (err.new.faulted ≡ false)) }
+{
+    let mut total = Total::NONE;
+    for path in task.paths {
+        match search_path(task, files, path, out, err) {
+            Ok(own) => total.add(own),
+            Err(failure) => return Err(failure),
+        }
+    }
+    Ok(total)
+}
+
+/// Searches the packs that are asked for, and answers the status.
+pub fn search_packs<F: Files, O: Write, E: Write>(
+    task: &PackTask<'_>,
+    files: &mut F,
+    out: &mut Tally<O>,
+    err: &mut Tally<E>,
+) -> u8
+where
+    F::Input: Drop,
+    requires sound { (out.old.faulted ≡ false) × (err.old.faulted ≡ false) }
+    requires plain { is_plain task.now.settings.fields ≡ true }
+{
+    let ended = if task.paths.is_empty() {
+        search_input(task, messages::STANDARD_INPUT, files.standard(), out).map(Total::of)
+    } else {
+        search_paths(task, files, out, err)
+    };
+    match ended {
+        Ok(total) => end_runs(task.alloc, err, task.summary, &total),
+        Err(failure) => {
+            flush_rest(out);
+            report_pack(task, err, &failure);
+            FAILED
+        }
+    }
+}
+
+/// Reports why the search of packs failed. A fault in that is ignored.
+fn report_pack<E: Write>(task: &PackTask<'_>, err: &mut Tally<E>, failure: &PackFailure<'_>) {
+    match failure {
+        PackFailure::Search(name, SearchError::BadPack(at)) => {
+            match bad_pack(task.alloc, name, *at, task.explain) {
+                Ok(note) => report_bytes(err, &note),
+                Err(AllocError) => report_line(err, messages::OUT_OF_MEMORY),
+            }
+        }
+        PackFailure::Search(_, error) => report_line(err, line_of_search(*error)),
+        PackFailure::Report(error) => report_line(err, line_of(*error)),
+    }
+}
+
+/// The line that reports a search that failed.
+fn line_of_search(error: SearchError) -> &'static str {
+    match error {
+        SearchError::Read => messages::READ_FAILED,
+        SearchError::Write => messages::WRITE_FAILED,
+        SearchError::OutOfMemory => messages::OUT_OF_MEMORY,
+        SearchError::InputTooLong => messages::INPUT_TOO_LONG,
+        SearchError::BadPack(_) => messages::BAD_PACK,
+    }
+}
+
+/// The line of a pack in which something is the record of no game, and below it, where that is to be explained, after how many bytes.
+fn bad_pack(alloc: Global, name: &str, at: u64, explain: bool) -> Result<Vec<u8>, AllocError> {
+    let name = FileName::of_path(alloc, name)?;
+    let mut note = Vec::from_slice(alloc, messages::BAD_PACK.as_bytes())?;
+    note.extend_from_slice(name.bytes())?;
+    note.push(b'\n')?;
+    if explain {
+        note.extend_from_slice(b"  at byte ")?;
+        push_number(&mut note, at as usize)?;
+        note.extend_from_slice(b" is no record of a game\n")?;
+    }
+    Ok(note)
+}

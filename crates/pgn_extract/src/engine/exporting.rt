@@ -1,0 +1,337 @@
+//! Which games are exported, and how.
+ghost use Rattle.std.specs.Prelude.{◌≡◌, ◌↔◌, ◌++◌, ℕ, List, MatchResult, IfErr, IfSome, OnOk, IsTrue, option_map};
+ghost use Rattle.pgn_text.specs.GameTexts.{GameText, tag_in};
+ghost use Rattle.pgn_game.specs.Exports.{lines_with};
+ghost use Rattle.pgn_game.specs.Faults.{IsFault};
+ghost use Rattle.pgn_game.specs.GameLines.{IsGameLine};
+ghost use Rattle.pgn_game.specs.Replays.{IsSoundGame, Replay, fault_of};
+ghost use Rattle.pgn_game.specs.Starts.{fen_tag};
+ghost use Rattle.pgn_game.specs.declared.replays.replayer.Lines.TheVariants.{Main};
+ghost use Rattle.pgn_extract.specs.Aims.{aim_of};
+ghost use Rattle.pgn_extract.specs.Blockwise.{AddsText, IsGameSelected, LeavesText, PutsText, TakesAll};
+ghost use Rattle.pgn_extract.specs.Exports.{HasEntry, as_it_stands, faulty_text, line_with, written_lines};
+ghost use Rattle.pgn_extract.specs.Finding.{IsChosen, StopsAtFault};
+ghost use Rattle.pgn_criteria.specs.Meeting.{heading_of};
+ghost use Rattle.pgn_extract.specs.declared.settings.Form.TheVariants.{AsItStands, Line, Record};
+
+use crate::entries::GameContext;
+use crate::entries::choosing::has_entry;
+use crate::output::texts::push_named_mark;
+use crate::settings::{Form, Mode, Select, Settings};
+use pgn_game::pack::{GameOrigin, push_record};
+use pgn_game::{
+    GameFault, Lines, Notation, Style, check_lines, check_variations, export_played, push_line,
+};
+use pgn_text::RawGame;
+use std::alloc::{AllocError, Global};
+
+/// The lines of a game that are written in the style.
+fn lines_with(style: &Style) -> Lines
+    ensures { result ≡ lines_with style.now.variations }
+{
+    if style.variations {
+        Lines::All
+    } else {
+        Lines::Main
+    }
+}
+
+/// Which lines of a game must be sound: all that are written.
+pub fn written_lines(settings: &Settings) -> Lines
+    ensures { result ≡ written_lines (aim_of settings.now) }
+{
+    match settings.form {
+        Form::Standard | Form::AsItStands => lines_with(&settings.style),
+        Form::Line(_) | Form::Record => Lines::Main,
+    }
+}
+
+/// Appends bytes as they stand, and two line feeds.
+fn push_as_is(text: &mut Vec<u8>, bytes: &[u8]) -> Result<(), AllocError>
+    ensures { OnOk result (text.new.items ≡ text.old.items ++ as_it_stands bytes.now) }
+{
+    text.extend_from_slice(bytes)?;
+    text.extend_from_slice(b"\n\n")
+}
+
+/// Appends what is written of a faulty piece with these bytes: they, where the export selects the faulty ones.
+pub fn push_faulty(
+    text: &mut Vec<u8>,
+    mode: Mode,
+    select: Select,
+    bytes: &[u8],
+) -> Result<(), AllocError>
+    ensures { OnOk result (text.new.items ≡ text.old.items ++ faulty_text mode select bytes.now) }
+{
+    match mode {
+        Mode::Index | Mode::List => Ok(()),
+        Mode::Export => match select {
+            Select::Matching | Select::Others => Ok(()),
+            Select::Faulty => push_as_is(text, bytes),
+        },
+    }
+}
+
+/// Whether a sound game is selected that has an entry or has none.
+fn is_selected(settings: &Settings, has: bool) -> bool
+    ensures { (game : GameText) (replay : Replay) → (IsTrue has ↔ HasEntry (aim_of settings.now) (heading_of game) replay)
+        → IsTrue result ↔ IsGameSelected (aim_of settings.now) game replay }
+{
+    match settings.select {
+        Select::Matching => has,
+        Select::Others => !has,
+        Select::Faulty => false,
+    }
+}
+
+/// Whether each sound game is written, whatever its moves: ply 0 is looked for, and nothing else is asked.
+pub fn takes_all(settings: &Settings) -> bool
+    ensures { IsTrue result → TakesAll (aim_of settings.now) }
+{
+    settings.criteria.is_none() && settings.min_ply == 0 && settings.select == Select::Matching
+}
+
+/// The first fault of the lines that are written of a game whose main line has this fault.
+fn first_fault<'a>(
+    alloc: Global,
+    settings: &Settings,
+    game: &RawGame<'a>,
+    fault: GameFault<'a>,
+) -> GameFault<'a>
+    requires { IfSome (fault_of fault) (IsFault Main (tag_in fen_tag game.now.tags) game.now.elements) }
+    ensures { IfSome (fault_of result) (IsFault (written_lines (aim_of settings.now)) (tag_in fen_tag game.now.tags) game.now.elements) }
+{
+    match written_lines(settings) {
+        Lines::Main => fault,
+        Lines::All => match check_lines(alloc, game, Lines::All) {
+            Ok(()) => fault,
+            Err(first) => first,
+        },
+    }
+}
+
+/// Whether the lines that are written are sound, of a game whose main line is; or their first fault.
+fn check_written<'a>(
+    alloc: Global,
+    settings: &Settings,
+    game: &RawGame<'a>,
+) -> Result<(), GameFault<'a>>
+    requires { IsSoundGame Main (tag_in fen_tag game.now.tags) game.now.elements }
+    ensures { MatchResult result
+        (λ _. IsSoundGame (written_lines (aim_of settings.now)) (tag_in fen_tag game.now.tags) game.now.elements)
+        (λ fault. IfSome (fault_of fault) (IsFault (written_lines (aim_of settings.now)) (tag_in fen_tag game.now.tags) game.now.elements)) }
+{
+    match written_lines(settings) {
+        Lines::Main => Ok(()),
+        Lines::All => check_variations(alloc, game),
+    }
+}
+
+/// Appends the line of a game, with its moves in this notation; where its main line is faulty or memory is refused, some bytes of it.
+fn push_game_line<'a>(
+    text: &mut Vec<u8>,
+    context: GameContext<'_>,
+    notation: Notation,
+    game: &RawGame<'a>,
+) -> Result<(), GameFault<'a>>
+    ensures text { OnOk result ((line : List ℕ) × IsGameLine notation (tag_in fen_tag game.now.tags) game.now.elements line
+        × (text.new.items ≡ text.old.items ++ line_with context.entry.settings.now.name context.entry.own.number context.entry.own.offset line)) }
+    ensures fault { IfErr result (λ fault. IfSome (fault_of fault) (StopsAtFault game.now text.old.items text.new.items)) }
+{
+    let GameContext {
+        alloc,
+        settings,
+        own,
+    } = context;
+    push_named_mark(text, &settings.name, own.number, own.offset)?;
+    text.extend_from_slice(b" ")?;
+    push_line(alloc, game, notation, text)?;
+    text.extend_from_slice(b"\n")?;
+    Ok(())
+}
+
+/// Appends the line of a game, with its moves in this notation; or answers the fault of its main line, and nothing is appended.
+fn put_game_line<'a>(
+    text: &mut Vec<u8>,
+    context: GameContext<'_>,
+    notation: Notation,
+    game: &RawGame<'a>,
+) -> Result<(), GameFault<'a>>
+    requires { context.settings.now.form ≡ Line notation }
+    ensures { MatchResult result
+        (λ _. PutsText (aim_of context.entry.settings.now) context.entry.own.number context.entry.own.offset game.now text.old.items text.new.items)
+        (λ fault. IfSome (fault_of fault) (LeavesText (aim_of context.entry.settings.now) game.now text.old.items text.new.items)) }
+{
+    let length = text.len();
+    match push_game_line(text, context, notation, game) {
+        Ok(()) => Ok(()),
+        Err(fault) => {
+            text.truncate(length);
+            Err(fault)
+        }
+    }
+}
+
+/// The name that lines begin with, if they have one.
+fn shown_name(settings: &Settings) -> Option<&[u8]>
+    ensures { option_map (λ name. name.now) result ≡ settings.now.name }
+{
+    match &settings.name {
+        Some(name) => Some(name.bytes()),
+        None => None,
+    }
+}
+
+/// Appends the record of a game; or answers the fault of its main line, and nothing is appended.
+fn put_game_record<'a>(
+    text: &mut Vec<u8>,
+    context: GameContext<'_>,
+    game: &RawGame<'a>,
+) -> Result<(), GameFault<'a>>
+    requires { context.settings.now.form ≡ Record }
+    ensures { MatchResult result
+        (λ _. PutsText (aim_of context.entry.settings.now) context.entry.own.number context.entry.own.offset game.now text.old.items text.new.items)
+        (λ fault. IfSome (fault_of fault) (LeavesText (aim_of context.entry.settings.now) game.now text.old.items text.new.items)) }
+{
+    let GameContext {
+        alloc,
+        settings,
+        own,
+    } = context;
+    let origin = GameOrigin {
+        name: shown_name(settings),
+        number: own.number,
+        offset: own.offset,
+    };
+    push_record(alloc, &origin, game, text)
+}
+
+/// Appends a game as it stands, if the lines that are written are sound; or answers their first fault.
+fn put_as_is<'a>(
+    alloc: Global,
+    text: &mut Vec<u8>,
+    settings: &Settings,
+    game: &RawGame<'a>,
+) -> Result<(), GameFault<'a>>
+    ensures { MatchResult result
+        (λ _. IsSoundGame (written_lines (aim_of settings.now)) (tag_in fen_tag game.now.tags) game.now.elements
+        × (text.new.items ≡ text.old.items ++ as_it_stands game.now.text))
+        (λ fault. IfSome (fault_of fault) (LeavesText (aim_of settings.now) game.now text.old.items text.new.items)) }
+{
+    match check_lines(alloc, game, written_lines(settings)) {
+        Ok(()) => {
+            push_as_is(text, game.text())?;
+            Ok(())
+        }
+        Err(fault) => Err(fault),
+    }
+}
+
+/// Appends the text of a game, played while it is written: its export, its line, its record, or the game as it stands. Where one of the lines that are
+/// written is faulty, the first fault is answered, and nothing is appended.
+fn put_text<'a>(
+    text: &mut Vec<u8>,
+    context: GameContext<'_>,
+    game: &RawGame<'a>,
+) -> Result<(), GameFault<'a>>
+    ensures { MatchResult result
+        (λ _. PutsText (aim_of context.entry.settings.now) context.entry.own.number context.entry.own.offset game.now text.old.items text.new.items)
+        (λ fault. IfSome (fault_of fault) (LeavesText (aim_of context.entry.settings.now) game.now text.old.items text.new.items)) }
+{
+    let GameContext {
+        alloc,
+        settings,
+        ..
+    } = context;
+    match settings.form {
+        Form::Standard => export_played(alloc, game, &settings.style, text),
+        Form::AsItStands => put_as_is(alloc, text, settings, game),
+        Form::Line(notation) => put_game_line(text, context, notation, game),
+        Form::Record => put_game_record(text, context, game),
+    }
+}
+
+/// Whether games are written as they stand.
+fn is_as_it_stands(settings: &Settings) -> bool
+    ensures { IsTrue result ↔ settings.now.form ≡ AsItStands }
+{
+    match settings.form {
+        Form::AsItStands => true,
+        Form::Standard | Form::Line(_) | Form::Record => false,
+    }
+}
+
+/// Appends the text of a game whose main line is sound and has an entry or none, if it is selected; or answers the first fault of the
+/// lines that are written.
+fn put_chosen<'a>(
+    text: &mut Vec<u8>,
+    context: GameContext<'_>,
+    game: &RawGame<'a>,
+    has: bool,
+) -> Result<(), GameFault<'a>>
+    requires { IsChosen (aim_of context.settings.now) game.now has }
+    ensures { MatchResult result
+        (λ _. AddsText (aim_of context.entry.settings.now) context.entry.own.number context.entry.own.offset game.now text.old.items text.new.items)
+        (λ fault. IfSome (fault_of fault) (LeavesText (aim_of context.entry.settings.now) game.now text.old.items text.new.items)) }
+{
+    let GameContext {
+        alloc,
+        settings,
+        ..
+    } = context;
+    if !is_selected(settings, has) {
+        return check_written(alloc, settings, game);
+    }
+    if is_as_it_stands(settings) {
+        check_written(alloc, settings, game)?;
+        push_as_is(text, game.text())?;
+        return Ok(());
+    }
+    put_text(text, context, game)
+}
+
+/// Appends the text of a game, if the lines that are written are sound and it is selected by its entries; or answers their first fault.
+fn put_by_entry<'a>(
+    text: &mut Vec<u8>,
+    context: GameContext<'a>,
+    game: &RawGame<'a>,
+) -> Result<(), GameFault<'a>>
+    ensures { MatchResult result
+        (λ _. AddsText (aim_of context.entry.settings.now) context.entry.own.number context.entry.own.offset game.now text.old.items text.new.items)
+        (λ fault. IfSome (fault_of fault) (LeavesText (aim_of context.entry.settings.now) game.now text.old.items text.new.items)) }
+{
+    let GameContext {
+        alloc,
+        settings,
+        ..
+    } = context;
+    match has_entry(alloc, settings, game) {
+        Ok(has) => put_chosen(text, context, game, has),
+        Err(fault) => Err(first_fault(alloc, settings, game, fault)),
+    }
+}
+
+/// Appends the text of a game, if the lines that are written are sound and it is selected: its export, its line, its record, or the game as it stands.
+/// Where one of these lines is faulty, the first fault is answered, and nothing is appended.
+pub fn put_selected<'a>(
+    text: &mut Vec<u8>,
+    context: GameContext<'a>,
+    game: &RawGame<'a>,
+) -> Result<(), GameFault<'a>>
+    ensures { MatchResult result
+        (λ _. AddsText (aim_of context.entry.settings.now) context.entry.own.number context.entry.own.offset game.now text.old.items text.new.items)
+        (λ fault. IfSome (fault_of fault) (LeavesText (aim_of context.entry.settings.now) game.now text.old.items text.new.items)) }
+{
+    let GameContext {
+        alloc,
+        settings,
+        ..
+    } = context;
+    if takes_all(settings) {
+        return put_text(text, context, game);
+    }
+    match settings.select {
+        Select::Faulty => check_lines(alloc, game, written_lines(settings)),
+        Select::Matching | Select::Others => put_by_entry(text, context, game),
+    }
+}

@@ -1,0 +1,238 @@
+//! The pieces of one block, reported in turn: what is gathered is written once it is large, and at the block's end.
+ghost use Rattle.std.specs.Prelude.{◌≡◌, ◌⊎◌, ℕ, ◌^◌, ◌≤◌, false, List, length, IfOk, IfErr, OnOk, OnErr};
+ghost use Rattle.pgn_text.specs.Limits.{block_limit, largest_offset};
+ghost use Rattle.pgn_text.specs.Windows.{Shows};
+ghost use Rattle.pgn_extract.specs.Blockwise.{IsShown};
+ghost use Rattle.pgn_extract.specs.RunParts.{AddsFront, BeginsPieces, GathersPieces, PassesOn, WriteFaultsAre, WritesPieces};
+ghost use Rattle.pgn_extract.specs.Runs.{Adds, job_at, passage};
+ghost use Rattle.pgn_extract.specs.declared.settings.Mode.TheVariants.{Index};
+
+use crate::engine::report::{BlockContext, Report, add_mark, report_too_long};
+use crate::explain::notes::line_after;
+use crate::output::outcome::{RunError, Summary};
+use crate::output::write_all::write_all;
+use crate::settings::{Mode, Settings};
+use pgn_text::{Block, Body, Tally, games, marks};
+use std::alloc::Global;
+use std::io::Write;
+
+/// A block whose pieces are to be reported.
+#[derive(Clone, Copy)]
+pub struct Work<'a> {
+    /// The memory that they take.
+    pub alloc: Global,
+    /// What is to be reported of them.
+    pub settings: &'a Settings,
+    /// The number of the first one.
+    pub number: u64,
+    /// The block.
+    pub block: Block<'a>,
+}
+
+impl<'a> Work<'a> {
+    /// A block whose first piece has the number.
+    pub fn new(alloc: Global, settings: &'a Settings, number: u64, block: Block<'a>) -> Self
+        ensures settings { result.settings ≡ settings.entry }
+        ensures number { result.number ≡ number }
+        ensures block { result.block ≡ block.entry }
+    {
+        Work {
+            alloc,
+            settings,
+            number,
+            block,
+        }
+    }
+}
+
+/// Writes a report, its output first.
+#[inline(always)]
+fn put_report<O: Write, E: Write>(
+    out: &mut Tally<O>,
+    err: &mut Tally<E>,
+    report: &Report,
+) -> Result<(), RunError>
+    requires sound { (out.old.faulted ≡ false) × (err.old.faulted ≡ false) }
+    ensures ok { OnOk result (Adds (passage O.contents out.old out.new) report.now.output.items
+        × Adds (passage E.contents err.old err.new) report.now.faults.items) }
+    ensures err { OnErr result (AddsFront (passage O.contents out.old out.new) report.now.output.items
+        × AddsFront (passage E.contents err.old err.new) report.now.faults.items) }
+    ensures only { IfErr result (λ error. error ≡ RunError.Write) }
+    ensures faults { WriteFaultsAre result (passage O.contents out.old out.new) (passage E.contents err.old err.new) }
+{
+    write_all(out, &report.output)?;
+    write_all(err, &report.faults)
+}
+
+/// Writes the texts of a report, and makes them empty; it counts on.
+#[cold]
+fn put_texts<O: Write, E: Write>(
+    out: &mut Tally<O>,
+    err: &mut Tally<E>,
+    report: &mut Report,
+) -> Result<(), RunError>
+    requires sound { (out.old.faulted ≡ false) × (err.old.faulted ≡ false) }
+    ensures ok { OnOk result (PassesOn report.old report.new (passage O.contents out.old out.new) (passage E.contents err.old err.new)) }
+    ensures err { OnErr result (AddsFront (passage O.contents out.old out.new) report.old.output.items
+        × AddsFront (passage E.contents err.old err.new) report.old.faults.items) }
+    ensures only { IfErr result (λ error. error ≡ RunError.Write) }
+    ensures faults { WriteFaultsAre result (passage O.contents out.old out.new) (passage E.contents err.old err.new) }
+{
+    put_report(out, err, report)?;
+    report.clear_texts();
+    Ok(())
+}
+
+/// Does so if they are large.
+#[inline(always)]
+fn put_large<O: Write, E: Write>(
+    out: &mut Tally<O>,
+    err: &mut Tally<E>,
+    report: &mut Report,
+) -> Result<(), RunError>
+    requires sound { (out.old.faulted ≡ false) × (err.old.faulted ≡ false) }
+    ensures ok { OnOk result (PassesOn report.old report.new (passage O.contents out.old out.new) (passage E.contents err.old err.new)) }
+    ensures err { OnErr result (AddsFront (passage O.contents out.old out.new) report.old.output.items
+        × AddsFront (passage E.contents err.old err.new) report.old.faults.items) }
+    ensures only { IfErr result (λ error. error ≡ RunError.Write) }
+    ensures faults { WriteFaultsAre result (passage O.contents out.old out.new) (passage E.contents err.old err.new) }
+{
+    if report.is_large() {
+        put_texts(out, err, report)
+    } else {
+        Ok(())
+    }
+}
+
+/// Reports the index of the bytes of a block.
+fn report_marks<'a, O: Write, E: Write>(
+    out: &mut Tally<O>,
+    err: &mut Tally<E>,
+    report: &mut Report,
+    work: Work<'a>,
+    bytes: &'a [u8],
+) -> Result<(), RunError>
+    requires sound { (out.old.faulted ≡ false) × (err.old.faulted ≡ false) }
+    requires mode { work.settings.now.mode ≡ Index }
+    requires number { work.number ≤ 2 ^ 63 }
+    requires offset { work.block.offset ≤ largest_offset }
+    requires size { length bytes.now ≤ block_limit }
+    ensures done { OnOk result (GathersPieces (job_at work.entry.settings.now work.entry.number work.entry.block.offset) report.new
+        (passage O.contents out.old out.new) (passage E.contents err.old err.new) bytes.now) }
+    ensures stopped { OnErr result (BeginsPieces (job_at work.entry.settings.now work.entry.number work.entry.block.offset)
+        (passage O.contents out.old out.new) (passage E.contents err.old err.new) bytes.now) }
+    ensures only { IfErr result (λ error. (error ≡ RunError.Write) ⊎ (error ≡ RunError.OutOfMemory)) }
+    ensures faults { WriteFaultsAre result (passage O.contents out.old out.new) (passage E.contents err.old err.new) }
+{
+    let offset = work.block.offset;
+    report.clear();
+    for mark in marks(bytes, offset == 0) {
+        let context = BlockContext {
+            alloc: work.alloc,
+            settings: work.settings,
+            number: work.number + report.games,
+            offset,
+            bytes,
+        };
+        add_mark(report, context, mark)?;
+        put_large(out, err, report)?;
+    }
+    Ok(())
+}
+
+/// Reports on the games among the bytes of a block.
+fn report_games<'a, O: Write, E: Write>(
+    out: &mut Tally<O>,
+    err: &mut Tally<E>,
+    report: &mut Report,
+    work: Work<'a>,
+    bytes: &'a [u8],
+) -> Result<(), RunError>
+    requires sound { (out.old.faulted ≡ false) × (err.old.faulted ≡ false) }
+    requires number { work.number ≤ 2 ^ 63 }
+    requires offset { work.block.offset ≤ largest_offset }
+    requires size { length bytes.now ≤ block_limit }
+    ensures done { OnOk result (GathersPieces (job_at work.entry.settings.now work.entry.number work.entry.block.offset) report.new
+        (passage O.contents out.old out.new) (passage E.contents err.old err.new) bytes.now) }
+    ensures stopped { OnErr result (BeginsPieces (job_at work.entry.settings.now work.entry.number work.entry.block.offset)
+        (passage O.contents out.old out.new) (passage E.contents err.old err.new) bytes.now) }
+    ensures only { IfErr result (λ error. (error ≡ RunError.Write) ⊎ (error ≡ RunError.OutOfMemory)) }
+    ensures faults { WriteFaultsAre result (passage O.contents out.old out.new) (passage E.contents err.old err.new) }
+{
+    let offset = work.block.offset;
+    report.clear();
+    for piece in games(work.alloc, bytes, offset == 0) {
+        let piece = piece?;
+        let context = BlockContext {
+            alloc: work.alloc,
+            settings: work.settings,
+            number: work.number + report.games,
+            offset,
+            bytes,
+        };
+        report.add_piece(context, &piece)?;
+        put_large(out, err, report)?;
+    }
+    Ok(())
+}
+
+/// Reports on a block: the report has what is not yet written of it, and nothing else.
+fn report_block<'a, O: Write, E: Write>(
+    out: &mut Tally<O>,
+    err: &mut Tally<E>,
+    report: &mut Report,
+    work: Work<'a>,
+) -> Result<(), RunError>
+    requires sound { (out.old.faulted ≡ false) × (err.old.faulted ≡ false) }
+    requires number { work.number ≤ 2 ^ 63 }
+    requires offset { work.block.offset ≤ largest_offset }
+    requires size { IsShown block_limit work.block.body }
+    ensures done { OnOk result ((bytes : List ℕ) → Shows block_limit work.entry.block.body bytes
+        → GathersPieces (job_at work.entry.settings.now work.entry.number work.entry.block.offset) report.new (passage O.contents out.old out.new) (passage E.contents err.old err.new) bytes) }
+    ensures stopped { OnErr result ((bytes : List ℕ) → Shows block_limit work.entry.block.body bytes
+        → BeginsPieces (job_at work.entry.settings.now work.entry.number work.entry.block.offset) (passage O.contents out.old out.new) (passage E.contents err.old err.new) bytes) }
+    ensures only { IfErr result (λ error. (error ≡ RunError.Write) ⊎ (error ≡ RunError.OutOfMemory)) }
+    ensures faults { WriteFaultsAre result (passage O.contents out.old out.new) (passage E.contents err.old err.new) }
+{
+    let Block { offset, body } = work.block;
+    match body {
+        Body::Bytes(bytes) => match work.settings.mode {
+            Mode::Index => report_marks(out, err, report, work, bytes),
+            Mode::List | Mode::Export => report_games(out, err, report, work, bytes),
+        },
+        Body::TooLong(size) => Ok(report_too_long(
+            report,
+            work.settings,
+            work.number,
+            offset,
+            size,
+        )?),
+    }
+}
+
+/// Writes what is reported of the pieces of one block, which is gathered in the report.
+pub fn put_block<'a, O: Write, E: Write>(
+    out: &mut Tally<O>,
+    err: &mut Tally<E>,
+    report: &mut Report,
+    work: Work<'a>,
+) -> Result<Summary, RunError>
+    requires sound { (out.old.faulted ≡ false) × (err.old.faulted ≡ false) }
+    requires number { work.number ≤ 2 ^ 63 }
+    requires offset { work.block.offset ≤ largest_offset }
+    requires size { IsShown block_limit work.block.body }
+    ensures done { IfOk result (λ summary. (bytes : List ℕ) → Shows block_limit work.entry.block.body bytes
+        → WritesPieces (job_at work.entry.settings.now work.entry.number work.entry.block.offset) (passage O.contents out.old out.new) (passage E.contents err.old err.new) bytes summary) }
+    ensures stopped { OnErr result ((bytes : List ℕ) → Shows block_limit work.entry.block.body bytes
+        → BeginsPieces (job_at work.entry.settings.now work.entry.number work.entry.block.offset) (passage O.contents out.old out.new) (passage E.contents err.old err.new) bytes) }
+    ensures only { IfErr result (λ error. (error ≡ RunError.Write) ⊎ (error ≡ RunError.OutOfMemory)) }
+    ensures faults { WriteFaultsAre result (passage O.contents out.old out.new) (passage E.contents err.old err.new) }
+{
+    report_block(out, err, report, work)?;
+    put_report(out, err, report)?;
+    report.line = line_after(report.line, work.block);
+    Ok(Summary {
+        games: report.games,
+        faulty: report.faulty,
+    })
+}

@@ -1,0 +1,410 @@
+//! What is reported of the pieces of one block, piece by piece.
+ghost use Rattle.std.specs.Prelude.{◌≡◌, ℕ, List, None, Some, true, MatchResult, IfSome, ◌+◌, ◌^◌, ◌<◌, ◌≤◌, [], ◌∷◌, length, codes, OnOk};
+ghost use Rattle.pgn_text.specs.Left.{piece_place};
+ghost use Rattle.pgn_text.specs.LeftMarks.{mark_place};
+ghost use Rattle.pgn_extract.specs.Aims.{aim_of};
+ghost use Rattle.pgn_extract.specs.Blockwise.{Reports, AddsVerdict, AddsGame, AddsListed, AddsExported, AddsPiece, IsBlockVerdict, IsMarkVerdict, too_long_piece};
+ghost use Rattle.pgn_extract.specs.Finding.{AddsEntries, StopsAtFault};
+ghost use Rattle.pgn_extract.specs.Index.{fault_text};
+ghost use Rattle.pgn_extract.specs.Listing.{is_plain};
+ghost use Rattle.pgn_extract.specs.GameReports.{cause_text};
+ghost use Rattle.pgn_extract.specs.Notes.{IsNote};
+ghost use Rattle.pgn_extract.specs.Verdicts.{Verdict, FaultyGame};
+ghost use Rattle.pgn_game.specs.Faults.{Fault};
+ghost use Rattle.pgn_game.specs.Replays.{fault_of};
+
+use crate::engine::exporting::{push_faulty, put_selected, written_lines};
+use crate::entries::listing::push_plies;
+use crate::entries::showing::push_shown;
+use crate::entries::{GameContext, GameMark, push_found};
+use crate::explain::move_notes::{Site, push_game_note};
+use crate::explain::notes::{Origin, Spot, push_stop_note, push_too_long_note};
+use crate::output::texts::{push_fault_line, push_game_fault, push_mark_line};
+use crate::settings::{Mode, Settings};
+use pgn_game::{GameFault, Lines, count_plies};
+use pgn_text::{Piece, PieceStart, RawGame};
+use std::alloc::{AllocError, Global};
+
+/// So many bytes of both texts together are large: a report that has them is written before its block ends.
+const LARGE: usize = 1 << 20;
+
+/// What is reported of pieces in a row, and their counts. One is made for a run, and filled anew for each block.
+#[derive(Drop)]
+pub struct Report {
+    /// What goes to the output.
+    pub output: Vec<u8>,
+    /// What goes to standard error.
+    pub faults: Vec<u8>,
+    /// How many pieces there are.
+    pub games: u64,
+    /// How many of them are faulty.
+    pub faulty: u64,
+    /// The line on which the pieces begin, counted from 1, where it is known.
+    pub line: Option<u32>,
+    /// The place of the block up to which lines are counted.
+    spot: Spot,
+}
+
+impl Report {
+    /// The report on no pieces, which begin on this line.
+    pub fn new(alloc: Global, line: Option<u32>) -> Self
+        ensures output { result.output.items ≡ [] }
+        ensures faults { result.faults.items ≡ [] }
+        ensures counts { (result.games ≡ 0) × (result.faulty ≡ 0) }
+    {
+        Report {
+            output: Vec::new(alloc),
+            faults: Vec::new(alloc),
+            games: 0,
+            faulty: 0,
+            line,
+            spot: Spot::first(),
+        }
+    }
+
+    /// Makes it the report on no pieces; the room that it has stays.
+    pub fn clear(&mut self)
+        ensures output { self.new.output.items ≡ [] }
+        ensures faults { self.new.faults.items ≡ [] }
+        ensures counts { (self.new.games ≡ 0) × (self.new.faulty ≡ 0) }
+    {
+        self.output.clear();
+        self.faults.clear();
+        self.games = 0;
+        self.faulty = 0;
+        self.spot = Spot::first();
+    }
+
+    /// Whether its texts are so long that they are better written before more is added.
+    pub fn is_large(&self) -> bool {
+        self.output.len() + self.faults.len() >= LARGE
+    }
+
+    /// Makes its texts empty; the counts stay, and so does the room.
+    pub fn clear_texts(&mut self)
+        ensures output { self.new.output.items ≡ [] }
+        ensures faults { self.new.faults.items ≡ [] }
+        ensures counts { (self.new.games ≡ self.old.games) × (self.new.faulty ≡ self.old.faulty) }
+    {
+        self.output.clear();
+        self.faults.clear();
+    }
+}
+
+/// The lines of a game that are replayed.
+fn replayed_lines(settings: &Settings) -> Lines {
+    match settings.mode {
+        Mode::Index | Mode::List => Lines::Main,
+        Mode::Export => written_lines(settings),
+    }
+}
+
+/// Adds the lines of the entries of a game, or answers its fault.
+fn push_entries<'a>(
+    text: &mut Vec<u8>,
+    context: GameContext<'a>,
+    game: &RawGame<'a>,
+) -> Result<(), GameFault<'a>>
+    ensures { MatchResult result
+        (λ _. AddsEntries (aim_of context.entry.settings.now) context.entry.own.number context.entry.own.offset game.now text.old.items text.new.items)
+        (λ fault. IfSome (fault_of fault) (StopsAtFault game.now text.old.items text.new.items)) }
+{
+    if context.settings.fields.is_empty()
+        && let Some(criteria) = &context.settings.criteria
+    {
+        return push_found(text, context, criteria, game);
+    }
+    push_shown(text, context, game)
+}
+
+/// The bytes of a block, and what is to be reported of a piece of it.
+#[derive(Clone, Copy)]
+pub struct BlockContext<'a> {
+    /// The memory that it takes.
+    pub alloc: Global,
+    /// What is asked.
+    pub settings: &'a Settings,
+    /// The number of the piece.
+    pub number: u64,
+    /// The offset of the first of the bytes.
+    pub offset: u64,
+    /// The bytes.
+    pub bytes: &'a [u8],
+}
+
+impl Report {
+    /// Adds the line of a game that can't be replayed.
+    fn add_fault<'a>(
+        &mut self,
+        context: GameContext<'a>,
+        site: Site<'a>,
+        game: &RawGame<'a>,
+        fault: GameFault<'_>,
+    ) -> Result<(), AllocError>
+        requires faulty { self.old.faulty + 1 < 2 ^ 64 }
+        requires room { site.origin.offset + length site.block.now < 2 ^ 64 }
+        ensures { OnOk result ((own : Fault) × (note : List ℕ) × (fault_of fault.entry ≡ Some own) × IsNote context.entry.settings.now.explain note
+            × AddsVerdict self.old self.new (FaultyGame [] (fault_text context.entry.settings.now.name context.entry.own.number context.entry.own.offset (cause_text own)) note) 0) }
+    {
+        let GameContext {
+            alloc,
+            settings,
+            own,
+        } = context;
+        push_game_fault(
+            &mut self.faults,
+            &settings.name,
+            own.number,
+            own.offset,
+            fault,
+        )?;
+        self.faulty += 1;
+        if !settings.explain {
+            return Ok(());
+        }
+        self.spot = self.spot.go_on(site.block, game.at().min(site.block.len()));
+        let site = Site {
+            spot: self.spot,
+            ..site
+        };
+        let lines = replayed_lines(settings);
+        push_game_note(alloc, &mut self.faults, site, game, lines)
+    }
+
+    /// Adds what the listing reports of a game whose positions are asked: the lines of its entries, or of its fault.
+    fn add_entries<'a>(
+        &mut self,
+        context: GameContext<'a>,
+        site: Site<'a>,
+        game: &RawGame<'a>,
+    ) -> Result<(), AllocError>
+        requires faulty { self.old.faulty + 1 < 2 ^ 64 }
+        requires room { site.origin.offset + length site.block.now < 2 ^ 64 }
+        ensures { OnOk result (AddsListed (aim_of context.entry.settings.now) self.old self.new context.entry.own.number context.entry.own.offset game.now) }
+    {
+        let length = self.output.len();
+        match push_entries(&mut self.output, context, game) {
+            Ok(()) => Ok(()),
+            Err(fault) => {
+                self.output.truncate(length);
+                self.add_fault(context, site, game, fault)
+            }
+        }
+    }
+
+    /// Adds what the listing reports of a game where neither criteria nor fields are given: the lines of its plies within the bounds, or of its fault.
+    fn add_plies<'a>(
+        &mut self,
+        context: GameContext<'a>,
+        site: Site<'a>,
+        game: &RawGame<'a>,
+    ) -> Result<(), AllocError>
+        requires faulty { self.old.faulty + 1 < 2 ^ 64 }
+        requires room { site.origin.offset + length site.block.now < 2 ^ 64 }
+        requires criteria { context.settings.now.criteria ≡ None }
+        requires plain { is_plain context.settings.now.fields ≡ true }
+        ensures { OnOk result (AddsListed (aim_of context.entry.settings.now) self.old self.new context.entry.own.number context.entry.own.offset game.now) }
+    {
+        match count_plies(context.alloc, game) {
+            Ok(plies) => push_plies(&mut self.output, context, plies),
+            Err(fault) => self.add_fault(context, site, game, fault),
+        }
+    }
+
+    /// Adds what the listing reports of a game: the lines of its entries, or of its fault.
+    fn add_listed<'a>(
+        &mut self,
+        context: GameContext<'a>,
+        site: Site<'a>,
+        game: &RawGame<'a>,
+    ) -> Result<(), AllocError>
+        requires faulty { self.old.faulty + 1 < 2 ^ 64 }
+        requires room { site.origin.offset + length site.block.now < 2 ^ 64 }
+        ensures { OnOk result (AddsListed (aim_of context.entry.settings.now) self.old self.new context.entry.own.number context.entry.own.offset game.now) }
+    {
+        if context.settings.fields.is_empty() && context.settings.criteria.is_none() {
+            return self.add_plies(context, site, game);
+        }
+        self.add_entries(context, site, game)
+    }
+
+    /// Adds what the export reports of a game: its text where it is selected, or the line of its fault.
+    fn add_exported<'a>(
+        &mut self,
+        context: GameContext<'a>,
+        site: Site<'a>,
+        game: &RawGame<'a>,
+    ) -> Result<(), AllocError>
+        requires faulty { self.old.faulty + 1 < 2 ^ 64 }
+        requires room { site.origin.offset + length site.block.now < 2 ^ 64 }
+        ensures { OnOk result (AddsExported (aim_of context.entry.settings.now) self.old self.new context.entry.own.number context.entry.own.offset game.now) }
+    {
+        game.invariant();
+        match put_selected(&mut self.output, context, game) {
+            Ok(()) => Ok(()),
+            Err(fault) => {
+                let text = game.text();
+                let select = context.settings.select;
+                push_faulty(&mut self.output, Mode::Export, select, text)?;
+                self.add_fault(context, site, game, fault)
+            }
+        }
+    }
+
+    /// Adds what is reported of a game.
+    fn add_game<'a>(
+        &mut self,
+        context: GameContext<'a>,
+        site: Site<'a>,
+        game: &RawGame<'a>,
+    ) -> Result<(), AllocError>
+        requires faulty { self.old.faulty + 1 < 2 ^ 64 }
+        requires room { site.origin.offset + length site.block.now < 2 ^ 64 }
+        ensures { OnOk result (AddsGame (aim_of context.entry.settings.now) self.old self.new context.entry.own.number context.entry.own.offset game.now) }
+    {
+        let GameContext { settings, own, .. } = context;
+        match settings.mode {
+            Mode::Index => {
+                push_mark_line(&mut self.output, &settings.name, own.number, own.offset)
+            }
+            Mode::List => self.add_listed(context, site, game),
+            Mode::Export => self.add_exported(context, site, game),
+        }
+    }
+
+    /// Adds the line of bytes at the place of the block that are no game, and the bytes themselves where they are selected.
+    #[cold]
+    fn add_unreadable(&mut self, context: BlockContext<'_>, at: usize) -> Result<(), AllocError>
+        requires place { at ≤ length context.bytes.now }
+        requires room { context.offset + length context.bytes.now < 2 ^ 64 }
+        requires faulty { self.old.faulty + 1 < 2 ^ 64 }
+        ensures { OnOk result ((verdict : Verdict) × IsBlockVerdict (aim_of context.entry.settings.now) context.entry.number context.entry.offset context.entry.bytes.now at verdict
+            × AddsVerdict self.old self.new verdict 0) }
+    {
+        let BlockContext {
+            settings,
+            number,
+            offset,
+            bytes,
+            ..
+        } = context;
+        push_faulty(
+            &mut self.output,
+            settings.mode,
+            settings.select,
+            &bytes[at..],
+        )?;
+        push_fault_line(
+            &mut self.faults,
+            &settings.name,
+            number,
+            offset + at as u64,
+            b"unreadable",
+        )?;
+        self.faulty += 1;
+        if !settings.explain {
+            return Ok(());
+        }
+        let origin = Origin {
+            offset,
+            line: self.line,
+        };
+        push_stop_note(&mut self.faults, origin, bytes, at)
+    }
+
+    /// Adds what is reported of one piece of the block.
+    pub fn add_piece<'a>(
+        &mut self,
+        context: BlockContext<'a>,
+        piece: &Piece<'a>,
+    ) -> Result<(), AllocError>
+        requires place { piece_place piece.now ≤ length context.bytes.now }
+        requires room { context.offset + length context.bytes.now < 2 ^ 64 }
+        requires counts { (self.old.games + 1 < 2 ^ 64) × (self.old.faulty + 1 < 2 ^ 64) }
+        ensures { OnOk result (AddsPiece (aim_of context.entry.settings.now) self.old self.new context.entry.number context.entry.offset context.entry.bytes.now piece.now) }
+    {
+        self.games += 1;
+        let BlockContext {
+            alloc,
+            settings,
+            number,
+            offset,
+            bytes,
+        } = context;
+        match piece {
+            Piece::Game(game) => {
+                let offset_of_game = offset + game.at() as u64;
+                let own = GameMark {
+                    number,
+                    offset: offset_of_game,
+                };
+                let origin = Origin {
+                    offset,
+                    line: self.line,
+                };
+                let site = Site {
+                    origin,
+                    block: bytes,
+                    spot: self.spot,
+                };
+                let context = GameContext {
+                    alloc,
+                    settings,
+                    own,
+                };
+                self.add_game(context, site, game)
+            }
+            Piece::Unreadable { at } => self.add_unreadable(context, *at),
+        }
+    }
+}
+
+/// Reports on a block of this size, over the limit.
+pub fn report_too_long(
+    report: &mut Report,
+    settings: &Settings,
+    number: u64,
+    offset: u64,
+    size: u64,
+) -> Result<(), AllocError>
+    ensures { OnOk result (Reports (aim_of settings.now) report.new number (too_long_piece offset ∷ [])) }
+{
+    report.clear();
+    push_fault_line(
+        &mut report.faults,
+        &settings.name,
+        number,
+        offset,
+        b"too long",
+    )?;
+    report.games = 1;
+    report.faulty = 1;
+    if !settings.explain {
+        return Ok(());
+    }
+    push_too_long_note(&mut report.faults, size)
+}
+
+/// Adds what the index has of one piece of the block.
+pub fn add_mark(
+    index: &mut Report,
+    context: BlockContext<'_>,
+    mark: PieceStart,
+) -> Result<(), AllocError>
+    requires place { mark_place mark ≤ length context.bytes.now }
+    requires room { context.offset + length context.bytes.now < 2 ^ 64 }
+    requires counts { (index.old.games + 1 < 2 ^ 64) × (index.old.faulty + 1 < 2 ^ 64) }
+    ensures { OnOk result ((verdict : Verdict) × IsMarkVerdict (aim_of context.entry.settings.now) context.entry.number context.entry.offset context.entry.bytes.now mark verdict
+        × AddsVerdict index.old index.new verdict 1) }
+{
+    index.games += 1;
+    match mark {
+        PieceStart::Game(at) => push_mark_line(
+            &mut index.output,
+            &context.settings.name,
+            context.number,
+            context.offset + at as u64,
+        ),
+        PieceStart::Unreadable(at) => index.add_unreadable(context, at),
+    }
+}

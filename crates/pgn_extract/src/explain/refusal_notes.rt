@@ -1,0 +1,123 @@
+//! What `--explain` adds to a refusal before the run: the line of criteria and its place, or the name of a file and the system's reason.
+ghost use Rattle.std.specs.Prelude.{◌≡◌, ◌++◌, ℕ, List, OnOk};
+
+use crate::output::file_name::{FileName, shown_byte_of};
+use crate::output::texts::push_number;
+use memchr::memchr;
+use pgn_criteria::complaint_of;
+use std::alloc::{AllocError, Global};
+use std::io;
+
+/// The most bytes of a line that are shown before the place, and from it on.
+const BEFORE: usize = 60;
+
+const FROM: usize = 19;
+
+/// Appends the system's reason for an error.
+pub fn push_reason(alloc: Global, text: &mut Vec<u8>, error: &io::Error) -> Result<(), AllocError>
+    ensures { OnOk result ((reason : List ℕ) × (text.new.items ≡ text.old.items ++ reason)) }
+{
+    let reason = match format!(in alloc; "{error}") {
+        Ok(reason) => reason,
+        Err(_) => return Err(AllocError),
+    };
+    let (reason, _) = reason
+        .as_str()
+        .split_once(" (os error ")
+        .unwrap_or((reason.as_str(), ""));
+    text.extend_from_slice(reason.as_bytes())
+}
+
+/// A refusal of a file, and below it the name of the file and the system's reason.
+pub fn file_note(
+    alloc: Global,
+    refusal: &str,
+    path: &str,
+    error: &io::Error,
+) -> Result<Vec<u8>, AllocError> {
+    let name = FileName::of_path(alloc, path)?;
+    let mut note = Vec::from_slice(alloc, refusal.as_bytes())?;
+    note.extend_from_slice(b"  ")?;
+    note.extend_from_slice(name.bytes())?;
+    note.extend_from_slice(b": ")?;
+    push_reason(alloc, &mut note, error)?;
+    note.push(b'\n')?;
+    Ok(note)
+}
+
+/// Appends the line that refuses a line of criteria.
+fn push_refusal(note: &mut Vec<u8>, number: usize) -> Result<(), AllocError> {
+    note.extend_from_slice(b"pgn-extract: criteria line ")?;
+    push_number(note, number)?;
+    note.push(b'\n')?;
+    Ok(())
+}
+
+/// What follows the first line of a text.
+fn after_line(text: &[u8]) -> &[u8] {
+    match memchr(b'\n', text) {
+        Some(end) => &text[end + 1..],
+        None => b"".as_slice(),
+    }
+}
+
+/// The first line of a text, without its end.
+fn first_line(text: &[u8]) -> &[u8] {
+    let line = match memchr(b'\n', text) {
+        Some(end) => &text[..end],
+        None => text,
+    };
+    match line {
+        [before @ .., b'\r'] => before,
+        _ => line,
+    }
+}
+
+/// The line of the text with this number, counted from 1.
+fn line_at(text: &[u8], number: usize) -> &[u8] {
+    let mut rest = text;
+    for _ in 1..number {
+        rest = after_line(rest);
+    }
+    first_line(rest)
+}
+
+/// Appends bytes as lines show them.
+fn push_shown(note: &mut Vec<u8>, bytes: &[u8]) -> Result<(), AllocError> {
+    for &byte in bytes {
+        note.push(shown_byte_of(byte))?;
+    }
+    Ok(())
+}
+
+/// Appends a blank for each character of UTF-8 that begins among the bytes.
+fn push_blanks(note: &mut Vec<u8>, bytes: &[u8]) -> Result<(), AllocError> {
+    for byte in bytes {
+        if !(0x80..0xC0).contains(byte) {
+            note.push(b' ')?;
+        }
+    }
+    Ok(())
+}
+
+/// The refusal of the line of criteria with this number, and below it the line, a mark where it stops being of the language, and what is
+/// expected there.
+pub fn line_note(alloc: Global, text: &[u8], number: usize) -> Result<Vec<u8>, AllocError> {
+    let line = line_at(text, number);
+    let complaint = complaint_of(line);
+    let at = complaint.at.min(line.len());
+    let (before, rest) = line.split_at(at);
+    let before = &before[before.len().saturating_sub(BEFORE)..];
+    let rest = &rest[..rest.len().min(FROM)];
+    let mut note = Vec::new(alloc);
+    push_refusal(&mut note, number)?;
+    note.extend_from_slice(b"  ")?;
+    push_shown(&mut note, before)?;
+    push_shown(&mut note, rest)?;
+    note.extend_from_slice(b"\n  ")?;
+    push_blanks(&mut note, before)?;
+    note.extend_from_slice(b"^ ")?;
+    note.extend_from_slice(complaint.expected.as_bytes())?;
+    note.push(b'\n')?;
+    Ok(note)
+}

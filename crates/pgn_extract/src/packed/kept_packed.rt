@@ -1,0 +1,123 @@
+//! The entries of a packed game whose criteria speak of its moves or of several plies: its line is replayed and kept, and then looked through.
+ghost use Rattle.std.specs.Prelude.{◌≡◌, true, Some, OnOk, IfOk, IfErr};
+ghost use Rattle.pgn_text.specs.GameTexts.{tag_in};
+ghost use Rattle.pgn_game.specs.Starts.{fen_tag};
+ghost use Rattle.pgn_game.specs.PackReading.{IsRawOfGame};
+ghost use Rattle.pgn_extract.specs.Aims.{aim_of};
+ghost use Rattle.pgn_extract.specs.Finding.{named_mark};
+ghost use Rattle.pgn_extract.specs.KeptPacked.{IsStartOf, IsKeptOf};
+ghost use Rattle.pgn_extract.specs.Listing.{is_plain};
+ghost use Rattle.pgn_extract.specs.Packed.{EachOfRecord, HasNoText, ListsRecord};
+
+use crate::output::texts::MARK_ROOM;
+use crate::packed::record_lines::RecordLines;
+use crate::packed::{PackedFault, push_record_mark, start_fault};
+use crate::settings::Settings;
+use pgn_criteria::Criteria;
+use pgn_game::pack::{CodesError, RawRecord, replay_codes};
+use pgn_game::{GamePosition, Replayed, given_position};
+use pgn_text::is_contents;
+use std::alloc::{AllocError, Global};
+
+/// Replays the line of the record from the position.
+fn replay_from(
+    alloc: Global,
+    raw: &RawRecord<'_>,
+    start: GamePosition,
+) -> Result<Replayed, PackedFault>
+    requires { IsStartOf raw.now start }
+    ensures ok { IfOk result (IsKeptOf raw.now) }
+    ensures err { IfErr result (λ fault. fault ≡ PackedFault.NoGame → HasNoText raw.now) }
+{
+    match replay_codes(alloc, start, raw.plies()) {
+        Ok(replayed) => Ok(replayed),
+        Err(CodesError::NoLine) => Err(PackedFault::NoGame),
+        Err(CodesError::OutOfMemory) => Err(PackedFault::OutOfMemory),
+    }
+}
+
+/// Replays the line of the record from the position that the contents of its FEN tag spell.
+fn replay_given(
+    alloc: Global,
+    raw: &RawRecord<'_>,
+    contents: &[u8],
+) -> Result<Replayed, PackedFault>
+    requires { EachOfRecord raw.now (λ game replay packed. tag_in fen_tag game.tags ≡ Some contents.now) }
+    ensures ok { IfOk result (IsKeptOf raw.now) }
+    ensures err { IfErr result (λ fault. fault ≡ PackedFault.NoGame → HasNoText raw.now) }
+{
+    if !is_contents(contents) {
+        return Err(PackedFault::NoGame);
+    }
+    match given_position(alloc, contents) {
+        Ok(start) => replay_from(alloc, raw, start),
+        Err(fault) => Err(start_fault(fault)),
+    }
+}
+
+/// Replays the line of the record from where its game starts.
+fn replay_record(alloc: Global, raw: &RawRecord<'_>) -> Result<Replayed, PackedFault>
+    ensures ok { IfOk result (IsKeptOf raw.now) }
+    ensures err { IfErr result (λ fault. fault ≡ PackedFault.NoGame → HasNoText raw.now) }
+{
+    match raw.tag(b"FEN") {
+        Some(contents) => replay_given(alloc, raw, contents),
+        None => replay_from(alloc, raw, GamePosition::start()),
+    }
+}
+
+impl<'s, 'r, 'a> RecordLines<'s, 'r, 'a> {
+    /// Adds the lines of the entries of the game, whose line is replayed.
+    fn push_kept(
+        &self,
+        alloc: Global,
+        text: &mut Vec<u8>,
+        criteria: &'a Criteria,
+        replayed: &Replayed,
+    ) -> Result<(), AllocError>
+        requires plain { is_plain self.now.settings.now.fields ≡ true }
+        requires criteria { self.now.settings.now.criteria ≡ Some criteria.now }
+        requires shows { IsRawOfGame self.now.raw.now }
+        requires kept { IsKeptOf self.now.raw.now replayed.now }
+        requires marked { self.now.mark.items ≡ named_mark self.now.raw.now.name self.now.raw.now.number self.now.raw.now.offset }
+        ensures { OnOk result (ListsRecord (aim_of self.now.settings.now) self.now.raw.now text.old.items text.new.items) }
+    {
+        let met = criteria.met_packed(alloc, self.raw, replayed)?;
+        let mut is_open = true;
+        let mut ply = 0;
+        while ply < met.len() {
+            is_open = self.ask(text, ply, met[ply], is_open)?;
+            ply += 1;
+        }
+        Ok(())
+    }
+}
+
+/// Adds the lines of the entries of a packed game by criteria. The positions of its line are kept meanwhile.
+pub fn push_kept_record<'a>(
+    text: &mut Vec<u8>,
+    alloc: Global,
+    settings: &'a Settings,
+    criteria: &'a Criteria,
+    raw: &RawRecord<'a>,
+) -> Result<(), PackedFault>
+    requires plain { is_plain settings.now.fields ≡ true }
+    requires criteria { settings.now.criteria ≡ Some criteria.now }
+    requires shows { IsRawOfGame raw.now }
+    ensures ok { OnOk result (ListsRecord (aim_of settings.now) raw.now text.old.items text.new.items) }
+    ensures err { IfErr result (λ fault. fault ≡ PackedFault.NoGame → (text.new.items ≡ text.old.items) × HasNoText raw.now) }
+{
+    let replayed = match replay_record(alloc, raw) {
+        Ok(replayed) => replayed,
+        Err(fault) => return Err(fault),
+    };
+    let mut mark = Vec::with_capacity(alloc, MARK_ROOM)?;
+    push_record_mark(&mut mark, raw)?;
+    let lines = RecordLines {
+        settings,
+        raw,
+        mark,
+    };
+    lines.push_kept(alloc, text, criteria, &replayed)?;
+    Ok(())
+}
