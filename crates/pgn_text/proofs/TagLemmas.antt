@@ -44,6 +44,24 @@ kept_new m n name wanted contents updates absent =
         ap (λ o. option_or o (Some contents.now)) (sym none)
     go false is = sym (option_or-none (tag_at m wanted))
 
+-- a tag that the map had, put back after it was overwritten
+pub kept_back : (m n back : BTreeMap (Bor (List ℕ)) (Bor (List ℕ))) (name wanted : List ℕ) (contents first : Bor (List ℕ))
+    → UpdatesBy (λ x y. slice_cmp nat_cmp x.now y.now) (λ k. slice_cmp nat_cmp name k.now) m n (Some contents)
+    → UpdatesBy (λ x y. slice_cmp nat_cmp x.now y.now) (λ k. slice_cmp nat_cmp name k.now) n back (Some first)
+    → get_by (λ k. slice_cmp nat_cmp name k.now) m ≡ Some first
+    → tag_at back wanted ≡ option_or (tag_at m wanted) (if bytes_eq name wanted then Some contents.now else None)
+kept_back m n back name wanted contents first overwritten restored had =
+    ap (option_map (λ c. c.now)) (btree_map_updates_str name n back (Some first) restored wanted) ∙ go (bytes_eq name wanted) refl
+  where
+    go : (v : Bool) → bytes_eq name wanted ≡ v → option_map (λ c. c.now) (cond v (Some first) (get_by (λ k. slice_cmp nat_cmp wanted k.now) n)) ≡ option_or (tag_at m wanted) (if v then Some contents.now else None)
+    go true is =
+        let here : tag_at m wanted ≡ Some first.now = subst (λ w. tag_at m w ≡ Some first.now) (bytes_eq-same name wanted is) (ap (option_map (λ c. c.now)) had) in
+        ap (λ o. option_or o (Some contents.now)) (sym here)
+    go false is =
+        ap (option_map (λ c. c.now))
+        (btree_map_updates_str name m n (Some contents) overwritten wanted ∙ ap (λ v. cond v (Some contents) (get_by (λ k. slice_cmp nat_cmp wanted k.now) m)) is)
+        ∙ sym (option_or-none (tag_at m wanted))
+
 -- a word names no tag
 named-word : (wanted word : List ℕ) → named_kept wanted (kept_word word) ≡ None
 named-word wanted word =

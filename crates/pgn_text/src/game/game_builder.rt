@@ -29,8 +29,9 @@ fn keep_first<'a>(
     ensures ordered { OnOk result (AreOrdered tags.old → AreOrdered tags.new) }
     ensures first { OnOk result ((wanted : List ℕ) → tag_at tags.new wanted ≡ option_or (tag_at tags.old wanted) (named_kept wanted (KeptTag name.now contents.now))) }
 {
-    if !tags.contains_key(name) {
-        tags.insert(name, contents)?;
+    // (few games have a name twice, so that one search is enough for most tags)
+    if let Some(first) = tags.insert(name, contents)? {
+        tags.insert(name, first)?;
     }
     Ok(())
 }
