@@ -97,6 +97,7 @@ impl<B: Board> Position<B> {
     }
 
     /// Whether the side to move is in check.
+    #[inline(always)]
     pub fn in_check(&self) -> bool
         ensures { IsTrue result ↔ IsCheck self.now.men self.now.turn }
     {
@@ -116,6 +117,7 @@ impl<B: Board> Position<B> {
     }
 
     /// Whether some man of the side attacks the square.
+    #[inline(always)]
     pub(crate) fn attacked(&self, square: Square, side: Side) -> bool
         ensures { IsTrue result ↔ IsAttacked self.now.men side square }
     {

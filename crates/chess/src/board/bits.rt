@@ -57,6 +57,7 @@ impl Board for Bits {
         occupied_by(&self.words, side) & word_of(square) != 0
     }
 
+    #[inline(always)]
     fn attacked(&self, square: Square, side: Side) -> bool {
         is_hit(&self.words, square, side, u64::MAX, occupied(&self.words))
     }
