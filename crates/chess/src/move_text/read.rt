@@ -17,7 +17,7 @@ pub(crate) mod candidates;
 pub(crate) mod parse;
 
 use candidates::{candidate_origins, candidate_pawns, candidate_pieces};
-use parse::{ParsedSan, before_mark, castling, parse_san, pawn_takes, plainly_said};
+use parse::{ParsedSan, castling, parse_san, read_frequent};
 
 /// The only legal move that the text names. No memory is needed.
 pub fn resolve<B: Board>(position: &Position<B>, text: &[u8]) -> Result<Move, SanError>
@@ -30,30 +30,11 @@ pub fn resolve<B: Board>(position: &Position<B>, text: &[u8]) -> Result<Move, Sa
 
 /// The only legal move that the text names: what `resolve` answers, as one fact of the answer. The most frequent forms are recognized by their
 /// length.
-#[inline(always)]
 pub(crate) fn only_named<B: Board>(position: &Position<B>, text: &[u8]) -> Result<Move, SanError>
     ensures { IsAnswer (IsNamed position.now text.now) result }
 {
-    match before_mark(text) {
-        [file, rank] => {
-            if let Some(said) = plainly_said(None, *file, *rank) {
-                return moved(position, &said);
-            }
-        }
-        [letter, file, rank] => {
-            if let Some(said) = plainly_said(Some(*letter), *file, *rank) {
-                return moved(position, &said);
-            }
-        }
-        [from, sign, file, rank] if *sign == b'x' => {
-            if let Some(said) = pawn_takes(*from, *file, *rank) {
-                return moved(position, &said);
-            }
-            if let Some(said) = plainly_said(Some(*from), *file, *rank) {
-                return moved(position, &said);
-            }
-        }
-        _ => {}
+    if let Some(said) = read_frequent(text) {
+        return moved(position, &said);
     }
     let m = named_read(position, text)?;
     Ok(m)
@@ -70,7 +51,7 @@ fn named_read<B: Board>(position: &Position<B>, text: &[u8]) -> Result<Move, San
     let Some(said) = parse_san(text) else {
         return Err(SanError::None);
     };
-    moved(position, &said)
+    moved_among(position, &said)
 }
 
 /// Castling on the wing, if it is legal.

@@ -14,4 +14,4 @@ returns-in_default-parse_san g c =
 pub returns : goal.returns
 returns g c =
     named_said c.args.position.now c.args.text.now c.castling.result (option_map said_by c.parse_san.result) (said_by c.in-Some-parse_san.said) _ c.castling.ensures
-    c.in_default.is c.parse_san.ensures (ap (option_map said_by) c.in-Some-parse_san.is) c.moved.ensures
+    c.in_default.is c.parse_san.ensures (ap (option_map said_by) c.in-Some-parse_san.is) c.moved_among.ensures
