@@ -51,7 +51,7 @@ unsafe P m on_board rules plain fails = elim (settled_check (men_after P m) P.tu
   | inr safe ↦ absurd (fails (record { pseudo_legal = rules; safe = safe; unbarred = subst (IsUnbarred P) (sym plain) tt }))
 ]
 
--- where no man is a candidate none goes so by its own rules, and where one is it does
+-- where no man is a candidate none goes there by its own rules, and where one is it does
 none_goes : (P : State) (said : Said) → NoCandidates P said → CanGoAs P said → ⊥
 none_goes P said candidates goes = candidates goes.0.from goes.1.from (agreed_candidate P said goes.0 goes.1 goes.2)
 

@@ -14,7 +14,7 @@ use Rattle.chess.specs.declared.move_text.refusal.Refusal.TheVariants.{NoMoveTex
 abbrev pub IsSpokenOf : State → List ℕ → Move → Type 0
 IsSpokenOf P x m = ((wing : Wing) × IsCastlingText wing x × (m.castle ≡ Some wing)) ⊎ ((said : Said) × Spells x said × Agrees P said m)
 
--- and a man goes so by its own rules, whether or not the move is legal
+-- and a man goes there by its own rules, whether or not the move is legal
 abbrev pub IsMeant : State → List ℕ → Move → Type 0
 IsMeant P x m = IsPseudoLegal P m × IsSpokenOf P x m
 
@@ -38,12 +38,12 @@ IsRefusal P x NoMoveText = (IsSomeCastlingText x → ⊥) × ((said : Said) → 
 IsRefusal P x NoCastling = IsSomeCastlingText x × ((m : Move) → IsMeant P x m → ⊥)
 -- neither is so: an attack bars it
 IsRefusal P x CastlingAttacked = IsSomeCastlingText x × ((m : Move) × IsMeant P x m)
--- no man that is spoken of goes so, but one would if it became something else, or nothing
+-- no man that is spoken of can go there, but one would if it became something else, or nothing
 IsRefusal P x WrongPromotion =
     (said : Said) × Spells x said × (CanGoAs P said → ⊥) × ((promote : Option Kind) × CanGoAs P (becoming promote said))
--- no man that is spoken of goes so, whatever it becomes
+-- no man that is spoken of can go there, whatever it becomes
 IsRefusal P x NoneCan = (said : Said) × Spells x said × ((promote : Option Kind) → CanGoAs P (becoming promote said) → ⊥)
--- some man goes so, and each that does leaves its king attacked
+-- some man can go there, and each that does leaves its king attacked
 IsRefusal P x LeavesKingAttacked =
     (said : Said) × Spells x said × ((m : Move) × IsMeant P x m) × ((m : Move) → IsMeant P x m → IsCheck (men_after P m) P.turn)
 

@@ -153,7 +153,7 @@ impl Form {
         })
     }
 
-    /// Whether what the patterns say may be so before the plies or after one of them, by the squares of one man.
+    /// Whether the patterns can be met before the plies or after one of them, by the squares of one man.
     #[inline(always)]
     fn may_be_met<S: Seen>(&self, start: &S, plies: &[u8]) -> bool
         ensures { result ≡ false → Nowhere (λ men. AllOfPatterns men self.now) (S.men start.now) (codes_in plies.now) }
@@ -183,7 +183,7 @@ impl Form {
         marks_of_all(&self.conditions)
     }
 
-    /// Whether what the conditions that are no patterns say of the position is so.
+    /// Whether the position meets the conditions that speak of it and are no patterns.
     #[inline(always)]
     fn rest_is_met<S: Seen>(&self, position: &S) -> bool
         ensures { IsTrue result ↔ AllOfRest (S.men position.now) (S.turn position.now) (S.checked position.now) (S.stuck position.now) self.now }
@@ -191,7 +191,7 @@ impl Form {
         self.is_bare || are_of_rest(&self.conditions, position)
     }
 
-    /// Whether what the patterns say may be so of the position, by the squares of one man.
+    /// Whether the position can meet the patterns, by the squares of one man.
     #[inline(never)]
     fn may_stand<S: Seen>(&self, position: &S) -> bool
         ensures { result ≡ false → AllOfPatterns (S.men position.now) self.now → ⊥ }
@@ -202,7 +202,7 @@ impl Form {
         }
     }
 
-    /// Whether what all conditions say of the position is so. What is planned is looked at first, and patterns of which that is not all last.
+    /// Whether the position meets all conditions that speak of it. What is planned is looked at first, and patterns of which that is not all last.
     #[inline(always)]
     fn is_met<S: Seen>(&self, position: &S) -> bool
         ensures { IsTrue result ↔ AllSaid (S.men position.now) (S.turn position.now) (S.checked position.now) (S.stuck position.now) self.now }
@@ -244,7 +244,7 @@ impl Alternative {
         Ok(Alternative { plain, mirrored })
     }
 
-    /// Whether what the conditions say of the game alone is so.
+    /// Whether the game meets the conditions, as far as they speak of it alone.
     pub(crate) fn is_of_game<'a, H: Headed<'a>>(&'a self, game: &H, replayed: &Replayed) -> bool
         requires valid { H.valid game.now }
         requires good { AreGood self.now }
@@ -254,7 +254,7 @@ impl Alternative {
         are_of_game(&self.plain.conditions, game, replayed)
     }
 
-    /// Whether what the conditions say of the tags and the result of the game is so.
+    /// Whether the tags and the result of the game meet the conditions that speak of them.
     pub(crate) fn is_of_heading<'a, H: Headed<'a>>(&'a self, game: &H) -> bool
         requires valid { H.valid game.now }
         requires good { AreGood self.now }
@@ -270,7 +270,7 @@ impl Alternative {
         longest_opening(&self.plain.conditions)
     }
 
-    /// Whether what the conditions say of the moves before and after so many plies is so.
+    /// Whether the moves before and after so many plies meet the conditions that speak of them.
     pub(crate) fn is_of_ply(&self, replayed: &Replayed, plies: usize) -> bool
         requires { AreLegal replayed.now }
         ensures { IsTrue result ↔ AllOfPly replayed.now plies self.now }
@@ -310,14 +310,14 @@ impl Alternative {
         are_no_counts(&self.plain.conditions)
     }
 
-    /// Whether what `for` and `count` say is so of a ply that begins a run of so many plies that fit, where so many fit in all.
+    /// Whether `for` and `count` are met at a ply that begins a run of so many plies that fit, where so many fit in all.
     pub(crate) fn spans_stand(&self, run: u128, many: u128) -> bool
         ensures { IsTrue result ↔ SpansStand run many self.now }
     {
         spans_stand(&self.plain.conditions, run, many)
     }
 
-    /// Whether what the conditions say of the position is so, as they stand or with those that have `either` tried at its mirror.
+    /// Whether the position meets the conditions that speak of it, as they stand or with those that have `either` tried at its mirror.
     #[inline(always)]
     pub(crate) fn is_met<S: Seen>(&self, position: &S) -> bool
         ensures { IsTrue result ↔ AllOfSeen (S.men position.now) (S.turn position.now) (S.checked position.now) (S.stuck position.now) self.now }
@@ -331,7 +331,7 @@ impl Alternative {
         }
     }
 
-    /// Whether what the conditions say of positions may be so before the plies or after one of them.
+    /// Whether some position before the plies or after one of them can meet the conditions.
     #[inline(always)]
     pub(crate) fn may_be_met<S: Seen>(&self, start: &S, plies: &[u8]) -> bool
         ensures { result ≡ false → NowhereSeen (FitsSeen self.now) (S.men start.now) (S.turn start.now) (S.checked start.now) (S.stuck start.now) (codes_in plies.now) }

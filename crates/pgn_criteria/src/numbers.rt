@@ -79,7 +79,7 @@ fn sides_may_fit<S: Seen>(white: &Limits, black: &Limits, start: &S, plies: &[u8
     side_may_fit(black, Side::Black, start, plies)
 }
 
-/// Whether what a line `material` without `not` says may be so before the plies or after one of them.
+/// Whether a line `material` without `not` can be met before the plies or after one of them.
 fn material_may_fit<S: Seen>(condition: &Condition<Vec<u8>>, start: &S, plies: &[u8]) -> bool
     ensures { result ≡ false → (condition.now.is_denied ≡ false)
         × Nowhere (SaysOfNumbers condition.now.is_either (claim_seen (λ text. text.items) condition.now.claim)) (S.men start.now) (codes_in plies.now) }

@@ -53,7 +53,7 @@ pub(crate) fn are_no_counts(conditions: &[Condition<Vec<u8>>]) -> bool
     true
 }
 
-/// Whether what the claim says is so of a ply that begins a run of so many plies that fit, where so many fit in all.
+/// Whether the claim is met at a ply that begins a run of so many plies that fit, where so many fit in all.
 fn span_stands(claim: &Claim<Vec<u8>>, run: u128, many: u128) -> bool
     ensures { IsTrue result ↔ SpanStands run many (claim_seen (λ text. text.items) claim.now) }
 {
@@ -64,7 +64,7 @@ fn span_stands(claim: &Claim<Vec<u8>>, run: u128, many: u128) -> bool
     }
 }
 
-/// Whether what `for` and `count` say is so of a ply that begins a run of so many plies that fit, where so many fit in all.
+/// Whether `for` and `count` are met at a ply that begins a run of so many plies that fit, where so many fit in all.
 pub(crate) fn spans_stand(conditions: &[Condition<Vec<u8>>], run: u128, many: u128) -> bool
     ensures { IsTrue result ↔ SpansStand run many (map (seen (λ text. text.items)) conditions.now) }
 {

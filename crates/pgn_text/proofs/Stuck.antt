@@ -1,4 +1,4 @@
--- How front_length a text can be the front of one part that may follow, where no part that stands at its front may.
+-- How long a front of a text can begin a part that may follow, where no part at its front may.
 use Rattle.std.proofs.Common.{◌≡◌, ◌≢◌, ℕ, zero, suc, Bool, true, false, List, [], ◌∷◌, ◌++◌, Some, IsTrue, codes, take, drop, length, refl, sym, ap, subst, ◌∙◌, ◌⊎◌, inl, inr, arith, append_assoc}
 use Rattle.std.specs.Prelude.{max, ◌==◌, ◌||◌, bytes_eq}
 use Rattle.std.specs.List.{list_all}

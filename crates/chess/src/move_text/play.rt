@@ -57,6 +57,7 @@ fn only_played<B: Board>(position: &mut Position<B>, text: &[u8]) -> Result<Move
         }
         _ => {}
     }
+    // (the answer is taken apart, so that the frequent forms keep theirs in no memory)
     let m = play_read(position, text)?;
     Ok(m)
 }

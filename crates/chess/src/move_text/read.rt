@@ -36,6 +36,7 @@ pub(crate) fn only_named<B: Board>(position: &Position<B>, text: &[u8]) -> Resul
     if let Some(said) = read_frequent(text) {
         return moved(position, &said);
     }
+    // (the answer is taken apart, so that the frequent forms keep theirs in no memory)
     let m = named_read(position, text)?;
     Ok(m)
 }

@@ -23,11 +23,11 @@ pub enum Refusal {
     NoCastling,
     /// It is castling, and nothing but an attack bars it.
     CastlingAttacked,
-    /// No man that it speaks of goes so, but one would if it became something else, or nothing.
+    /// No man that it speaks of can go there, but one would if it became something else, or nothing.
     WrongPromotion,
-    /// No man that it speaks of goes so, whatever it becomes.
+    /// No man that it speaks of can go there, whatever it becomes.
     NoneCan,
-    /// Some man goes so, but its king is attacked then.
+    /// Some man can go there, but its king is attacked then.
     LeavesKingAttacked,
 }
 

@@ -150,7 +150,7 @@ impl<B: Board> Position<B> {
         self.can_castle(from, to)
     }
 
-    /// Whether a legal move without promotion and castling goes so.
+    /// Whether a legal move without promotion and castling goes from the one square to the other.
     fn can_go_plainly(&self, from: Square, to: Square) -> bool
         ensures { IsTrue result ↔ CanGoPlainly self.now from to }
     {
@@ -174,7 +174,7 @@ impl<B: Board> Position<B> {
         })
     }
 
-    /// Whether a legal move that promotes goes so.
+    /// Whether a legal move that promotes goes from the one square to the other.
     fn can_promote(&self, from: Square, to: Square) -> bool
         ensures { IsTrue result ↔ CanPromote self.now from to }
     {
@@ -193,7 +193,7 @@ impl<B: Board> Position<B> {
         self.can_become(from, to, Kind::Knight)
     }
 
-    /// Whether castling on the wing goes so.
+    /// Whether castling on the wing is legal and takes the king from the one square to the other.
     fn can_castle_on(&self, from: Square, to: Square, wing: Wing) -> bool
         ensures { IsTrue result ↔ IsLegal self.now (record { from = from; to = to; promote = None; castle = Some wing }) }
     {
@@ -205,7 +205,7 @@ impl<B: Board> Position<B> {
         })
     }
 
-    /// Whether castling goes so.
+    /// Whether castling is legal and takes the king from the one square to the other.
     fn can_castle(&self, from: Square, to: Square) -> bool
         ensures { IsTrue result ↔ CanCastle self.now from to }
     {

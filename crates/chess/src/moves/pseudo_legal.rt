@@ -85,7 +85,7 @@ impl<B: Board> Position<B> {
             && (self.is_occupied_by(self.side().opposite(), to) || self.is_en_passant_target(to))
     }
 
-    /// Whether the pawn on `from` goes so.
+    /// Whether the pawn on `from` goes to the other square by its own rules.
     fn is_pawn_move(&self, from: Square, to: Square) -> bool
         requires { IsMover self.now Kind.Pawn from }
         ensures { IsTrue result ↔ IsPawnMove self.now from to }
@@ -121,7 +121,7 @@ impl<B: Board> Position<B> {
             && self.is_open(wing)
     }
 
-    /// Whether the king on `m.from` goes so, by a step or by castling.
+    /// Whether the king on `m.from` makes the move by its own rules: a step or castling.
     fn is_king_move(&self, m: &Move) -> bool
         requires { IsMover self.now Kind.King m.now.from }
         ensures { IsTrue result ↔ IsKingMove self.now m.now m.now.castle }
@@ -132,7 +132,7 @@ impl<B: Board> Position<B> {
         }
     }
 
-    /// Whether the man on `m.from`, which is neither king nor pawn, goes so.
+    /// Whether the man on `m.from`, which is neither king nor pawn, makes the move by its own rules.
     fn is_plain_move(&self, kind: Kind, m: &Move) -> bool
         requires { IsMover self.now kind m.now.from }
         ensures { IsTrue result ↔ IsPlainMove self.now m.now kind }
@@ -140,7 +140,7 @@ impl<B: Board> Position<B> {
         m.castle.is_none() && m.promote.is_none() && self.attacks(kind, m.from, m.to)
     }
 
-    /// Whether the man of that kind on `m.from` goes so.
+    /// Whether the man of that kind on `m.from` makes the move by its own rules.
     fn goes(&self, kind: Kind, m: &Move) -> bool
         requires { IsMover self.now kind m.now.from }
         ensures { IsTrue result ↔ Goes self.now m.now kind }

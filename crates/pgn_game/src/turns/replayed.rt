@@ -46,7 +46,7 @@ impl Replayed {
         &self.positions[ply]
     }
 
-    /// The move of the main line that so many plies go before.
+    /// The move of the main line that follows after so many plies.
     pub fn played(&self, plies: usize) -> Move
         requires { plies < length self.now.played }
         ensures { slice_get self.now.played plies ≡ Some result }
@@ -54,14 +54,14 @@ impl Replayed {
         self.played[plies]
     }
 
-    /// The number of turns: where all lines were replayed, of the move texts of the game, with those of its variations; else 0.
+    /// How many turns are kept: where all lines were replayed, one for each move text of the game, also in variations; else 0.
     pub fn turns(&self) -> usize
         ensures { result ≡ length self.now.turns }
     {
         self.turns.len()
     }
 
-    /// The turn that so many stand before, in the order of the text: a move, or in a variation a pass.
+    /// The turn that follows so many others in the order of the text: a move, or in a variation a pass.
     pub fn turn(&self, index: usize) -> LineMove
         requires { index < length self.now.turns }
         ensures { slice_get self.now.turns index ≡ Some result }

@@ -9,7 +9,7 @@ ghost use Rattle.pgn_text.specs.Tokens.{token_of};
 
 use crate::lex::class::{ByteClass, is_in};
 
-/// A part of a text, without what no game keeps of it.
+/// A part of a text, as far as a game keeps it.
 #[derive(Clone, Copy)]
 pub(crate) enum Token<'a> {
     /// White space, an escape line or a byte order mark.
