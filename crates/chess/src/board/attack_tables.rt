@@ -66,6 +66,7 @@ pub(crate) fn attackers_of(man: Man, target: Square, own: u64, occupied: u64) ->
 {
     let seen = own & pseudo_attacks_on(man, target);
     let mut left = SquareSet::of_word(seen);
+    // Mostly one man alone sees the target.
     if let Some(square) = left.only() {
         if is_unblocked(square, target, occupied) {
             return left;

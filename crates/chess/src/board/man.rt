@@ -11,7 +11,7 @@ pub enum Side {
     Black,
 }
 
-/// The other sides of White and Black.
+/// The other sides of White and Black, as a table: what is worked out from it needs no branch.
 static OPPOSITES: [Side; 2] = [Side::Black, Side::White];
 
 impl Side {
