@@ -10,7 +10,9 @@ ghost use Rattle.chess.specs.declared.move_text.SanError.{SanError};
 
 use crate::board::{Board, Kind, Man, SquareSet};
 use crate::move_text::SanError;
-use crate::move_text::read::candidates::{candidate_pawns, candidate_pieces};
+use crate::move_text::read::candidates::{
+    candidate_origins, candidate_pieces, candidate_steppers, candidate_takers,
+};
 use crate::move_text::read::only_named;
 use crate::move_text::read::parse::{
     ParsedSan, before_mark, begins_castling, parse_san, pawn_takes, plainly_said,
@@ -30,8 +32,9 @@ pub fn play_word<B: Board>(position: &mut Position<B>, text: &[u8]) -> Result<Mo
     only_played(position, text)
 }
 
-/// Plays the only legal move that the text names: the most frequent forms are recognized by their length and played at once.
-#[inline(always)]
+/// Plays the only legal move that the text names: the most frequent forms are recognized by their length and played at once, steps and captures
+/// of pawns and moves of pieces each by code of its own. (It is called, as it would be too large to stand in each caller.)
+#[inline(never)]
 fn only_played<B: Board>(position: &mut Position<B>, text: &[u8]) -> Result<Move, SanError>
     ensures answer { IsAnswer (IsNamed position.old text.now) result }
     ensures played { IsPlayed position.old position.new result }
@@ -39,20 +42,30 @@ fn only_played<B: Board>(position: &mut Position<B>, text: &[u8]) -> Result<Move
     match before_mark(text) {
         [file, rank] => {
             if let Some(said) = plainly_said(None, *file, *rank) {
-                return play_said(position, text, &said);
+                let candidates = candidate_steppers(position, &said);
+                return play_candidate(position, text, &said, candidates);
             }
         }
         [letter, file, rank] => {
-            if let Some(said) = plainly_said(Some(*letter), *file, *rank) {
-                return play_said(position, text, &said);
+            if let Some(said) = plainly_said(Some(*letter), *file, *rank)
+                && said.kind() != Kind::Pawn
+            {
+                let candidates = candidate_pieces(position, &said);
+                return play_candidate(position, text, &said, candidates);
             }
         }
         [from, sign, file, rank] if *sign == b'x' => {
-            if let Some(said) = pawn_takes(*from, *file, *rank) {
-                return play_said(position, text, &said);
+            if let Some(said) = pawn_takes(*from, *file, *rank)
+                && said.changes_file()
+            {
+                let candidates = candidate_takers(position, &said);
+                return play_candidate(position, text, &said, candidates);
             }
-            if let Some(said) = plainly_said(Some(*from), *file, *rank) {
-                return play_said(position, text, &said);
+            if let Some(said) = plainly_said(Some(*from), *file, *rank)
+                && said.kind() != Kind::Pawn
+            {
+                let candidates = candidate_pieces(position, &said);
+                return play_candidate(position, text, &said, candidates);
             }
         }
         _ => {}
@@ -77,8 +90,7 @@ fn play_read<B: Board>(position: &mut Position<B>, text: &[u8]) -> Result<Move, 
     play_said(position, text, &said)
 }
 
-/// Plays the only legal move that the text names, where it is read: pawns and pieces apart, so that each has code of its own.
-#[inline(always)]
+/// Plays the only legal move that the text names, where it is read.
 fn play_said<B: Board>(
     position: &mut Position<B>,
     text: &[u8],
@@ -88,11 +100,7 @@ fn play_said<B: Board>(
     ensures answer { IsAnswer (IsNamed position.old text.now) result }
     ensures played { IsPlayed position.old position.new result }
 {
-    if said.kind() == Kind::Pawn {
-        let candidates = candidate_pawns(position, said);
-        return play_candidate(position, text, said, candidates);
-    }
-    let candidates = candidate_pieces(position, said);
+    let candidates = candidate_origins(position, said);
     play_candidate(position, text, said, candidates)
 }
 

@@ -47,14 +47,39 @@ pub(crate) fn candidate_pawns<B: Board>(position: &Position<B>, said: &ParsedSan
     requires { kind_said said.now.letter ≡ Pawn }
     ensures { HoldsExactly (IsCandidate position.now (said_by said.now)) result }
 {
+    if said.changes_file() {
+        return candidate_takers(position, said);
+    }
+    candidate_steppers(position, said)
+}
+
+/// The squares of the pawns that may take as it is said.
+#[inline(always)]
+pub(crate) fn candidate_takers<B: Board>(position: &Position<B>, said: &ParsedSan) -> SquareSet
+    requires pawn { kind_said said.now.letter ≡ Pawn }
+    requires takes { ChangesFile (said_by said.now) }
+    ensures { HoldsExactly (IsCandidate position.now (said_by said.now)) result }
+{
     if !promotes(position.side(), said.target, said.promote) {
         return SquareSet::new();
     }
     position.invariant();
     said.target.invariant();
-    if said.changes_file() {
-        return position.takers(said.target, said.origins());
+    position.takers(said.target, said.origins())
+}
+
+/// The squares of the pawns that may step as it is said.
+#[inline(always)]
+pub(crate) fn candidate_steppers<B: Board>(position: &Position<B>, said: &ParsedSan) -> SquareSet
+    requires pawn { kind_said said.now.letter ≡ Pawn }
+    requires steps { ¬ ChangesFile (said_by said.now) }
+    ensures { HoldsExactly (IsCandidate position.now (said_by said.now)) result }
+{
+    if !promotes(position.side(), said.target, said.promote) {
+        return SquareSet::new();
     }
+    position.invariant();
+    said.target.invariant();
     position.steppers(said.target).common(said.origins())
 }
 
@@ -145,7 +170,7 @@ impl ParsedSan {
 
     /// Whether another file is said than the target's.
     #[inline(always)]
-    fn changes_file(&self) -> bool
+    pub(crate) fn changes_file(&self) -> bool
         ensures { IsTrue result ↔ ChangesFile (said_by self.now) }
     {
         match self.file {
