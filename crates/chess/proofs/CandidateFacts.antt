@@ -7,7 +7,7 @@ use Rattle.chess.specs.Attacks.{Reaches}
 use Rattle.chess.specs.Positions.{State, IsSound, FitsEnPassant}
 use Rattle.chess.specs.Moves.{IsPawnMove, IsPawnCapture, IsSingleStep, IsDoubleStep, IsKingMove, Promotes, Goes}
 use Rattle.chess.specs.MoveWords.{IsMover, IsStepper, IsTaker}
-use Rattle.chess.specs.San.{Said, kind_said}
+use Rattle.chess.specs.San.{Said, HasRival, kind_said}
 use Rattle.chess.specs.SanWords.{IsMoveSaid, IsAsked, ChangesFile, IsCandidate, CanGoSaid, man_said, move_from}
 use Rattle.chess.specs.Sets.{Places, is_in, no_places, HoldsExactly, IsAttacker}
 use Rattle.chess.specs.SetWords.{IsTakenFirst}
@@ -18,6 +18,7 @@ use Rattle.chess.specs.declared.board.man.Kind.TheVariants.{King, Queen, Rook, B
 use Rattle.chess.specs.declared.moves.Move.{Move}
 use Rattle.chess.proofs.PlaceFacts.{cases_place, true_not_false, same_side, same_kind, some_not_none}
 use Rattle.chess.proofs.LoopFacts.{not_in, still_left}
+use Rattle.chess.proofs.SanTextFacts.{rival_on, rival_reaches}
 use Rattle.chess.proofs.StepperFacts.{on_file, off_file, step_file, step_free}
 use Rattle.chess.proofs.NamedFacts.{said_move, said_legal, said_on, said_candidate, candidate_said}
 
@@ -231,3 +232,33 @@ candidate_steppers P said steppers among set e there promotes same stepping aske
         ),
       )),
 )
+
+-- ---- rivals
+
+-- where nothing is said of where a piece comes from, a man who is the only candidate has no rival
+pub no_rival : (P : State) (said : Said) (old new : Places) (from : Place) → IsSound P → (kind_said said.letter ≡ Pawn → ⊥) → ((s : Place) → IsAsked said s)
+    → HoldsExactly (IsCandidate P said) old → IsTakenFirst old new (Some from) → ((s : Place) × IsOnBoard s × (is_in new s ≡ true) → ⊥)
+    → ¬ HasRival P (move_from said from) (λ s. Unit {0})
+no_rival P said old new from sound piece asked candidates taken alone has =
+    let s = has.0 in
+    let rival = has.1 in
+    let own = ((candidates from).0 taken.1).1 in
+    let on = rival_on P (move_from said from) s rival in
+    let here : man_at P.men s ≡ Some (man_said P said) = rival.alike ∙ own.here in
+    let goes = piece_goes P (move_from said from) (kind_said said.letter) piece refl (candidate_goes P said from own) in
+    let other : IsCandidate P said s = record {
+      here = here;
+      asked = asked s;
+      stays = λ pawn. absurd (piece pawn);
+      rules = record {
+        from = on;
+        to = own.rules.to;
+        man = man_said P said;
+        here = here;
+        own = refl;
+        free = own.rules.free;
+        goes = goes_piece P said s (kind_said said.letter) piece goes.0
+            (rival_reaches P (move_from said from) (man_said P said) s sound own.here piece rival);
+      };
+    } in
+    alone (s, on, still_left old new from s taken ((candidates s).1 (on, other)) rival.other)

@@ -1,13 +1,13 @@
 -- Facts about the text that is written for a move.
-use Rattle.std.proofs.Common.{◌≡◌, ◌≢◌, ◌↔◌, ◌++◌, ◌∷◌, [], ℕ, List, true, Bool, not, Some, ap, refl, sym, subst, ◌∙◌, IsTrue, ◌&&◌, ◌||◌}
+use Rattle.std.proofs.Common.{◌≡◌, ◌≢◌, ◌↔◌, ◌++◌, ◌∷◌, [], ℕ, List, true, Bool, not, None, Some, ap, refl, sym, subst, ◌∙◌, IsTrue, ◌&&◌, ◌||◌, append_assoc}
 use Rattle.std.proofs.lemmas.List.{append-nil}
 use Rattle.chess.specs.Squares.{Place, IsOnBoard, same_square}
 use Rattle.chess.specs.Placements.{man_at}
 use Rattle.chess.specs.Attacks.{Reaches}
 use Rattle.chess.specs.Positions.{State, IsSound, king_of}
-use Rattle.chess.specs.Moves.{Goes, IsPseudoLegal}
-use Rattle.chess.specs.Letters.{file_letter, rank_digit, square_text}
-use Rattle.chess.specs.San.{IsRival, HasRival, IsDisambiguation}
+use Rattle.chess.specs.Moves.{Goes, IsPseudoLegal, after}
+use Rattle.chess.specs.Letters.{file_letter, kind_letter, rank_digit, square_text}
+use Rattle.chess.specs.San.{IsRival, HasRival, IsDisambiguation, IsPieceText, IsBody, IsCheckMark, IsSan, capture_text}
 use Rattle.chess.specs.San.IsDisambiguation.{alone, by_file, by_rank, by_both}
 use Rattle.chess.specs.Sets.{Places, is_in, no_places, HoldsExactly, IsAttacker}
 use Rattle.chess.specs.SetWords.{IsTakenFirst}
@@ -23,7 +23,7 @@ use Rattle.chess.proofs.PlaceFacts.{man_of, same_square-then}
 use Rattle.chess.proofs.LoopFacts.{sifted_start, sifted_more, left_start, left_more}
 
 -- a rival stands on the board
-rival_on : (P : State) (m : Move) (s : Place) → IsRival P m s → IsOnBoard s
+pub rival_on : (P : State) (m : Move) (s : Place) → IsRival P m s → IsOnBoard s
 rival_on P m s rival = rival.goes.2.pseudo_legal.from
 
 -- a rival on a square that has the fact is a square of the set of rivals that has it
@@ -51,7 +51,7 @@ piece_reaches P m Knight no_pawn no_king g = g.2
 piece_reaches P m Pawn no_pawn no_king g = absurd (no_pawn refl)
 
 -- a rival that is no pawn attacks the target
-rival_reaches : (P : State) (m : Move) (man : Man) (s : Place) → IsSound P → man_at P.men m.from ≡ Some man → (man.kind ≡ Pawn → ⊥) → IsRival P m s
+pub rival_reaches : (P : State) (m : Move) (man : Man) (s : Place) → IsSound P → man_at P.men m.from ≡ Some man → (man.kind ≡ Pawn → ⊥) → IsRival P m s
     → Reaches P.men man.side man.kind s m.to
 rival_reaches P m man s sound here no_pawn rival =
     let rules = rival.goes.2.pseudo_legal in
@@ -140,3 +140,41 @@ both_distinguish P m set old new rivals file rank written = (
   by_both (rival_of_square P m set (λ s. s.file ≡ m.from.file) rivals file) (rival_of_square P m set (λ s. s.rank ≡ m.from.rank) rivals rank),
   written,
 )
+
+-- ---- the text of a man who has no rival
+
+-- the text of a piece's move is a body
+piece_body : (P : State) (m : Move) (kind : Kind) (x : List ℕ) → (kind ≡ Pawn → ⊥) → IsPieceText P m kind x → IsBody P m None kind x
+piece_body P m King x piece spells = spells
+piece_body P m Queen x piece spells = spells
+piece_body P m Rook x piece spells = spells
+piece_body P m Bishop x piece spells = spells
+piece_body P m Knight x piece spells = spells
+piece_body P m Pawn x piece spells = absurd (piece refl)
+
+-- its letter, x for a capture and the square were appended one after another
+pub lone_piece : (P : State) (m : Move) (kind : Kind) (letter : ℕ) (old lettered crossed new : List ℕ) → (kind ≡ Pawn → ⊥)
+    → ¬ HasRival P m (λ s. Unit {0}) → letter ≡ kind_letter kind → lettered ≡ old ++ letter ∷ [] → crossed ≡ lettered ++ capture_text P m
+    → new ≡ crossed ++ square_text m.to → Appends (IsBody P m None kind) old new
+lone_piece P m kind letter old lettered crossed new piece lone is_letter first second third =
+    let cross = capture_text P m in
+    let square = square_text m.to in
+    let text = kind_letter kind ∷ (cross ++ square) in (
+      text,
+      piece_body P m kind text piece ([], alone lone, refl),
+      third ∙ ap (λ x. x ++ square) (second ∙ ap (λ x. x ++ cross) (first ∙ ap (λ l. old ++ l ∷ []) is_letter))
+          ∙ append_assoc (old ++ kind_letter kind ∷ []) cross square ∙ append_assoc old (kind_letter kind ∷ []) (cross ++ square),
+    )
+
+-- the body and the mark were appended to nothing
+pub lone_san : (P next : State) (m : Move) (man : Man) (cleared body new : List ℕ) → m.castle ≡ None → man_at P.men m.from ≡ Some man → cleared ≡ []
+    → Appends (IsBody P m None man.kind) cleared body → next ≡ after P m → Appends (IsCheckMark next) body new → IsSan P m new
+lone_san P next m man cleared body new plain here none appended is_next marked = record {
+  man = man;
+  here = here;
+  body = appended.0;
+  body_is = subst (λ castle. IsBody P m castle man.kind appended.0) (sym plain) appended.1;
+  mark = marked.0;
+  mark_is = subst (λ S. IsCheckMark S marked.0) is_next marked.1;
+  text = marked.2 ∙ ap (λ x. x ++ marked.0) (appended.2 ∙ ap (λ x. x ++ appended.0) none);
+}

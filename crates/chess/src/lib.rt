@@ -26,7 +26,7 @@ pub use board::{
 };
 pub use fen::FenError;
 pub use move_text::{
-    Refusal, SanError, named_from, play_san, play_word, resolve, san, why_unnamed,
+    Refusal, SanError, named_from, play_san, play_word, play_word_san, resolve, san, why_unnamed,
 };
 pub use moves::Move;
 pub use position::Position;

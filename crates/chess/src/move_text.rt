@@ -4,8 +4,9 @@ mod play;
 mod read;
 mod refusal;
 mod write;
+mod writer;
 
-pub use play::play_word;
+pub use play::{play_word, play_word_san};
 pub use read::resolve;
 pub use refusal::{Refusal, named_from, why_unnamed};
 pub use write::{play_san, san};

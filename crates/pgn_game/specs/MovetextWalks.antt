@@ -1,20 +1,11 @@
 -- The movetext while it is written: what is written at each step. Nothing but the proof of its writer cites these.
 use Rattle.std.specs.Prelude.{◌≡◌, ◌||◌, ℕ, Bool, true, false, codes, decimal, List, [], ◌∷◌, ◌++◌}
-use Rattle.chess.specs.Positions.{State, IsCheck}
-use Rattle.chess.specs.Moves.{IsLegal}
 use Rattle.pgn_text.specs.Games.{MoveText, GlyphNumber, CommentText, VariationOpen, VariationClose}
 use Rattle.pgn_game.specs.Comments.{comment_tokens}
 use Rattle.pgn_game.specs.Exports.{number_tokens, IsTurnText, kept}
 use Rattle.pgn_game.specs.Pens.{HasPut}
 use Rattle.pgn_game.specs.Steps.{Step, Turned, Beside}
 use Rattle.pgn_game.specs.declared.exports.movetext.MovetextWriter.{MovetextWriter}
-use Rattle.pgn_game.specs.declared.turns.line_move.LineMove.{LineMove}
-use Rattle.pgn_game.specs.declared.turns.line_move.LineMove.TheVariants.{Played, Passed}
-
--- the turn may be taken in the position
-abbrev pub IsPlayable : State → LineMove → Type 0
-IsPlayable now (Played m) = IsLegal now m
-IsPlayable now Passed = IsCheck now.men now.turn → ⊥
 
 -- the tokens are written, and the next move stands apart after them or does not
 pub record Puts (old new : MovetextWriter) (tokens : List (List ℕ)) (apart : Bool) : Type 0 where

@@ -80,7 +80,7 @@ pub(crate) fn castling_move(side: Side, wing: Wing) -> Move
 
 /// The only legal move that agrees with what is said: pawns and pieces apart, so that each has code of its own.
 #[inline(always)]
-fn moved<B: Board>(position: &Position<B>, said: &ParsedSan) -> Result<Move, SanError>
+pub(crate) fn moved<B: Board>(position: &Position<B>, said: &ParsedSan) -> Result<Move, SanError>
     ensures { IsAnswer (IsMoveSaid position.now (said_by said.now)) result }
 {
     if said.kind() == Kind::Pawn {

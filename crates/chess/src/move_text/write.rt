@@ -1,11 +1,12 @@
 //! The text of a move in standard algebraic notation (PGN 8.2.3).
-ghost use Rattle.std.specs.Prelude.{◌≡◌, ◌↔◌, ◌+◌, ◌≤◌, ◌<◌, ◌++◌, Some, IsTrue, true};
+ghost use Rattle.std.specs.Prelude.{◌≡◌, ◌≢◌, ◌↔◌, ◌+◌, ◌≤◌, ◌<◌, ◌++◌, None, Some, IsTrue, true};
 ghost use Rattle.arrayvec.specs.ArrayString.{array_string_len};
 ghost use Rattle.chess.specs.Placements.{man_at};
 ghost use Rattle.chess.specs.Positions.{State};
+ghost use Rattle.chess.specs.declared.board.man.Kind.TheVariants.{Pawn};
 ghost use Rattle.chess.specs.declared.moves.Move.{Move};
 ghost use Rattle.chess.specs.Moves.{IsLegal, after};
-ghost use Rattle.chess.specs.San.{IsSan, IsOnlyNamed, IsRival, IsDisambiguation, IsPieceText, IsBody, IsCheckMark, castling_text, is_capture, capture_text, pawn_text, promotion_text};
+ghost use Rattle.chess.specs.San.{IsSan, IsOnlyNamed, IsRival, HasRival, IsDisambiguation, IsPieceText, IsBody, IsCheckMark, castling_text, is_capture, capture_text, pawn_text, promotion_text};
 ghost use Rattle.chess.specs.Sets.{HoldsExactly};
 ghost use Rattle.chess.specs.MoveWords.{HasEach};
 ghost use Rattle.chess.specs.SanTextWords.{Appends, AreOf, HasSquare};
@@ -51,6 +52,41 @@ fn play_written<B: Board>(position: &mut Position<B>, m: Move) -> ArrayString<8>
     position.make_with(man, &m, takes);
     push_check_mark(&mut out, position);
     out
+}
+
+/// Writes the text of a move, no castling, of a man who has no rival, with the mark of the position after it.
+#[inline(always)]
+pub(crate) fn write_plain<B: Board>(
+    out: &mut ArrayString<8>,
+    m: &Move,
+    man: Man,
+    takes: bool,
+    next: &Position<B>,
+)
+    ensures { (P : State) → m.now.castle ≡ None → man_at P.men m.now.from ≡ Some man → takes ≡ is_capture P m.now
+        → (man.kind ≢ Pawn → ¬ HasRival P m.now (λ s. Unit {0})) → next.now ≡ after P m.now → IsSan P m.now out.new.bytes }
+{
+    out.clear();
+    push_plain(out, m, man, takes);
+    push_check_mark(out, next);
+}
+
+/// Appends the text of a move, no castling, of a man who has no rival, without its mark.
+#[inline(always)]
+fn push_plain(out: &mut ArrayString<8>, m: &Move, man: Man, takes: bool)
+    requires { array_string_len out.old ≤ 1 }
+    ensures text { (P : State) → takes ≡ is_capture P m.now → (man.kind ≢ Pawn → ¬ HasRival P m.now (λ s. Unit {0}))
+        → Appends (IsBody P m.now None man.kind) out.old.bytes out.new.bytes }
+    ensures short { array_string_len out.new ≤ array_string_len out.old + 7 }
+{
+    match man.kind {
+        Kind::Pawn => push_pawn_move(out, m, takes),
+        _ => {
+            push_byte(out, kind_letter(man.kind));
+            push_cross(out, takes);
+            push_square(out, m.to);
+        }
+    }
 }
 
 /// Whether the man that moves is of that kind.

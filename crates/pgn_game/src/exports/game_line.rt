@@ -15,11 +15,11 @@ ghost use Rattle.pgn_game.specs.declared.replays.replayer.Lines.TheVariants.{Mai
 use crate::exports::notation::Notation;
 use crate::replays::main_line::MainWalk;
 use crate::turns::fault::GameFault;
-use crate::turns::naming::play_named;
+use crate::turns::naming::{play_named, play_named_san};
 use crate::turns::replayed::GamePosition;
-use crate::turns::saying::named;
 use crate::turns::starting::starting_position;
-use chess::{Kind, Move, play_san};
+use arrayvec::ArrayString;
+use chess::{Kind, Move};
 use pgn_text::{Element, RawGame};
 use std::alloc::{AllocError, Global};
 
@@ -99,8 +99,9 @@ fn push_san<'a>(out: &mut Vec<u8>, walk: &mut MainWalk, word: &'a [u8]) -> Resul
     ensures kept { (some : List ℕ) × (out.new.items ≡ out.old.items ++ some) }
 {
     walk.plies += 1;
-    let m = named(&walk.position, word, walk.plies)?;
-    push_text(out, play_san(&mut walk.position, m).as_bytes())?;
+    let mut san = ArrayString::new();
+    play_named_san(&mut walk.position, word, walk.plies, &mut san)?;
+    push_text(out, san.as_bytes())?;
     Ok(())
 }
 

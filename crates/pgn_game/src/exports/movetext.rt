@@ -1,23 +1,23 @@
 //! The movetext of a game, written at each step of a walk over its lines.
 ghost use Rattle.std.specs.Prelude.{◌≡◌, ◌++◌, ◌∷◌, ℕ, List, [], codes, decimal, false, map, true, IfErr, IfSome, OnOk};
 ghost use Rattle.pgn_text.specs.Elements.{item_of};
-ghost use Rattle.pgn_game.specs.AllLines.{after_turn};
-ghost use Rattle.pgn_game.specs.Exports.{IsTurnText, AreMovetextTokens, lines_with, number_tokens};
+ghost use Rattle.pgn_game.specs.Exports.{AreMovetextTokens, lines_with, number_tokens};
 ghost use Rattle.pgn_game.specs.Faults.{HasLineFault};
-ghost use Rattle.pgn_game.specs.MovetextWalks.{IsPlayable, Puts, WritesStep};
+ghost use Rattle.pgn_game.specs.MovetextWalks.{Puts, WritesStep};
 ghost use Rattle.pgn_game.specs.Replays.{fault_of};
 ghost use Rattle.pgn_game.specs.TextLines.{IsLaid};
 
 use crate::exports::comment::put_comment;
 use crate::exports::pen::Pen;
 use crate::exports::style::Style;
-use crate::exports::tokens::{put_glyph, put_number, put_turn};
+use crate::exports::tokens::{play_turn_san, put_glyph, put_number};
 use crate::replays::line_stack::LineStack;
 use crate::replays::walk::{Level, Visitor, walk};
 use crate::turns::fault::GameFault;
 use crate::turns::line_move::LineMove;
 use crate::turns::replayed::GamePosition;
-use crate::turns::saying::said_turn;
+use arrayvec::ArrayString;
+use chess::Side;
 use pgn_text::{Element, RawGame};
 use std::alloc::{AllocError, Global};
 use std::mem;
@@ -33,18 +33,14 @@ struct MovetextWriter {
 }
 
 impl MovetextWriter {
-    /// Writes a turn with its number, and takes it in the position.
-    fn put_turn(&mut self, position: &mut GamePosition, turn: &LineMove) -> Result<(), AllocError>
-        requires { IsPlayable position.old turn.now }
-        ensures text { OnOk result ((text : List ℕ) × IsTurnText position.old turn.now text
-            × Puts self.old self.new (number_tokens position.old.turn position.old.fullmove_number self.old.apart ++ text ∷ []) false) }
-        ensures taken { OnOk result (position.new ≡ after_turn position.old turn.now) }
+    /// Writes a turn of the side after the number of its move.
+    fn put_turn(&mut self, side: Side, number: u32, text: &[u8]) -> Result<(), AllocError>
+        ensures text { OnOk result (Puts self.old self.new (number_tokens side number self.old.apart ++ text.now ∷ []) false) }
         ensures kept { (some : List ℕ) × (self.new.out.items ≡ self.old.out.items ++ some) }
     {
-        let (side, number) = (position.side(), position.number());
         put_number(&mut self.pen, &mut self.out, side, number, self.apart)?;
         self.apart = false;
-        put_turn(&mut self.pen, &mut self.out, position, turn)
+        self.pen.put(&mut self.out, text)
     }
 
     /// Writes a parenthesis; the next move stands apart after it.
@@ -69,8 +65,10 @@ impl Visitor for MovetextWriter {
         word: &'a [u8],
         ply: usize,
     ) -> Result<LineMove, GameFault<'a>> {
-        let turn = said_turn(position, inside, word, ply)?;
-        self.put_turn(position, &turn)?;
+        let (side, number) = (position.side(), position.number());
+        let mut san = ArrayString::new();
+        let turn = play_turn_san(position, inside, word, ply, &mut san)?;
+        self.put_turn(side, number, san.as_bytes())?;
         Ok(turn)
     }
 

@@ -1,16 +1,20 @@
 //! Tokens of a movetext: numbers of moves, glyphs and turns.
-ghost use Rattle.std.specs.Prelude.{◌≡◌, ◌++◌, ◌∷◌, ℕ, List, [], decimal, OnOk};
-ghost use Rattle.chess.specs.Passes.{passed};
-ghost use Rattle.chess.specs.Positions.{IsCheck};
-ghost use Rattle.pgn_game.specs.AllLines.{after_turn};
+ghost use Rattle.std.specs.Prelude.{◌≡◌, ◌+◌, ◌++◌, ◌∷◌, ℕ, List, [], decimal, IfSome, MatchResult, OnOk};
+ghost use Rattle.pgn_game.specs.AllLines.{IsTurn, after_turn};
 ghost use Rattle.pgn_game.specs.Exports.{number_tokens, IsTurnText};
+ghost use Rattle.pgn_game.specs.Faults.{IsRefusedTurn};
 ghost use Rattle.pgn_game.specs.Pens.{HasPut};
-ghost use Rattle.pgn_game.specs.MovetextWalks.{IsPlayable};
+ghost use Rattle.pgn_game.specs.Replays.{fault_of};
 
 use crate::exports::pen::Pen;
+use crate::replays::walk::play_turn;
+use crate::turns::fault::GameFault;
 use crate::turns::line_move::LineMove;
+use crate::turns::naming::play_named_san;
 use crate::turns::replayed::GamePosition;
-use chess::{Side, play_san};
+use crate::turns::saying::is_null_move;
+use arrayvec::ArrayString;
+use chess::Side;
 use itoa::Buffer;
 use std::alloc::AllocError;
 
@@ -82,39 +86,23 @@ pub(crate) fn put_glyph(pen: &mut Pen, out: &mut Vec<u8>, number: u8) -> Result<
     Ok(())
 }
 
-/// Gives the move up.
-fn pass(position: &mut GamePosition)
-    requires { IsCheck position.old.men position.old.turn → ⊥ }
-    ensures { position.new ≡ passed position.old }
-{
-    match position.pass() {
-        Some(next) => *position = next,
-        None => unreachable!(),
-    }
-}
-
-/// Takes a turn in the position, and writes its standard text.
-pub(crate) fn put_turn(
-    pen: &mut Pen,
-    out: &mut Vec<u8>,
+/// Plays what the word says in the position, in a variation or not, and writes its standard text; or answers the fault of this ply.
+pub(crate) fn play_turn_san<'a>(
     position: &mut GamePosition,
-    turn: &LineMove,
-) -> Result<(), AllocError>
-    requires { IsPlayable position.old turn.now }
-    ensures text { OnOk result ((text : List ℕ) × IsTurnText position.old turn.now text × HasPut pen.old pen.new out.old.items out.new.items (text ∷ [])) }
-    ensures taken { position.new ≡ after_turn position.old turn.now }
-    ensures kept { (some : List ℕ) × (out.new.items ≡ out.old.items ++ some) }
-    ensures width { pen.new.width ≡ pen.old.width }
+    inside: bool,
+    word: &'a [u8],
+    ply: usize,
+    san: &mut ArrayString<8>,
+) -> Result<LineMove, GameFault<'a>>
+    ensures { MatchResult result
+        (λ turn. IsTurn inside position.old word.now turn × (position.new ≡ after_turn position.old turn) × IsTurnText position.old turn san.new.bytes)
+        (λ fault. (plies : ℕ) → ply ≡ plies + 1 → IfSome (fault_of fault) (IsRefusedTurn inside position.old plies word.now)) }
 {
-    match turn {
-        LineMove::Played(m) => {
-            pen.put(out, play_san(position, *m).as_bytes())?;
-            Ok(())
-        }
-        LineMove::Passed => {
-            pass(position);
-            pen.put(out, b"--")?;
-            Ok(())
-        }
+    if is_null_move(inside, word) {
+        san.clear();
+        san.push_str("--");
+        return play_turn(position, inside, word, ply);
     }
+    let m = play_named_san(position, word, ply, san)?;
+    Ok(LineMove::Played(m))
 }

@@ -1,13 +1,25 @@
 //! The move that a word names.
 ghost use Rattle.std.specs.Prelude.{◌≡◌, ◌+◌, ℕ, MatchResult, IfSome};
 ghost use Rattle.chess.specs.Moves.{after};
-ghost use Rattle.chess.specs.San.{IsOnlyNamed};
-ghost use Rattle.pgn_game.specs.Faults.{IsRefusedWord};
+ghost use Rattle.chess.specs.Positions.{State};
+ghost use Rattle.chess.specs.San.{IsOnlyNamed, IsSan};
+ghost use Rattle.pgn_game.specs.Faults.{IsRefusal, IsRefusedWord};
 ghost use Rattle.pgn_game.specs.Replays.{fault_of};
 
 use crate::turns::fault::GameFault;
 use crate::turns::replayed::GamePosition;
-use chess::{Move, SanError, play_word};
+use arrayvec::ArrayString;
+use chess::{Move, SanError, play_word, play_word_san};
+
+/// The fault of this ply, whose word names no legal move or several.
+pub(crate) fn refused<'a>(error: SanError, word: &'a [u8], ply: usize) -> GameFault<'a>
+    ensures { (now : State) (plies : ℕ) → ply ≡ plies + 1 → IsRefusal error now word.now → IfSome (fault_of result) (IsRefusedWord now plies word.now) }
+{
+    match error {
+        SanError::None => GameFault::Illegal { word, ply },
+        SanError::Several => GameFault::Ambiguous { word, ply },
+    }
+}
 
 /// Plays the only legal move that the word names, and answers it; or answers the fault of this ply.
 #[inline(always)]
@@ -22,7 +34,24 @@ pub(crate) fn play_named<'a>(
 {
     match play_word(position, word) {
         Ok(m) => Ok(m),
-        Err(SanError::None) => Err(GameFault::Illegal { word, ply }),
-        Err(SanError::Several) => Err(GameFault::Ambiguous { word, ply }),
+        Err(error) => Err(refused(error, word, ply)),
+    }
+}
+
+/// Plays the only legal move that the word names, answers it and writes its standard text; or answers the fault of this ply.
+#[inline(always)]
+pub(crate) fn play_named_san<'a>(
+    position: &mut GamePosition,
+    word: &'a [u8],
+    ply: usize,
+    san: &mut ArrayString<8>,
+) -> Result<Move, GameFault<'a>>
+    ensures { MatchResult result
+        (λ m. IsOnlyNamed position.old word.now m × (position.new ≡ after position.old m) × IsSan position.old m san.new.bytes)
+        (λ fault. (plies : ℕ) → ply ≡ plies + 1 → IfSome (fault_of fault) (IsRefusedWord position.old plies word.now)) }
+{
+    match play_word_san(position, word, san) {
+        Ok(m) => Ok(m),
+        Err(error) => Err(refused(error, word, ply)),
     }
 }

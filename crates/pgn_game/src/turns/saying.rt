@@ -1,14 +1,14 @@
-//! What a word says where it stands: a move, or in a variation a pass.
+//! What a word says where it stands: a pass, or the move that it names.
 ghost use Rattle.std.specs.Prelude.{◌≡◌, ◌+◌, ◌&&◌, ℕ, MatchResult, IfSome};
 ghost use Rattle.chess.specs.San.{IsOnlyNamed};
-ghost use Rattle.pgn_game.specs.AllLines.{IsTurn, is_pass};
-ghost use Rattle.pgn_game.specs.Faults.{IsRefusedTurn, IsRefusedWord};
+ghost use Rattle.pgn_game.specs.AllLines.{is_pass};
+ghost use Rattle.pgn_game.specs.Faults.{IsRefusedWord};
 ghost use Rattle.pgn_game.specs.Replays.{fault_of};
 
 use crate::turns::fault::GameFault;
-use crate::turns::line_move::LineMove;
+use crate::turns::naming::refused;
 use crate::turns::replayed::GamePosition;
-use chess::{Move, SanError, resolve};
+use chess::{Move, resolve};
 
 /// Whether the word is a pass: in a variation `--` and `Z0` are, in the main line no word is.
 pub(crate) fn is_null_move(inside: bool, word: &[u8]) -> bool
@@ -29,28 +29,6 @@ pub(crate) fn named<'a>(
 {
     match resolve(position, word) {
         Ok(m) => Ok(m),
-        Err(SanError::None) => Err(GameFault::Illegal { word, ply }),
-        Err(SanError::Several) => Err(GameFault::Ambiguous { word, ply }),
+        Err(error) => Err(refused(error, word, ply)),
     }
-}
-
-/// What the word says in the position, in a variation or not; or the fault of this ply.
-pub(crate) fn said_turn<'a>(
-    position: &GamePosition,
-    inside: bool,
-    word: &'a [u8],
-    ply: usize,
-) -> Result<LineMove, GameFault<'a>>
-    ensures { MatchResult result
-        (IsTurn inside position.now word.now)
-        (λ fault. (plies : ℕ) → ply ≡ plies + 1 → IfSome (fault_of fault) (IsRefusedTurn inside position.now plies word.now)) }
-{
-    if !is_null_move(inside, word) {
-        let m = named(position, word, ply)?;
-        return Ok(LineMove::Played(m));
-    }
-    if position.in_check() {
-        return Err(GameFault::Illegal { word, ply });
-    }
-    Ok(LineMove::Passed)
 }

@@ -1,14 +1,16 @@
-use Rattle.std.proofs.Common.{◌≡◌, sym, subst, refl, Option, None, Some, Ok, Err}
+use Rattle.std.proofs.Common.{◌≡◌, ap, sym, subst, refl, Option, None, Some, Ok, Err}
 use Rattle.chess.specs.Squares.{Place}
 use Rattle.chess.specs.Moves.{IsPseudoLegal, IsLegal}
 use Rattle.chess.specs.SetWords.{IsTakenFirst}
-use Rattle.chess.specs.SanWords.{said_by, IsMoveSaid}
+use Rattle.chess.specs.San.{HasRival, kind_said}
+use Rattle.chess.specs.SanWords.{said_by, move_from, IsMoveSaid}
+use Rattle.chess.specs.declared.board.man.Kind.TheVariants.{Pawn}
 use Rattle.chess.specs.declared.moves.Move.{Move}
 use Rattle.chess.specs.declared.move_text.SanError.TheVariants.{None as NoMove}
 use Rattle.chess.proofs.PlaceFacts.{true_not_false}
 use Rattle.chess.proofs.LoopFacts.{taken_none}
 use Rattle.chess.proofs.NamedFacts.{named_said, read_no_castling}
-use Rattle.chess.proofs.CandidateFacts.{none_said, not_said, the_said}
+use Rattle.chess.proofs.CandidateFacts.{none_said, not_said, the_said, no_rival}
 use Rattle.chess.proofs.move_text.play.play_candidate.Goals as goal
 
 pub returns-in_default-clause-answer : goal.returns-in_default-clause-answer
@@ -52,3 +54,16 @@ returns-clause-answer g c =
     (subst (λ (o : Option Place). IsTakenFirst c.args.candidates c.take_first.new.self o) c.in-Some.is c.take_first.ensures)
     (λ some. true_not_false c.has_some.result (c.has_some.ensures.1 some) c.if-has_some.false)
     (subst (IsLegal P) c.from-m.ensures (c.try_move.ensures.legal.0 c.if-not-try_move.false))))
+
+pub returns-clause-written : goal.returns-clause-written
+returns-clause-written g c =
+    let P = c.args.position.now in
+    let said = said_by c.args.said.now in
+    let taken = subst (λ (o : Option Place). IsTakenFirst c.args.candidates c.take_first.new.self o) c.in-Some.is c.take_first.ensures in
+    let candidate = ((c.requires.candidates c.in-Some.from).0 taken.1).1 in
+    let lone : (kind_said said.letter ≡ Pawn → ⊥) → ¬ HasRival P (move_from said c.in-Some.from) (λ s. Unit {0}) = λ piece.
+    no_rival P said c.args.candidates c.take_first.new.self c.in-Some.from c.invariant.ensures piece (c.requires.asked piece) c.requires.candidates taken
+    (λ some. true_not_false c.has_some.result (c.has_some.ensures.1 some) c.if-has_some.false) in
+    c.write.ensures P (ap (λ (m : Move). m.castle) c.from-m.ensures)
+    (rw (c.from-m.ensures, c.side.ensures, c.kind.ensures) candidate.here) c.takes-takes.ensures
+    (rw (c.from-m.ensures, c.kind.ensures) lone) c.if-not-try_move.ensures.moved

@@ -2,7 +2,7 @@ use Rattle.std.proofs.Common.{ap, refl, subst, option_map, Option, None}
 use Rattle.chess.specs.SanWords.{said_by, IsReadSaid}
 use Rattle.chess.specs.declared.move_text.read.parse.ParsedSan.{ParsedSan}
 use Rattle.chess.proofs.CastlingTextFacts.{no_castling}
-use Rattle.chess.proofs.NamedFacts.{named_none}
+use Rattle.chess.proofs.NamedFacts.{named_none, said_answer}
 use Rattle.chess.proofs.move_text.play.play_read.Goals as goal
 
 pub returns-in_default-clause-answer : goal.returns-in_default-clause-answer
@@ -11,5 +11,12 @@ returns-in_default-clause-answer g c =
     (no_castling c.args.text.now c.begins_castling.result c.begins_castling.ensures c.if-begins_castling.false) refl
     c.parse_san.ensures (ap (option_map said_by) c.in_default.is)
 
-pub play_said-requires : goal.play_said-requires
-play_said-requires g c = subst (λ (o : Option ParsedSan). IsReadSaid c.args.text.now o) c.in-Some.is c.parse_san.ensures
+pub returns-in-Ok-clause-answer : goal.returns-in-Ok-clause-answer
+returns-in-Ok-clause-answer g c =
+    said_answer c.args.position.now c.args.text.now c.in-Some.said c.moved-found.result
+    (subst (λ (o : Option ParsedSan). IsReadSaid c.args.text.now o) c.in-Some.is c.parse_san.ensures) c.moved-found.ensures
+
+pub returns-in_default-found-clause-answer : goal.returns-in_default-found-clause-answer
+returns-in_default-found-clause-answer g c =
+    said_answer c.args.position.now c.args.text.now c.in-Some.said c.moved-found.result
+    (subst (λ (o : Option ParsedSan). IsReadSaid c.args.text.now o) c.in-Some.is c.parse_san.ensures) c.moved-found.ensures
