@@ -28,11 +28,6 @@ NamesNone now word = (m : Move) → IsNamed now word m → ⊥
 abbrev pub NamesSeveral : State → List ℕ → Type 0
 NamesSeveral now word = (m n : Move) × IsNamed now word m × IsNamed now word n × (m ≢ n)
 
--- the word names no move, or several
-abbrev pub IsRefusal : SanError → State → List ℕ → Type 0
-IsRefusal named.None now word = NamesNone now word
-IsRefusal named.Several now word = NamesSeveral now word
-
 -- the word, played from a position to which so many plies lead, is reported as this fault: its own ply is one more
 abbrev pub IsRefusedWord : State → ℕ → List ℕ → Fault → Type 0
 IsRefusedWord now plies word BadStart = ⊥

@@ -3,8 +3,9 @@ ghost use Rattle.std.specs.Prelude.{◌≡◌, ◌+◌, ℕ, MatchResult, IfSome
 ghost use Rattle.chess.specs.Moves.{after};
 ghost use Rattle.chess.specs.Positions.{State};
 ghost use Rattle.chess.specs.San.{IsOnlyNamed, IsSan};
-ghost use Rattle.pgn_game.specs.Faults.{IsRefusal, IsRefusedWord};
+ghost use Rattle.pgn_game.specs.Faults.{IsRefusedWord, NamesNone, NamesSeveral};
 ghost use Rattle.pgn_game.specs.Replays.{fault_of};
+ghost use Rattle.chess.specs.declared.move_text.SanError.{SanError};
 
 use crate::turns::fault::GameFault;
 use crate::turns::replayed::GamePosition;
@@ -13,7 +14,8 @@ use chess::{Move, SanError, play_word, play_word_san};
 
 /// The fault of this ply, whose word names no legal move or several.
 pub(crate) fn refused<'a>(error: SanError, word: &'a [u8], ply: usize) -> GameFault<'a>
-    ensures { (now : State) (plies : ℕ) → ply ≡ plies + 1 → IsRefusal error now word.now → IfSome (fault_of result) (IsRefusedWord now plies word.now) }
+    ensures { (now : State) (plies : ℕ) → ply ≡ plies + 1 → (error ≡ SanError.None → NamesNone now word.now)
+        → (error ≡ SanError.Several → NamesSeveral now word.now) → IfSome (fault_of result) (IsRefusedWord now plies word.now) }
 {
     match error {
         SanError::None => GameFault::Illegal { word, ply },

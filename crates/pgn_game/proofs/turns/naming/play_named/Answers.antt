@@ -1,5 +1,6 @@
-use Rattle.std.proofs.Common.{refl, ap, Err}
+use Rattle.std.proofs.Common.{ap, Err}
 use Rattle.pgn_game.proofs.turns.naming.play_named.Goals as goal
 
-pub returns-in-Err-None : goal.returns-in-Err-None
-returns-in-Err-None c plies ply = (refl, ply, c.in-Err-None.ensures.none.0 (ap Err c.in-Err-None.field-0-is))
+pub returns-in-Err : goal.returns-in-Err
+returns-in-Err c plies ply =
+    c.refused.ensures c.args.position.now plies ply (λ is. c.in-Err.ensures.none.0 (ap Err is)) (λ is. c.in-Err.ensures.several.0 (ap Err is))
