@@ -15,6 +15,7 @@ mod man;
 mod set;
 mod square;
 
+pub(crate) use attack_tables::squares_near;
 pub use bits::Bits;
 pub use direction::Direction;
 pub use mailbox::Mailbox;

@@ -221,7 +221,7 @@ fn stands<B: Board>(fen: &str, in_check: bool, has_move: bool) -> Result<bool, F
 }
 
 /// A position, whether its side to move is in check, and whether that has a move.
-const STANDINGS: [(&str, bool, bool); 23] = [
+const STANDINGS: [(&str, bool, bool); 30] = [
     // mate, stalemate, and a lone king that may still move
     ("1Q5k/8/6K1/8/8/8/8/8 b - - 0 1", true, false),
     ("7k/8/6Q1/8/8/8/8/6K1 b - - 0 1", false, false),
@@ -232,6 +232,15 @@ const STANDINGS: [(&str, bool, bool); 23] = [
     // one legal move alone: a pawn's, a promotion, en passant
     ("7k/8/6Q1/8/8/p7/8/6K1 b - - 0 1", false, true),
     ("7k/8/6Q1/8/8/8/p7/6K1 b - - 0 1", false, true),
+    // only the first pawn with an empty square ahead is pinned; no other pawn, or one that may step
+    ("7k/8/8/8/3b4/8/1P1n4/K1n5 w - - 0 1", false, false),
+    ("7k/8/8/8/3b4/8/1P1n3P/K1n5 w - - 0 1", false, true),
+    ("k1N5/1p1N4/8/3B4/8/8/8/7K b - - 0 1", false, false),
+    ("k1N5/1p1N3p/8/3B4/8/8/8/7K b - - 0 1", false, true),
+    // a pawn before its last rank, where that is empty and where it is not, and one beside it
+    ("8/P7/8/8/8/8/1r6/K1k5 w - - 0 1", false, true),
+    ("n7/P7/8/8/8/8/1r6/K1k5 w - - 0 1", false, false),
+    ("n7/P6p/7P/8/8/7P/1r6/K1k5 w - - 0 1", false, true),
     // check by each man, and not through another one, nor by a pawn straight ahead or backward
     ("4k3/8/8/8/8/8/4Q3/6K1 b - - 0 1", true, true),
     ("4k3/8/8/8/8/8/4R3/6K1 b - - 0 1", true, true),

@@ -2,7 +2,7 @@
 ghost use Rattle.std.specs.Prelude.{◌≡◌, ◌↔◌, ◌<◌, IsTrue, true, false};
 ghost use Rattle.chess.specs.Squares.{Place, IsOnBoard, index_of};
 ghost use Rattle.chess.specs.Placements.{Placement, IsEmpty};
-ghost use Rattle.chess.specs.Attacks.{Reaches};
+ghost use Rattle.chess.specs.Attacks.{IsNear, Reaches};
 ghost use Rattle.chess.specs.Sets.{HoldsExactly};
 ghost use Rattle.chess.specs.SetWords.{has_bit};
 ghost use Rattle.chess.specs.BitWords.{IsWordOf, pseudo_attacks_row_of};
@@ -34,6 +34,18 @@ pub(crate) fn pseudo_attacks_on(man: Man, target: Square) -> u64
     ensures { IsWordOf (λ s. IsPseudoAttack man.side man.kind s target) result }
 {
     PSEUDO_ATTACKS[pseudo_attacks_row(man) as usize][target.index() as usize]
+}
+
+/// The squares next to the square.
+#[inline(always)]
+pub(crate) fn squares_near(square: Square) -> SquareSet
+    ensures { HoldsExactly (IsNear square) result }
+{
+    let king = Man {
+        side: Side::White,
+        kind: Kind::King,
+    };
+    SquareSet::of_word(pseudo_attacks_on(king, square))
 }
 
 /// The squares between two squares: those that both their lines have, and that stand between them in order.

@@ -1,15 +1,15 @@
 //! Legal moves (Laws 3.9.2, 3.8.2.2), the squares that they reach, and whether there is one.
-ghost use Rattle.std.specs.Prelude.{◌↔◌, IsTrue, Some, None};
-ghost use Rattle.chess.specs.Attacks.{IsAttackedFrom};
+ghost use Rattle.std.specs.Prelude.{◌≡◌, ◌≤◌, ◌↔◌, IsTrue, Some, None};
+ghost use Rattle.chess.specs.Attacks.{IsForward, IsNear, IsAttackedFrom};
 ghost use Rattle.chess.specs.Positions.{IsCheck, IsOnlyKing};
-ghost use Rattle.chess.specs.Moves.{IsBarred, IsUnbarred, men_after, IsPseudoLegal, IsLegal, CanGo, HasMove};
-ghost use Rattle.chess.specs.MoveWords.{CanGoPlainly, CanPromote, CanCastle, CanLeave, CanMove, HasEach, IsPawnGoal, IsCastlingGoal};
+ghost use Rattle.chess.specs.Moves.{IsSingleStep, Promotes, IsBarred, IsUnbarred, men_after, IsPseudoLegal, IsLegal, CanGo, HasMove};
+ghost use Rattle.chess.specs.MoveWords.{IsMover, CanGoPlainly, CanPromote, CanCastle, CanLeave, CanMove, HasEach, IsPawnGoal, IsCastlingGoal};
 ghost use Rattle.chess.specs.Sets.{HoldsExactly};
 
-use crate::board::{Board, Kind, Man, Square, SquareSet, Wing};
+use crate::board::{Board, Kind, Man, Side, Square, SquareSet, Wing, squares_near};
 use crate::moves::Move;
 use crate::moves::castling::{king_arrives, king_leaves, rank_of_pieces, rook_arrives};
-use crate::moves::pseudo_legal::square_ahead;
+use crate::moves::pseudo_legal::{promotes, square_ahead};
 use crate::position::Position;
 
 impl<B: Board> Position<B> {
@@ -35,13 +35,24 @@ impl<B: Board> Position<B> {
         found
     }
 
-    /// Whether the side to move has a legal move. In check it is looked for first among those of its king, where it mostly is.
+    /// Whether the side to move has a legal move. A step of one pawn is tried first, then those of the king: they are soon seen.
     pub fn has_move(&self) -> bool
         ensures { IsTrue result ↔ HasMove self.now }
     {
-        if self.in_check() && self.king_escapes() {
+        if self.pawn_steps() {
             return true;
         }
+        if self.king_escapes() {
+            return true;
+        }
+        self.has_any_move()
+    }
+
+    /// Whether a man of some kind has a legal move: the men of each kind are asked.
+    #[cold]
+    fn has_any_move(&self) -> bool
+        ensures { IsTrue result ↔ HasMove self.now }
+    {
         if self.can_move(Kind::Pawn) {
             return true;
         }
@@ -63,11 +74,77 @@ impl<B: Board> Position<B> {
         false
     }
 
-    /// Whether the king of the side to move steps legally to the square, which it attacks.
+    /// The rank ahead of the pawn on the square. There is one, since no pawn stands on its last rank.
+    #[inline(always)]
+    fn rank_ahead(&self, from: Square) -> u8
+        requires { IsMover self.now Kind.Pawn from }
+        ensures rank { IsForward self.now.turn from.rank result }
+        ensures low { 1 ≤ result }
+        ensures high { result ≤ 8 }
+    {
+        self.invariant();
+        match self.side() {
+            Side::White => from.rank() + 1,
+            Side::Black => from.rank() - 1,
+        }
+    }
+
+    /// The square straight ahead of the pawn on the square.
+    #[inline(always)]
+    fn ahead_of_pawn(&self, from: Square) -> Square
+        requires { IsMover self.now Kind.Pawn from }
+        ensures file { result.file ≡ from.file }
+        ensures rank { IsForward self.now.turn from.rank result.rank }
+    {
+        Square::at(from.file(), self.rank_ahead(from))
+    }
+
+    /// Whether a step of the pawn on the one square to the other, where it stays a pawn, leaves the own king unattacked.
+    #[inline(always)]
+    fn can_step(&self, from: Square, to: Square) -> bool
+        requires pawn { IsMover self.now Kind.Pawn from }
+        requires step { IsSingleStep self.now from to }
+        requires stays { Promotes self.now.turn to None }
+        ensures { IsTrue result → IsLegal self.now (record { from = from; to = to; promote = None; castle = None }) }
+    {
+        from.invariant();
+        to.invariant();
+        let man = Man {
+            side: self.side(),
+            kind: Kind::Pawn,
+        };
+        let m = Move {
+            from,
+            to,
+            promote: None,
+            castle: None,
+        };
+        !self.exposes_king(man, &m)
+    }
+
+    /// Whether the first pawn of the side to move that has an empty square ahead, and stays a pawn there, steps legally.
+    #[inline(always)]
+    fn pawn_steps(&self) -> bool
+        ensures { IsTrue result → HasMove self.now }
+    {
+        let mut left = self.squares_of(Man {
+            side: self.side(),
+            kind: Kind::Pawn,
+        });
+        while let Some(from) = left.take_first() {
+            let to = self.ahead_of_pawn(from);
+            if self.is_empty(to) && promotes(self.side(), to, None) {
+                return self.can_step(from, to);
+            }
+        }
+        false
+    }
+
+    /// Whether the king of the side to move steps legally to the square, which is next to its own.
     #[inline(always)]
     fn king_steps(&self, king: Square, to: Square) -> bool
         requires king { IsOnlyKing self.now.men self.now.turn king }
-        requires near { IsAttackedFrom self.now.men king to }
+        requires near { IsNear king to }
         ensures { IsTrue result → IsLegal self.now (record { from = king; to = to; promote = None; castle = None }) }
     {
         king.invariant();
@@ -90,11 +167,12 @@ impl<B: Board> Position<B> {
     }
 
     /// Whether the king of the side to move steps legally to some square.
+    #[inline(never)]
     fn king_escapes(&self) -> bool
         ensures { IsTrue result → HasMove self.now }
     {
         let king = self.king(self.side());
-        let mut left = self.attacks_from(king);
+        let mut left = squares_near(king);
         while let Some(to) = left.take_first() {
             if self.king_steps(king, to) {
                 return true;

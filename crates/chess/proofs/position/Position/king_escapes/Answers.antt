@@ -1,6 +1,6 @@
 use Rattle.std.proofs.Common.{subst, Option, None}
 use Rattle.chess.specs.Squares.{Place}
-use Rattle.chess.specs.Attacks.{IsAttackedFrom}
+use Rattle.chess.specs.Attacks.{IsNear}
 use Rattle.chess.specs.Positions.{IsOnlyKing}
 use Rattle.chess.specs.SetWords.{IsTakenFirst}
 use Rattle.chess.specs.declared.board.man.Side.{Side}
@@ -8,11 +8,11 @@ use Rattle.chess.proofs.LoopFacts.{fewer, left_start, left_more}
 use Rattle.chess.proofs.position.Position.king_escapes.Goals as goal
 
 pub loop-to-init : goal.loop-to-init
-loop-to-init g c = left_start (IsAttackedFrom c.args.self.now.men c.king-king.result) (λ s. ⊥) c.attacks_from-left.result (λ s on clash. absurd clash) (λ s on in_set. ((c.attacks_from-left.ensures s).0 in_set).1)
+loop-to-init g c = left_start (IsNear c.king-king.result) (λ s. ⊥) c.squares_near-left.result (λ s on clash. absurd clash) (λ s on in_set. ((c.squares_near-left.ensures s).0 in_set).1)
 
 pub loop-to-preserved : goal.loop-to-preserved
 loop-to-preserved g c =
-    left_more (IsAttackedFrom c.args.self.now.men c.king-king.result) (λ s. ⊥) c.loop-to.left c.take_first.new.self c.in-Some.to c.loop-to.invariant
+    left_more (IsNear c.king-king.result) (λ s. ⊥) c.loop-to.left c.take_first.new.self c.in-Some.to c.loop-to.invariant
     (subst (λ (o : Option Place). IsTakenFirst c.loop-to.left c.take_first.new.self o) c.in-Some.is c.take_first.ensures)
     (λ clash. clash)
 

@@ -1,10 +1,10 @@
-use Rattle.chess.specs.Attacks.{IsAttackedFrom}
+use Rattle.chess.specs.Attacks.{IsNear}
 use Rattle.chess.specs.Sets.{size_of}
 use Rattle.chess.specs.MoveWords.{IsLeft}
 use Rattle.chess.proofs.position.Position.king_escapes.Given as goal
 
 abbrev pub invariant-loop-to : goal.invariant-loop-to
-invariant-loop-to g l = IsLeft (IsAttackedFrom l.self.men l.king) (λ s. ⊥) l.left
+invariant-loop-to g l = IsLeft (IsNear l.king) (λ s. ⊥) l.left
 
 abbrev pub decreases-loop-to : goal.decreases-loop-to
 decreases-loop-to g l = size_of l.left
