@@ -23,8 +23,8 @@ def lines_of(tree, keys):
     return sum(tree.definitions[it].count for it in keys)
 
 
-def clauses_named(tree, wanted):
-    """The clauses with the name `crate::module::[Type.]function[.clause]`, each with its file and its function."""
+def clauses_found(tree, wanted):
+    """The clauses with the name `crate::module::[Type.]function[.clause]`, each with its file and its function; none where there is no such name."""
     found = []
     for crate in tree.crates.values():
         for file in crate.code.values():
@@ -33,6 +33,12 @@ def clauses_named(tree, wanted):
                 if wanted == name or wanted.startswith(name + "."):
                     clause = wanted[len(name) + 1:]
                     found += [(file, function, it) for it in function.clauses if clause in ("", it.name)]
+    return found
+
+
+def clauses_named(tree, wanted):
+    """The clauses with the name; ends the program where there are none."""
+    found = clauses_found(tree, wanted)
     if not found:
         raise SystemExit(f"no contract has a clause {wanted} (CRATE::MODULE::[TYPE.]FUNCTION[.CLAUSE])")
     return found

@@ -15,9 +15,6 @@ CALLED = "# called by"
 ROW_FILES = re.compile(r"(Examples|Rows)$")
 # A part of a note that only names laws or worked rows.
 PLAIN = re.compile(r"(laws?|worked rows?) `\w+`(?:(?:,| and) `\w+`)*$")
-# So many names of a kind are listed on the page.
-MOST = 2
-
 
 @dataclass
 class Held:
@@ -34,8 +31,8 @@ class Held:
         """Something holds it by its name."""
         return bool(self.laws or self.rows or self.edits or self.callers or self.hand)
 
-    def text(self, most=MOST):
-        """The cell of the table, with so many names of a kind."""
+    def parted(self):
+        """The laws and the worked rows, those of notes first, and what else the notes say."""
         laws, rows, notes = list(self.laws), list(self.rows), []
         for part in (it for note in self.hand for it in note.split("; ")):
             plain = PLAIN.match(part)
@@ -44,28 +41,44 @@ class Held:
                 names[:0] = [it for it in re.findall(r"`(\w+)`", part) if it not in names]
             elif part not in notes:
                 notes.append(part)
+        return laws, rows, notes
+
+    def text(self):
+        """All that holds it, by name."""
+        laws, rows, notes = self.parted()
         said = set(re.findall(r"`(\w+)`", " ".join(notes)))
         kinds = [("law", laws), ("worked row", rows), ("edit", self.edits), ("proved callers of", self.callers)]
         kinds = [(kind, [it for it in names if it not in said]) for kind, names in kinds]
-        parts = notes + [listed(kind, names, most) for kind, names in kinds if names]
-        return "; ".join(parts) or "in " + ", ".join(f"`{it}`" for it in self.users[:most]) if parts or self.users else "nothing"
+        parts = notes + [listed(kind, names) for kind, names in kinds if names]
+        return "; ".join(parts) or "in " + ", ".join(f"`{it}`" for it in self.users) if parts or self.users else "nothing"
+
+    def letters(self):
+        """The kinds of what holds it: laws (L), worked rows (R), edits (E), proved callers (C), tests and else what notes say (T); held by none of
+        these, it stands in a definition that is held (I)."""
+        laws, rows, notes = self.parted()
+        kinds = {"L": laws, "R": rows, "E": self.edits, "C": self.callers, "T": notes}
+        return "".join(letter for letter, names in kinds.items() if names) or ("I" if self.users else "-")
 
 
-def listed(kind, names, most):
-    """So many names of a kind."""
+def listed(kind, names):
+    """The names of a kind."""
     names = list(dict.fromkeys(names))
     plural = kind if kind.endswith("of") or len(names) == 1 else kind + "s"
-    more = f" and {len(names) - most} more" if len(names) > most else ""
-    return f"{plural} " + ", ".join(f"`{it}`" for it in names[:most]) + more
+    return f"{plural} " + ", ".join(f"`{it}`" for it in names)
+
+
+def report_missing(kind, name):
+    """Says that there is nothing of the kind with the name."""
+    sys.stderr.write(f"tools/definitions: no {kind} is called {name}\n")
 
 
 def print_all(tree, name):
     """Prints all that holds the definitions of a name; says so and fails where there is none."""
     found = {key: it for key, it in holders_of(tree).items() if key[1] == name}
     for key, it in found.items():
-        print(f"{tree.definitions[key].where}: {it.text(sys.maxsize)}")
+        print(f"{tree.definitions[key].where}: {it.text()}")
     if not found:
-        sys.stderr.write(f"tools/definitions: no definition that is to be believed is called {name}\n")
+        report_missing("definition that is to be believed", name)
     return 0 if found else 1
 
 

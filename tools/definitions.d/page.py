@@ -1,12 +1,10 @@
-"""The page docs/DEFINITIONS.md: what holds each definition, and who calls each public function."""
+"""The last part of docs/PROOFS.md: what holds each definition, and who calls each public function, by letters."""
 
 import callers
 import holders
 
-DOCUMENT = "docs/DEFINITIONS.md"
-MARK = "<!-- What follows is written by `tools/definitions --write`, from the tree and from docs/held-by.txt. -->\n"
-# So many callers are listed.
-MOST = 2
+DOCUMENT = "docs/PROOFS.md"
+MARK = "<!-- Written by `tools/definitions --write`, from the tree and docs/held-by.txt. -->\n"
 
 
 def page(tree):
@@ -15,45 +13,44 @@ def page(tree):
 
 
 def sections(tree):
-    """For each crate and each of its files the definitions with what holds them."""
+    """For each crate a row for each of its files: the definitions with the letters of what holds them."""
     held = holders.holders_of(tree)
     for crate in tree.crates.values():
         if crate.believed:
-            yield f"\n# `{crate.name}`\n"
+            yield f"\n### `{crate.name}`\n\n| File | Definitions, and what holds them |\n|---|---|\n"
         for file in crate.believed:
             if file in crate.specs and crate.specs[file].definitions:
-                yield f"\n## {file}\n\n| Definition | Held by |\n|---|---|\n"
-                keys = [it.key for it in crate.specs[file].definitions]
-                yield from (f"| {', '.join(f'`{it}`' for it in names)} | {text} |\n" for names, text in rows(keys, held))
-
-
-def rows(keys, held):
-    """Names in a row with the same text, together."""
-    found = []
-    for key in keys:
-        text = held[key].text()
-        if found and found[-1][1] == text:
-            found[-1][0].append(key[1])
-        else:
-            found.append(([key[1]], text))
-    return found
+                yield f"| {file} | {', '.join(f'{it.name}:{held[it.key].letters()}' for it in crate.specs[file].definitions)} |\n"
 
 
 def contracts(tree):
-    """The public functions with their callers."""
-    reasons = holders.reasons_of(tree)
-    yield "\n# What each public contract is called by\n\nLaws want nothing of their callers, and the functions of a module `memory` are examples of calls: both are left out.\n\n"
-    yield "| Function | Called by |\n|---|---|\n"
+    """For each crate the public functions with the letters of who calls them; under it why nothing calls one."""
+    reasons, rows = holders.reasons_of(tree), {}
     for name, found in callers.listed(tree):
-        yield f"| `{name}` | {called_by(name, found) or reasons.get(name, '')} |\n"
+        crate, _, own = name.partition("::")
+        rows.setdefault(crate, []).append(f"{own}:{letters(crate, found)}")
+    yield "\n### What each public function is called by\n\n| Crate | Functions, and who calls them |\n|---|---|\n"
+    yield from (f"| `{crate}` | {', '.join(names)} |\n" for crate, names in rows.items())
+    yield from (f"| `{name}` | {reason} |\n" for name, reason in reasons.items())
 
 
-def called_by(name, found):
-    """Some callers: examples first, then those of other crates, and of these those with a contract first."""
-    own = name.partition("::")[0]
-    ordered = sorted(found, key=lambda it: (not it.is_example, it.crate == own, not it.is_proved, it.name))
-    more = f" and {len(ordered) - MOST} more" if len(ordered) > MOST else ""
-    return ", ".join(f"`{it.name}`" for it in ordered[:MOST]) + more
+def letters(crate, found):
+    """The kinds of callers: an example over known bytes (M), a function with a contract of another crate (C), any other of another crate (U), one of
+    its own crate (O); `-` for none."""
+    kinds = {"M": any(it.is_example for it in found), "C": any(it.crate != crate and it.is_proved and not it.is_example for it in found),
+             "U": any(it.crate != crate and not it.is_proved for it in found), "O": any(it.crate == crate and not it.is_example for it in found)}
+    return "".join(letter for letter, is_so in kinds.items() if is_so) or "-"
+
+
+def print_callers(tree, name):
+    """Prints all callers of the public functions of a name, or why there are none; fails where there is no such function."""
+    reasons = holders.reasons_of(tree)
+    listed = [(whole, found) for whole, found in callers.listed(tree) if name in (whole, whole.replace(".", "::").rpartition("::")[2])]
+    for whole, found in listed:
+        print(f"{whole}: {', '.join(it.name for it in found) or reasons.get(whole, 'nothing')}")
+    if not listed:
+        holders.report_missing("public function", name)
+    return 0 if listed else 1
 
 
 def written(tree):
@@ -65,7 +62,7 @@ def written(tree):
 def faults(tree):
     """What is wrong with the page: another one, and functions without a caller."""
     if (tree.top / DOCUMENT).read_text(encoding="utf-8") != written(tree):
-        yield f"{DOCUMENT} has another page than tools/definitions makes (tools/definitions --write)"
+        yield f"{DOCUMENT} has another list of what holds definitions than tools/definitions makes (tools/definitions --write)"
     reasons = holders.reasons_of(tree)
     for name, found in callers.listed(tree):
         if not found and name not in reasons:

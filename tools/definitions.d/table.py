@@ -1,9 +1,14 @@
-"""The table of definitions in docs/THEOREMS.md."""
+"""The tables of docs/PROOFS.md on files of definitions: how many lines each has, and on how many a contract rests."""
 import re
 
-DOCUMENT = "docs/THEOREMS.md"
-HEAD = "| Crate | Files of `specs/` that a reader must believe, with their lines | Together |\n|---|---|---|\n"
+from closure import clauses_found, closure_of, lines_of as lines_of_keys
+
+DOCUMENT = "docs/PROOFS.md"
+HEAD = "| Crate | Files of `specs/` that a reader must believe, with their lines | Together | Private files |\n|---|---|---|---|\n"
 TABLE = re.compile(re.escape(HEAD) + r"(?:\|.*\n)*")
+# The table of contracts begins so; the crates follow, a column each.
+RESTS = "| Contract |"
+CONTRACTS = re.compile(r"^" + re.escape(RESTS) + r".*\n\|[-|]+\n(?:\|.*\n)*", re.MULTILINE)
 
 
 def lines_of(path):
@@ -13,24 +18,60 @@ def lines_of(path):
 
 
 def table(tree):
-    """The table: for each crate its files with their lines."""
+    """The table of files: for each crate those that a reader must believe, with their lines, and the private ones."""
     rows, whole = [], 0
     for crate in tree.crates.values():
-        counts = [(name, lines_of(crate.folder / f"specs/{name}.antt")) for name in crate.believed]
+        counts = [(name, sum(map(lines_of, crate.folder.glob(f"specs/**/{name}.antt")))) for name in crate.believed]
         if counts:
             together = sum(count for _, count in counts)
             whole += together
-            rows.append(f"| `{crate.name}` | " + ", ".join(f"{name} {count}" for name, count in counts) + f" | {together} |\n")
-    return HEAD + "".join(rows) + f"| together | | {whole} |\n"
+            rows.append(f"| `{crate.name}` | " + ", ".join(f"{name} {count}" for name, count in counts) + f" | {together} | {', '.join(crate.private)} |\n")
+    return HEAD + "".join(rows) + f"| together | | {whole} | |\n"
+
+
+def rests(tree, text):
+    """The table of contracts that stands in the text: for each contract the lines of definitions that it rests on, in each crate and together."""
+    crates = [it.name for it in tree.crates.values() if it.believed]
+    head = f"{RESTS} " + " | ".join(f"`{it}`" for it in crates) + " | Together |\n|" + "---|" * (len(crates) + 2) + "\n"
+    return head + "".join(row(tree, name, crates) for name in names_in(text))
+
+
+def names_in(text):
+    """The contracts in the table."""
+    return re.findall(r"^\| `([\w:.]+::[\w:.]+)` \|", text, re.MULTILINE)
+
+
+def row(tree, name, crates):
+    """The row of a contract; one that is not there rests on nothing."""
+    closure = closure_of(tree, clauses_found(tree, name))
+    counts = [lines_of_keys(tree, [it for it in closure.definitions if tree.definitions[it].crate == crate]) for crate in crates]
+    return f"| `{name}` | " + " | ".join(str(it) if it else "" for it in counts) + f" | {closure.count} |\n"
+
+
+def written(tree):
+    """The document with both tables as they should be; none where it lacks one."""
+    text = (tree.top / DOCUMENT).read_text(encoding="utf-8")
+    if not TABLE.search(text) or not CONTRACTS.search(text):
+        return None
+    text = TABLE.sub(lambda _: table(tree), text)
+    return CONTRACTS.sub(lambda it: rests(tree, it[0]), text)
 
 
 def faults(tree):
-    """How the document's table differs."""
-    if table(tree) not in (tree.top / DOCUMENT).read_text(encoding="utf-8"):
+    """How the document's tables differ."""
+    text = (tree.top / DOCUMENT).read_text(encoding="utf-8")
+    if table(tree) not in text:
         yield f"{DOCUMENT} has another table of definitions than tools/definitions prints (tools/definitions --write)"
+    found = CONTRACTS.search(text)
+    missing = [it for it in names_in(found[0]) if not clauses_found(tree, it)] if found else []
+    yield from (f"{DOCUMENT} names the contract {it}, which is not there" for it in missing)
+    if not found or not missing and found[0] != rests(tree, found[0]) or found[0].count("\n") < 3:
+        yield f"{DOCUMENT} has another table of contracts than tools/definitions makes (tools/definitions --write)"
 
 
 def write(tree):
-    """Writes the table into the document."""
-    path = tree.top / DOCUMENT
-    path.write_text(TABLE.sub(lambda _: table(tree), path.read_text(encoding="utf-8")), encoding="utf-8")
+    """Writes the tables into the document."""
+    text = written(tree)
+    if text is None:
+        raise SystemExit(f"{DOCUMENT} lacks the table of definitions or that of contracts")
+    (tree.top / DOCUMENT).write_text(text, encoding="utf-8")
