@@ -1,6 +1,10 @@
 //! Texts of moves: which moves they name, and the text of each move (PGN 8.2.3).
 use crate::rows::{move_of, position};
-use chess::{Bits, Board, Mailbox, Move, Position, SanError, play_san, play_word, resolve, san};
+use arrayvec::ArrayString;
+use chess::{
+    Bits, Board, Mailbox, Move, Position, SanError, play_san, play_word, play_word_san, resolve,
+    san,
+};
 use std::test::Fail;
 
 const ROOKS: &str = "r3k2r/8/8/8/8/8/8/R3K2R w KQkq - 0 1";
@@ -149,7 +153,8 @@ fn texts_name_no_move_or_several(rt: HostRuntime) -> Result<(), Fail> {
     Ok(())
 }
 
-/// Whether playing the text reports that, the move by its squares, and leads to the position of the other text.
+/// Whether playing the text, with its standard text written or not, reports that, the move by its squares, and leads to the position of
+/// the other text.
 fn plays<B: Board>(
     fen: &str,
     text: &str,
@@ -161,8 +166,15 @@ fn plays<B: Board>(
         Ok(named) => Ok(move_of(&position, named.as_bytes())?),
         Err(error) => Err(error),
     };
+    let mut written = position.copy();
     let found = play_word(&mut position, text.as_bytes());
-    Ok(found == expected && position.fen().as_str() == after)
+    let other = play_word_san(&mut written, text.as_bytes(), &mut ArrayString::new());
+    Ok(
+        found == expected
+            && other == expected
+            && position.fen().as_str() == after
+            && written.fen().as_str() == after,
+    )
 }
 
 const DOUBLED: &str = "4k3/3p4/3p4/8/8/4P3/4P3/4K3 w - - 0 1";
@@ -262,6 +274,16 @@ fn texts_are_played_or_change_nothing(rt: HostRuntime) -> Result<(), Fail> {
     Ok(())
 }
 
+/// Whether the text, played, is the move with that text, over whatever text was written before, and leads to the position after it.
+fn rewrites<B: Board>(position: &Position<B>, m: &Move, text: &str) -> bool {
+    let mut after = position.copy();
+    let mut written = ArrayString::new();
+    written.push_str("O-O-O");
+    play_word_san(&mut after, text.as_bytes(), &mut written) == Ok(*m)
+        && written.as_str() == text
+        && after.fen() == position.play(*m).fen()
+}
+
 /// Whether the move is legal, that is its text, and the move played with its text leads to the position after it.
 fn writes<B: Board>(position: &Position<B>, m: &Move, text: &str) -> bool {
     if !position.is_legal(*m) {
@@ -272,6 +294,7 @@ fn writes<B: Board>(position: &Position<B>, m: &Move, text: &str) -> bool {
     san(position, *m).as_str() == text
         && written.as_str() == text
         && after.fen() == position.play(*m).fen()
+        && rewrites(position, m, text)
 }
 
 /// Whether the move that is written as its squares is legal, and that is its text.
