@@ -129,7 +129,7 @@ trait Visitor<'a>: Drop {
     fn keep(&mut self, token: Token<'a>) -> Result<(), Self::Error>
         ensures { OnOk result ((tags : List ℕ → Option (List ℕ)) (items : List Item) → kept self.old tags items → kept self.new (λ wanted. option_or (tags wanted) (named_kept wanted (token_of token.entry))) (items ++ items_of_kept (token_of token.entry))) };
 
-    // Whether nothing has to be kept of a part.
+    /// Whether nothing has to be kept, whatever is read.
     fn keeps_nothing(&self) -> bool
         ensures { IsTrue result → (tags : List ℕ → Option (List ℕ)) (items : List Item) → kept self.now tags items };
 }
@@ -329,7 +329,7 @@ fn read_part<'a, K: Visitor<'a>>(
     }
 }
 
-/// The place from which to read on after a move: where nothing has to be kept, the plain movetext there is passed.
+/// The place from which to read on after a move: after plain movetext, if nothing has to be kept of it.
 #[inline(always)]
 fn pass_plain<'a, K: Visitor<'a>>(block: &[u8], at: usize, visitor: &K) -> usize
     requires { at ≤ length block.now }

@@ -8,7 +8,7 @@ ghost use Rattle.pgn_text.specs.Walk.{Passes};
 
 use crate::lex::class::{ByteClass, is_in, run_end};
 
-/// How many bytes stand in the block from a place on where plain movetext is read.
+/// How many bytes must be left in the block at a place where plain movetext is read, so that no place is tested again.
 const AHEAD: usize = 8;
 
 /// The place after the space at the place of the block, or the place itself where none stands there.
@@ -45,7 +45,7 @@ fn after_move(block: &[u8], at: usize) -> usize
     run_end(ByteClass::Word, block, at + 1)
 }
 
-/// The place after the move number at the place of the block, its period and a space, if it has at most three digits and a period.
+/// The place after the move number at the place of the block, its period and a space, if it has a period and at most three digits.
 #[inline(always)]
 fn after_number(block: &[u8], at: usize) -> Option<usize>
     requires ahead { at + 8 ≤ length block.now }
@@ -67,7 +67,7 @@ fn after_number(block: &[u8], at: usize) -> Option<usize>
     None
 }
 
-/// The place after the plain movetext of one word, number or byte at the place of the block, if some stands there.
+/// The place after the move, the number or the white space at the place of the block, if one of them stands there.
 #[inline(always)]
 fn after_plain(block: &[u8], at: usize) -> Option<usize>
     requires { at + 8 ≤ length block.now }
@@ -86,7 +86,7 @@ fn after_plain(block: &[u8], at: usize) -> Option<usize>
     None
 }
 
-/// A place up to which plain movetext stands in the block: the last one that is found, though not all that stands there.
+/// A place up to which only plain movetext stands from the given one on; more of it may follow.
 #[inline(never)]
 pub(crate) fn plain_end(block: &[u8], from: usize) -> usize
     requires { from ≤ length block.now }
