@@ -42,7 +42,7 @@ fn after_move(block: &[u8], at: usize) -> usize
     if !is_in(ByteClass::Word, block[at + 4]) {
         return after_space(block, at + 4);
     }
-    run_end(ByteClass::Word, block, at + 1)
+    run_end(ByteClass::Word, block, at + 5)
 }
 
 /// The place after the move number at the place of the block, its period and a space, if it has a period and at most three digits.
