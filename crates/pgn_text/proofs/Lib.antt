@@ -44,6 +44,8 @@ pub mod Pairing
 pub mod PartLemmas
 pub mod PartsAt
 pub mod Places
+pub mod PlainLemmas
+pub mod PlainParts
 pub mod ReadLemmas
 pub mod ReadingLemmas
 pub mod ResumedPieces

@@ -8,7 +8,7 @@ use Rattle.pgn_text.specs.Readings.{IsReading, IsStep}
 use Rattle.pgn_text.specs.Steps.{State}
 use Rattle.pgn_text.specs.Walk.{KeptAt}
 use Rattle.pgn_text.specs.declared.game.Reading.{Reading}
-use Rattle.pgn_text.specs.declared.game.Reading.TheVariants.{Part, Number, Result, Stuck}
+use Rattle.pgn_text.specs.declared.game.Reading.TheVariants.{Part, Move, Number, Result, Stuck}
 
 module _ (kept_old kept_new : (List ℕ → Option (List ℕ)) → List Item → Type 0) (max_depth : ℕ) (old new : State) where
   -- a step over the token that stands at a place is what stands there
@@ -21,6 +21,7 @@ module _ (kept_old kept_new : (List ℕ → Option (List ℕ)) → List Item →
     steps = steps;
     keeps = keeps;
   }
+  step_is_reading here no_result (Move after) step = absurd step
   step_is_reading here no_result (Number after) step = absurd step
   step_is_reading here no_result (Result after) step = absurd step
   step_is_reading {f} {block} {at} {end} {token} here no_result Stuck step =

@@ -1,5 +1,5 @@
 -- Longest fronts of bytes that pass a test.
-use Rattle.std.proofs.Common.{◌≡◌, ℕ, zero, suc, ◌+◌, ◌<◌, ◌≤◌, Bool, true, false, not, List, [], ◌∷◌, length, take, drop, get_or, refl, sym, ap, ◌∙◌, arith}
+use Rattle.std.proofs.Common.{◌≡◌, ℕ, zero, suc, ◌+◌, ◌<◌, ◌≤◌, Bool, true, false, not, List, [], ◌∷◌, ◌++◌, length, take, drop, get_or, refl, sym, ap, ◌∙◌, arith}
 use Rattle.std.proofs.lemmas.Bool.{eqb-true, not_from_true, not_from_false, false_from_ne_true, ne_eqb}
 use Rattle.std.proofs.lemmas.List.{drop_more, drop_all}
 use Rattle.memchr.specs.Find.{IsFirstByte, is_byte}
@@ -39,6 +39,16 @@ run_length_is test (b ∷ rest) zero below within at =
 run_length_is test (b ∷ rest) (suc n) below within at =
     let passes : test b ≡ true = below 0 (omega arith) in
     rw passes (ap suc (run_length_is test rest n (λ k h. below (suc k) (omega arith)) (omega arith) (λ h. at (omega arith))))
+
+-- where so many bytes pass, the run is these and the run of what follows them
+pub run_on : (test : ℕ → Bool) (xs : List ℕ) (n : ℕ) → ((k : ℕ) → k < n → test (get_or xs k 0) ≡ true) → n ≤ length xs
+    → (run_of test xs ≡ take n xs ++ run_of test (drop n xs)) × (after_run test xs ≡ after_run test (drop n xs))
+run_on test xs zero passes within = (refl, refl)
+run_on test [] (suc n) passes within = absurd (omega arith)
+run_on test (b ∷ rest) (suc n) passes within =
+    let here : test b ≡ true = passes 0 (omega arith) in
+    let more = run_on test rest n (λ k below. passes (suc k) (omega arith)) (omega arith) in
+    (rw here (ap (λ (ys : List ℕ). b ∷ ys) more.0), rw here more.1)
 
 -- the first place of a byte is the length of the run of other bytes
 pub first_byte-run : (b : ℕ) (xs : List ℕ) (n : ℕ) → IsFirstByte (is_byte b) xs (Some n) → n ≡ length (run_of (λ x. not (x == b)) xs)

@@ -1,10 +1,11 @@
 -- Longest runs between places of a block.
-use Rattle.std.proofs.Common.{◌≡◌, inl, inr, ℕ, ◌+◌, ◌-◌, ◌<◌, ◌≤◌, Bool, true, false, List, length, take, drop, get_or, sym, ap, ◌∙◌, arith, length-drop, drop-drop}
+use Rattle.std.proofs.Common.{◌≡◌, inl, inr, ℕ, ◌+◌, ◌-◌, ◌<◌, ◌≤◌, Bool, true, false, List, ◌++◌, length, take, drop, get_or, sym, ap, ◌∙◌, arith, length-drop, drop-drop}
 use Rattle.std.proofs.lemmas.Bool.{cases_lt}
 use Rattle.std.proofs.lemmas.List.{get_or-drop}
-use Rattle.pgn_text.specs.Bytes.{run_of}
+use Rattle.std.proofs.Math.Seq.{take-add}
+use Rattle.pgn_text.specs.Bytes.{run_of, after_run}
 use Rattle.pgn_text.specs.Tokens.{RunTo}
-use Rattle.pgn_text.proofs.Runs.{run_length_is, take_run, drop_run}
+use Rattle.pgn_text.proofs.Runs.{run_length_is, run_on, take_run, drop_run}
 
 -- a place up to which all bytes pass, and at which one fails or the block ends, is the run's end
 pub run_to : (test : ℕ → Bool) (block : List ℕ) (from at : ℕ) → from ≤ at → at ≤ length block
@@ -50,3 +51,21 @@ one_more test block from at next is_next pass below here = record {
 -- a place up to which all bytes pass, and at which one fails or the block ends, is the run's end
 pub passed_to : (test : ℕ → Bool) (block : List ℕ) (from at : ℕ) → AllPass test block from at → (at < length block → test (get_or block at 0) ≡ false) → RunTo test block from at
 passed_to test block from at pass ends = run_to test block from at pass.forward pass.within pass.inside ends
+
+-- where all bytes up to a place pass, the run from there ends the run from the first of them
+pub runs_on : (test : ℕ → Bool) (block : List ℕ) (from mid end : ℕ) → AllPass test block from mid → RunTo test block mid end → RunTo test block from end
+runs_on test block from mid end pass to =
+    let xs : List ℕ = drop from block in
+    let n : ℕ = mid - from in
+    let begun : from ≤ mid = pass.forward in
+    let further : mid ≤ end = to.forward in
+    let there : from + n ≡ mid = omega arith in
+    let rest : drop n xs ≡ drop mid block = drop-drop n from block ∙ ap (λ k. drop k block) there in
+    let on = run_on test xs n (λ k below. ap test (get_or-drop from block k 0) ∙ pass.inside k below) (let within : mid ≤ length block = pass.within in omega (arith, length-drop from block)) in
+    record {
+      run = ap (λ k. take k xs) (omega arith) ∙ take-add n (end - mid) xs ∙ ap (λ ys. take n xs ++ take (end - mid) ys) rest
+          ∙ ap (λ ys. take n xs ++ ys) to.run ∙ ap (λ ys. take n xs ++ run_of test ys) (sym rest) ∙ sym on.0;
+      rest = to.rest ∙ ap (after_run test) (sym rest) ∙ sym on.1;
+      forward = omega arith;
+      within = to.within;
+    }

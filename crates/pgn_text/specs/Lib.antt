@@ -28,6 +28,7 @@ pub mod ErrorPosition
 pub mod Cuts
 pub mod GameBuilders
 pub mod Held
+pub mod Movetext
 pub mod PartFronts
 pub mod Phases
 pub mod Reading

@@ -6,7 +6,7 @@ use Rattle.pgn_text.specs.Reading.{Kept, is_kept_result, step_kept, items_of_kep
 use Rattle.pgn_text.specs.Steps.{State}
 use Rattle.pgn_text.specs.Walk.{KeptAt, NothingAt}
 use Rattle.pgn_text.specs.declared.game.Reading.{Reading}
-use Rattle.pgn_text.specs.declared.game.Reading.TheVariants.{Part, Number, Result, Stuck}
+use Rattle.pgn_text.specs.declared.game.Reading.TheVariants.{Part, Move, Number, Result, Stuck}
 
 -- where tags and elements were kept, those of the token are kept too
 abbrev pub AddsToken : ((List ℕ → Option (List ℕ)) → List Item → Type 0) → ((List ℕ → Option (List ℕ)) → List Item → Type 0) → Kept → Type 0
@@ -40,6 +40,7 @@ pub record StuckAt (max_depth : ℕ) (file_start : Bool) (block : List ℕ) (at 
 -- what stands at the place of the block
 abbrev pub IsReading : ((List ℕ → Option (List ℕ)) → List Item → Type 0) → ((List ℕ → Option (List ℕ)) → List Item → Type 0) → ℕ → Bool → List ℕ → ℕ → State → State → Reading → Type 0
 IsReading kept_old kept_new max_depth file_start block at old new (Part end) = GoesOn kept_old kept_new max_depth file_start block at old new end
+IsReading kept_old kept_new max_depth file_start block at old new (Move end) = GoesOn kept_old kept_new max_depth file_start block at old new end × (new.in_tags ≡ false) × (new.has_move ≡ true)
 IsReading kept_old kept_new max_depth file_start block at old new (Number end) = GoesOn kept_old kept_new max_depth file_start block at old new end × (new.in_tags ≡ false)
 IsReading kept_old kept_new max_depth file_start block at old new (Result end) = EndsAt kept_old kept_new file_start block at old end
 IsReading kept_old kept_new max_depth file_start block at old new Stuck = NothingAt file_start block at ⊎ StuckAt max_depth file_start block at old
@@ -47,6 +48,7 @@ IsReading kept_old kept_new max_depth file_start block at old new Stuck = Nothin
 -- the token is kept, and read up to the place, if it may follow
 abbrev pub IsStep : ((List ℕ → Option (List ℕ)) → List Item → Type 0) → ((List ℕ → Option (List ℕ)) → List Item → Type 0) → ℕ → Kept → ℕ → State → State → Reading → Type 0
 IsStep kept_old kept_new max_depth token end old new (Part after) = (after ≡ end) × (step_kept max_depth old token ≡ Some new) × AddsToken kept_old kept_new token
+IsStep kept_old kept_new max_depth token end old new (Move after) = ⊥
 IsStep kept_old kept_new max_depth token end old new (Number after) = ⊥
 IsStep kept_old kept_new max_depth token end old new (Result after) = ⊥
 IsStep kept_old kept_new max_depth token end old new Stuck = step_kept max_depth old token ≡ None

@@ -1,6 +1,6 @@
 //! A game as it stands in a block.
 
-ghost use Rattle.std.specs.Prelude.{◌≡◌, ◌≤◌, ℕ, List, [], Option, None, length, take, drop, map, IfOk, MatchOption, ◌<◌, get_or, Bool};
+ghost use Rattle.std.specs.Prelude.{◌≡◌, ◌≤◌, ◌⊎◌, ℕ, List, [], Option, None, length, take, drop, map, IfOk, MatchOption, ◌<◌, get_or, Bool};
 ghost use Rattle.std.specs.Cmp.Lexicographic.{slice_cmp};
 ghost use Rattle.std.specs.List.Sorted.{IsStrictlySortedBy};
 ghost use Rattle.std.specs.Ordering.{nat_cmp};
@@ -8,6 +8,7 @@ ghost use Rattle.pgn_text.specs.Elements.{item_of, tags_of};
 ghost use Rattle.pgn_text.specs.GameTexts.{GameText, HoldStrings, IsGameText, IsPaired, ShowsGame, tag_names};
 ghost use Rattle.pgn_text.specs.Games.{Item};
 ghost use Rattle.pgn_text.specs.Limits.{depth_limit};
+ghost use Rattle.pgn_text.specs.Movetext.{HoldsAny, PlainTo};
 ghost use Rattle.pgn_text.specs.Parts.{Part};
 ghost use Rattle.pgn_text.specs.Pieces.{NoGame};
 ghost use Rattle.pgn_text.specs.Readings.{IsReading, IsStep};
@@ -21,6 +22,7 @@ pub(crate) mod progress;
 use crate::game::game_builder::GameBuilder;
 use crate::game::progress::Progress;
 use crate::lex::class::{ByteClass, is_in, run_end};
+use crate::lex::movetext::plain_end;
 use crate::lex::place::{after_dot, after_white, comment_at, number_at, part_at};
 use crate::lex::scan::glyph_at;
 use crate::lex::tag::tag_at;
@@ -115,7 +117,7 @@ impl<'a> RawGame<'a> {
 trait Visitor<'a>: Drop {
     type Error;
 
-    ghost use Rattle.std.specs.Prelude.{ℕ, List, ◌++◌, Option, OnOk};
+    ghost use Rattle.std.specs.Prelude.{ℕ, List, ◌++◌, Option, OnOk, IsTrue};
     ghost use Rattle.std.specs.Option.{option_or};
     ghost use Rattle.pgn_text.specs.Games.{Item};
     ghost use Rattle.pgn_text.specs.Reading.{items_of_kept, named_kept};
@@ -126,6 +128,10 @@ trait Visitor<'a>: Drop {
 
     fn keep(&mut self, token: Token<'a>) -> Result<(), Self::Error>
         ensures { OnOk result ((tags : List ℕ → Option (List ℕ)) (items : List Item) → kept self.old tags items → kept self.new (λ wanted. option_or (tags wanted) (named_kept wanted (token_of token.entry))) (items ++ items_of_kept (token_of token.entry))) };
+
+    /// Whether nothing has to be kept, whatever is read.
+    fn keeps_nothing(&self) -> bool
+        ensures { IsTrue result → (tags : List ℕ → Option (List ℕ)) (items : List Item) → kept self.now tags items };
 }
 
 /// Keeps nothing: for what asks only where a game ends.
@@ -141,6 +147,11 @@ impl<'a> Visitor<'a> for Discard {
     fn keep(&mut self, _token: Token<'a>) -> Result<(), Infallible> {
         Ok(())
     }
+
+    #[inline(always)]
+    fn keeps_nothing(&self) -> bool {
+        true
+    }
 }
 
 impl<'a> Visitor<'a> for GameBuilder<'a> {
@@ -154,12 +165,19 @@ impl<'a> Visitor<'a> for GameBuilder<'a> {
     fn keep(&mut self, token: Token<'a>) -> Result<(), AllocError> {
         self.add(token)
     }
+
+    #[inline(always)]
+    fn keeps_nothing(&self) -> bool {
+        false
+    }
 }
 
 /// What stands at a place of a game.
 enum Reading {
     /// A part that may stand there, and the place after it.
     Part(usize),
+    /// A move, and the place after it.
+    Move(usize),
     /// A move number, and the place after it.
     Number(usize),
     /// The result that ends the game, and the place after it.
@@ -284,7 +302,9 @@ fn read_part<'a, K: Visitor<'a>>(
     let byte = block[at];
     if is_in(ByteClass::Letter, byte) {
         let end = run_end(ByteClass::Word, block, at + 1);
-        return step_after(Token::Move(&block[at..end]), end, progress, visitor);
+        progress.pass_move();
+        visitor.keep(Token::Move(&block[at..end]))?;
+        return Ok(Reading::Move(end));
     }
     if is_in(ByteClass::White, byte) {
         return step_after(Token::Gap, at + 1, progress, visitor);
@@ -309,6 +329,20 @@ fn read_part<'a, K: Visitor<'a>>(
     }
 }
 
+/// The place from which to read on after a move: after plain movetext, if nothing has to be kept of it.
+#[inline(always)]
+fn pass_plain<'a, K: Visitor<'a>>(block: &[u8], at: usize, visitor: &K) -> usize
+    requires { at ≤ length block.now }
+    ensures plain { PlainTo block.now at result }
+    ensures held { HoldsAny (K.kept visitor.now) ⊎ (result ≡ at) }
+{
+    if visitor.keeps_nothing() && at < block.len() && is_in(ByteClass::Name, block[at]) {
+        plain_end(block, at)
+    } else {
+        at
+    }
+}
+
 /// Reads the game at the place of the block, if one begins there: the places of its result and after it.
 #[inline(always)]
 fn read_parts<'a, K: Visitor<'a>>(
@@ -326,6 +360,7 @@ fn read_parts<'a, K: Visitor<'a>>(
     while at < block.len() {
         match read_part(block, at, file_start, &mut progress, visitor)? {
             Reading::Part(end) => at = after_white(block, end),
+            Reading::Move(end) => at = pass_plain(block, after_white(block, end), visitor),
             Reading::Number(end) => at = after_white(block, after_dot(block, end)),
             Reading::Result(end) => return Ok(Some((at, end))),
             Reading::Stuck => return Ok(None),

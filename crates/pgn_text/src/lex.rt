@@ -1,6 +1,7 @@
 //! The parts of a text: classes of bytes, parts as tokens and by their places, tags and their strings.
 
 pub(crate) mod class;
+pub(crate) mod movetext;
 pub(crate) mod place;
 pub(crate) mod quoted;
 pub(crate) mod scan;

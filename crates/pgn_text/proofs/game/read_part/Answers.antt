@@ -1,23 +1,30 @@
 use Rattle.std.proofs.Common.{Some, refl, sym, ap, ◌∙◌}
 use Rattle.pgn_text.proofs.PartsAt.{kept_letters, kept_marks, kept_white, kept_dot, kept_open, kept_close}
 use Rattle.pgn_text.specs.Limits.{depth_limit}
-use Rattle.pgn_text.specs.Reading.{KeptNumber}
+use Rattle.pgn_text.specs.Reading.{KeptMove, KeptNumber}
 use Rattle.pgn_text.specs.Steps.{State}
 use Rattle.pgn_text.specs.Tokens.{state_of}
 use Rattle.pgn_text.proofs.ReadingLemmas.{reading_of}
 use Rattle.pgn_text.proofs.game.read_part.Goals as goal
 
 pub returns-then-is_in : goal.returns-then-is_in
-returns-then-is_in g c =
-    reading_of (g.K.Visitor.kept c.args.visitor.now) (g.K.Visitor.kept c.step_after.new.visitor) depth_limit (state_of c.args.progress.now) (state_of c.step_after.new.progress)
-    (kept_letters c.args.file_start c.args.block.now c.args.at c.run_end-end.result c.requires (sym c.is_in.ensures ∙ c.if-is_in.true) c.run_end-end.ensures) refl
-    c.step_after.result c.step_after.ensures
+returns-then-is_in g c = (
+  record {
+    token = KeptMove _;
+    here = kept_letters c.args.file_start c.args.block.now c.args.at c.run_end-end.result c.requires (sym c.is_in.ensures ∙ c.if-is_in.true) c.run_end-end.ensures;
+    no_result = refl;
+    steps = ap Some (sym c.pass_move.ensures);
+    keeps = c.in_ok-keep.ensures;
+  },
+  ap (λ (state : State). state.in_tags) c.pass_move.ensures,
+  ap (λ (state : State). state.has_move) c.pass_move.ensures,
+)
 
 pub returns-then-is_in-2 : goal.returns-then-is_in-2
 returns-then-is_in-2 g c =
-    reading_of (g.K.Visitor.kept c.args.visitor.now) (g.K.Visitor.kept c.step_after-then-is_in-2.new.visitor) depth_limit (state_of c.args.progress.now) (state_of c.step_after-then-is_in-2.new.progress)
+    reading_of (g.K.Visitor.kept c.args.visitor.now) (g.K.Visitor.kept c.step_after.new.visitor) depth_limit (state_of c.args.progress.now) (state_of c.step_after.new.progress)
     (kept_white c.args.file_start c.args.block.now c.args.at c.requires (sym c.is_in-2.ensures ∙ c.if-is_in-2.true)) refl
-    c.step_after-then-is_in-2.result c.step_after-then-is_in-2.ensures
+    c.step_after.result c.step_after.ensures
 
 pub returns-in-Some : goal.returns-in-Some
 returns-in-Some g c = (
@@ -26,7 +33,7 @@ returns-in-Some g c = (
     here = c.in-Some.ensures c.args.file_start;
     no_result = refl;
     steps = ap Some (sym c.enter_movetext.ensures);
-    keeps = c.in_ok-keep.ensures;
+    keeps = c.in_ok-keep-2.ensures;
   },
   ap (λ (state : State). state.in_tags) c.enter_movetext.ensures,
 )

@@ -2,6 +2,7 @@ use Rattle.std.proofs.Common.{inl, arith}
 use Rattle.pgn_text.specs.Tokens.{state_of}
 use Rattle.pgn_text.specs.Limits.{depth_limit}
 use Rattle.pgn_text.proofs.PartsAt.{no_part_at_end}
+use Rattle.pgn_text.proofs.PlainLemmas.{kept_plain}
 use Rattle.pgn_text.proofs.ReadLemmas.{kept_start, kept_more, kept_after_white, kept_after_dot, kept_stuck, kept_end}
 use Rattle.pgn_text.proofs.game.read_parts.Goals as goal
 
@@ -13,6 +14,12 @@ loop-at-init g c =
 pub loop-at-preserved-in-Part : goal.loop-at-preserved-in-Part
 loop-at-preserved-in-Part g c =
     kept_after_white (kept_more c.loop-at.invariant (rw c.in-Part.is at c.in_ok-end.ensures)) (c.after_white-at.ensures.passed c.args.file_start)
+
+pub loop-at-preserved-in-Move : goal.loop-at-preserved-in-Move
+loop-at-preserved-in-Move g c =
+    let move = rw c.in-Move.is at c.in_ok-end.ensures in
+    kept_plain (kept_after_white (kept_more c.loop-at.invariant move.0) (c.after_white.ensures.passed c.args.file_start)) move.1 move.2
+    c.pass_plain-at.ensures.plain c.pass_plain-at.ensures.held
 
 pub loop-at-preserved : goal.loop-at-preserved
 loop-at-preserved g c =
