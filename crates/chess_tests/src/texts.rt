@@ -274,14 +274,14 @@ fn texts_are_played_or_change_nothing(rt: HostRuntime) -> Result<(), Fail> {
     Ok(())
 }
 
-/// Whether the text, played, is the move with that text, over whatever text was written before, and leads to the position after it.
-fn rewrites<B: Board>(position: &Position<B>, m: &Move, text: &str) -> bool {
+/// Whether the text, played, is the move with that text, over whatever text was written before, and leads to the next position.
+fn rewrites<B: Board>(position: &Position<B>, m: &Move, text: &str, next: &Position<B>) -> bool {
     let mut after = position.copy();
     let mut written = ArrayString::new();
     written.push_str("O-O-O");
     play_word_san(&mut after, text.as_bytes(), &mut written) == Ok(*m)
         && written.as_str() == text
-        && after.fen() == position.play(*m).fen()
+        && after.fen() == next.fen()
 }
 
 /// Whether the move is legal, that is its text, and the move played with its text leads to the position after it.
@@ -289,12 +289,13 @@ fn writes<B: Board>(position: &Position<B>, m: &Move, text: &str) -> bool {
     if !position.is_legal(*m) {
         return false;
     }
+    let next = position.play(*m);
     let mut after = position.copy();
     let written = play_san(&mut after, *m);
     san(position, *m).as_str() == text
         && written.as_str() == text
-        && after.fen() == position.play(*m).fen()
-        && rewrites(position, m, text)
+        && after.fen() == next.fen()
+        && rewrites(position, m, text, &next)
 }
 
 /// Whether the move that is written as its squares is legal, and that is its text.
