@@ -95,7 +95,7 @@ def print_whole(closure):
     tree = closure.tree
     for keys in files_of(tree, closure.definitions + closure.laws):
         first = tree.definitions[keys[0]]
-        print(f"-- crates/{first.crate}/specs/{first.file}.antt: {lines_of(tree, keys)} lines\n")
+        print(f"-- crates/{first.crate}/{first.folder.replace('.', '/')}/{first.file}.antt: {lines_of(tree, keys)} lines\n")
         for key in keys:
             print("\n".join(tree.definitions[key].comment + tree.definitions[key].lines).rstrip() + "\n")
     for one in closure.types:

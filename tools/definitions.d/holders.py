@@ -179,7 +179,7 @@ def named_by_edit(tree, crate, text):
     name = re.search(r"^file: (\S+)", text, re.MULTILINE)[1]
     olds = re.findall(r"^old: (.*)$", text, re.MULTILINE)
     if name.startswith("specs/"):
-        source = crate.specs[name.removeprefix("specs/").removesuffix(".antt")]
+        source = crate.specs[name.rpartition("/")[2].removesuffix(".antt")]
         return {it.key for it in source.definitions if any(old in "\n".join(it.lines) for old in olds)}
     file = crate.code[name.removeprefix("src/").removesuffix(".rt").replace("/", ".")]
     lines = {file.text.count("\n", 0, file.text.find(old)) + 1 for old in olds if old in file.text}

@@ -4,7 +4,7 @@ import re
 from closure import clauses_found, closure_of, lines_of as lines_of_keys
 
 DOCUMENT = "docs/PROOFS.md"
-HEAD = "| Crate | Files of `specs/` that a reader must believe, with their lines | Together | Private files |\n|---|---|---|---|\n"
+HEAD = "| Crate | Files of `specs/Public`, which a reader must believe, with their lines | Together | In `specs/Private` |\n|---|---|---|---|\n"
 TABLE = re.compile(re.escape(HEAD) + r"(?:\|.*\n)*")
 # The table of contracts begins so; the crates follow, a column each.
 RESTS = "| Contract |"
@@ -21,7 +21,7 @@ def table(tree):
     """The table of files: for each crate those that a reader must believe, with their lines, and the private ones."""
     rows, whole = [], 0
     for crate in tree.crates.values():
-        counts = [(name, sum(map(lines_of, crate.folder.glob(f"specs/**/{name}.antt")))) for name in crate.believed]
+        counts = [(name, sum(map(lines_of, crate.folder.glob(f"specs/Public/{name}.antt")))) for name in crate.believed]
         if counts:
             together = sum(count for _, count in counts)
             whole += together

@@ -9,6 +9,8 @@ from sources import Source, add_import, free_names, names_in, read_source
 from words import locals_of, words_of
 
 LAW_FILES = re.compile(r"Laws$")
+# The folders of definitions: what a reader must believe, and private words.
+FOLDERS = ("Public", "Private")
 
 
 @dataclass(frozen=True)
@@ -24,7 +26,7 @@ class Declared:
 
 @dataclass
 class Crate:
-    """A crate: its files of definitions and of code, and the order in which its specs/Lib.antt lists the former."""
+    """A crate: its files of definitions and of code, and the order in which specs/Public.antt and specs/Private.antt list the former."""
     name: str
     folder: Path
     believed: list = field(default_factory=list)
@@ -59,11 +61,9 @@ class Tree:
         if not (folder / "src").is_dir():
             return None
         crate = Crate(name, folder)
-        if (folder / "specs/Lib.antt").is_file():
-            crate.believed, crate.private = listed_in(folder / "specs/Lib.antt")
-        for path in sorted(folder.glob("specs/**/*.antt")):
-            if path.name != "Lib.antt":
-                crate.specs[path.stem] = read_source(path, name, "specs", path.stem)
+        crate.believed, crate.private = (listed_in(folder / f"specs/{it}.antt") for it in FOLDERS)
+        for path in sorted(folder.glob("specs/*/*.antt")):
+            crate.specs[path.stem] = read_source(path, name, f"specs.{path.parent.name}", path.stem)
         for path in sorted(folder.glob("src/**/*.rt")):
             module = ".".join(path.relative_to(folder / "src").with_suffix("").parts)
             crate.code[module] = read_rust(path, name, module)
@@ -100,8 +100,8 @@ class Tree:
             named = [module for module, _ in source.imports.values()] + list(source.modules.values())
             for module in named:
                 parts = module.split(".")
-                if parts[:2] == [crate.name, "specs"] and len(parts) > 2:
-                    visit(parts[2])
+                if parts[:2] == [crate.name, "specs"] and len(parts) > 3 and parts[2] in FOLDERS:
+                    visit(parts[3])
             order.append(file)
 
         for file in [*crate.believed, *crate.private, *crate.specs]:
@@ -288,12 +288,6 @@ def crate_names(top):
 
 
 def listed_in(path):
-    """The files of definitions that a crate's Lib lists, and after the comment on them those of private words."""
-    believed, private, lists = [], [], []
-    for line in path.read_text(encoding="utf-8").split("\n"):
-        if line.startswith("--"):
-            lists = private if believed else believed
-        found = re.match(r"pub mod (\w+)", line)
-        if found:
-            lists.append(found[1])
-    return believed, private
+    """The files of definitions that a list names; none where there is no list."""
+    text = path.read_text(encoding="utf-8") if path.is_file() else ""
+    return re.findall(r"^pub mod (\w+)", text, re.MULTILINE)

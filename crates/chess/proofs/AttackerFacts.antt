@@ -1,15 +1,15 @@
 -- The squares from which a man attacks, out of those from which he sees the target.
 use Rattle.std.proofs.Common.{◌≡◌, ◌↔◌, ◌⊎◌, ◌∙◌, ◌<◌, ◌^◌, ◌&&◌, ◌||◌, ℕ, Bool, true, false, inl, inr, ap, sym, subst, bit_and, Some, None, IsTrue}
 use Rattle.std.proofs.lemmas.Bool.{and_parts, and_from}
-use Rattle.chess.specs.Squares.{Place, IsOnBoard, index_of, same_square}
-use Rattle.chess.specs.Attacks.{Reaches}
-use Rattle.chess.specs.Placements.{Placement, IsEmpty, man_at}
-use Rattle.chess.specs.Sets.{Places, is_in, no_places, HoldsExactly}
-use Rattle.chess.specs.SetWords.{has_bit, HasOnly, IsTakenFirst}
-use Rattle.chess.specs.SetFacts.{false_of}
-use Rattle.chess.specs.BitWords.{IsWordOf, IsMan, IsRunner, IsHitStraight, IsHitDiagonal}
-use Rattle.chess.specs.MoveWords.{IsLeft, IsSifted}
-use Rattle.chess.specs.PseudoAttacks.{IsPseudoAttack, StandsBetween, IsUnblocked}
+use Rattle.chess.specs.Public.Squares.{Place, IsOnBoard, index_of, same_square}
+use Rattle.chess.specs.Public.Attacks.{Reaches}
+use Rattle.chess.specs.Public.Placements.{Placement, IsEmpty, man_at}
+use Rattle.chess.specs.Public.Sets.{Places, is_in, no_places, HoldsExactly}
+use Rattle.chess.specs.Private.SetWords.{has_bit, HasOnly, IsTakenFirst}
+use Rattle.chess.specs.Private.SetFacts.{false_of}
+use Rattle.chess.specs.Private.BitWords.{IsWordOf, IsMan, IsRunner, IsHitStraight, IsHitDiagonal}
+use Rattle.chess.specs.Private.MoveWords.{IsLeft, IsSifted}
+use Rattle.chess.specs.Private.PseudoAttacks.{IsPseudoAttack, StandsBetween, IsUnblocked}
 use Rattle.chess.specs.declared.board.man.Man.{Man}
 use Rattle.chess.specs.declared.board.man.Side.{Side}
 use Rattle.chess.specs.declared.board.man.Kind.{Kind}

@@ -1,16 +1,16 @@
 -- The men that may make the move that a text says, whether or not their king is then attacked.
 use Rattle.std.proofs.Common.{◌≡◌, ◌⊎◌, ℕ, Bool, true, false, inl, inr, ap, refl, sym, subst, ◌∙◌, Option, Some, None, IfSome, is_some}
 use Rattle.std.proofs.lemmas.Bool.{cases_eq}
-use Rattle.chess.specs.Squares.{Place, IsOnBoard}
-use Rattle.chess.specs.Placements.{man_at, opposite, IsOccupiedBy}
-use Rattle.chess.specs.Attacks.{Reaches}
-use Rattle.chess.specs.Positions.{State, IsSound, FitsEnPassant}
-use Rattle.chess.specs.Moves.{IsPawnMove, IsPawnCapture, IsSingleStep, IsDoubleStep, IsKingMove, Promotes, Goes}
-use Rattle.chess.specs.MoveWords.{IsMover, IsStepper, IsTaker}
-use Rattle.chess.specs.San.{Said, HasRival, kind_said}
-use Rattle.chess.specs.SanWords.{IsMoveSaid, IsAsked, ChangesFile, IsCandidate, CanGoSaid, man_said, move_from}
-use Rattle.chess.specs.Sets.{Places, is_in, no_places, HoldsExactly, IsAttacker}
-use Rattle.chess.specs.SetWords.{IsTakenFirst}
+use Rattle.chess.specs.Public.Squares.{Place, IsOnBoard}
+use Rattle.chess.specs.Public.Placements.{man_at, opposite, IsOccupiedBy}
+use Rattle.chess.specs.Public.Attacks.{Reaches}
+use Rattle.chess.specs.Public.Positions.{State, IsSound, FitsEnPassant}
+use Rattle.chess.specs.Public.Moves.{IsPawnMove, IsPawnCapture, IsSingleStep, IsDoubleStep, IsKingMove, Promotes, Goes}
+use Rattle.chess.specs.Private.MoveWords.{IsMover, IsStepper, IsTaker}
+use Rattle.chess.specs.Public.San.{Said, HasRival, kind_said}
+use Rattle.chess.specs.Private.SanWords.{IsMoveSaid, IsAsked, ChangesFile, IsCandidate, CanGoSaid, man_said, move_from}
+use Rattle.chess.specs.Public.Sets.{Places, is_in, no_places, HoldsExactly, IsAttacker}
+use Rattle.chess.specs.Private.SetWords.{IsTakenFirst}
 use Rattle.chess.specs.declared.board.man.Side.{Side}
 use Rattle.chess.specs.declared.board.man.Side.TheVariants.{White, Black}
 use Rattle.chess.specs.declared.board.man.Kind.{Kind}

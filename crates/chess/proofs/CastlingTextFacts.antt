@@ -3,9 +3,9 @@ use Rattle.std.proofs.Common.{◌≡◌, ◌↔◌, ◌⊎◌, ◌&&◌, ℕ, Bo
 use Rattle.std.specs.Prelude.{if◌then◌else◌}
 use Rattle.std.specs.List.{list_all}
 use Rattle.std.proofs.lemmas.List.{append_assoc, append-nil, reverse-append, reverse-reverse}
-use Rattle.chess.specs.Letters.{is_check_mark}
-use Rattle.chess.specs.San.{castling_text, castling_with_zeros, IsCastlingText}
-use Rattle.chess.specs.SanWords.{unmarked, IsCastlingStem}
+use Rattle.chess.specs.Public.Letters.{is_check_mark}
+use Rattle.chess.specs.Public.San.{castling_text, castling_with_zeros, IsCastlingText}
+use Rattle.chess.specs.Private.SanWords.{unmarked, IsCastlingStem}
 use Rattle.chess.specs.declared.board.man.Wing.{Wing}
 use Rattle.chess.specs.declared.board.man.Wing.TheVariants.{KingSide, QueenSide}
 

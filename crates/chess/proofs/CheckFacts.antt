@@ -1,10 +1,10 @@
 -- Whether a move leaves the own king attacked, by the men as they will stand.
 use Rattle.std.proofs.Common.{◌≡◌, ◌↔◌, ◌∙◌, Bool, sym, subst, Some, None, IsTrue}
-use Rattle.chess.specs.Squares.{Place}
-use Rattle.chess.specs.Placements.{Placement, with_man, opposite}
-use Rattle.chess.specs.Attacks.{IsAttacked}
-use Rattle.chess.specs.Positions.{State, IsOnlyKing, IsCheck}
-use Rattle.chess.specs.Moves.{arriving, taken, with_rook, men_after}
+use Rattle.chess.specs.Public.Squares.{Place}
+use Rattle.chess.specs.Public.Placements.{Placement, with_man, opposite}
+use Rattle.chess.specs.Public.Attacks.{IsAttacked}
+use Rattle.chess.specs.Public.Positions.{State, IsOnlyKing, IsCheck}
+use Rattle.chess.specs.Public.Moves.{arriving, taken, with_rook, men_after}
 use Rattle.chess.specs.declared.board.man.Man.{Man}
 use Rattle.chess.specs.declared.moves.Move.{Move}
 use Rattle.chess.proofs.GoesFacts.{IsTried, has_arrived}

@@ -2,8 +2,8 @@
 use Rattle.std.proofs.Common.{◌≡◌, ◌≤◌, ◌<◌, ◌+◌, ◌-◌, ◌*◌, ℕ, zero, suc, true, List, ◌∷◌, length, sym, ap, refl, subst, ◌∙◌, arith}
 use Rattle.std.specs.Prelude.{◌&&◌}
 use Rattle.std.specs.List.{list_all}
-use Rattle.chess.specs.Fen.{is_digit}
-use Rattle.chess.specs.FenWords.{ten_to, IsCounted}
+use Rattle.chess.specs.Public.Fen.{is_digit}
+use Rattle.chess.specs.Private.FenWords.{ten_to, IsCounted}
 
 ten_positive : (k : ℕ) → 0 < ten_to k
 ten_positive zero = omega arith

@@ -1,13 +1,13 @@
 -- What the definitions say of squares and texts that every player can check.
 use Rattle.std.proofs.Common.{◌≡◌, ℕ, ◌≤◌, true, false, [], ◌∷◌, Some, None, inl, inr, refl, sym, ◌∙◌, arith, codes}
-use Rattle.chess.specs.Squares.{IsAhead}
-use Rattle.chess.specs.Placements.{Placement, man_at}
-use Rattle.chess.specs.Attacks.{Reaches, IsOnRay}
-use Rattle.chess.specs.Positions.{State, king_from, king_to, rook_from, rook_to, IsCheck}
-use Rattle.chess.specs.Moves.{HasMove, IsStalemate}
-use Rattle.chess.specs.San.{Spells, IsCheckMark}
-use Rattle.chess.specs.San.IsCheckMark.{mate, check, quiet}
-use Rattle.chess.specs.Fen.{fields_of, parted_at, is_shortest, number_from}
+use Rattle.chess.specs.Public.Squares.{IsAhead}
+use Rattle.chess.specs.Public.Placements.{Placement, man_at}
+use Rattle.chess.specs.Public.Attacks.{Reaches, IsOnRay}
+use Rattle.chess.specs.Public.Positions.{State, king_from, king_to, rook_from, rook_to, IsCheck}
+use Rattle.chess.specs.Public.Moves.{HasMove, IsStalemate}
+use Rattle.chess.specs.Public.San.{Spells, IsCheckMark}
+use Rattle.chess.specs.Public.San.IsCheckMark.{mate, check, quiet}
+use Rattle.chess.specs.Public.Fen.{fields_of, parted_at, is_shortest, number_from}
 use Rattle.chess.specs.declared.board.man.Man.{Man}
 use Rattle.chess.specs.declared.board.man.Side.TheVariants.{White, Black}
 use Rattle.chess.specs.declared.board.man.Kind.TheVariants.{King, Queen, Rook, Knight, Pawn}

@@ -1,14 +1,14 @@
 -- What is right and what is wrong with a position that a text spells.
 use Rattle.std.proofs.Common.{◌≡◌, ◌↔◌, ℕ, List, Bool, true, false, inl, inr, sym, refl, subst, ◌∙◌, Option, Some, None, IfSome, IsTrue, is_some}
-use Rattle.chess.specs.Squares.{Place}
-use Rattle.chess.specs.Placements.{Placement, AreOnBoard, opposite}
-use Rattle.chess.specs.Attacks.{IsAttacked}
-use Rattle.chess.specs.Positions.{State, king_of, IsOnlyKing, FitsEnPassant}
-use Rattle.chess.specs.Codes.{IsKept}
-use Rattle.chess.specs.Fen.{SpellsPosition, HasWrongKings, HasWrongPawns, HasWrongCheck}
-use Rattle.chess.specs.FenWords.{IsEdgePawn}
-use Rattle.chess.specs.Sets.{Places, is_in, IsSquaresOf}
-use Rattle.chess.specs.SetWords.{IsTakenFirst}
+use Rattle.chess.specs.Public.Squares.{Place}
+use Rattle.chess.specs.Public.Placements.{Placement, AreOnBoard, opposite}
+use Rattle.chess.specs.Public.Attacks.{IsAttacked}
+use Rattle.chess.specs.Public.Positions.{State, king_of, IsOnlyKing, FitsEnPassant}
+use Rattle.chess.specs.Private.Codes.{IsKept}
+use Rattle.chess.specs.Public.Fen.{SpellsPosition, HasWrongKings, HasWrongPawns, HasWrongCheck}
+use Rattle.chess.specs.Private.FenWords.{IsEdgePawn}
+use Rattle.chess.specs.Public.Sets.{Places, is_in, IsSquaresOf}
+use Rattle.chess.specs.Private.SetWords.{IsTakenFirst}
 use Rattle.chess.specs.declared.board.man.Side.{Side}
 use Rattle.chess.specs.declared.board.man.Side.TheVariants.{White, Black}
 use Rattle.chess.proofs.PlaceFacts.{cases_place, opposite-opposite, true_not_false}

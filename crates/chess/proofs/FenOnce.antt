@@ -2,15 +2,15 @@
 use Rattle.std.proofs.Common.{◌≡◌, ◌⊎◌, ◌↔◌, ◌≤◌, ◌+◌, ◌-◌, ℕ, zero, suc, Bool, true, false, List, [], ◌∷◌, ◌++◌, length, Option, Some, None, inl, inr, sym, ap, refl, subst, ◌∙◌, arith}
 use Rattle.std.specs.Prelude.{codes, replicate}
 use Rattle.std.proofs.lemmas.Bool.{cases_lt}
-use Rattle.chess.specs.Squares.{Place, IsOnBoard}
-use Rattle.chess.specs.Placements.{Placement, man_at}
-use Rattle.chess.specs.CellFacts.{same_men}
-use Rattle.chess.specs.Letters.{man_letter, square_text, file_letter, rank_digit}
-use Rattle.chess.specs.Positions.{State, has_right, FitsEnPassant}
-use Rattle.chess.specs.Fen.{IsSquares, SpellsRank, row, SpellRanks, SpellsMen, parted_at, side_text, right_letter, has_byte, GivesEnPassant, IsCount, GiveCounts, AreAtHome, SpellsPosition, ReadsFen, IsRefused, HasWrongKings, HasWrongPawns, HasWrongCheck}
+use Rattle.chess.specs.Public.Squares.{Place, IsOnBoard}
+use Rattle.chess.specs.Public.Placements.{Placement, man_at}
+use Rattle.chess.specs.Private.CellFacts.{same_men}
+use Rattle.chess.specs.Public.Letters.{man_letter, square_text, file_letter, rank_digit}
+use Rattle.chess.specs.Public.Positions.{State, has_right, FitsEnPassant}
+use Rattle.chess.specs.Public.Fen.{IsSquares, SpellsRank, row, SpellRanks, SpellsMen, parted_at, side_text, right_letter, has_byte, GivesEnPassant, IsCount, GiveCounts, AreAtHome, SpellsPosition, ReadsFen, IsRefused, HasWrongKings, HasWrongPawns, HasWrongCheck}
 use Rattle.chess.specs.declared.fen.FenError.{FenError}
 use Rattle.chess.specs.declared.fen.FenError.TheVariants.{Syntax, Kings, Pawns, InCheck}
-use Rattle.chess.specs.Fen.IsSquares.{letter, step}
+use Rattle.chess.specs.Public.Fen.IsSquares.{letter, step}
 use Rattle.chess.specs.declared.board.man.Man.{Man}
 use Rattle.chess.specs.declared.board.man.Side.{Side}
 use Rattle.chess.specs.declared.board.man.Side.TheVariants.{White, Black}

@@ -3,12 +3,12 @@ use Rattle.std.proofs.Common.{◌≡◌, ◌≤◌, ◌+◌, ◌-◌, ℕ, zero,
 use Rattle.std.specs.Prelude.{replicate, ◌&&◌, decimal}
 use Rattle.std.specs.List.{list_all}
 use Rattle.std.proofs.lemmas.Bool.Decides.{nat_tests}
-use Rattle.chess.specs.Placements.{Placement}
-use Rattle.chess.specs.Positions.{State}
-use Rattle.chess.specs.Letters.{man_letter}
-use Rattle.chess.specs.Fen.{IsSquares, SpellsRank, SpellRanks, IsFen, is_shortest, is_step, joined, row, side_text, or_dash, rights_letters, en_passant_text}
-use Rattle.chess.specs.Fen.IsSquares.{letter, step}
-use Rattle.chess.specs.FenTextWords.{spelled_from, rank_texts}
+use Rattle.chess.specs.Public.Placements.{Placement}
+use Rattle.chess.specs.Public.Positions.{State}
+use Rattle.chess.specs.Public.Letters.{man_letter}
+use Rattle.chess.specs.Public.Fen.{IsSquares, SpellsRank, SpellRanks, IsFen, is_shortest, is_step, joined, row, side_text, or_dash, rights_letters, en_passant_text}
+use Rattle.chess.specs.Public.Fen.IsSquares.{letter, step}
+use Rattle.chess.specs.Private.FenTextWords.{spelled_from, rank_texts}
 use Rattle.chess.proofs.FenTextFacts.{spell_ranks, shortest_ranks}
 use Rattle.chess.specs.declared.board.man.Man.{Man}
 

@@ -4,11 +4,11 @@ use Rattle.std.specs.Prelude.{◌==◌, if◌then◌else◌, codes, decimal}
 use Rattle.std.specs.List.{list_all}
 use Rattle.std.proofs.lemmas.Bool.Decides.{nat_tests}
 use Rattle.std.proofs.lemmas.Fmt.{decimal_by_steps, length-decimal-le, decimal_nonempty}
-use Rattle.chess.specs.Squares.{Place}
-use Rattle.chess.specs.Placements.{Placement}
-use Rattle.chess.specs.Positions.{State, has_right, FitsEnPassant, IsSound}
-use Rattle.chess.specs.Fen.{before_first, parted_at, without_empty, fields_of, IsSquares, SpellsRank, SpellRanks, row, side_text, right_letter, has_byte, is_distinct, is_right_letter, GivesRights, GivesEnPassant, number_from, is_digit, IsCount, SpellsPosition, ReadsFen, joined, rights_letters, or_dash, en_passant_text, IsFen}
-use Rattle.chess.specs.Fen.IsSquares.{letter, step}
+use Rattle.chess.specs.Public.Squares.{Place}
+use Rattle.chess.specs.Public.Placements.{Placement}
+use Rattle.chess.specs.Public.Positions.{State, has_right, FitsEnPassant, IsSound}
+use Rattle.chess.specs.Public.Fen.{before_first, parted_at, without_empty, fields_of, IsSquares, SpellsRank, SpellRanks, row, side_text, right_letter, has_byte, is_distinct, is_right_letter, GivesRights, GivesEnPassant, number_from, is_digit, IsCount, SpellsPosition, ReadsFen, joined, rights_letters, or_dash, en_passant_text, IsFen}
+use Rattle.chess.specs.Public.Fen.IsSquares.{letter, step}
 use Rattle.chess.specs.declared.board.man.Man.{Man}
 use Rattle.chess.specs.declared.board.man.Side.{Side}
 use Rattle.chess.specs.declared.board.man.Side.TheVariants.{White, Black}

@@ -2,14 +2,14 @@
 use Rattle.std.proofs.Common.{◌≡◌, ◌≢◌, ◌⊎◌, ◌↔◌, ℕ, ◌+◌, ◌<◌, Bool, true, false, Option, Some, None, List, [], ◌∷◌, length, codes, refl, sym, ◌∙◌, subst, inl, inr, arith}
 use Rattle.std.specs.List.{list_all}
 use Rattle.std.proofs.lemmas.Bool.{cases_eq}
-use Rattle.chess.specs.Squares.{Place, IsOnBoard}
-use Rattle.chess.specs.Placements.{Placement, man_at, AreOnBoard, opposite, IsEmpty}
-use Rattle.chess.specs.CellFacts.{on_board_or_not}
-use Rattle.chess.specs.Attacks.{IsForward}
-use Rattle.chess.specs.Positions.{State, king_of, pawn_of, rook_of, has_right, king_from, rook_from, passed_rank, IsOnlyKing, FitsEnPassant}
-use Rattle.chess.specs.Letters.{square_text}
-use Rattle.chess.specs.Laws.{EachTextIsReadOrRefused}
-use Rattle.chess.specs.Fen.{fields_of, SpellsMen, side_text, right_letter, has_byte, is_distinct, is_right_letter, GivesRights, GivesEnPassant, is_digit, number_from, IsCount, GiveCounts, AreAtHome, SpellsPosition, HasWrongKings, HasWrongPawns}
+use Rattle.chess.specs.Public.Squares.{Place, IsOnBoard}
+use Rattle.chess.specs.Public.Placements.{Placement, man_at, AreOnBoard, opposite, IsEmpty}
+use Rattle.chess.specs.Private.CellFacts.{on_board_or_not}
+use Rattle.chess.specs.Public.Attacks.{IsForward}
+use Rattle.chess.specs.Public.Positions.{State, king_of, pawn_of, rook_of, has_right, king_from, rook_from, passed_rank, IsOnlyKing, FitsEnPassant}
+use Rattle.chess.specs.Public.Letters.{square_text}
+use Rattle.chess.specs.Public.Laws.{EachTextIsReadOrRefused}
+use Rattle.chess.specs.Public.Fen.{fields_of, SpellsMen, side_text, right_letter, has_byte, is_distinct, is_right_letter, GivesRights, GivesEnPassant, is_digit, number_from, IsCount, GiveCounts, AreAtHome, SpellsPosition, HasWrongKings, HasWrongPawns}
 use Rattle.chess.specs.declared.fen.FenError.TheVariants.{Syntax, Kings, Pawns, InCheck}
 use Rattle.chess.specs.declared.board.man.CastlingRights.{CastlingRights}
 use Rattle.chess.specs.declared.board.man.Man.{Man}

@@ -5,12 +5,12 @@ use Rattle.std.specs.List.{list_all}
 use Rattle.std.proofs.lemmas.List.{replicate_more, append-nil}
 use Rattle.std.proofs.lemmas.Fmt.{decimal_digit}
 use Rattle.itoa.proofs.Decimal.{decimal_two}
-use Rattle.chess.specs.Squares.{Place}
-use Rattle.chess.specs.Placements.{Placement, man_at}
-use Rattle.chess.specs.Letters.{man_letter}
-use Rattle.chess.specs.Fen.{SpellsRank, SpellRanks, is_shortest, is_step, joined, row}
-use Rattle.chess.specs.Fen.IsSquares.{letter, step}
-use Rattle.chess.specs.FenTextWords.{digit_of, spelled_from, squares_from, rank_text, rank_texts, each_after, letter_on}
+use Rattle.chess.specs.Public.Squares.{Place}
+use Rattle.chess.specs.Public.Placements.{Placement, man_at}
+use Rattle.chess.specs.Public.Letters.{man_letter}
+use Rattle.chess.specs.Public.Fen.{SpellsRank, SpellRanks, is_shortest, is_step, joined, row}
+use Rattle.chess.specs.Public.Fen.IsSquares.{letter, step}
+use Rattle.chess.specs.Private.FenTextWords.{digit_of, spelled_from, squares_from, rank_text, rank_texts, each_after, letter_on}
 use Rattle.chess.proofs.MarkFacts.{no_man_there}
 use Rattle.chess.specs.declared.board.man.Man.{Man}
 use Rattle.chess.specs.declared.board.man.Side.{Side}

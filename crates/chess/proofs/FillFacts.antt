@@ -5,12 +5,12 @@ use Rattle.std.proofs.lemmas.Nat.{and_mask}
 use Rattle.std.proofs.lemmas.Bool.{cases_eq, cases_lt, eqb-true, eq-eqb, or_cases, or_left, or_right, true_from_ne_false}
 use Rattle.std.proofs.lemmas.Bool.Decides.{nat_tests}
 use Rattle.std.proofs.lemmas.Nat.Bits.{bit_at-zero, bit_at-lt, bit_at_or, bit_at_and, bit_at-pow_same, bit_at-pow_other, and_pow}
-use Rattle.chess.specs.Squares.{Place, IsOnBoard, IsStraight, IsAhead, index_of, square_at}
-use Rattle.chess.specs.SetFacts.{square_at-index_of}
-use Rattle.chess.specs.Placements.{Placement, IsEmpty}
-use Rattle.chess.specs.Attacks.{IsOnRay, IsClearFor}
-use Rattle.chess.specs.SetWords.{has_bit}
-use Rattle.chess.specs.BitWords.{IsWordOf, IsNextWord, IsStraightRun, IsDiagonalRun, square_word}
+use Rattle.chess.specs.Public.Squares.{Place, IsOnBoard, IsStraight, IsAhead, index_of, square_at}
+use Rattle.chess.specs.Private.SetFacts.{square_at-index_of}
+use Rattle.chess.specs.Public.Placements.{Placement, IsEmpty}
+use Rattle.chess.specs.Public.Attacks.{IsOnRay, IsClearFor}
+use Rattle.chess.specs.Private.SetWords.{has_bit}
+use Rattle.chess.specs.Private.BitWords.{IsWordOf, IsNextWord, IsStraightRun, IsDiagonalRun, square_word}
 use Rattle.chess.proofs.PlaceFacts.{place_of}
 use Rattle.chess.specs.declared.board.direction.Direction.{Direction}
 use Rattle.chess.specs.declared.board.direction.Direction.TheVariants.{North, South, East, West, NorthEast, NorthWest, SouthEast, SouthWest}

@@ -1,9 +1,9 @@
 -- What follows from how a man goes.
 use Rattle.std.proofs.Common.{◌≡◌, ◌⊎◌, inl, inr, ap, refl, sym, subst, ◌∙◌, arith, Option, Some, None}
-use Rattle.chess.specs.Placements.{man_at, opposite, IsEmpty}
-use Rattle.chess.specs.Attacks.{Reaches, IsAttacked}
-use Rattle.chess.specs.Positions.{State, king_of, IsSound}
-use Rattle.chess.specs.Moves.{Goes, IsPseudoLegal, IsPromotion, Castles, IsKingMove, arriving}
+use Rattle.chess.specs.Public.Placements.{man_at, opposite, IsEmpty}
+use Rattle.chess.specs.Public.Attacks.{Reaches, IsAttacked}
+use Rattle.chess.specs.Public.Positions.{State, king_of, IsSound}
+use Rattle.chess.specs.Public.Moves.{Goes, IsPseudoLegal, IsPromotion, Castles, IsKingMove, arriving}
 use Rattle.chess.specs.declared.board.man.Man.{Man}
 use Rattle.chess.specs.declared.board.man.Kind.{Kind}
 use Rattle.chess.specs.declared.board.man.Kind.TheVariants.{King, Queen, Rook, Bishop, Knight, Pawn}

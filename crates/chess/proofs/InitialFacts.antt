@@ -1,10 +1,10 @@
 -- The position that is made square by square is the initial one, and there is no other.
 use Rattle.std.proofs.Common.{◌≡◌, ◌≤◌, ℕ, zero, suc, true, inl, inr, ap, refl, sym, subst, ◌∙◌, arith, Option, Some, None}
-use Rattle.chess.specs.Squares.{Place, IsOnBoard}
-use Rattle.chess.specs.Placements.{Placement, man_at, AreOnBoard}
-use Rattle.chess.specs.CellFacts.{same_men, on_board_or_not}
-use Rattle.chess.specs.Positions.{State, pawn_of, home_rank, pawn_rank, has_right}
-use Rattle.chess.specs.Start.{initial_piece, initial_man, initial_men, IsInitialMen, IsInitial, initial}
+use Rattle.chess.specs.Public.Squares.{Place, IsOnBoard}
+use Rattle.chess.specs.Public.Placements.{Placement, man_at, AreOnBoard}
+use Rattle.chess.specs.Private.CellFacts.{same_men, on_board_or_not}
+use Rattle.chess.specs.Public.Positions.{State, pawn_of, home_rank, pawn_rank, has_right}
+use Rattle.chess.specs.Public.Start.{initial_piece, initial_man, initial_men, IsInitialMen, IsInitial, initial}
 use Rattle.chess.specs.declared.board.man.Man.{Man}
 use Rattle.chess.specs.declared.board.man.Side.{Side}
 use Rattle.chess.specs.declared.board.man.Side.TheVariants.{White, Black}

@@ -1,11 +1,11 @@
 -- The words of the board on which the men stand where they stand at first.
 use Rattle.std.proofs.Common.{◌≡◌, ◌<◌, ◌∙◌, ℕ, zero, suc, Bool, true, nat_eq, ap, refl, sym, arith, List, [], ◌∷◌, Option, Some, None}
 use Rattle.std.proofs.lemmas.Bool.{agree_below, agree_below_at, eqb-true, eq-eqb, ne_eqb}
-use Rattle.chess.specs.Squares.{square_at}
-use Rattle.chess.specs.Placements.{with_man, first_men}
-use Rattle.chess.specs.SetWords.{has_bit}
-use Rattle.chess.specs.BitWords.{AreApart, word_at, row_of, man_in, words_men}
-use Rattle.chess.specs.Start.{initial_man, initial_men}
+use Rattle.chess.specs.Public.Squares.{square_at}
+use Rattle.chess.specs.Public.Placements.{with_man, first_men}
+use Rattle.chess.specs.Private.SetWords.{has_bit}
+use Rattle.chess.specs.Private.BitWords.{AreApart, word_at, row_of, man_in, words_men}
+use Rattle.chess.specs.Public.Start.{initial_man, initial_men}
 use Rattle.chess.specs.declared.board.man.Man.{Man}
 use Rattle.chess.proofs.BitFacts.{has_man, no_man, row_of-below, man_of_row-row_of}
 

@@ -2,9 +2,9 @@
 use Rattle.std.proofs.Common.{◌≡◌, ◌<◌, ℕ, true, nat_eq, get_or, ap, refl, sym, ◌∙◌, arith, Option, Some, None, MatchOption, is_some, [], ◌∷◌}
 use Rattle.std.proofs.lemmas.Bool.{agree_below, agree_below_at}
 use Rattle.std.proofs.lemmas.Bool.Decides.{nat_tests}
-use Rattle.chess.specs.Letters.{kind_letter}
-use Rattle.chess.specs.San.{letter_text}
-use Rattle.chess.specs.SanWords.{kind_of}
+use Rattle.chess.specs.Public.Letters.{kind_letter}
+use Rattle.chess.specs.Public.San.{letter_text}
+use Rattle.chess.specs.Private.SanWords.{kind_of}
 use Rattle.chess.specs.declared.letters.TheConstants.{KINDS}
 use Rattle.chess.specs.declared.board.man.Kind.{Kind}
 use Rattle.chess.proofs.SpelledParts.{letter_shown, letter_is_kind}

@@ -2,12 +2,12 @@
 use Rattle.std.proofs.Common.{◌≡◌, ◌&&◌, ◌⊎◌, Bool, true, false, not, inl, inr, ap, refl, sym, subst, ◌∙◌, arith, Option, Some, None, IfSome, if◌then◌else◌}
 use Rattle.std.specs.Prelude.{◌==◌}
 use Rattle.std.proofs.lemmas.Bool.Decides.{nat_tests}
-use Rattle.chess.specs.Squares.{Place}
-use Rattle.chess.specs.Placements.{Placement, man_at, opposite, IsEmpty}
-use Rattle.chess.specs.Attacks.{IsForward}
-use Rattle.chess.specs.Positions.{State, king_of, rook_of, pawn_of, king_to, rook_from, rook_to, IsOnlyKing, FitsEnPassant}
-use Rattle.chess.specs.Codes.{IsFollowed}
-use Rattle.chess.specs.Moves.{Goes, Castles, arriving, taken, is_pawn, is_square, is_en_passant, men_after, IsPawnMove}
+use Rattle.chess.specs.Public.Squares.{Place}
+use Rattle.chess.specs.Public.Placements.{Placement, man_at, opposite, IsEmpty}
+use Rattle.chess.specs.Public.Attacks.{IsForward}
+use Rattle.chess.specs.Public.Positions.{State, king_of, rook_of, pawn_of, king_to, rook_from, rook_to, IsOnlyKing, FitsEnPassant}
+use Rattle.chess.specs.Private.Codes.{IsFollowed}
+use Rattle.chess.specs.Public.Moves.{Goes, Castles, arriving, taken, is_pawn, is_square, is_en_passant, men_after, IsPawnMove}
 use Rattle.chess.specs.declared.board.man.Man.{Man}
 use Rattle.chess.specs.declared.board.man.Side.{Side}
 use Rattle.chess.specs.declared.board.man.Kind.TheVariants.{King, Queen, Rook, Bishop, Knight, Pawn}

@@ -1,12 +1,12 @@
 -- Whether a move is legal is settled, where men stand on the board alone.
 use Rattle.std.proofs.Common.{◌≡◌, ℕ, suc, ◌+◌, ◌<◌, ◌≤◌, Option, Some, None, refl, sym, subst, inl, inr, arith}
 use Rattle.std.proofs.lemmas.Bool.{cases_eq}
-use Rattle.chess.specs.Squares.{Place, IsStraight, IsAhead}
-use Rattle.chess.specs.Placements.{Placement, man_at, AreOnBoard, opposite, IsOccupiedBy, IsEmpty}
-use Rattle.chess.specs.Attacks.{IsClearFor, IsOnRay, IsForward, Reaches, IsAttacked}
-use Rattle.chess.specs.Positions.{State, king_of, home_rank, pawn_rank, has_right, king_from, king_to, rook_to, IsCheck}
-use Rattle.chess.specs.Moves.{IsDoubleStep, IsPawnMove, IsPromotionKind, IsPromotion, Promotes, IsBetween, Castles, IsKingMove, Goes, IsPseudoLegal, men_after, IsUnbarred, IsLegal}
-use Rattle.chess.specs.CellFacts.{on_board_or_not}
+use Rattle.chess.specs.Public.Squares.{Place, IsStraight, IsAhead}
+use Rattle.chess.specs.Public.Placements.{Placement, man_at, AreOnBoard, opposite, IsOccupiedBy, IsEmpty}
+use Rattle.chess.specs.Public.Attacks.{IsClearFor, IsOnRay, IsForward, Reaches, IsAttacked}
+use Rattle.chess.specs.Public.Positions.{State, king_of, home_rank, pawn_rank, has_right, king_from, king_to, rook_to, IsCheck}
+use Rattle.chess.specs.Public.Moves.{IsDoubleStep, IsPawnMove, IsPromotionKind, IsPromotion, Promotes, IsBetween, Castles, IsKingMove, Goes, IsPseudoLegal, men_after, IsUnbarred, IsLegal}
+use Rattle.chess.specs.Private.CellFacts.{on_board_or_not}
 use Rattle.chess.specs.declared.board.direction.Direction.{Direction}
 use Rattle.chess.specs.declared.board.direction.Direction.TheVariants.{North, South, East, West, NorthEast, NorthWest, SouthEast, SouthWest}
 use Rattle.chess.specs.declared.board.man.Man.{Man}

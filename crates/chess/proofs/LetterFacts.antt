@@ -1,7 +1,7 @@
 -- Each man has its own letter.
 use Rattle.std.proofs.Common.{◌≡◌, ◌≤◌, ◌-◌, ℕ, sym, ap, refl, ◌∙◌, arith, if◌then◌else◌}
 use Rattle.std.specs.Prelude.{◌==◌, nat_le}
-use Rattle.chess.specs.Letters.{kind_letter, man_letter}
+use Rattle.chess.specs.Public.Letters.{kind_letter, man_letter}
 use Rattle.chess.specs.declared.board.man.Man.{Man}
 use Rattle.chess.specs.declared.board.man.Side.{Side}
 use Rattle.chess.specs.declared.board.man.Side.TheVariants.{White, Black}

@@ -1,9 +1,9 @@
 -- Whether a side has a move, and whether it is mated or stalemated, is settled where men stand on the board alone.
 use Rattle.std.proofs.Common.{Option}
-use Rattle.chess.specs.Squares.{Place, IsOnBoard}
-use Rattle.chess.specs.Placements.{AreOnBoard}
-use Rattle.chess.specs.Positions.{State}
-use Rattle.chess.specs.Moves.{IsLegal, CanGo, HasMove, IsMate, IsStalemate}
+use Rattle.chess.specs.Public.Squares.{Place, IsOnBoard}
+use Rattle.chess.specs.Public.Placements.{AreOnBoard}
+use Rattle.chess.specs.Public.Positions.{State}
+use Rattle.chess.specs.Public.Moves.{IsLegal, CanGo, HasMove, IsMate, IsStalemate}
 use Rattle.chess.specs.declared.board.man.Kind.{Kind}
 use Rattle.chess.specs.declared.board.man.Wing.{Wing}
 use Rattle.chess.specs.declared.moves.Move.{Move}

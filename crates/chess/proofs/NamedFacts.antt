@@ -1,17 +1,17 @@
 -- The moves that a text names: over the squares of the men that it speaks of.
 use Rattle.std.proofs.Common.{◌≡◌, ◌≢◌, ◌↔◌, ◌&&◌, ◌+◌, ◌⊎◌, ℕ, Bool, true, false, not, inl, inr, ap, refl, sym, subst, ◌∙◌, arith, Option, Some, None, Result, Ok, Err, IsTrue, MatchOption, is_some, IfSome, IfOk, OnErr, IsErrOf, List, [], ◌∷◌, ◌++◌, ◌≤◌}
-use Rattle.chess.specs.Squares.{Place, IsOnBoard}
-use Rattle.chess.specs.Placements.{man_at}
-use Rattle.chess.specs.Positions.{State}
-use Rattle.chess.specs.Moves.{IsPseudoLegal, IsLegal, Goes, Castles, after}
-use Rattle.chess.specs.San.{Said, Spells, IsCastlingText, Agrees, IsNamed, IsOnlyNamed, letter_text, file_text, rank_text, IsFileOrRank}
-use Rattle.chess.specs.Letters.{kind_letter, is_sign, square_text}
-use Rattle.chess.specs.SanWords.{said_by, IsReadSaid, IsCandidate, CanGoSaid, IsNext, HasNone, IsMoveSaid, IsCastlingOn, move_from, castling_on, man_said}
-use Rattle.chess.specs.SanAnswers.{IsAnswer, IsPlayed}
-use Rattle.chess.specs.Refusals.{IsSpokenOf}
-use Rattle.chess.specs.Sets.{Places, is_in, HoldsExactly}
-use Rattle.chess.specs.SetWords.{IsTakenFirst}
-use Rattle.chess.specs.MoveWords.{IsLeft}
+use Rattle.chess.specs.Public.Squares.{Place, IsOnBoard}
+use Rattle.chess.specs.Public.Placements.{man_at}
+use Rattle.chess.specs.Public.Positions.{State}
+use Rattle.chess.specs.Public.Moves.{IsPseudoLegal, IsLegal, Goes, Castles, after}
+use Rattle.chess.specs.Public.San.{Said, Spells, IsCastlingText, Agrees, IsNamed, IsOnlyNamed, letter_text, file_text, rank_text, IsFileOrRank}
+use Rattle.chess.specs.Public.Letters.{kind_letter, is_sign, square_text}
+use Rattle.chess.specs.Private.SanWords.{said_by, IsReadSaid, IsCandidate, CanGoSaid, IsNext, HasNone, IsMoveSaid, IsCastlingOn, move_from, castling_on, man_said}
+use Rattle.chess.specs.Private.SanAnswers.{IsAnswer, IsPlayed}
+use Rattle.chess.specs.Public.Refusals.{IsSpokenOf}
+use Rattle.chess.specs.Public.Sets.{Places, is_in, HoldsExactly}
+use Rattle.chess.specs.Private.SetWords.{IsTakenFirst}
+use Rattle.chess.specs.Private.MoveWords.{IsLeft}
 use Rattle.chess.specs.declared.board.man.Man.{Man}
 use Rattle.chess.specs.declared.board.man.Kind.{Kind}
 use Rattle.chess.specs.declared.board.man.Kind.TheVariants.{King, Queen, Rook, Bishop, Knight, Pawn}

@@ -3,14 +3,14 @@ use Rattle.std.proofs.Common.{◌≡◌, ◌≢◌, ◌⊎◌, ℕ, ◌<◌, Boo
 use Rattle.std.specs.List.{list_all}
 use Rattle.std.proofs.lemmas.Bool.{cases_eq}
 use Rattle.std.proofs.lemmas.Bool.Decides.{nat_tests}
-use Rattle.chess.specs.Squares.{Place, IsOnBoard}
-use Rattle.chess.specs.Placements.{man_at, AreOnBoard}
-use Rattle.chess.specs.Positions.{State}
-use Rattle.chess.specs.Letters.{is_check_mark, is_sign, square_text}
-use Rattle.chess.specs.San.{Said, letter_text, file_text, rank_text, promotion_text, IsFileOrRank, Spells, castling_text, castling_with_zeros, IsCastlingText, kind_said, Agrees, IsNamed}
-use Rattle.chess.specs.Moves.{IsPromotionKind}
-use Rattle.chess.specs.Laws.{NamesOneNoneOrSeveral, EachTextNamesOneNoneOrSeveral}
-use Rattle.chess.specs.CellFacts.{on_board_or_not}
+use Rattle.chess.specs.Public.Squares.{Place, IsOnBoard}
+use Rattle.chess.specs.Public.Placements.{man_at, AreOnBoard}
+use Rattle.chess.specs.Public.Positions.{State}
+use Rattle.chess.specs.Public.Letters.{is_check_mark, is_sign, square_text}
+use Rattle.chess.specs.Public.San.{Said, letter_text, file_text, rank_text, promotion_text, IsFileOrRank, Spells, castling_text, castling_with_zeros, IsCastlingText, kind_said, Agrees, IsNamed}
+use Rattle.chess.specs.Public.Moves.{IsPromotionKind}
+use Rattle.chess.specs.Public.Laws.{NamesOneNoneOrSeveral, EachTextNamesOneNoneOrSeveral}
+use Rattle.chess.specs.Private.CellFacts.{on_board_or_not}
 use Rattle.chess.specs.declared.board.man.Man.{Man}
 use Rattle.chess.specs.declared.board.man.Kind.{Kind}
 use Rattle.chess.specs.declared.board.man.Kind.TheVariants.{Pawn}

@@ -1,9 +1,9 @@
 -- The squares of a side's men, from the words of its kinds.
 use Rattle.std.proofs.Common.{◌≡◌, ◌≢◌, ◌↔◌, ◌⊎◌, ◌∙◌, bit_or, bit_and, ℕ, inl, inr, ap, refl, Some}
-use Rattle.chess.specs.Squares.{Place, IsOnBoard, index_of}
-use Rattle.chess.specs.Placements.{Placement, IsOccupiedBy}
-use Rattle.chess.specs.SetWords.{has_bit}
-use Rattle.chess.specs.BitWords.{IsWordOf, IsMan, square_word}
+use Rattle.chess.specs.Public.Squares.{Place, IsOnBoard, index_of}
+use Rattle.chess.specs.Public.Placements.{Placement, IsOccupiedBy}
+use Rattle.chess.specs.Private.SetWords.{has_bit}
+use Rattle.chess.specs.Private.BitWords.{IsWordOf, IsMan, square_word}
 use Rattle.chess.specs.declared.board.man.Side.{Side}
 use Rattle.chess.specs.declared.board.man.Kind.{Kind}
 use Rattle.chess.specs.declared.board.man.Kind.TheVariants.{King, Queen, Rook, Bishop, Knight, Pawn}

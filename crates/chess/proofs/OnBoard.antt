@@ -1,5 +1,5 @@
 -- Men stand on the board alone, in each position that a game comes to.
-use Rattle.chess.specs.Laws.{SpelledMenAreOnBoard, MenStayOnBoard}
+use Rattle.chess.specs.Public.Laws.{SpelledMenAreOnBoard, MenStayOnBoard}
 use Rattle.chess.proofs.AfterFacts.{after_on_board}
 
 pub spelled_men_on_board : SpelledMenAreOnBoard

@@ -1,10 +1,10 @@
 -- A man attacks the squares that it sees on the empty board, if no man stands between.
 use Rattle.std.proofs.Common.{◌≡◌, ◌↔◌, ◌<◌, ◌≤◌, ℕ, inl, inr, sym, subst, arith}
-use Rattle.chess.specs.Squares.{Place, IsAhead, gap}
-use Rattle.chess.specs.Attacks.{IsJump, IsForward, IsOnRay, Reaches}
-use Rattle.chess.specs.Placements.{Placement}
+use Rattle.chess.specs.Public.Squares.{Place, IsAhead, gap}
+use Rattle.chess.specs.Public.Attacks.{IsJump, IsForward, IsOnRay, Reaches}
+use Rattle.chess.specs.Public.Placements.{Placement}
 use Rattle.chess.proofs.BoardFacts.{one_count}
-use Rattle.chess.specs.PseudoAttacks.{IsInLine, IsPseudoAttack, IsUnblocked}
+use Rattle.chess.specs.Private.PseudoAttacks.{IsInLine, IsPseudoAttack, IsUnblocked}
 use Rattle.chess.specs.declared.board.direction.Direction.{Direction}
 use Rattle.chess.specs.declared.board.direction.Direction.TheVariants.{North, South, East, West, NorthEast, NorthWest, SouthEast, SouthWest}
 use Rattle.chess.specs.declared.board.man.Side.{Side}

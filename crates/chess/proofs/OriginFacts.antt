@@ -1,9 +1,9 @@
 -- What distinguishes a man from its rivals leaves it alone among them.
 use Rattle.std.proofs.Common.{◌≡◌, ℕ, refl, subst, Option, Some, None, IfSome, List, ◌++◌}
-use Rattle.chess.specs.Squares.{Place, IsOnBoard}
-use Rattle.chess.specs.Positions.{State}
-use Rattle.chess.specs.San.{IsRival, IsDisambiguation, IsFileOrRank, file_text, rank_text}
-use Rattle.chess.specs.San.IsDisambiguation.{alone, by_file, by_rank, by_both}
+use Rattle.chess.specs.Public.Squares.{Place, IsOnBoard}
+use Rattle.chess.specs.Public.Positions.{State}
+use Rattle.chess.specs.Public.San.{IsRival, IsDisambiguation, IsFileOrRank, file_text, rank_text}
+use Rattle.chess.specs.Public.San.IsDisambiguation.{alone, by_file, by_rank, by_both}
 use Rattle.chess.specs.declared.moves.Move.{Move}
 use Rattle.chess.proofs.PlaceFacts.{place_of}
 

@@ -2,13 +2,13 @@
 use Rattle.std.proofs.Common.{◌≡◌, ℕ, Bool, true, false, inl, inr, ap, refl, sym, subst, ◌∙◌, Option, Some, None, IfSome, List, [], ◌∷◌, ◌++◌}
 use Rattle.std.specs.Prelude.{if◌then◌else◌}
 use Rattle.std.specs.List.{list_all}
-use Rattle.chess.specs.Squares.{IsOnBoard}
-use Rattle.chess.specs.Placements.{man_at}
-use Rattle.chess.specs.Positions.{State, pawn_of, IsSound}
-use Rattle.chess.specs.Moves.{IsLegal, IsPromotion, IsPromotionKind, IsPawnMove, Goes}
-use Rattle.chess.specs.Letters.{file_letter, square_text, is_check_mark}
-use Rattle.chess.specs.San.{Said, Spells, Agrees, IsOnlyNamed, is_capture, pawn_text, promotion_text}
-use Rattle.chess.specs.SanWords.{IsMoveSaid}
+use Rattle.chess.specs.Public.Squares.{IsOnBoard}
+use Rattle.chess.specs.Public.Placements.{man_at}
+use Rattle.chess.specs.Public.Positions.{State, pawn_of, IsSound}
+use Rattle.chess.specs.Public.Moves.{IsLegal, IsPromotion, IsPromotionKind, IsPawnMove, Goes}
+use Rattle.chess.specs.Public.Letters.{file_letter, square_text, is_check_mark}
+use Rattle.chess.specs.Public.San.{Said, Spells, Agrees, IsOnlyNamed, is_capture, pawn_text, promotion_text}
+use Rattle.chess.specs.Private.SanWords.{IsMoveSaid}
 use Rattle.chess.specs.declared.board.man.Man.{Man}
 use Rattle.chess.specs.declared.board.man.Kind.{Kind}
 use Rattle.chess.specs.declared.board.man.Kind.TheVariants.{Pawn}

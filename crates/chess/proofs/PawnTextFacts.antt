@@ -3,12 +3,12 @@ use Rattle.std.proofs.Common.{◌≡◌, ◌⊎◌, ℕ, true, false, not, ◌&&
 use Rattle.std.specs.Prelude.{◌==◌, if◌then◌else◌}
 use Rattle.std.proofs.lemmas.Bool.{cases_eq}
 use Rattle.std.proofs.lemmas.Bool.Decides.{nat_tests}
-use Rattle.chess.specs.Squares.{Place, gap}
-use Rattle.chess.specs.Placements.{man_at, opposite, IsOccupiedBy, IsEmpty}
-use Rattle.chess.specs.Attacks.{IsForward}
-use Rattle.chess.specs.Positions.{State, pawn_of}
-use Rattle.chess.specs.Moves.{IsPawnMove, IsSingleStep, IsDoubleStep, is_pawn, is_square, is_en_passant}
-use Rattle.chess.specs.San.{is_capture}
+use Rattle.chess.specs.Public.Squares.{Place, gap}
+use Rattle.chess.specs.Public.Placements.{man_at, opposite, IsOccupiedBy, IsEmpty}
+use Rattle.chess.specs.Public.Attacks.{IsForward}
+use Rattle.chess.specs.Public.Positions.{State, pawn_of}
+use Rattle.chess.specs.Public.Moves.{IsPawnMove, IsSingleStep, IsDoubleStep, is_pawn, is_square, is_en_passant}
+use Rattle.chess.specs.Public.San.{is_capture}
 use Rattle.chess.specs.declared.board.man.Man.{Man}
 use Rattle.chess.specs.declared.board.man.Side.{Side}
 use Rattle.chess.specs.declared.board.man.Side.TheVariants.{White, Black}

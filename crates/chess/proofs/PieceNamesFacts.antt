@@ -3,13 +3,13 @@ use Rattle.std.proofs.Common.{◌≡◌, ◌⊎◌, ℕ, Bool, true, false, inl,
 use Rattle.std.specs.Prelude.{if◌then◌else◌}
 use Rattle.std.specs.List.{list_all}
 use Rattle.std.proofs.lemmas.List.{append_assoc}
-use Rattle.chess.specs.Squares.{IsOnBoard}
-use Rattle.chess.specs.Placements.{man_at}
-use Rattle.chess.specs.Positions.{State}
-use Rattle.chess.specs.Moves.{IsLegal}
-use Rattle.chess.specs.Letters.{kind_letter, square_text, is_check_mark, is_sign}
-use Rattle.chess.specs.San.{Said, Spells, Agrees, IsOnlyNamed, IsRival, IsPieceText, is_capture, capture_text, file_text, rank_text}
-use Rattle.chess.specs.SanWords.{IsMoveSaid}
+use Rattle.chess.specs.Public.Squares.{IsOnBoard}
+use Rattle.chess.specs.Public.Placements.{man_at}
+use Rattle.chess.specs.Public.Positions.{State}
+use Rattle.chess.specs.Public.Moves.{IsLegal}
+use Rattle.chess.specs.Public.Letters.{kind_letter, square_text, is_check_mark, is_sign}
+use Rattle.chess.specs.Public.San.{Said, Spells, Agrees, IsOnlyNamed, IsRival, IsPieceText, is_capture, capture_text, file_text, rank_text}
+use Rattle.chess.specs.Private.SanWords.{IsMoveSaid}
 use Rattle.chess.specs.declared.board.man.Man.{Man}
 use Rattle.chess.specs.declared.board.man.Kind.{Kind}
 use Rattle.chess.specs.declared.board.man.Kind.TheVariants.{Pawn}

@@ -1,7 +1,7 @@
 -- Move texts that are a target alone, or a letter and a target.
 use Rattle.std.proofs.Common.{◌≡◌, ◌∙◌, ◌<◌, ◌≤◌, ℕ, true, ap, refl, sym, subst, arith, Option, Some, None, IfSome, MatchOption, List, [], ◌∷◌, ◌++◌, length, get_or}
-use Rattle.chess.specs.San.{Said, Spells}
-use Rattle.chess.specs.SanWords.{is_of, said_by, IsReadSaid, SaysPlainly, SaysPawnTakes, IsBeforeMarks}
+use Rattle.chess.specs.Public.San.{Said, Spells}
+use Rattle.chess.specs.Private.SanWords.{is_of, said_by, IsReadSaid, SaysPlainly, SaysPawnTakes, IsBeforeMarks}
 use Rattle.chess.specs.declared.move_text.read.parse.ByteClass.TheVariants.{Digit, FileLetter, KindLetter, Sign}
 use Rattle.chess.specs.declared.move_text.read.parse.ParsedSan.{ParsedSan}
 use Rattle.chess.proofs.ReadingFacts.{given}

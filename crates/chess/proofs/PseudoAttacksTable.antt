@@ -1,6 +1,6 @@
 -- The tables of the squares from which men see a square.
 use Rattle.std.proofs.Common.{◌≡◌, true, refl, get_or, []}
-use Rattle.chess.specs.BitWords.{pseudo_attacks_row_of}
+use Rattle.chess.specs.Private.BitWords.{pseudo_attacks_row_of}
 use Rattle.chess.specs.declared.board.attack_tables.pseudo_attacks_table.TheConstants.{PSEUDO_ATTACKS}
 use Rattle.chess.specs.declared.board.man.Side.{Side}
 use Rattle.chess.specs.declared.board.man.Side.TheVariants.{White, Black}

@@ -2,13 +2,13 @@
 use Rattle.std.proofs.Common.{◌≡◌, ◌⊎◌, ℕ, zero, suc, ◌+◌, ◌-◌, ◌<◌, ◌≤◌, ◌==◌, true, false, Option, Some, None, List, [], ◌∷◌, ◌++◌, if◌then◌else◌, length, replicate, get_or, refl, sym, ap, ◌∙◌, subst, inl, inr, arith, length-append}
 use Rattle.std.proofs.lemmas.Bool.{cases_eq}
 use Rattle.std.proofs.lemmas.Bool.Decides.{nat_tests}
-use Rattle.chess.specs.Squares.{Place, IsOnBoard, square_at}
-use Rattle.chess.specs.Placements.{Placement, man_at, men_of}
-use Rattle.chess.specs.CellFacts.{man_at-men_of, on_board-men_of}
-use Rattle.chess.specs.SetFacts.{square_at-index_of}
-use Rattle.chess.specs.Letters.{man_letter}
-use Rattle.chess.specs.Fen.{IsSquares, SpellsRank, row, SpellRanks, SpellsMen, parted_at}
-use Rattle.chess.specs.Fen.IsSquares.{letter, step}
+use Rattle.chess.specs.Public.Squares.{Place, IsOnBoard, square_at}
+use Rattle.chess.specs.Public.Placements.{Placement, man_at, men_of}
+use Rattle.chess.specs.Private.CellFacts.{man_at-men_of, on_board-men_of}
+use Rattle.chess.specs.Private.SetFacts.{square_at-index_of}
+use Rattle.chess.specs.Public.Letters.{man_letter}
+use Rattle.chess.specs.Public.Fen.{IsSquares, SpellsRank, row, SpellRanks, SpellsMen, parted_at}
+use Rattle.chess.specs.Public.Fen.IsSquares.{letter, step}
 use Rattle.chess.specs.declared.board.man.Man.{Man}
 use Rattle.chess.proofs.Settled.{Settled, settled_like, settled_both, settled_three, settled_either, settled_le, settled_below}
 use Rattle.chess.proofs.Searches.{search_man}

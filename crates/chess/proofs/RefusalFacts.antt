@@ -1,14 +1,14 @@
 -- Why a text names no legal move; and the move from a square that it names.
 use Rattle.std.proofs.Common.{◌≡◌, ◌≢◌, ℕ, inl, inr, refl, ap, sym, subst, ◌∙◌, Option, Some, None, List}
-use Rattle.chess.specs.Squares.{Place, IsOnBoard}
-use Rattle.chess.specs.Placements.{AreOnBoard}
-use Rattle.chess.specs.Positions.{State, IsCheck}
-use Rattle.chess.specs.Moves.{Goes, IsPseudoLegal, IsLegal, IsUnbarred, Promotes, men_after}
-use Rattle.chess.specs.San.{Said, IsNamed, kind_said}
-use Rattle.chess.specs.Refusals.{IsRefusal, IsFrom, CanGoAs, becoming}
-use Rattle.chess.specs.RefusalWords.{IsCastlingRefusal, IsSaidRefusal, IsFitting, NoCandidates}
-use Rattle.chess.specs.SanWords.{IsCandidate, CanGoSaid, IsMoveSaid, IsCastlingOn, man_said, move_from, castling_on}
-use Rattle.chess.specs.Sets.{Places, is_in, no_places, HoldsExactly}
+use Rattle.chess.specs.Public.Squares.{Place, IsOnBoard}
+use Rattle.chess.specs.Public.Placements.{AreOnBoard}
+use Rattle.chess.specs.Public.Positions.{State, IsCheck}
+use Rattle.chess.specs.Public.Moves.{Goes, IsPseudoLegal, IsLegal, IsUnbarred, Promotes, men_after}
+use Rattle.chess.specs.Public.San.{Said, IsNamed, kind_said}
+use Rattle.chess.specs.Public.Refusals.{IsRefusal, IsFrom, CanGoAs, becoming}
+use Rattle.chess.specs.Private.RefusalWords.{IsCastlingRefusal, IsSaidRefusal, IsFitting, NoCandidates}
+use Rattle.chess.specs.Private.SanWords.{IsCandidate, CanGoSaid, IsMoveSaid, IsCastlingOn, man_said, move_from, castling_on}
+use Rattle.chess.specs.Public.Sets.{Places, is_in, no_places, HoldsExactly}
 use Rattle.chess.specs.declared.board.man.Kind.{Kind}
 use Rattle.chess.specs.declared.board.man.Kind.TheVariants.{King, Queen, Rook, Bishop, Knight, Pawn}
 use Rattle.chess.specs.declared.board.man.Wing.{Wing}

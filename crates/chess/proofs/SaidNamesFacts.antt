@@ -1,9 +1,9 @@
 -- A text names a move alone: castling does, and what is said does where each move that agrees leaves one square.
 use Rattle.std.proofs.Common.{◌≡◌, ℕ, inl, inr, ap, sym, subst, ◌∙◌, Some, List}
-use Rattle.chess.specs.Positions.{State}
-use Rattle.chess.specs.Moves.{IsLegal}
-use Rattle.chess.specs.San.{Said, Spells, IsCastlingText, Agrees, IsOnlyNamed}
-use Rattle.chess.specs.SanWords.{IsMoveSaid}
+use Rattle.chess.specs.Public.Positions.{State}
+use Rattle.chess.specs.Public.Moves.{IsLegal}
+use Rattle.chess.specs.Public.San.{Said, Spells, IsCastlingText, Agrees, IsOnlyNamed}
+use Rattle.chess.specs.Private.SanWords.{IsMoveSaid}
 use Rattle.chess.specs.declared.board.man.Wing.{Wing}
 use Rattle.chess.specs.declared.moves.Move.{Move}
 use Rattle.chess.proofs.NamedFacts.{castling_only, not_both}

@@ -1,8 +1,8 @@
 -- A move text says one thing: one castling, or one move of a man.
 use Rattle.std.proofs.Common.{◌≡◌, ℕ, sym, ◌∙◌, Some, List, reverse}
 use Rattle.std.proofs.lemmas.List.{reverse-reverse}
-use Rattle.chess.specs.San.{Said, Spells, IsCastlingText}
-use Rattle.chess.specs.SanWords.{unmarked}
+use Rattle.chess.specs.Public.San.{Said, Spells, IsCastlingText}
+use Rattle.chess.specs.Private.SanWords.{unmarked}
 use Rattle.chess.specs.declared.board.man.Wing.{Wing}
 use Rattle.chess.proofs.CastlingTextFacts.{stem_castles, castling_found}
 use Rattle.chess.proofs.NamedFacts.{some_wing}

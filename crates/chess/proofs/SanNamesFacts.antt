@@ -1,11 +1,11 @@
 -- The standard text of a legal move names that move and no other.
 use Rattle.std.proofs.Common.{◌≡◌, ◌⊎◌, ℕ, true, inl, inr, ap, refl, sym, subst, ◌∙◌, Some, None, List, ◌++◌}
 use Rattle.std.specs.List.{list_all}
-use Rattle.chess.specs.Positions.{State, IsSound}
-use Rattle.chess.specs.Moves.{after, IsLegal}
-use Rattle.chess.specs.Letters.{is_check_mark}
-use Rattle.chess.specs.San.{IsOnlyNamed, IsPieceText, IsBody, IsCheckMark, IsSan, pawn_text}
-use Rattle.chess.specs.San.IsCheckMark.{mate, check, quiet}
+use Rattle.chess.specs.Public.Positions.{State, IsSound}
+use Rattle.chess.specs.Public.Moves.{after, IsLegal}
+use Rattle.chess.specs.Public.Letters.{is_check_mark}
+use Rattle.chess.specs.Public.San.{IsOnlyNamed, IsPieceText, IsBody, IsCheckMark, IsSan, pawn_text}
+use Rattle.chess.specs.Public.San.IsCheckMark.{mate, check, quiet}
 use Rattle.chess.specs.declared.board.man.Kind.{Kind}
 use Rattle.chess.specs.declared.board.man.Kind.TheVariants.{King, Queen, Rook, Bishop, Knight, Pawn}
 use Rattle.chess.specs.declared.moves.Move.{Move}

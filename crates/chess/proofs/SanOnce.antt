@@ -1,11 +1,11 @@
 -- A move has one text in standard algebraic notation.
 use Rattle.std.proofs.Common.{◌≡◌, ℕ, refl, sym, ap, subst, ◌∙◌, Option, Some, None, List, ◌∷◌, ◌++◌}
-use Rattle.chess.specs.Positions.{State}
-use Rattle.chess.specs.Moves.{after}
-use Rattle.chess.specs.Letters.{kind_letter, square_text}
-use Rattle.chess.specs.San.{IsDisambiguation, IsBody, IsCheckMark, IsSan, capture_text}
-use Rattle.chess.specs.San.IsDisambiguation.{alone, by_file, by_rank, by_both}
-use Rattle.chess.specs.San.IsCheckMark.{mate, check, quiet}
+use Rattle.chess.specs.Public.Positions.{State}
+use Rattle.chess.specs.Public.Moves.{after}
+use Rattle.chess.specs.Public.Letters.{kind_letter, square_text}
+use Rattle.chess.specs.Public.San.{IsDisambiguation, IsBody, IsCheckMark, IsSan, capture_text}
+use Rattle.chess.specs.Public.San.IsDisambiguation.{alone, by_file, by_rank, by_both}
+use Rattle.chess.specs.Public.San.IsCheckMark.{mate, check, quiet}
 use Rattle.chess.specs.declared.board.man.Man.{Man}
 use Rattle.chess.specs.declared.board.man.Kind.{Kind}
 use Rattle.chess.specs.declared.board.man.Kind.TheVariants.{King, Queen, Rook, Bishop, Knight, Pawn}

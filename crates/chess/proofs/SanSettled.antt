@@ -2,15 +2,15 @@
 -- are check and mate after the move.
 use Rattle.std.proofs.Common.{◌≡◌, ℕ, Option, Some, None, List, [], ◌∷◌, ◌++◌, inl, inr, refl}
 use Rattle.std.proofs.lemmas.Bool.{cases_eq}
-use Rattle.chess.specs.Squares.{Place}
-use Rattle.chess.specs.Placements.{man_at, AreOnBoard}
-use Rattle.chess.specs.Positions.{State}
-use Rattle.chess.specs.Moves.{after}
-use Rattle.chess.specs.Letters.{kind_letter, file_letter, rank_digit, square_text}
-use Rattle.chess.specs.San.{IsRival, HasRival, IsDisambiguation, IsPieceText, IsBody, IsCheckMark, castling_text, capture_text, pawn_text}
-use Rattle.chess.specs.San.IsDisambiguation.{alone, by_file, by_rank, by_both}
-use Rattle.chess.specs.San.IsCheckMark.{mate, check, quiet}
-use Rattle.chess.specs.Laws.{EachMoveHasAText}
+use Rattle.chess.specs.Public.Squares.{Place}
+use Rattle.chess.specs.Public.Placements.{man_at, AreOnBoard}
+use Rattle.chess.specs.Public.Positions.{State}
+use Rattle.chess.specs.Public.Moves.{after}
+use Rattle.chess.specs.Public.Letters.{kind_letter, file_letter, rank_digit, square_text}
+use Rattle.chess.specs.Public.San.{IsRival, HasRival, IsDisambiguation, IsPieceText, IsBody, IsCheckMark, castling_text, capture_text, pawn_text}
+use Rattle.chess.specs.Public.San.IsDisambiguation.{alone, by_file, by_rank, by_both}
+use Rattle.chess.specs.Public.San.IsCheckMark.{mate, check, quiet}
+use Rattle.chess.specs.Public.Laws.{EachMoveHasAText}
 use Rattle.chess.specs.declared.board.man.Kind.{Kind}
 use Rattle.chess.specs.declared.board.man.Kind.TheVariants.{King, Queen, Rook, Bishop, Knight, Pawn}
 use Rattle.chess.specs.declared.board.man.Wing.{Wing}

@@ -1,24 +1,24 @@
 -- Facts about the text that is written for a move.
 use Rattle.std.proofs.Common.{◌≡◌, ◌≢◌, ◌↔◌, ◌++◌, ◌∷◌, [], ℕ, List, true, Bool, not, None, Some, ap, refl, sym, subst, ◌∙◌, IsTrue, ◌&&◌, ◌||◌, append_assoc}
 use Rattle.std.proofs.lemmas.List.{append-nil}
-use Rattle.chess.specs.Squares.{Place, IsOnBoard, same_square}
-use Rattle.chess.specs.Placements.{man_at}
-use Rattle.chess.specs.Attacks.{Reaches}
-use Rattle.chess.specs.Positions.{State, IsSound, king_of}
-use Rattle.chess.specs.Moves.{Goes, IsPseudoLegal, after}
-use Rattle.chess.specs.Letters.{file_letter, kind_letter, rank_digit, square_text}
-use Rattle.chess.specs.San.{IsRival, HasRival, IsDisambiguation, IsPieceText, IsBody, IsCheckMark, IsSan, capture_text}
-use Rattle.chess.specs.San.IsDisambiguation.{alone, by_file, by_rank, by_both}
-use Rattle.chess.specs.Sets.{Places, is_in, no_places, HoldsExactly, IsAttacker}
-use Rattle.chess.specs.SetWords.{IsTakenFirst}
-use Rattle.chess.specs.MoveWords.{HasEach}
-use Rattle.chess.specs.SanTextWords.{Appends, AreOf, HasSquare, AreRivalsSifted}
+use Rattle.chess.specs.Public.Squares.{Place, IsOnBoard, same_square}
+use Rattle.chess.specs.Public.Placements.{man_at}
+use Rattle.chess.specs.Public.Attacks.{Reaches}
+use Rattle.chess.specs.Public.Positions.{State, IsSound, king_of}
+use Rattle.chess.specs.Public.Moves.{Goes, IsPseudoLegal, after}
+use Rattle.chess.specs.Public.Letters.{file_letter, kind_letter, rank_digit, square_text}
+use Rattle.chess.specs.Public.San.{IsRival, HasRival, IsDisambiguation, IsPieceText, IsBody, IsCheckMark, IsSan, capture_text}
+use Rattle.chess.specs.Public.San.IsDisambiguation.{alone, by_file, by_rank, by_both}
+use Rattle.chess.specs.Public.Sets.{Places, is_in, no_places, HoldsExactly, IsAttacker}
+use Rattle.chess.specs.Private.SetWords.{IsTakenFirst}
+use Rattle.chess.specs.Private.MoveWords.{HasEach}
+use Rattle.chess.specs.Private.SanTextWords.{Appends, AreOf, HasSquare, AreRivalsSifted}
 use Rattle.chess.specs.declared.board.man.Man.{Man}
 use Rattle.chess.specs.declared.board.man.Side.{Side}
 use Rattle.chess.specs.declared.board.man.Kind.{Kind}
 use Rattle.chess.specs.declared.board.man.Kind.TheVariants.{King, Queen, Rook, Bishop, Knight, Pawn}
 use Rattle.chess.specs.declared.moves.Move.{Move}
-use Rattle.chess.specs.SetFacts.{false_of}
+use Rattle.chess.specs.Private.SetFacts.{false_of}
 use Rattle.chess.proofs.PlaceFacts.{man_of, same_square-then}
 use Rattle.chess.proofs.LoopFacts.{sifted_start, sifted_more, left_start, left_more}
 

@@ -2,11 +2,11 @@
 use Rattle.std.proofs.Common.{◌≡◌, ◌≢◌, ◌≤◌, ◌+◌, ◌/◌, ◌&&◌, ◌⊎◌, ℕ, Bool, true, false, not, inl, inr, ap, refl, sym, subst, ◌∙◌, arith, Option, Some, None, IfSome, if◌then◌else◌}
 use Rattle.std.specs.Prelude.{◌==◌}
 use Rattle.std.proofs.lemmas.Bool.Decides.{nat_tests}
-use Rattle.chess.specs.Squares.{Place, same_square, gap}
-use Rattle.chess.specs.Placements.{man_at, opposite, IsEmpty}
-use Rattle.chess.specs.Attacks.{IsForward}
-use Rattle.chess.specs.Positions.{State, king_of, rook_of, pawn_of, home_rank, pawn_rank, passed_rank, has_right, king_from, rook_from, IsCheck, IsOnlyKing, IsSound, FitsEnPassant}
-use Rattle.chess.specs.Moves.{Goes, IsPromotion, Promotes, IsPawnMove, IsDoubleStep, arriving, is_pawn, men_after, keeps_right, rights_after, en_passant_after, after}
+use Rattle.chess.specs.Public.Squares.{Place, same_square, gap}
+use Rattle.chess.specs.Public.Placements.{man_at, opposite, IsEmpty}
+use Rattle.chess.specs.Public.Attacks.{IsForward}
+use Rattle.chess.specs.Public.Positions.{State, king_of, rook_of, pawn_of, home_rank, pawn_rank, passed_rank, has_right, king_from, rook_from, IsCheck, IsOnlyKing, IsSound, FitsEnPassant}
+use Rattle.chess.specs.Public.Moves.{Goes, IsPromotion, Promotes, IsPawnMove, IsDoubleStep, arriving, is_pawn, men_after, keeps_right, rights_after, en_passant_after, after}
 use Rattle.chess.specs.declared.board.man.Man.{Man}
 use Rattle.chess.specs.declared.board.man.Side.{Side}
 use Rattle.chess.specs.declared.board.man.Side.TheVariants.{White, Black}

@@ -1,12 +1,12 @@
 -- A text is read as a sound position exactly where it spells one.
 use Rattle.std.proofs.Common.{◌≡◌, ◌≢◌, ◌<◌, ◌⊎◌, ◌↔◌, ℕ, zero, suc, inl, inr, ap, refl, sym, subst, ◌∙◌, arith, Option, Some, None, List}
 use Rattle.std.proofs.lemmas.Bool.{cases_eq}
-use Rattle.chess.specs.Squares.{Place, square_at, index_of}
-use Rattle.chess.specs.SquareFacts.{index_of-square_at}
-use Rattle.chess.specs.SetFacts.{square_at-index_of, index_of-below}
-use Rattle.chess.specs.Placements.{Placement, man_at, AreOnBoard}
-use Rattle.chess.specs.Positions.{State, king_of, IsOnlyKing, IsSound}
-use Rattle.chess.specs.Fen.{SpellsPosition, ReadsFen, HasWrongKings}
+use Rattle.chess.specs.Public.Squares.{Place, square_at, index_of}
+use Rattle.chess.specs.Private.SquareFacts.{index_of-square_at}
+use Rattle.chess.specs.Private.SetFacts.{square_at-index_of, index_of-below}
+use Rattle.chess.specs.Public.Placements.{Placement, man_at, AreOnBoard}
+use Rattle.chess.specs.Public.Positions.{State, king_of, IsOnlyKing, IsSound}
+use Rattle.chess.specs.Public.Fen.{SpellsPosition, ReadsFen, HasWrongKings}
 use Rattle.chess.specs.declared.board.man.Man.{Man}
 use Rattle.chess.specs.declared.board.man.Side.{Side}
 use Rattle.chess.specs.declared.board.man.Side.TheVariants.{White, Black}

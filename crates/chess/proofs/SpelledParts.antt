@@ -4,10 +4,10 @@ use Rattle.std.specs.Prelude.{if◌then◌else◌}
 use Rattle.std.specs.List.{list_all}
 use Rattle.std.proofs.lemmas.List.{append_assoc, append-nil, reverse-reverse}
 use Rattle.std.proofs.lemmas.Bool.Decides.{nat_tests}
-use Rattle.chess.specs.Letters.{is_check_mark, is_sign, kind_letter, file_letter, rank_digit}
-use Rattle.chess.specs.San.{Said, Spells, letter_text, file_text, rank_text, promotion_text, IsFileOrRank}
-use Rattle.chess.specs.Moves.{IsPromotionKind}
-use Rattle.chess.specs.SanWords.{is_of, kind_of, kind_given, number_given, last_of, before_last, unmarked, before_equals, stem, after_target_rank, after_target, after_sign, after_rank, after_file, after_letter}
+use Rattle.chess.specs.Public.Letters.{is_check_mark, is_sign, kind_letter, file_letter, rank_digit}
+use Rattle.chess.specs.Public.San.{Said, Spells, letter_text, file_text, rank_text, promotion_text, IsFileOrRank}
+use Rattle.chess.specs.Public.Moves.{IsPromotionKind}
+use Rattle.chess.specs.Private.SanWords.{is_of, kind_of, kind_given, number_given, last_of, before_last, unmarked, before_equals, stem, after_target_rank, after_target, after_sign, after_rank, after_file, after_letter}
 use Rattle.chess.specs.declared.board.man.Kind.{Kind}
 use Rattle.chess.specs.declared.board.man.Kind.TheVariants.{King, Queen, Rook, Bishop, Knight, Pawn}
 use Rattle.chess.specs.declared.move_text.read.parse.ByteClass.{ByteClass}

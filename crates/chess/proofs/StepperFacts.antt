@@ -1,15 +1,15 @@
 -- The pawn that steps to a square: it comes from the next square back, or over that one from the square before it.
 use Rattle.std.proofs.Common.{◌≡◌, ◌⊎◌, ◌≤◌, ◌||◌, ℕ, Bool, true, false, inl, inr, ap, refl, sym, subst, ◌∙◌, arith, None}
-use Rattle.chess.specs.Squares.{Place, IsOnBoard, same_square, gap}
-use Rattle.chess.specs.Placements.{man_at, opposite, IsEmpty}
-use Rattle.chess.specs.Attacks.{IsForward}
-use Rattle.chess.specs.Positions.{State}
-use Rattle.chess.specs.Moves.{IsSingleStep, IsDoubleStep, IsPawnCapture, IsPawnMove}
-use Rattle.chess.specs.MoveWords.{IsMover, IsStepper, CanStepOver, IsSquareAhead}
+use Rattle.chess.specs.Public.Squares.{Place, IsOnBoard, same_square, gap}
+use Rattle.chess.specs.Public.Placements.{man_at, opposite, IsEmpty}
+use Rattle.chess.specs.Public.Attacks.{IsForward}
+use Rattle.chess.specs.Public.Positions.{State}
+use Rattle.chess.specs.Public.Moves.{IsSingleStep, IsDoubleStep, IsPawnCapture, IsPawnMove}
+use Rattle.chess.specs.Private.MoveWords.{IsMover, IsStepper, CanStepOver, IsSquareAhead}
 use Rattle.chess.specs.declared.board.man.Side.{Side}
 use Rattle.chess.specs.declared.board.man.Side.TheVariants.{White, Black}
 use Rattle.chess.specs.declared.board.man.Kind.TheVariants.{Pawn}
-use Rattle.chess.specs.Sets.{Places, is_in, no_places, HoldsExactly}
+use Rattle.chess.specs.Public.Sets.{Places, is_in, no_places, HoldsExactly}
 use Rattle.chess.proofs.PlaceFacts.{place_of, some_not_none, same_square-same, same_square-then, true_not_false}
 use Rattle.chess.proofs.LoopFacts.{not_in}
 use Rattle.chess.proofs.WayFacts.{between_low, between_high}

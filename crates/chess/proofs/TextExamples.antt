@@ -1,14 +1,14 @@
 -- Worked rows of letters, move texts and FEN: what the PGN standard says of single texts.
 use Rattle.std.proofs.Common.{◌≡◌, ◌≤◌, ◌+◌, ℕ, true, false, inl, inr, ap, refl, arith, Some, None, List, [], ◌∷◌, length, codes}
-use Rattle.chess.specs.Squares.{Place}
-use Rattle.chess.specs.Letters.{kind_letter, man_letter, square_text, is_sign, is_check_mark}
-use Rattle.chess.specs.San.{Spells, promotion_text, IsFileOrRank, castling_text, castling_with_zeros, IsCastlingText, kind_said}
-use Rattle.chess.specs.Fen.{fields_of, parted_at, is_step, SpellsRank, side_text, right_letter, has_byte, is_distinct, GivesRights, GivesEnPassant, is_digit, IsCount, GiveCounts, joined, rights_letters, or_dash, en_passant_text}
-use Rattle.chess.specs.Fen.IsSquares.{letter, step}
+use Rattle.chess.specs.Public.Squares.{Place}
+use Rattle.chess.specs.Public.Letters.{kind_letter, man_letter, square_text, is_sign, is_check_mark}
+use Rattle.chess.specs.Public.San.{Spells, promotion_text, IsFileOrRank, castling_text, castling_with_zeros, IsCastlingText, kind_said}
+use Rattle.chess.specs.Public.Fen.{fields_of, parted_at, is_step, SpellsRank, side_text, right_letter, has_byte, is_distinct, GivesRights, GivesEnPassant, is_digit, IsCount, GiveCounts, joined, rights_letters, or_dash, en_passant_text}
+use Rattle.chess.specs.Public.Fen.IsSquares.{letter, step}
 use Rattle.chess.specs.declared.board.man.Side.{Side}
 use Rattle.chess.specs.declared.board.man.Side.TheVariants.{White, Black}
 use Rattle.chess.specs.declared.board.man.Kind.TheVariants.{King, Queen, Rook, Bishop, Knight, Pawn}
-use Rattle.chess.specs.Positions.{has_right}
+use Rattle.chess.specs.Public.Positions.{has_right}
 use Rattle.chess.specs.declared.board.man.Wing.{Wing}
 use Rattle.chess.specs.declared.board.man.Wing.TheVariants.{KingSide, QueenSide}
 use Rattle.chess.specs.declared.board.man.CastlingRights.{CastlingRights}

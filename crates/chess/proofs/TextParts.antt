@@ -4,8 +4,8 @@ use Rattle.std.specs.Prelude.{if◌then◌else◌}
 use Rattle.std.specs.List.{list_all}
 use Rattle.std.proofs.lemmas.List.{append_assoc, reverse-append}
 use Rattle.std.proofs.lemmas.Bool.Decides.{nat_tests}
-use Rattle.chess.specs.Letters.{is_check_mark}
-use Rattle.chess.specs.SanWords.{is_of, last_of, before_last, unmarked, before_equals, stem, after_target_rank, after_sign, after_rank, after_file, after_letter}
+use Rattle.chess.specs.Public.Letters.{is_check_mark}
+use Rattle.chess.specs.Private.SanWords.{is_of, last_of, before_last, unmarked, before_equals, stem, after_target_rank, after_sign, after_rank, after_file, after_letter}
 use Rattle.chess.specs.declared.move_text.read.parse.ByteClass.{ByteClass}
 use Rattle.chess.specs.declared.move_text.read.parse.ByteClass.TheVariants.{Sign, Digit, FileLetter, KindLetter, Equals, PromotionLetter}
 use Rattle.chess.proofs.ReadingFacts.{BeginsOtherwise, given, taken_given, begins_given}

@@ -1,10 +1,10 @@
 -- Where legal moves begin, and where pawns go.
 use Rattle.std.proofs.Common.{◌≡◌, ◌≤◌, ℕ, inl, inr, ap, refl, subst, ◌∙◌, arith, Some, None}
-use Rattle.chess.specs.Squares.{Place, IsOnBoard}
-use Rattle.chess.specs.Attacks.{IsForward}
-use Rattle.chess.specs.Positions.{State}
-use Rattle.chess.specs.Moves.{CanGo, HasMove, IsLegal}
-use Rattle.chess.specs.MoveWords.{IsMover, CanMove, IsPawnGoal, IsSquareAhead, CanPromote}
+use Rattle.chess.specs.Public.Squares.{Place, IsOnBoard}
+use Rattle.chess.specs.Public.Attacks.{IsForward}
+use Rattle.chess.specs.Public.Positions.{State}
+use Rattle.chess.specs.Public.Moves.{CanGo, HasMove, IsLegal}
+use Rattle.chess.specs.Private.MoveWords.{IsMover, CanMove, IsPawnGoal, IsSquareAhead, CanPromote}
 use Rattle.chess.specs.declared.board.man.Side.{Side}
 use Rattle.chess.specs.declared.board.man.Side.TheVariants.{White, Black}
 use Rattle.chess.specs.declared.board.man.Kind.{Kind}

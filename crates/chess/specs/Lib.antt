@@ -1,33 +1,3 @@
--- What a reader must believe: the Laws of Chess, FEN and SAN. In the order in which they are best read.
-pub mod Squares
-pub mod Placements
-pub mod Attacks
-pub mod Positions
-pub mod Start
-pub mod Moves
-pub mod Passes
-pub mod Letters
-pub mod San
-pub mod Refusals
-pub mod Fen
-pub mod Sets
-pub mod Laws
--- Private words: what the code equals on the way, what its loops keep, and facts that types rest on. No public contract cites them.
-pub mod PlaceCodes
-pub mod SetWords
-pub mod BitWords
-pub mod PseudoAttacks
-pub mod Cells
-pub mod CellFacts
-pub mod Codes
-pub mod MoveWords
-pub mod Runs
-pub mod FenWords
-pub mod FenTextWords
-pub mod OrderFacts
-pub mod SanWords
-pub mod SanAnswers
-pub mod RefusalWords
-pub mod SanTextWords
-pub mod SetFacts
-pub mod SquareFacts
+-- Definitions: those that a reader must believe, and private words.
+pub mod Public
+pub mod Private

@@ -1,9 +1,9 @@
 //! What a board is: a map from squares to men.
 ghost use Rattle.std.specs.Prelude.{◌≡◌, ◌↔◌, IsTrue, None, Some};
-ghost use Rattle.chess.specs.Placements.{Placement, no_men, man_at, with_man, opposite, AreOnBoard, IsEmpty, IsOccupiedBy};
-ghost use Rattle.chess.specs.Attacks.{IsAttacked};
-ghost use Rattle.chess.specs.Start.{initial_men};
-ghost use Rattle.chess.specs.Sets.{IsReachOf, IsSquaresOf, HoldsExactly, IsAttacker};
+ghost use Rattle.chess.specs.Public.Placements.{Placement, no_men, man_at, with_man, opposite, AreOnBoard, IsEmpty, IsOccupiedBy};
+ghost use Rattle.chess.specs.Public.Attacks.{IsAttacked};
+ghost use Rattle.chess.specs.Public.Start.{initial_men};
+ghost use Rattle.chess.specs.Public.Sets.{IsReachOf, IsSquaresOf, HoldsExactly, IsAttacker};
 
 mod attack_tables;
 mod bits;

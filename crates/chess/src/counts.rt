@@ -1,6 +1,6 @@
 //! How many men there are.
 ghost use Rattle.std.specs.Prelude.{◌≡◌};
-ghost use Rattle.chess.specs.Sets.{Places, IsSquaresOf, size_of};
+ghost use Rattle.chess.specs.Public.Sets.{Places, IsSquaresOf, size_of};
 
 use crate::board::{Board, Man};
 use crate::position::Position;

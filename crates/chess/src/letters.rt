@@ -1,8 +1,8 @@
 //! The letters of men and squares, read, and written into a text of limited length (PGN 8.2.3.1, 8.2.3.2, 16.1.3.1).
 ghost use Rattle.std.specs.Prelude.{◌≡◌, MatchOption, ◌+◌, ◌≤◌, ◌<◌, ◌++◌, ◌∷◌, []};
 ghost use Rattle.arrayvec.specs.ArrayString.{array_string_len};
-ghost use Rattle.chess.specs.Letters.{kind_letter, man_letter, square_text};
-ghost use Rattle.chess.specs.SanWords.{kind_of};
+ghost use Rattle.chess.specs.Public.Letters.{kind_letter, man_letter, square_text};
+ghost use Rattle.chess.specs.Private.SanWords.{kind_of};
 ghost use Rattle.chess.specs.declared.board.man.Kind.{Kind};
 
 use crate::board::{Kind, Man, Side, Square};

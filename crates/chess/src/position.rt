@@ -1,10 +1,10 @@
 //! Positions, over any board.
 ghost use Rattle.std.specs.Prelude.{◌≡◌, ◌↔◌, IsTrue};
-ghost use Rattle.chess.specs.Placements.{man_at, IsOccupiedBy, IsEmpty};
-ghost use Rattle.chess.specs.Attacks.{IsAttacked};
-ghost use Rattle.chess.specs.Positions.{State, IsSound, IsOnlyKing, IsCheck, has_right};
-ghost use Rattle.chess.specs.Moves.{is_square};
-ghost use Rattle.chess.specs.Sets.{IsReachOf, IsSquaresOf, HoldsExactly, IsAttacker};
+ghost use Rattle.chess.specs.Public.Placements.{man_at, IsOccupiedBy, IsEmpty};
+ghost use Rattle.chess.specs.Public.Attacks.{IsAttacked};
+ghost use Rattle.chess.specs.Public.Positions.{State, IsSound, IsOnlyKing, IsCheck, has_right};
+ghost use Rattle.chess.specs.Public.Moves.{is_square};
+ghost use Rattle.chess.specs.Public.Sets.{IsReachOf, IsSquaresOf, HoldsExactly, IsAttacker};
 
 use crate::board::{Board, CastlingRights, Man, Side, Square, SquareSet, Wing};
 use std::marker::Model;
@@ -24,9 +24,9 @@ pub struct Position<B: Board> {
 }
 
 impl<B: Board> Model for Position<B> {
-    ghost use Rattle.chess.specs.Positions.{State};
-    ghost use Rattle.chess.specs.Codes.{IsKept};
-    ghost use Rattle.chess.specs.Codes.{coded_state};
+    ghost use Rattle.chess.specs.Public.Positions.{State};
+    ghost use Rattle.chess.specs.Private.Codes.{IsKept};
+    ghost use Rattle.chess.specs.Private.Codes.{coded_state};
 
     ghost Value = { State };
 

@@ -1,7 +1,7 @@
 //! The position in which games usually begin (Laws 2.3).
 ghost use Rattle.std.specs.Prelude.{◌≡◌};
-ghost use Rattle.chess.specs.Positions.{IsSound};
-ghost use Rattle.chess.specs.Start.{initial};
+ghost use Rattle.chess.specs.Public.Positions.{IsSound};
+ghost use Rattle.chess.specs.Public.Start.{initial};
 
 use crate::board::{Board, CastlingRights, Side, Square};
 use crate::position::Position;

@@ -1,8 +1,8 @@
 //! Criteria with games, and the positions of their main lines that must meet them.
 ghost use Rattle.std.specs.Prelude.{IfOk};
-ghost use Rattle.pgn_text.specs.GameTexts.{tag_in};
-ghost use Rattle.pgn_game.specs.Replays.{IsSomeReplay};
-ghost use Rattle.pgn_game.specs.Starts.{fen_tag};
+ghost use Rattle.pgn_text.specs.Public.GameTexts.{tag_in};
+ghost use Rattle.pgn_game.specs.Public.Replays.{IsSomeReplay};
+ghost use Rattle.pgn_game.specs.Public.Starts.{fen_tag};
 
 use pgn_criteria::Criteria;
 use pgn_game::{Lines, Replayed, replay};

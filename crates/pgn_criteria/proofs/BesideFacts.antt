@@ -1,12 +1,12 @@
 -- What is laid out for men whose files are turned.
 use Rattle.std.proofs.Common.{◌≡◌, ◌↔◌, true, List, [], ◌∷◌, ◌++◌, sym, ap, ◌∙◌, subst, inl, inr}
-use Rattle.chess.specs.CellFacts.{on_board_or_not}
-use Rattle.chess.specs.Placements.{Placement, man_at}
-use Rattle.chess.specs.Sets.{is_in, HoldsExactly}
-use Rattle.chess.specs.Squares.{IsOnBoard}
-use Rattle.pgn_criteria.specs.Items.{IsOf}
-use Rattle.pgn_criteria.specs.Layouts.{AllStand, Laid}
-use Rattle.pgn_criteria.specs.Mirrors.{beside, flipped_men}
+use Rattle.chess.specs.Private.CellFacts.{on_board_or_not}
+use Rattle.chess.specs.Public.Placements.{Placement, man_at}
+use Rattle.chess.specs.Public.Sets.{is_in, HoldsExactly}
+use Rattle.chess.specs.Public.Squares.{IsOnBoard}
+use Rattle.pgn_criteria.specs.Private.Items.{IsOf}
+use Rattle.pgn_criteria.specs.Private.Layouts.{AllStand, Laid}
+use Rattle.pgn_criteria.specs.Public.Mirrors.{beside, flipped_men}
 use Rattle.pgn_criteria.specs.declared.layout.Asked.{Asked}
 use Rattle.pgn_criteria.specs.declared.layout.Layout.{Layout}
 use Rattle.pgn_criteria.proofs.LayoutFacts.{stand_more}

@@ -7,18 +7,18 @@ use Rattle.std.proofs.lemmas.Bool.{false≢true}
 use Rattle.std.proofs.lemmas.Bool.Decides.{nat_tests}
 use Rattle.std.proofs.lemmas.Nat.Bits.{bit_at_and, bit_at_or, bit_at-lt, bit_at-zero}
 use Rattle.std.specs.List.{AllByRecursion}
-use Rattle.chess.specs.Placements.{Placement, opposite}
-use Rattle.chess.specs.Positions.{State}
+use Rattle.chess.specs.Public.Placements.{Placement, opposite}
+use Rattle.chess.specs.Public.Positions.{State}
 use Rattle.chess.specs.declared.board.man.Side.{Side}
 use Rattle.chess.specs.declared.board.man.Side.TheVariants.{White, Black}
-use Rattle.pgn_game.specs.PlyCodes.{PlyCode, AreMarks, bit, marks_number}
-use Rattle.pgn_game.specs.Replays.{Replay}
-use Rattle.pgn_criteria.specs.ByMarks.{place_of_marks, has_marks, NoneMeets, IsNextMet}
-use Rattle.pgn_criteria.specs.Marks.{AreMarksOf, LacksMarks, Needs}
-use Rattle.pgn_criteria.specs.Meeting.{Heading, SomeHold}
-use Rattle.pgn_criteria.specs.Sieves.{codes_in}
-use Rattle.pgn_criteria.specs.Stages.{OfSeen, AllSaid, AllOfSeen, AllOfHeading, AreFixed, AreFreeOfMoves}
-use Rattle.pgn_criteria.specs.Walks.{IsSeenOf}
+use Rattle.pgn_game.specs.Public.PlyCodes.{PlyCode, AreMarks, bit, marks_number}
+use Rattle.pgn_game.specs.Public.Replays.{Replay}
+use Rattle.pgn_criteria.specs.Public.ByMarks.{place_of_marks, has_marks, NoneMeets, IsNextMet}
+use Rattle.pgn_criteria.specs.Private.Marks.{AreMarksOf, LacksMarks, Needs}
+use Rattle.pgn_criteria.specs.Public.Meeting.{Heading, SomeHold}
+use Rattle.pgn_criteria.specs.Public.Sieves.{codes_in}
+use Rattle.pgn_criteria.specs.Private.Stages.{OfSeen, AllSaid, AllOfSeen, AllOfHeading, AreFixed, AreFreeOfMoves}
+use Rattle.pgn_criteria.specs.Public.Walks.{IsSeenOf}
 use Rattle.pgn_criteria.specs.declared.condition.Condition.{Condition}
 use Rattle.pgn_criteria.proofs.EitherFacts.{met_plain, met_fixed}
 use Rattle.pgn_criteria.proofs.MarkFacts.{eight_on}

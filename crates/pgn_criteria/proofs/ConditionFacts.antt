@@ -1,9 +1,9 @@
 -- The text of a condition begins and ends with a solid byte, and is that of one condition.
 use Rattle.std.proofs.Common.{◌≡◌, ℕ, Bool, true, false, List, ◌++◌, IsTrue, refl, sym, ap, ◌∙◌, subst, inl, inr}
 use Rattle.std.specs.Prelude.{codes, ◌==◌}
-use Rattle.pgn_criteria.specs.Mirrors.{can_be_mirrored}
-use Rattle.pgn_criteria.specs.Reading.{core_of, run_of, after_word}
-use Rattle.pgn_criteria.specs.Lines.{SpellsTaken, SpellsTurned, SpellsCondition, Spells, IsLine}
+use Rattle.pgn_criteria.specs.Public.Mirrors.{can_be_mirrored}
+use Rattle.pgn_criteria.specs.Private.Reading.{core_of, run_of, after_word}
+use Rattle.pgn_criteria.specs.Public.Lines.{SpellsTaken, SpellsTurned, SpellsCondition, Spells, IsLine}
 use Rattle.pgn_criteria.specs.declared.condition.Condition.{Condition}
 use Rattle.pgn_criteria.specs.declared.condition.Claim.{Claim}
 use Rattle.pgn_criteria.specs.declared.line.Meaning.{Meaning}

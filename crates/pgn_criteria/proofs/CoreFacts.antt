@@ -6,9 +6,9 @@ use Rattle.std.proofs.lemmas.Bool.{and_parts, eqb-true}
 use Rattle.std.proofs.lemmas.Bool.Decides.{nat_tests}
 use Rattle.std.proofs.lemmas.List.{reverse-append, reverse-reverse}
 use Rattle.std.proofs.lemmas.List.Folds.{list_all-append}
-use Rattle.pgn_criteria.specs.Words.{is_blank}
-use Rattle.pgn_criteria.specs.Reading.{after_blanks, drop_return, core_of}
-use Rattle.pgn_criteria.specs.Lines.{AreBlanks}
+use Rattle.pgn_criteria.specs.Public.Words.{is_blank}
+use Rattle.pgn_criteria.specs.Private.Reading.{after_blanks, drop_return, core_of}
+use Rattle.pgn_criteria.specs.Public.Lines.{AreBlanks}
 use Rattle.pgn_criteria.proofs.SolidFacts.{is_solid, solid_blank, solid_return, both_true, over_blanks, blank_front, BeginsSolid, EndsSolid, begins_kept}
 
 -- blanks read from their end

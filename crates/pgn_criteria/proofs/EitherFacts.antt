@@ -1,12 +1,12 @@
 -- Conditions that are tried at the mirror of a position.
 use Rattle.std.proofs.Common.{◌≡◌, ◌↔◌, ℕ, Bool, true, false, List, [], ◌∷◌, ◌++◌, IsTrue, refl, sym, ap, subst, inl, inr}
 use Rattle.std.specs.Prelude.{◌&&◌, if◌then◌else◌}
-use Rattle.chess.specs.Placements.{Placement, opposite}
+use Rattle.chess.specs.Public.Placements.{Placement, opposite}
 use Rattle.chess.specs.declared.board.man.Side.{Side}
-use Rattle.pgn_criteria.specs.Meeting.{is_turned}
-use Rattle.pgn_criteria.specs.Mirrors.{mirrored_men, flipped_men, can_be_mirrored}
-use Rattle.pgn_criteria.specs.Patterns.{FitsPattern}
-use Rattle.pgn_criteria.specs.Stages.{SaysOfSeen, OfSeen, AllSaid, EachOfSeen, AllOfSeen, AreFixed, IsMirrorOf, IsMirrored, AreMirrored, claim_seen}
+use Rattle.pgn_criteria.specs.Public.Meeting.{is_turned}
+use Rattle.pgn_criteria.specs.Public.Mirrors.{mirrored_men, flipped_men, can_be_mirrored}
+use Rattle.pgn_criteria.specs.Public.Patterns.{FitsPattern}
+use Rattle.pgn_criteria.specs.Private.Stages.{SaysOfSeen, OfSeen, AllSaid, EachOfSeen, AllOfSeen, AreFixed, IsMirrorOf, IsMirrored, AreMirrored, claim_seen}
 use Rattle.pgn_criteria.specs.declared.condition.Condition.{Condition}
 use Rattle.pgn_criteria.specs.declared.condition.Claim.{Claim}
 use Rattle.pgn_criteria.specs.declared.condition.Claim.TheVariants.{Tag, Fen, Flip, Material, Moves, Plies, Result, Next, Played, For, Count, Turn, Check, Mate, Stalemate}

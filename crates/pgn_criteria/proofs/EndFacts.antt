@@ -4,20 +4,20 @@ use Rattle.std.proofs.lemmas.Bool.{false≢true}
 use Rattle.std.proofs.lemmas.Bool.Decides.{nat_tests}
 use Rattle.std.specs.List.{slice_get}
 use Rattle.std.specs.Prelude.{if◌then◌else◌, is_some}
-use Rattle.chess.specs.Squares.{Place}
-use Rattle.chess.specs.Positions.{State}
-use Rattle.chess.specs.Letters.{kind_letter, file_letter, rank_digit, square_text, is_check_mark}
-use Rattle.chess.specs.San.{promotion_text, castling_text, IsDisambiguation, is_capture, capture_text, IsPieceText, IsBody, IsCheckMark, IsSan}
-use Rattle.chess.specs.San.IsDisambiguation.{alone, by_file, by_rank, by_both}
-use Rattle.chess.specs.San.IsCheckMark.{mate, check, quiet}
+use Rattle.chess.specs.Public.Squares.{Place}
+use Rattle.chess.specs.Public.Positions.{State}
+use Rattle.chess.specs.Public.Letters.{kind_letter, file_letter, rank_digit, square_text, is_check_mark}
+use Rattle.chess.specs.Public.San.{promotion_text, castling_text, IsDisambiguation, is_capture, capture_text, IsPieceText, IsBody, IsCheckMark, IsSan}
+use Rattle.chess.specs.Public.San.IsDisambiguation.{alone, by_file, by_rank, by_both}
+use Rattle.chess.specs.Public.San.IsCheckMark.{mate, check, quiet}
 use Rattle.chess.specs.declared.board.man.Kind.{Kind}
 use Rattle.chess.specs.declared.board.man.Kind.TheVariants.{King, Queen, Rook, Bishop, Knight, Pawn}
 use Rattle.chess.specs.declared.board.man.Wing.{Wing}
 use Rattle.chess.specs.declared.board.man.Wing.TheVariants.{KingSide, QueenSide}
 use Rattle.chess.specs.declared.moves.Move.{Move}
-use Rattle.pgn_game.specs.Replays.{Replay}
-use Rattle.pgn_criteria.specs.MoveTexts.{without_marks, IsLike, GoesOnBy}
-use Rattle.pgn_criteria.specs.MoveEnds.{BeginsWith, EndsWith, RulesOut}
+use Rattle.pgn_game.specs.Public.Replays.{Replay}
+use Rattle.pgn_criteria.specs.Public.MoveTexts.{without_marks, IsLike, GoesOnBy}
+use Rattle.pgn_criteria.specs.Private.MoveEnds.{BeginsWith, EndsWith, RulesOut}
 
 -- each byte is above those of the marks
 abbrev AreAbove : List ℕ → Type 0

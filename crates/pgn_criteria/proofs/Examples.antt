@@ -2,23 +2,23 @@
 use Rattle.std.proofs.Common.{◌≡◌, ◌≤◌, ◌==◌, ℕ, List, [], ◌∷◌, Option, Some, None, true, false, refl, ap, arith, codes, get_or, drop, ◌++◌, length, inl, inr}
 use Rattle.std.proofs.lemmas.Option.{slice_get_within}
 use Rattle.std.specs.declared.cmp.Ordering.TheVariants as order
-use Rattle.chess.specs.Letters.{man_letter}
-use Rattle.chess.specs.Fen.{IsSquares, has_byte}
-use Rattle.chess.specs.Fen.IsSquares.{letter, step}
+use Rattle.chess.specs.Public.Letters.{man_letter}
+use Rattle.chess.specs.Public.Fen.{IsSquares, has_byte}
+use Rattle.chess.specs.Public.Fen.IsSquares.{letter, step}
 use Rattle.chess.specs.declared.board.man.Man.{Man}
 use Rattle.chess.specs.declared.board.man.Side.TheVariants.{White, Black}
 use Rattle.chess.specs.declared.board.man.Kind.TheVariants.{King, Queen, Pawn, Rook}
-use Rattle.pgn_text.specs.Strings.{Single, Escaped}
-use Rattle.pgn_criteria.specs.Comparing.{number_in, order_of, Allows, Stands}
-use Rattle.pgn_criteria.specs.Patterns.{CanBeSplit, IsStretch}
-use Rattle.pgn_criteria.specs.Items.{items_of}
-use Rattle.pgn_criteria.specs.Patterns.IsStretch.{spelled, any, occupied, white, black, many, among, other}
-use Rattle.pgn_criteria.specs.Materials.{is_man}
-use Rattle.pgn_criteria.specs.Materials as material
-use Rattle.pgn_criteria.specs.Mirrors.{across, beside}
-use Rattle.pgn_game.specs.Replays.{Replay}
-use Rattle.pgn_criteria.specs.MoveTexts.{without_marks, IsLike, GoesOnBy, IsReachedBy}
-use Rattle.pgn_criteria.specs.Meeting.{IsFirst}
+use Rattle.pgn_text.specs.Public.Strings.{Single, Escaped}
+use Rattle.pgn_criteria.specs.Public.Comparing.{number_in, order_of, Allows, Stands}
+use Rattle.pgn_criteria.specs.Public.Patterns.{CanBeSplit, IsStretch}
+use Rattle.pgn_criteria.specs.Private.Items.{items_of}
+use Rattle.pgn_criteria.specs.Public.Patterns.IsStretch.{spelled, any, occupied, white, black, many, among, other}
+use Rattle.pgn_criteria.specs.Public.Materials.{is_man}
+use Rattle.pgn_criteria.specs.Public.Materials as material
+use Rattle.pgn_criteria.specs.Public.Mirrors.{across, beside}
+use Rattle.pgn_game.specs.Public.Replays.{Replay}
+use Rattle.pgn_criteria.specs.Public.MoveTexts.{without_marks, IsLike, GoesOnBy, IsReachedBy}
+use Rattle.pgn_criteria.specs.Public.Meeting.{IsFirst}
 use Rattle.pgn_criteria.proofs.EndFacts.{ends_in, like_ends}
 use Rattle.pgn_criteria.proofs.MoveFacts.{byte_back}
 use Rattle.pgn_criteria.specs.declared.compare.Relation.TheVariants.{Equal, Has, Begins}

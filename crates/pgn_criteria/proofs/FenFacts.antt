@@ -4,17 +4,17 @@ use Rattle.std.specs.Prelude.{codes, Option, ◌+◌, ◌-◌, ◌==◌, if◌th
 use Rattle.std.specs.List.{list_all}
 use Rattle.std.proofs.lemmas.Bool.{and_parts}
 use Rattle.std.proofs.lemmas.Bool.Decides.{nat_tests}
-use Rattle.chess.specs.Fen.{IsSquares, letter, step, parted_at, before_first}
-use Rattle.chess.specs.Letters.{man_letter}
+use Rattle.chess.specs.Public.Fen.{IsSquares, letter, step, parted_at, before_first}
+use Rattle.chess.specs.Public.Letters.{man_letter}
 use Rattle.chess.specs.declared.board.man.Man.{Man}
 use Rattle.chess.specs.declared.board.man.Side.{Side}
 use Rattle.chess.specs.declared.board.man.Side.TheVariants.{White, Black}
 use Rattle.chess.specs.declared.board.man.Kind.{Kind}
 use Rattle.chess.specs.declared.board.man.Kind.TheVariants.{King, Queen, Rook, Bishop, Knight, Pawn}
-use Rattle.pgn_criteria.specs.Patterns.{IsStretch, spelled, any, occupied, white, black, many, among, other, AreRanks, IsPattern, items_where}
-use Rattle.pgn_criteria.specs.Items.{AreItems, is_letter, items_of}
-use Rattle.pgn_criteria.specs.Reading.{run_of, after_word}
-use Rattle.pgn_criteria.specs.Lines.{SpellsFen, SpellsClaim}
+use Rattle.pgn_criteria.specs.Public.Patterns.{IsStretch, spelled, any, occupied, white, black, many, among, other, AreRanks, IsPattern, items_where}
+use Rattle.pgn_criteria.specs.Private.Items.{AreItems, is_letter, items_of}
+use Rattle.pgn_criteria.specs.Private.Reading.{run_of, after_word}
+use Rattle.pgn_criteria.specs.Public.Lines.{SpellsFen, SpellsClaim}
 use Rattle.pgn_criteria.specs.declared.condition.Claim.TheVariants.{Fen, Flip}
 use Rattle.pgn_criteria.proofs.SetFacts.{all_men, letter_in, are_split}
 use Rattle.pgn_criteria.proofs.SolidFacts.{is_solid, AreSolid, EachSolid, all_solid, both_true, front_solid, parts_solid, solid_begins, word_read, word_spelled, BeginsSolid, begins_some}

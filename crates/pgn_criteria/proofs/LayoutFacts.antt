@@ -4,19 +4,19 @@ use Rattle.std.specs.Prelude.{◌||◌, ◌⊎◌}
 use Rattle.std.proofs.Math.ListN.{get_or-append}
 use Rattle.std.proofs.lemmas.Bool.{cases_lt}
 use Rattle.std.proofs.lemmas.List.{get_or-drop, take-append-drop, drop-drop, length-take}
-use Rattle.chess.specs.Fen.{row}
-use Rattle.chess.specs.Squares.{Place, same_square}
-use Rattle.chess.specs.Placements.{Placement, man_at}
-use Rattle.chess.specs.Sets.{is_in}
+use Rattle.chess.specs.Public.Fen.{row}
+use Rattle.chess.specs.Public.Squares.{Place, same_square}
+use Rattle.chess.specs.Public.Placements.{Placement, man_at}
+use Rattle.chess.specs.Public.Sets.{is_in}
 use Rattle.chess.specs.declared.board.man.Man.{Man}
 use Rattle.chess.proofs.PlaceFacts.{same_square-then, same_square-same}
-use Rattle.pgn_criteria.specs.Patterns.{CanBeSplit}
-use Rattle.pgn_criteria.specs.Items.{items_of}
-use Rattle.pgn_criteria.specs.Items.{IsOf, EachOf, Reads, IsNextItem, has_man}
+use Rattle.pgn_criteria.specs.Public.Patterns.{CanBeSplit}
+use Rattle.pgn_criteria.specs.Private.Items.{items_of}
+use Rattle.pgn_criteria.specs.Private.Items.{IsOf, EachOf, Reads, IsNextItem, has_man}
 use Rattle.chess.specs.declared.board.man.Kind.{Kind}
 use Rattle.chess.specs.declared.board.man.Kind.TheVariants.{King, Queen, Rook, Bishop, Knight, Pawn}
 use Rattle.chess.specs.declared.board.man.Side.TheVariants.{White, Black}
-use Rattle.pgn_criteria.specs.Layouts.{AllStand, AreEmpty, EachFrom, Extends, Lays, NoneOf}
+use Rattle.pgn_criteria.specs.Private.Layouts.{AllStand, AreEmpty, EachFrom, Extends, Lays, NoneOf}
 use Rattle.pgn_criteria.specs.declared.rank.Men.{Men}
 use Rattle.pgn_criteria.specs.declared.rank.SquareTest.TheVariants.{Other}
 use Rattle.pgn_criteria.specs.declared.layout.Asked.{Asked}

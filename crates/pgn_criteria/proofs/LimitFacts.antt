@@ -5,13 +5,13 @@ use Rattle.std.specs.List.{list_all}
 use Rattle.std.proofs.lemmas.Bool.{and_parts, not-true, eqb-true}
 use Rattle.std.proofs.lemmas.Bool.Decides.{nat_tests}
 use Rattle.std.proofs.lemmas.List.Folds.{list_all-append}
-use Rattle.chess.specs.Fen.{is_digit, has_byte, is_distinct}
-use Rattle.chess.specs.Letters.{kind_letter}
+use Rattle.chess.specs.Public.Fen.{is_digit, has_byte, is_distinct}
+use Rattle.chess.specs.Public.Letters.{kind_letter}
 use Rattle.chess.specs.declared.board.man.Kind.{Kind}
 use Rattle.chess.specs.declared.board.man.Kind.TheVariants.{King, Queen, Rook, Bishop, Knight, Pawn}
-use Rattle.pgn_criteria.specs.Lines.{SpellsLimit, one, exactly, at_least, at_most, any, SpellsEntries, IsLimitIn, SpellsLimits}
-use Rattle.pgn_criteria.specs.Materials.{limit_of}
-use Rattle.pgn_criteria.specs.Reading.{AreEntries, digit_limit, first_limit, limit_after}
+use Rattle.pgn_criteria.specs.Public.Lines.{SpellsLimit, one, exactly, at_least, at_most, any, SpellsEntries, IsLimitIn, SpellsLimits}
+use Rattle.pgn_criteria.specs.Public.Materials.{limit_of}
+use Rattle.pgn_criteria.specs.Private.Reading.{AreEntries, digit_limit, first_limit, limit_after}
 use Rattle.pgn_criteria.specs.declared.material.Limit.{Limit}
 use Rattle.pgn_criteria.specs.declared.material.Limit.TheVariants.{Exactly, AtLeast, AtMost, AnyNumber}
 use Rattle.pgn_criteria.specs.declared.material.Limits.{Limits}

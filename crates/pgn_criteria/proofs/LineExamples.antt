@@ -1,17 +1,17 @@
 -- What the definitions say of lines that every reader can check.
 use Rattle.std.proofs.Common.{◌==◌, ◌≡◌, ◌≤◌, ◌<◌, ℕ, Bool, true, false, List, [], ◌∷◌, ◌++◌, length, get_or, refl, sym, ap, ◌∙◌, inl, inr, arith, codes}
 use Rattle.std.specs.Prelude.{replicate}
-use Rattle.chess.specs.Fen.{parted_at}
+use Rattle.chess.specs.Public.Fen.{parted_at}
 use Rattle.chess.specs.declared.board.man.Kind.{Kind}
 use Rattle.chess.specs.declared.board.man.Kind.TheVariants.{King, Queen, Rook, Bishop, Knight, Pawn}
 use Rattle.chess.specs.declared.board.man.Side.TheVariants.{White}
-use Rattle.pgn_text.specs.Strings.{Single}
-use Rattle.pgn_text.specs.GameTexts.{IsResult}
-use Rattle.pgn_criteria.specs.Lines.{SpellsClaim, AreNames, SpellsCount, CanBeCompared, SpellsTaken, Spells, SpellsLimits, IsLimitIn, IsMoveWord, IsMoveLike, a_word, and_words, IsLine, Accepts, alternatives_of, SpellsTurned}
-use Rattle.pgn_criteria.specs.Lines.SpellsLimit.{one, exactly, at_least, at_most, any}
-use Rattle.pgn_criteria.specs.Comparing.{Compares}
-use Rattle.pgn_criteria.specs.Materials.{limit_of}
-use Rattle.pgn_criteria.specs.Mirrors.{can_be_mirrored}
+use Rattle.pgn_text.specs.Public.Strings.{Single}
+use Rattle.pgn_text.specs.Public.GameTexts.{IsResult}
+use Rattle.pgn_criteria.specs.Public.Lines.{SpellsClaim, AreNames, SpellsCount, CanBeCompared, SpellsTaken, Spells, SpellsLimits, IsLimitIn, IsMoveWord, IsMoveLike, a_word, and_words, IsLine, Accepts, alternatives_of, SpellsTurned}
+use Rattle.pgn_criteria.specs.Public.Lines.SpellsLimit.{one, exactly, at_least, at_most, any}
+use Rattle.pgn_criteria.specs.Public.Comparing.{Compares}
+use Rattle.pgn_criteria.specs.Public.Materials.{limit_of}
+use Rattle.pgn_criteria.specs.Public.Mirrors.{can_be_mirrored}
 use Rattle.pgn_criteria.specs.declared.compare.Comparison.{Comparison}
 use Rattle.pgn_criteria.specs.declared.compare.Comparison.TheVariants.{Less, LessOrEqual}
 use Rattle.pgn_criteria.specs.declared.compare.Relation.TheVariants.{GreaterOrEqual, Has, Begins}

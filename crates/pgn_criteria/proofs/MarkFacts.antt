@@ -8,16 +8,16 @@ use Rattle.std.proofs.lemmas.Nat.{le_or_l, le_or_r}
 use Rattle.std.proofs.lemmas.Nat.Bits.{bit_at_or, bit_at-lt}
 use Rattle.std.proofs.lemmas.List.{get_or-drop, drop-drop}
 use Rattle.std.specs.List.{AllByRecursion}
-use Rattle.chess.specs.Placements.{Placement, opposite}
-use Rattle.chess.specs.Positions.{State}
+use Rattle.chess.specs.Public.Placements.{Placement, opposite}
+use Rattle.chess.specs.Public.Positions.{State}
 use Rattle.chess.specs.declared.board.man.Side.{Side}
-use Rattle.pgn_game.specs.PlyCodes.{PlyCode, code_of, moved}
-use Rattle.pgn_criteria.specs.Sieves.{MeetsSeen, NowhereSeen, codes_in}
-use Rattle.pgn_criteria.specs.Marks.{FitsSeen, IsMarked, NeedMark, LacksMarks, SaysOfNumbers, asks_mark}
-use Rattle.pgn_criteria.specs.Meeting.{is_turned}
-use Rattle.pgn_criteria.specs.Mirrors.{mirror, can_be_mirrored}
-use Rattle.pgn_criteria.specs.Stages.{OfPosition, EachOfPosition, AllOfPosition, SaysOfPosition, on_positions}
-use Rattle.pgn_criteria.specs.Tracks.{FitsPlaced, Nowhere}
+use Rattle.pgn_game.specs.Public.PlyCodes.{PlyCode, code_of, moved}
+use Rattle.pgn_criteria.specs.Public.Sieves.{MeetsSeen, NowhereSeen, codes_in}
+use Rattle.pgn_criteria.specs.Private.Marks.{FitsSeen, IsMarked, NeedMark, LacksMarks, SaysOfNumbers, asks_mark}
+use Rattle.pgn_criteria.specs.Public.Meeting.{is_turned}
+use Rattle.pgn_criteria.specs.Public.Mirrors.{mirror, can_be_mirrored}
+use Rattle.pgn_criteria.specs.Private.Stages.{OfPosition, EachOfPosition, AllOfPosition, SaysOfPosition, on_positions}
+use Rattle.pgn_criteria.specs.Private.Tracks.{FitsPlaced, Nowhere}
 use Rattle.pgn_criteria.specs.declared.condition.Condition.{Condition}
 use Rattle.pgn_criteria.specs.declared.condition.Claim.{Claim}
 use Rattle.pgn_criteria.specs.declared.condition.Claim.TheVariants.{Tag, Fen, Flip, Material, Moves, Plies, Result, Next, Played, For, Count, Turn, Check, Mate, Stalemate}

@@ -1,8 +1,8 @@
 -- Conditions on the material: what spells one is read as it, and the other way round.
 use Rattle.std.proofs.Common.{◌≡◌, ℕ, List, ◌++◌, refl, sym, subst}
 use Rattle.std.specs.Prelude.{codes}
-use Rattle.pgn_criteria.specs.Reading.{run_of, after_word}
-use Rattle.pgn_criteria.specs.Lines.{SpellsClaim, SpellsLimits}
+use Rattle.pgn_criteria.specs.Private.Reading.{run_of, after_word}
+use Rattle.pgn_criteria.specs.Public.Lines.{SpellsClaim, SpellsLimits}
 use Rattle.pgn_criteria.specs.declared.material.Limits.{Limits}
 use Rattle.pgn_criteria.specs.declared.condition.Claim.TheVariants.{Material}
 use Rattle.pgn_criteria.proofs.SolidFacts.{BeginsSolid, solid_begins, begins_front, front_some, word_read, word_spelled}

@@ -2,10 +2,10 @@
 use Rattle.std.proofs.Common.{◌≡◌, ◌<◌, ℕ, zero, suc, ◌+◌, Bool, true, false, List, [], ◌∷◌, length, Option, Some, None, refl, ap, ◌∙◌, sym, subst, inl, inr, arith}
 use Rattle.std.specs.Prelude.{codes, if◌then◌else◌}
 use Rattle.std.specs.List.{slice_get}
-use Rattle.chess.specs.Fen.{parted_at}
-use Rattle.chess.specs.Placements.{AreOnBoard}
-use Rattle.chess.specs.Positions.{State}
-use Rattle.chess.specs.Moves.{IsLegal}
+use Rattle.chess.specs.Public.Fen.{parted_at}
+use Rattle.chess.specs.Public.Placements.{AreOnBoard}
+use Rattle.chess.specs.Public.Positions.{State}
+use Rattle.chess.specs.Public.Moves.{IsLegal}
 use Rattle.chess.specs.declared.moves.Move.{Move}
 use Rattle.std.proofs.lemmas.Bool.{cases_eq, cases_lt}
 use Rattle.std.proofs.lemmas.Option.{slice_get_within}
@@ -15,17 +15,17 @@ use Rattle.chess.proofs.LegalSettled.{settled_check}
 use Rattle.chess.proofs.MateSettled.{settled_mate, settled_stalemate}
 use Rattle.chess.proofs.SanOnce.{one_san}
 use Rattle.chess.proofs.SanSettled.{some_san}
-use Rattle.pgn_game.specs.MainLines.{main_words}
-use Rattle.pgn_game.specs.Replays.{Replay}
+use Rattle.pgn_game.specs.Public.MainLines.{main_words}
+use Rattle.pgn_game.specs.Public.Replays.{Replay}
 use Rattle.pgn_game.proofs.AnAnswer.{start_on_board}
 use Rattle.pgn_game.proofs.OnBoard.{line_on_board, line_legal}
-use Rattle.pgn_criteria.specs.Meeting.{Heading, HasOneOf, IsSo, Taken, Holds, AllHold, HoldsThere, AreAll, SpanHolds, SpansHold, IsMetBy, SomeHold, Meets, is_turned, EachHold}
-use Rattle.pgn_criteria.specs.Mirrors.{flipped_men, mirror}
-use Rattle.pgn_criteria.specs.MoveTexts.{without_marks, FitsWord, FitsMove, FitMoves, IsLike, GoesOnBy, IsReachedBy}
-use Rattle.pgn_criteria.specs.Stages.{AreLegal}
-use Rattle.pgn_criteria.specs.Words.{words_of}
-use Rattle.pgn_criteria.specs.Comparing.{Stands, Compares}
-use Rattle.pgn_criteria.specs.Laws.{EachPositionMeetsOrDoesNot}
+use Rattle.pgn_criteria.specs.Public.Meeting.{Heading, HasOneOf, IsSo, Taken, Holds, AllHold, HoldsThere, AreAll, SpanHolds, SpansHold, IsMetBy, SomeHold, Meets, is_turned, EachHold}
+use Rattle.pgn_criteria.specs.Public.Mirrors.{flipped_men, mirror}
+use Rattle.pgn_criteria.specs.Public.MoveTexts.{without_marks, FitsWord, FitsMove, FitMoves, IsLike, GoesOnBy, IsReachedBy}
+use Rattle.pgn_criteria.specs.Private.Stages.{AreLegal}
+use Rattle.pgn_criteria.specs.Public.Words.{words_of}
+use Rattle.pgn_criteria.specs.Public.Comparing.{Stands, Compares}
+use Rattle.pgn_criteria.specs.Public.Laws.{EachPositionMeetsOrDoesNot}
 use Rattle.pgn_criteria.specs.declared.condition.Condition.{Condition}
 use Rattle.pgn_criteria.specs.declared.condition.Claim.{Claim}
 use Rattle.pgn_criteria.specs.declared.condition.Claim.TheVariants.{Tag, Fen, Flip, Material, Moves, Plies, Result, Next, Played, For, Count, Turn, Check, Mate, Stalemate}

@@ -3,16 +3,16 @@ use Rattle.std.proofs.Common.{◌≡◌, ◌↔◌, ◌≤◌, ◌+◌, ◌-◌,
 use Rattle.std.specs.Prelude.{map, option_map, count_by, reverse, if◌then◌else◌}
 use Rattle.std.proofs.lemmas.List.Sums.{sum_by-append}
 use Rattle.std.proofs.lemmas.List.Folds.{fold-map}
-use Rattle.chess.specs.Squares.{Place, IsOnBoard, square_at}
-use Rattle.chess.specs.SetFacts.{square_at-index_of}
-use Rattle.chess.specs.CellFacts.{man_at-men_of, on_board-men_of, same_men, on_board_or_not}
-use Rattle.chess.specs.Placements.{Placement, man_at, opposite, AreOnBoard}
-use Rattle.chess.specs.Fen.{row}
+use Rattle.chess.specs.Public.Squares.{Place, IsOnBoard, square_at}
+use Rattle.chess.specs.Private.SetFacts.{square_at-index_of}
+use Rattle.chess.specs.Private.CellFacts.{man_at-men_of, on_board-men_of, same_men, on_board_or_not}
+use Rattle.chess.specs.Public.Placements.{Placement, man_at, opposite, AreOnBoard}
+use Rattle.chess.specs.Public.Fen.{row}
 use Rattle.chess.specs.declared.board.man.Man.{Man}
 use Rattle.chess.specs.declared.board.man.Side.{Side}
 use Rattle.chess.specs.declared.board.man.Side.TheVariants.{White, Black}
-use Rattle.pgn_criteria.specs.Materials.{Allows, limit_of, is_man, squares_to, count_of, FitsMaterial}
-use Rattle.pgn_criteria.specs.Mirrors.{other_man, across, beside, mirrored_men, flipped_men}
+use Rattle.pgn_criteria.specs.Public.Materials.{Allows, limit_of, is_man, squares_to, count_of, FitsMaterial}
+use Rattle.pgn_criteria.specs.Public.Mirrors.{other_man, across, beside, mirrored_men, flipped_men}
 use Rattle.pgn_criteria.specs.declared.material.Limits.{Limits}
 use Rattle.pgn_criteria.proofs.CountFacts.{is_man-same, is_man-then, true_both}
 

@@ -1,12 +1,12 @@
 -- The mirror of the mirror is the position itself, and alternatives of conditions with `either` hold of both.
 use Rattle.std.proofs.Common.{◌≡◌, ℕ, Bool, true, false, List, [], ◌∷◌, Option, Some, None, refl, sym, ap, ◌∙◌, subst, inl, inr}
 use Rattle.std.specs.Prelude.{if◌then◌else◌, option_map}
-use Rattle.chess.specs.Squares.{Place, IsOnBoard}
-use Rattle.chess.specs.Positions.{State}
-use Rattle.pgn_game.specs.Replays.{Replay}
-use Rattle.pgn_criteria.specs.Laws.{MirrorIsUndone, AreTurned, SidesAreAlike}
-use Rattle.pgn_criteria.specs.Meeting.{Heading, Holds, EachHold, is_turned}
-use Rattle.pgn_criteria.specs.Mirrors.{across, mirror}
+use Rattle.chess.specs.Public.Squares.{Place, IsOnBoard}
+use Rattle.chess.specs.Public.Positions.{State}
+use Rattle.pgn_game.specs.Public.Replays.{Replay}
+use Rattle.pgn_criteria.specs.Public.Laws.{MirrorIsUndone, AreTurned, SidesAreAlike}
+use Rattle.pgn_criteria.specs.Public.Meeting.{Heading, Holds, EachHold, is_turned}
+use Rattle.pgn_criteria.specs.Public.Mirrors.{across, mirror}
 use Rattle.pgn_criteria.specs.declared.condition.Condition.{Condition}
 use Rattle.pgn_criteria.proofs.MirrorFacts.{mirrored_twice, other_twice, across_twice}
 

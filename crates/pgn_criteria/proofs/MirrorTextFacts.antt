@@ -5,19 +5,19 @@ use Rattle.std.specs.List.{list_all}
 use Rattle.std.proofs.lemmas.Bool.{eqb-true, eq-eqb, and_parts}
 use Rattle.std.proofs.lemmas.Bool.Decides.{nat_tests}
 use Rattle.std.proofs.lemmas.List.{map-append}
-use Rattle.chess.specs.Placements.{Placement, opposite}
-use Rattle.chess.specs.Letters.{man_letter}
-use Rattle.chess.specs.Fen.{IsSquares, letter, step, parted_at, before_first, has_byte, row}
+use Rattle.chess.specs.Public.Placements.{Placement, opposite}
+use Rattle.chess.specs.Public.Letters.{man_letter}
+use Rattle.chess.specs.Public.Fen.{IsSquares, letter, step, parted_at, before_first, has_byte, row}
 use Rattle.chess.specs.declared.board.man.Man.{Man}
 use Rattle.chess.specs.declared.board.man.Side.{Side}
 use Rattle.chess.specs.declared.board.man.Side.TheVariants.{White, Black}
 use Rattle.chess.specs.declared.board.man.Kind.{Kind}
 use Rattle.chess.specs.declared.board.man.Kind.TheVariants.{King, Queen, Rook, Bishop, Knight, Pawn}
 use Rattle.chess.proofs.FieldFacts.{parted_by_run}
-use Rattle.pgn_criteria.specs.Patterns.{AreMen, IsStretch, spelled, any, occupied, white, black, many, among, other, CanBeSplit, FitRanks, FitsPattern, AreRanks, IsPattern, items_where}
-use Rattle.pgn_criteria.specs.Items.{is_letter, items_of}
-use Rattle.pgn_criteria.specs.Mirrors.{other_man, mirrored_men}
-use Rattle.pgn_criteria.specs.Turning.{other_letter, turned_ranks, turned}
+use Rattle.pgn_criteria.specs.Public.Patterns.{AreMen, IsStretch, spelled, any, occupied, white, black, many, among, other, CanBeSplit, FitRanks, FitsPattern, AreRanks, IsPattern, items_where}
+use Rattle.pgn_criteria.specs.Private.Items.{is_letter, items_of}
+use Rattle.pgn_criteria.specs.Public.Mirrors.{other_man, mirrored_men}
+use Rattle.pgn_criteria.specs.Private.Turning.{other_letter, turned_ranks, turned}
 use Rattle.pgn_criteria.proofs.CountFacts.{true_both}
 use Rattle.pgn_criteria.proofs.SetFacts.{all_men, letter_in}
 use Rattle.pgn_criteria.proofs.SolidFacts.{both_true}

@@ -3,9 +3,9 @@ use Rattle.std.proofs.Common.{◌≡◌, ◌≢◌, ◌<◌, ℕ, true, false, L
 use Rattle.std.specs.Prelude.{codes, ◌⊎◌, ◌≤◌, ◌+◌, ◌||◌, ◌==◌, if◌then◌else◌}
 use Rattle.std.specs.List.{list_all}
 use Rattle.std.proofs.lemmas.Bool.Decides.{nat_tests}
-use Rattle.pgn_criteria.specs.Words.{is_blank}
-use Rattle.pgn_criteria.specs.Reading.{run_of, after_run, after_blanks, after_word}
-use Rattle.pgn_criteria.specs.Lines.{is_move_byte, IsMoveWord, IsMoveLike, AreMoveWords, a_word, and_words, SpellsClaim}
+use Rattle.pgn_criteria.specs.Public.Words.{is_blank}
+use Rattle.pgn_criteria.specs.Private.Reading.{run_of, after_run, after_blanks, after_word}
+use Rattle.pgn_criteria.specs.Public.Lines.{is_move_byte, IsMoveWord, IsMoveLike, AreMoveWords, a_word, and_words, SpellsClaim}
 use Rattle.pgn_criteria.specs.declared.condition.Claim.TheVariants.{Moves, Next, Played}
 use Rattle.pgn_criteria.proofs.WordFacts.{run_whole}
 use Rattle.pgn_criteria.proofs.SolidFacts.{is_solid, AreSolid, BeginsSolid, EndsSolid, all_solid, solid_begins, solid_ends, begins_front, begins_some, ends_after, word_alone, word_read, word_spelled}

@@ -3,8 +3,8 @@ use Rattle.std.proofs.Common.{◌≡◌, ◌≤◌, ◌+◌, ◌-◌, ℕ, List,
 use Rattle.std.proofs.Math.Seq.{drop-append_seam}
 use Rattle.std.proofs.lemmas.List.{drop-drop}
 use Rattle.chess.specs.declared.board.man.Man.{Man}
-use Rattle.pgn_criteria.specs.Patterns.{CanBeSplit, IsStretch}
-use Rattle.pgn_criteria.specs.Items.{Fits, Reads}
+use Rattle.pgn_criteria.specs.Public.Patterns.{CanBeSplit, IsStretch}
+use Rattle.pgn_criteria.specs.Private.Items.{Fits, Reads}
 use Rattle.pgn_criteria.specs.declared.rank.SquareTest.{SquareTest}
 use Rattle.pgn_criteria.specs.declared.rank.Item.{Item}
 use Rattle.pgn_criteria.specs.declared.rank.Item.TheVariants.{Run}

@@ -5,10 +5,10 @@ use Rattle.std.specs.List.{list_all}
 use Rattle.std.proofs.lemmas.Bool.{cases_eq}
 use Rattle.std.proofs.lemmas.Bool.Decides.{nat_tests}
 use Rattle.std.proofs.Math.Nat.{pow-le-pow_right}
-use Rattle.chess.specs.Fen.{number_from}
-use Rattle.pgn_text.specs.Bytes.{is_digit}
-use Rattle.pgn_criteria.specs.Comparing.{number_in}
-use Rattle.pgn_criteria.specs.Numbers.{number_after}
+use Rattle.chess.specs.Public.Fen.{number_from}
+use Rattle.pgn_text.specs.Public.Bytes.{is_digit}
+use Rattle.pgn_criteria.specs.Public.Comparing.{number_in}
+use Rattle.pgn_criteria.specs.Private.Numbers.{number_after}
 
 -- a size from 1 to 18
 abbrev is_size : ℕ → Bool

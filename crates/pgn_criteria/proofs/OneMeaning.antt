@@ -2,15 +2,15 @@
 use Rattle.std.proofs.Common.{◌≡◌, ◌≤◌, ℕ, Bool, true, false, List, [], ◌∷◌, ◌++◌, length, refl, sym, ap, ◌∙◌, subst, inl, inr, arith}
 use Rattle.std.specs.Prelude.{codes, ◌+◌, ◌==◌, if◌then◌else◌}
 use Rattle.std.proofs.lemmas.List.{append_cancel_right}
-use Rattle.chess.specs.Fen.{parted_at}
+use Rattle.chess.specs.Public.Fen.{parted_at}
 use Rattle.chess.specs.declared.board.man.Side.{Side}
 use Rattle.chess.specs.declared.board.man.Side.TheVariants.{White, Black}
 use Rattle.chess.specs.declared.board.man.Kind.{Kind}
 use Rattle.chess.specs.declared.board.man.Kind.TheVariants.{King, Queen, Rook, Bishop, Knight, Pawn}
-use Rattle.pgn_criteria.specs.Reading.{run_of, after_word, core_of}
-use Rattle.pgn_criteria.specs.Materials.{limit_of}
-use Rattle.pgn_criteria.specs.Lines.{SpellsFen, SpellsClaim, SpellsTaken, SpellsTurned, SpellsCondition, SpellsLimits, Spells, IsLine, AreLines, side_text, relation_text, comparison_text, alternatives_of, IsFirstBad}
-use Rattle.pgn_criteria.specs.Laws.{TextHasOneMeaning, TextHasOneAnswer, MemoryIsTheOnlyFault}
+use Rattle.pgn_criteria.specs.Private.Reading.{run_of, after_word, core_of}
+use Rattle.pgn_criteria.specs.Public.Materials.{limit_of}
+use Rattle.pgn_criteria.specs.Public.Lines.{SpellsFen, SpellsClaim, SpellsTaken, SpellsTurned, SpellsCondition, SpellsLimits, Spells, IsLine, AreLines, side_text, relation_text, comparison_text, alternatives_of, IsFirstBad}
+use Rattle.pgn_criteria.specs.Public.Laws.{TextHasOneMeaning, TextHasOneAnswer, MemoryIsTheOnlyFault}
 use Rattle.pgn_criteria.specs.declared.compare.Comparison.{Comparison}
 use Rattle.pgn_criteria.specs.declared.compare.Comparison.TheVariants as compared
 use Rattle.pgn_criteria.specs.declared.compare.Relation.{Relation}

@@ -1,19 +1,19 @@
 -- Conditions on the first moves of a game, decided by its opening.
 use Rattle.std.proofs.Common.{◌↔◌, ◌⊎◌, ◌+◌, ◌<◌, ◌≤◌, ◌≡◌, if◌then◌else◌, ℕ, zero, suc, Bool, true, false, List, [], ◌∷◌, length, map, Option, inl, inr, refl, sym, ap, subst, ◌∙◌, arith}
 use Rattle.std.specs.List.{slice_get}
-use Rattle.chess.specs.Positions.{State}
-use Rattle.pgn_text.specs.Games.{Item}
-use Rattle.pgn_game.specs.Openings.{IsOpening}
-use Rattle.pgn_game.specs.Replays.{Replay, IsSomeReplay}
+use Rattle.chess.specs.Public.Positions.{State}
+use Rattle.pgn_text.specs.Public.Games.{Item}
+use Rattle.pgn_game.specs.Public.Openings.{IsOpening}
+use Rattle.pgn_game.specs.Public.Replays.{Replay, IsSomeReplay}
 use Rattle.pgn_game.proofs.Openings.{AgreeAt, opening_agrees}
-use Rattle.pgn_criteria.specs.Meeting.{Heading, IsSo, Taken, is_turned, Holds, EachHold, AllHold, HoldsThere, SpansHold, SomeHold, Meets}
-use Rattle.pgn_criteria.specs.Mirrors.{mirror}
-use Rattle.pgn_criteria.specs.MoveTexts.{FitMoves, GoesOnBy}
-use Rattle.pgn_criteria.specs.Words.{words_of}
-use Rattle.pgn_criteria.specs.Comparing.{Compares}
+use Rattle.pgn_criteria.specs.Public.Meeting.{Heading, IsSo, Taken, is_turned, Holds, EachHold, AllHold, HoldsThere, SpansHold, SomeHold, Meets}
+use Rattle.pgn_criteria.specs.Public.Mirrors.{mirror}
+use Rattle.pgn_criteria.specs.Public.MoveTexts.{FitMoves, GoesOnBy}
+use Rattle.pgn_criteria.specs.Public.Words.{words_of}
+use Rattle.pgn_criteria.specs.Public.Comparing.{Compares}
 use Rattle.pgn_criteria.specs.declared.compare.Comparison.{Comparison}
 use Rattle.pgn_criteria.specs.declared.compare.Comparison.TheVariants as compared
-use Rattle.pgn_criteria.specs.Stages.{AsksWithin, AllClaims, EachClaims, AllAskWithin, EachAsksWithin, FitTheSame, is_on_position, on_positions}
+use Rattle.pgn_criteria.specs.Private.Stages.{AsksWithin, AllClaims, EachClaims, AllAskWithin, EachAsksWithin, FitTheSame, is_on_position, on_positions}
 use Rattle.pgn_criteria.specs.declared.condition.Condition.{Condition}
 use Rattle.pgn_criteria.specs.declared.condition.Claim.{Claim}
 use Rattle.pgn_criteria.specs.declared.condition.Claim.TheVariants.{Tag, Fen, Flip, Material, Moves, Plies, Result, Next, Played, For, Count, Turn, Check, Mate, Stalemate}

@@ -1,10 +1,10 @@
 -- The lines of a text read one after the other, and the alternatives that they spell.
 use Rattle.std.proofs.Common.{◌≡◌, ◌≤◌, ◌<◌, ℕ, Bool, true, false, List, [], ◌∷◌, ◌++◌, length, refl, sym, ap, ◌∙◌, subst, append_assoc, append-nil, length-append, arith}
 use Rattle.std.specs.Prelude.{◌+◌, ◌==◌, if◌then◌else◌, Option, Some, None, MatchOption}
-use Rattle.chess.specs.Fen.{parted_at, before_first}
-use Rattle.pgn_criteria.specs.Lines.{SpellsClaim, SpellsTaken, SpellsTurned, IsLine, AreLines, alternatives_of, onto_first, SpellsCriteria, IsFirstBad}
-use Rattle.pgn_criteria.specs.Reading.{with_open}
-use Rattle.pgn_criteria.specs.Stages.{IsGood, AllGood}
+use Rattle.chess.specs.Public.Fen.{parted_at, before_first}
+use Rattle.pgn_criteria.specs.Public.Lines.{SpellsClaim, SpellsTaken, SpellsTurned, IsLine, AreLines, alternatives_of, onto_first, SpellsCriteria, IsFirstBad}
+use Rattle.pgn_criteria.specs.Private.Reading.{with_open}
+use Rattle.pgn_criteria.specs.Private.Stages.{IsGood, AllGood}
 use Rattle.pgn_criteria.specs.declared.condition.Condition.{Condition}
 use Rattle.pgn_criteria.specs.declared.condition.Claim.{Claim}
 use Rattle.pgn_criteria.specs.declared.condition.Claim.TheVariants.{Tag, Fen, Flip, Material, Moves, Plies, Result, Next, Played, For, Count, Turn, Check, Mate, Stalemate}

@@ -12,9 +12,9 @@ use Rattle.std.specs.Int.{trailing_zeros}
 use mir.Val.{bits}
 use mir.Syntax.{w16}
 use Rattle.chess.specs.declared.board.man.Man.{Man}
-use Rattle.pgn_criteria.specs.Patterns.{CanBeSplit}
-use Rattle.pgn_criteria.specs.Items.{items_of}
-use Rattle.pgn_criteria.specs.Items.{IsOf, Fits, Reads, IsNextItem, HasNoItem, Has, IsAfter, Ends, Goes}
+use Rattle.pgn_criteria.specs.Public.Patterns.{CanBeSplit}
+use Rattle.pgn_criteria.specs.Private.Items.{items_of}
+use Rattle.pgn_criteria.specs.Private.Items.{IsOf, Fits, Reads, IsNextItem, HasNoItem, Has, IsAfter, Ends, Goes}
 use Rattle.pgn_criteria.specs.declared.rank.SquareTest.{SquareTest}
 use Rattle.pgn_criteria.specs.declared.rank.Item.{Item}
 use Rattle.pgn_criteria.specs.declared.rank.Item.TheVariants.{Run, Many}

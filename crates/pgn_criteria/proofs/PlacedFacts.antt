@@ -1,12 +1,12 @@
 -- What the patterns of an alternative say where its conditions hold.
 use Rattle.std.proofs.Common.{◌⊎◌, inl, inr, ℕ, List, subst}
-use Rattle.chess.specs.Moves.{HasMove}
-use Rattle.chess.specs.Placements.{Placement, opposite}
-use Rattle.chess.specs.Positions.{State, IsCheck}
-use Rattle.pgn_game.specs.PlyCodes.{PlyCode}
-use Rattle.pgn_criteria.specs.Mirrors.{mirrored_men}
-use Rattle.pgn_criteria.specs.Stages.{AllOfPatterns, AllSaid, AreFixed, AreMirrored}
-use Rattle.pgn_criteria.specs.Tracks.{FitsPlaced, Nowhere}
+use Rattle.chess.specs.Public.Moves.{HasMove}
+use Rattle.chess.specs.Public.Placements.{Placement, opposite}
+use Rattle.chess.specs.Public.Positions.{State, IsCheck}
+use Rattle.pgn_game.specs.Public.PlyCodes.{PlyCode}
+use Rattle.pgn_criteria.specs.Public.Mirrors.{mirrored_men}
+use Rattle.pgn_criteria.specs.Private.Stages.{AllOfPatterns, AllSaid, AreFixed, AreMirrored}
+use Rattle.pgn_criteria.specs.Private.Tracks.{FitsPlaced, Nowhere}
 use Rattle.pgn_criteria.specs.declared.condition.Condition.{Condition}
 use Rattle.pgn_criteria.proofs.EitherFacts.{each_plain, fixed_each, mirrored_said}
 use Rattle.pgn_criteria.proofs.SeenFacts.{all_position, stages_parted, patterns_said}

@@ -2,12 +2,12 @@
 use Rattle.std.proofs.Common.{◌≡◌, ◌↔◌, ℕ, Bool, true, List, [], ◌∷◌, ◌++◌, IsTrue, refl, sym, subst, inl, inr}
 use Rattle.std.proofs.lemmas.Result.{IfOk-weaker}
 use Rattle.std.specs.Prelude.{◌⊎◌, Result, IfOk}
-use Rattle.chess.specs.Placements.{Placement}
-use Rattle.pgn_criteria.specs.Layouts.{Laid, Lays}
-use Rattle.pgn_criteria.specs.Planning.{IsSound, AreSound, AreSoundWays, AllEither, NoneLaid, Plans}
-use Rattle.pgn_criteria.specs.Mirrors.{flipped_men, FitsEitherWay}
-use Rattle.pgn_criteria.specs.Patterns.{FitsPattern}
-use Rattle.pgn_criteria.specs.Stages.{SaysOfPattern, stage_of}
+use Rattle.chess.specs.Public.Placements.{Placement}
+use Rattle.pgn_criteria.specs.Private.Layouts.{Laid, Lays}
+use Rattle.pgn_criteria.specs.Private.Planning.{IsSound, AreSound, AreSoundWays, AllEither, NoneLaid, Plans}
+use Rattle.pgn_criteria.specs.Public.Mirrors.{flipped_men, FitsEitherWay}
+use Rattle.pgn_criteria.specs.Public.Patterns.{FitsPattern}
+use Rattle.pgn_criteria.specs.Private.Stages.{SaysOfPattern, stage_of}
 use Rattle.pgn_criteria.specs.declared.condition.Claim.{Claim}
 use Rattle.pgn_criteria.specs.declared.meets.Stage.TheVariants.{Squares}
 use Rattle.pgn_criteria.specs.declared.layout.Layout.{Layout}

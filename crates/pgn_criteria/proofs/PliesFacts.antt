@@ -3,11 +3,11 @@ use Rattle.std.proofs.Common.{◌≡◌, ◌≢◌, ◌≤◌, ◌+◌, ◌-◌,
 use Rattle.std.specs.Prelude.{codes, ◌&&◌}
 use Rattle.std.specs.List.{list_all}
 use Rattle.std.proofs.lemmas.Bool.Decides.{nat_tests}
-use Rattle.chess.specs.Fen.{is_digit}
-use Rattle.chess.specs.FenWords.{ten_to}
-use Rattle.pgn_criteria.specs.Numbers.{IsCounted}
-use Rattle.pgn_criteria.specs.Reading.{run_of, after_word}
-use Rattle.pgn_criteria.specs.Lines.{SpellsClaim, SpellsCompared, SpellsCount, comparison_text}
+use Rattle.chess.specs.Public.Fen.{is_digit}
+use Rattle.chess.specs.Private.FenWords.{ten_to}
+use Rattle.pgn_criteria.specs.Private.Numbers.{IsCounted}
+use Rattle.pgn_criteria.specs.Private.Reading.{run_of, after_word}
+use Rattle.pgn_criteria.specs.Public.Lines.{SpellsClaim, SpellsCompared, SpellsCount, comparison_text}
 use Rattle.pgn_criteria.specs.declared.compare.Comparison.{Comparison}
 use Rattle.pgn_criteria.specs.declared.compare.Comparison.TheVariants.{Equal, Unequal, Less, LessOrEqual, Greater, GreaterOrEqual}
 use Rattle.pgn_criteria.specs.declared.condition.Claim.TheVariants.{Plies, For, Count}

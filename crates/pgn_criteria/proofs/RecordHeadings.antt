@@ -3,16 +3,16 @@ use Rattle.std.proofs.Common.{◌≡◌, ℕ, List, [], ◌∷◌, ◌++◌, len
 use Rattle.std.specs.Prelude.{option_map}
 use Rattle.std.specs.List.{flat_map, AllByRecursion}
 use Rattle.std.proofs.lemmas.List.Concat.{flat_map-cons}
-use Rattle.pgn_text.specs.GameTexts.{GameText, tag_in}
+use Rattle.pgn_text.specs.Public.GameTexts.{GameText, tag_in}
 use Rattle.pgn_game.specs.declared.pack.error.RecordError.{RecordError}
-use Rattle.pgn_game.specs.PlyCodes.{code_bytes}
-use Rattle.pgn_game.specs.PackedGames.{PackedGame, Tag, FitsTag, FitsRecord, IsPacked, with_length, tag_bytes}
-use Rattle.pgn_game.specs.PackReading.{IsRawOfGame, RawRecord, raw_of, tag_at}
-use Rattle.pgn_game.specs.Replays.{Replay}
+use Rattle.pgn_game.specs.Public.PlyCodes.{code_bytes}
+use Rattle.pgn_game.specs.Public.PackedGames.{PackedGame, Tag, FitsTag, FitsRecord, IsPacked, with_length, tag_bytes}
+use Rattle.pgn_game.specs.Public.PackReading.{IsRawOfGame, RawRecord, raw_of, tag_at}
+use Rattle.pgn_game.specs.Public.Replays.{Replay}
 use Rattle.pgn_game.proofs.HeadFacts.{head_shows}
 use Rattle.pgn_game.proofs.RecordFields.{text_again}
-use Rattle.pgn_criteria.specs.Meeting.{Heading, heading_of}
-use Rattle.pgn_criteria.specs.Records.{tag_before, tags_at, heading_of_raw, heading_of_packed}
+use Rattle.pgn_criteria.specs.Public.Meeting.{Heading, heading_of}
+use Rattle.pgn_criteria.specs.Private.Records.{tag_before, tags_at, heading_of_raw, heading_of_packed}
 
 tag_again : (t : Tag) (rest : List ℕ) → FitsTag t → tag_at (tag_bytes t ++ rest) ≡ Ok ((t.0, t.1), rest)
 tag_again t rest fits =

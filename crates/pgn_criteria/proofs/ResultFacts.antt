@@ -2,9 +2,9 @@
 use Rattle.std.proofs.Common.{◌≡◌, ◌≢◌, ℕ, List, [], ap, sym, ◌∙◌, refl, inl, inr}
 use Rattle.std.specs.Prelude.{codes}
 use Rattle.std.specs.List.{list_all}
-use Rattle.pgn_text.specs.GameTexts.{IsResult}
-use Rattle.pgn_criteria.specs.Reading.{run_of, after_word}
-use Rattle.pgn_criteria.specs.Lines.{SpellsClaim}
+use Rattle.pgn_text.specs.Public.GameTexts.{IsResult}
+use Rattle.pgn_criteria.specs.Private.Reading.{run_of, after_word}
+use Rattle.pgn_criteria.specs.Public.Lines.{SpellsClaim}
 use Rattle.pgn_criteria.specs.declared.condition.Claim.TheVariants.{Result}
 use Rattle.pgn_criteria.proofs.SolidFacts.{is_solid, AreSolid, EndsSolid, solid_begins, solid_ends, word_read, word_spelled}
 

@@ -1,13 +1,13 @@
 -- What conditions say of one position, by what is seen of it.
 use Rattle.std.proofs.Common.{◌≡◌, ◌↔◌, if◌then◌else◌, ℕ, Bool, true, false, List, [], ◌∷◌, refl, sym, ◌∙◌, inl, inr}
 use Rattle.std.specs.Prelude.{◌&&◌}
-use Rattle.chess.specs.Moves.{HasMove}
-use Rattle.chess.specs.Placements.{Placement, opposite}
-use Rattle.chess.specs.Positions.{State, IsCheck}
+use Rattle.chess.specs.Public.Moves.{HasMove}
+use Rattle.chess.specs.Public.Placements.{Placement, opposite}
+use Rattle.chess.specs.Public.Positions.{State, IsCheck}
 use Rattle.chess.specs.declared.board.man.Side.{Side}
-use Rattle.pgn_criteria.specs.Meeting.{is_turned}
-use Rattle.pgn_criteria.specs.Mirrors.{mirrored_men, mirror, can_be_mirrored}
-use Rattle.pgn_criteria.specs.Stages.{SaysOfSeen, OfSeen, AllSaid, EachOfSeen, AllOfSeen, OfPosition, EachOfPosition, AllOfPosition, SaysOfPattern, AllOfStage, AllOfPatterns, AllOfRest, ArePatterns, stage_of}
+use Rattle.pgn_criteria.specs.Public.Meeting.{is_turned}
+use Rattle.pgn_criteria.specs.Public.Mirrors.{mirrored_men, mirror, can_be_mirrored}
+use Rattle.pgn_criteria.specs.Private.Stages.{SaysOfSeen, OfSeen, AllSaid, EachOfSeen, AllOfSeen, OfPosition, EachOfPosition, AllOfPosition, SaysOfPattern, AllOfStage, AllOfPatterns, AllOfRest, ArePatterns, stage_of}
 use Rattle.pgn_criteria.specs.declared.meets.Stage.{Stage}
 use Rattle.pgn_criteria.specs.declared.meets.Stage.TheVariants.{Game, Squares, Men, Attacks, Replies}
 use Rattle.pgn_criteria.specs.declared.condition.Condition.{Condition}

@@ -4,9 +4,9 @@ use Rattle.std.specs.Prelude.{◌==◌, ◌||◌, ◌⊎◌, map}
 use Rattle.std.specs.List.{list_all}
 use Rattle.std.proofs.lemmas.Bool.{eqb-true, eq-eqb, and_parts, or_left}
 use Rattle.std.proofs.lemmas.List.{append_cancel_right}
-use Rattle.chess.specs.Letters.{man_letter}
-use Rattle.chess.specs.Fen.{IsSquares, before_first, has_byte}
-use Rattle.chess.specs.Runs.{run_of, after_run}
+use Rattle.chess.specs.Public.Letters.{man_letter}
+use Rattle.chess.specs.Public.Fen.{IsSquares, before_first, has_byte}
+use Rattle.chess.specs.Private.Runs.{run_of, after_run}
 use Rattle.chess.proofs.RestFacts.{first_and_rest, rest_within}
 use Rattle.chess.proofs.FieldFacts.{run_whole}
 use Rattle.chess.specs.declared.board.man.Man.{Man}
@@ -14,10 +14,10 @@ use Rattle.chess.specs.declared.board.man.Side.{Side}
 use Rattle.chess.specs.declared.board.man.Side.TheVariants.{White, Black}
 use Rattle.chess.specs.declared.board.man.Kind.{Kind}
 use Rattle.chess.specs.declared.board.man.Kind.TheVariants.{King, Queen, Rook, Bishop, Knight, Pawn}
-use Rattle.pgn_criteria.specs.Patterns.{AreMen, IsStretch, CanBeSplit, items_where}
-use Rattle.pgn_criteria.specs.Items.{AreItems, is_letter, IsItem, items_of}
-use Rattle.pgn_criteria.specs.Patterns.IsStretch.{spelled, any, occupied, white, black, many, among, other}
-use Rattle.pgn_criteria.specs.Items.{Fits, Reads, IsNextItem, HasNoItem, item_of, has_man, men_in}
+use Rattle.pgn_criteria.specs.Public.Patterns.{AreMen, IsStretch, CanBeSplit, items_where}
+use Rattle.pgn_criteria.specs.Private.Items.{AreItems, is_letter, IsItem, items_of}
+use Rattle.pgn_criteria.specs.Public.Patterns.IsStretch.{spelled, any, occupied, white, black, many, among, other}
+use Rattle.pgn_criteria.specs.Private.Items.{Fits, Reads, IsNextItem, HasNoItem, item_of, has_man, men_in}
 use Rattle.pgn_criteria.specs.declared.rank.SquareTest.{SquareTest}
 use Rattle.pgn_criteria.specs.declared.rank.SquareTest.TheVariants.{Among, Other}
 use Rattle.pgn_criteria.specs.declared.rank.Item.{Item}

@@ -1,12 +1,12 @@
 -- The squares on which a man has to stand and those on which he may, gathered.
 use Rattle.std.proofs.Common.{◌≡◌, ◌↔◌, ◌⊎◌, inl, inr, ◌||◌, ◌&&◌, not, Bool, true, false, Some, refl, sym, subst, ◌∙◌}
-use Rattle.chess.specs.Squares.{Place, IsOnBoard, same_square}
-use Rattle.chess.specs.Placements.{Placement, man_at}
-use Rattle.chess.specs.Sets.{Places, is_in, IsSquaresOf}
+use Rattle.chess.specs.Public.Squares.{Place, IsOnBoard, same_square}
+use Rattle.chess.specs.Public.Placements.{Placement, man_at}
+use Rattle.chess.specs.Public.Sets.{Places, is_in, IsSquaresOf}
 use Rattle.chess.specs.declared.board.man.Man.{Man}
 use Rattle.chess.proofs.PlaceFacts.{same_square-then}
-use Rattle.pgn_criteria.specs.Layouts.{AreEmpty, IsRest}
-use Rattle.pgn_criteria.specs.Tracks.{StaysOn}
+use Rattle.pgn_criteria.specs.Private.Layouts.{AreEmpty, IsRest}
+use Rattle.pgn_criteria.specs.Private.Tracks.{StaysOn}
 use Rattle.pgn_criteria.specs.declared.sieve.Stand.{Stand}
 
 -- he stands so if the squares wanted are among his, and his among the free ones

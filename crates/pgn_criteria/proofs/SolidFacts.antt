@@ -4,10 +4,10 @@ use Rattle.std.specs.Prelude.{if◌then◌else◌, ◌==◌, ◌&&◌, nat_le}
 use Rattle.std.specs.List.{list_all}
 use Rattle.std.proofs.lemmas.Bool.{eqb-true, and_parts}
 use Rattle.std.proofs.lemmas.Bool.Decides.{nat_tests}
-use Rattle.chess.specs.Fen.{parted_at, before_first}
-use Rattle.pgn_criteria.specs.Words.{is_blank}
-use Rattle.pgn_criteria.specs.Reading.{run_of, after_run, after_blanks, after_word}
-use Rattle.pgn_criteria.specs.Lines.{AreBlanks, IsGap}
+use Rattle.chess.specs.Public.Fen.{parted_at, before_first}
+use Rattle.pgn_criteria.specs.Public.Words.{is_blank}
+use Rattle.pgn_criteria.specs.Private.Reading.{run_of, after_run, after_blanks, after_word}
+use Rattle.pgn_criteria.specs.Public.Lines.{AreBlanks, IsGap}
 use Rattle.pgn_criteria.proofs.WordFacts.{run_whole, begins_word}
 
 -- a byte that is no blank and no carriage return

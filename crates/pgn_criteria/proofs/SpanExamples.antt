@@ -2,9 +2,9 @@
 use Rattle.std.proofs.Common.{◌≡◌, ◌≤◌, ◌+◌, ℕ, false, [], ◌∷◌, length, Some, refl, inl, inr, arith}
 use Rattle.std.proofs.lemmas.Bool.{cases_lt}
 use Rattle.std.specs.List.{slice_get}
-use Rattle.chess.specs.Positions.{State}
-use Rattle.pgn_game.specs.Replays.{Replay}
-use Rattle.pgn_criteria.specs.Meeting.{Heading, HoldsThere, Ascend, IsAmong, AreAll, SpanHolds, SpansHold}
+use Rattle.chess.specs.Public.Positions.{State}
+use Rattle.pgn_game.specs.Public.Replays.{Replay}
+use Rattle.pgn_criteria.specs.Public.Meeting.{Heading, HoldsThere, Ascend, IsAmong, AreAll, SpanHolds, SpansHold}
 use Rattle.pgn_criteria.specs.declared.compare.Comparison.TheVariants.{Equal, Less, GreaterOrEqual}
 use Rattle.pgn_criteria.specs.declared.condition.Claim.TheVariants.{For, Count, Check}
 use Rattle.pgn_criteria.proofs.SpanFacts.{one_number}

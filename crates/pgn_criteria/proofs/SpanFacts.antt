@@ -3,10 +3,10 @@ use Rattle.std.proofs.Common.{◌≡◌, ◌↔◌, ◌⊎◌, ◌≤◌, ◌<�
 use Rattle.std.proofs.lemmas.List.{get_or-set_same, get_or-set_other}
 use Rattle.std.proofs.lemmas.Bool.{cases_lt}
 use Rattle.std.specs.Option.{SomeIff, IfSome}
-use Rattle.pgn_game.specs.Replays.{Replay}
-use Rattle.pgn_criteria.specs.Comparing.{Compares}
-use Rattle.pgn_criteria.specs.Meeting.{Ascend, IsAmong, AreAll, SpanHolds, SpansHold}
-use Rattle.pgn_criteria.specs.Stages.{AsksWithin, AllAskWithin, FitsAt, FitsAbout, IsRun, AreSoMany, SpanStands, SpansStand, IsNoSpan, AreNoSpans, IsNoCount, AreNoCounts}
+use Rattle.pgn_game.specs.Public.Replays.{Replay}
+use Rattle.pgn_criteria.specs.Public.Comparing.{Compares}
+use Rattle.pgn_criteria.specs.Public.Meeting.{Ascend, IsAmong, AreAll, SpanHolds, SpansHold}
+use Rattle.pgn_criteria.specs.Private.Stages.{AsksWithin, AllAskWithin, FitsAt, FitsAbout, IsRun, AreSoMany, SpanStands, SpansStand, IsNoSpan, AreNoSpans, IsNoCount, AreNoCounts}
 use Rattle.pgn_criteria.specs.declared.condition.Condition.{Condition}
 use Rattle.pgn_criteria.specs.declared.condition.Claim.{Claim}
 use Rattle.pgn_criteria.specs.declared.condition.Claim.TheVariants.{For, Count}

@@ -1,19 +1,19 @@
 -- Whether squares can be split among items, and so whether a position fits a pattern, is settled.
 use Rattle.std.proofs.Common.{◌≡◌, ◌⊎◌, ℕ, ◌-◌, List, [], ◌∷◌, ◌++◌, length, Option, Some, None, IsTrue, refl, sym, ap, subst, inl, inr}
 use Rattle.std.proofs.lemmas.Bool.{cases_eq}
-use Rattle.chess.specs.Placements.{Placement}
-use Rattle.chess.specs.Fen.{row, parted_at}
+use Rattle.chess.specs.Public.Placements.{Placement}
+use Rattle.chess.specs.Public.Fen.{row, parted_at}
 use Rattle.chess.specs.declared.board.man.Man.{Man}
 use Rattle.chess.proofs.Settled.{Settled, settled_like, settled_both, settled_three, settled_either, settled_le, settled_held, settled_not, settled_true, cases_option, cases_bytes}
 use Rattle.chess.proofs.Searches.{cases_side, cases_man}
-use Rattle.pgn_criteria.specs.Patterns.{AreMen, IsStretch, CanBeSplit, FitRanks, FitsPattern}
-use Rattle.pgn_criteria.specs.Items.{is_letter, IsItem, items_of}
-use Rattle.pgn_criteria.specs.Items.{IsOf, EachOf, Fits, Reads, item_of, has_man, men_in}
+use Rattle.pgn_criteria.specs.Public.Patterns.{AreMen, IsStretch, CanBeSplit, FitRanks, FitsPattern}
+use Rattle.pgn_criteria.specs.Private.Items.{is_letter, IsItem, items_of}
+use Rattle.pgn_criteria.specs.Private.Items.{IsOf, EachOf, Fits, Reads, item_of, has_man, men_in}
 use Rattle.pgn_criteria.specs.declared.rank.SquareTest.{SquareTest}
 use Rattle.pgn_criteria.specs.declared.rank.SquareTest.TheVariants.{Empty, This, Not, Any, Occupied, Of, Among, Other}
 use Rattle.pgn_criteria.specs.declared.rank.Item.{Item}
 use Rattle.pgn_criteria.specs.declared.rank.Item.TheVariants.{Run, Many}
-use Rattle.pgn_criteria.specs.Patterns.IsStretch.{spelled, any, occupied, white, black, many, among, other}
+use Rattle.pgn_criteria.specs.Public.Patterns.IsStretch.{spelled, any, occupied, white, black, many, among, other}
 use Rattle.std.specs.List.{list_all}
 use Rattle.pgn_criteria.proofs.ItemFacts.{item_exact, no_stretch}
 use Rattle.pgn_criteria.proofs.SetFacts.{first_of, rest_of, among_read, other_read, no_set, same_after}

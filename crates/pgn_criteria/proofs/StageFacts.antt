@@ -4,15 +4,15 @@ use Rattle.std.proofs.lemmas.Option.{slice_get_within, slice_get-get_or, get_or_
 use Rattle.std.specs.Prelude.{◌⊎◌, replicate}
 use Rattle.std.specs.Option.{unwrap_or}
 use Rattle.std.specs.List.{slice_get}
-use Rattle.chess.specs.Moves.{HasMove}
-use Rattle.chess.specs.Placements.{Placement}
-use Rattle.chess.specs.Positions.{State, IsCheck}
+use Rattle.chess.specs.Public.Moves.{HasMove}
+use Rattle.chess.specs.Public.Placements.{Placement}
+use Rattle.chess.specs.Public.Positions.{State, IsCheck}
 use Rattle.chess.specs.declared.board.man.Side.{Side}
-use Rattle.pgn_game.specs.Replays.{Replay}
-use Rattle.pgn_criteria.specs.Mirrors.{mirror}
-use Rattle.pgn_criteria.specs.Meeting.{Heading, IsSo, Taken, is_turned, EachHold, AllHold, HoldsThere, SpansHold, IsMetBy, SomeHold, Meets, AreMet, IsFirst}
-use Rattle.pgn_criteria.specs.Stages.{SaysOfGame, AllOfGame, SaysOfHeading, AllOfHeading, IsFreeOfMoves, AreFreeOfMoves, AsksWithin, AllAskWithin, SaysOfPosition, SaysOfPly, AllOfPly, AllOfSeen, EachOfPosition, AllOfPosition, is_on_position, on_positions, FitsAt, FitsAbout, IsFirstBefore}
-use Rattle.pgn_criteria.specs.Walks.{IsSeenOf}
+use Rattle.pgn_game.specs.Public.Replays.{Replay}
+use Rattle.pgn_criteria.specs.Public.Mirrors.{mirror}
+use Rattle.pgn_criteria.specs.Public.Meeting.{Heading, IsSo, Taken, is_turned, EachHold, AllHold, HoldsThere, SpansHold, IsMetBy, SomeHold, Meets, AreMet, IsFirst}
+use Rattle.pgn_criteria.specs.Private.Stages.{SaysOfGame, AllOfGame, SaysOfHeading, AllOfHeading, IsFreeOfMoves, AreFreeOfMoves, AsksWithin, AllAskWithin, SaysOfPosition, SaysOfPly, AllOfPly, AllOfSeen, EachOfPosition, AllOfPosition, is_on_position, on_positions, FitsAt, FitsAbout, IsFirstBefore}
+use Rattle.pgn_criteria.specs.Public.Walks.{IsSeenOf}
 use Rattle.pgn_criteria.specs.declared.condition.Condition.{Condition}
 use Rattle.pgn_criteria.specs.declared.condition.Claim.{Claim}
 use Rattle.pgn_criteria.specs.declared.condition.Claim.TheVariants.{Tag, Fen, Flip, Material, Moves, Plies, Result, Next, Played, For, Count, Turn, Check, Mate, Stalemate}

@@ -1,13 +1,13 @@
 -- What is kept while one man is followed through the codes of a game.
 use Rattle.std.proofs.Common.{◌≡◌, ◌⊎◌, inl, inr, ◌-◌, ◌≤◌, ◌<◌, ℕ, List, [], ◌∷◌, length, take, drop, get_or, arith, subst, refl, sym, ap, ◌∙◌}
 use Rattle.std.proofs.lemmas.List.{take_all, length-drop}
-use Rattle.chess.specs.Placements.{Placement}
-use Rattle.chess.specs.SetFacts.{is_in-empty}
-use Rattle.chess.specs.Sets.{Places, is_in, no_places, IsSquaresOf}
+use Rattle.chess.specs.Public.Placements.{Placement}
+use Rattle.chess.specs.Private.SetFacts.{is_in-empty}
+use Rattle.chess.specs.Public.Sets.{Places, is_in, no_places, IsSquaresOf}
 use Rattle.chess.specs.declared.board.man.Man.{Man}
-use Rattle.pgn_game.specs.PlyCodes.{PlyCode, code_of, moved}
-use Rattle.pgn_criteria.specs.Sieves.{codes_in}
-use Rattle.pgn_criteria.specs.Tracks.{AreTaken, Nowhere}
+use Rattle.pgn_game.specs.Public.PlyCodes.{PlyCode, code_of, moved}
+use Rattle.pgn_criteria.specs.Public.Sieves.{codes_in}
+use Rattle.pgn_criteria.specs.Private.Tracks.{AreTaken, Nowhere}
 
 -- no square is known to be taken
 pub none_taken : (men : Placement) (taken : Places) → taken ≡ no_places → AreTaken men taken

@@ -4,11 +4,11 @@ use Rattle.std.specs.Prelude.{codes}
 use Rattle.std.specs.List.{list_all}
 use Rattle.std.proofs.lemmas.Bool.Decides.{nat_tests}
 use Rattle.std.proofs.lemmas.List.{length-append}
-use Rattle.chess.specs.Fen.{parted_at}
-use Rattle.pgn_text.specs.Bytes.{is_name_byte}
-use Rattle.pgn_text.specs.Strings.{IsContents}
-use Rattle.pgn_criteria.specs.Reading.{run_of, after_word}
-use Rattle.pgn_criteria.specs.Lines.{SpellsClaim, AreNames, CanBeCompared, relation_text}
+use Rattle.chess.specs.Public.Fen.{parted_at}
+use Rattle.pgn_text.specs.Public.Bytes.{is_name_byte}
+use Rattle.pgn_text.specs.Public.Strings.{IsContents}
+use Rattle.pgn_criteria.specs.Private.Reading.{run_of, after_word}
+use Rattle.pgn_criteria.specs.Public.Lines.{SpellsClaim, AreNames, CanBeCompared, relation_text}
 use Rattle.pgn_criteria.specs.declared.compare.Relation.{Relation}
 use Rattle.pgn_criteria.specs.declared.compare.Relation.TheVariants.{Equal, Unequal, Less, LessOrEqual, Greater, GreaterOrEqual, Has, Begins}
 use Rattle.pgn_criteria.specs.declared.condition.Claim.TheVariants.{Tag}

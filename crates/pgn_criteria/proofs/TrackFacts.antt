@@ -2,21 +2,21 @@
 use Rattle.std.proofs.Common.{◌≡◌, ◌↔◌, ◌⊎◌, inl, inr, ◌||◌, ◌&&◌, not, Bool, true, false, cond, Option, Some, None, ℕ, zero, suc, ◌<◌, ◌≤◌, arith, refl, sym, ap, subst, ◌∙◌}
 use Rattle.std.specs.Prelude.{◌==◌}
 use Rattle.std.proofs.lemmas.Bool.Decides.{nat_tests}
-use Rattle.chess.specs.Squares.{Place, IsOnBoard, same_square}
-use Rattle.chess.specs.Placements.{Placement, man_at, with_man}
-use Rattle.chess.specs.Sets.{Places, is_in, IsSquaresOf}
-use Rattle.chess.specs.CellFacts.{man_at-same, man_at-other}
+use Rattle.chess.specs.Public.Squares.{Place, IsOnBoard, same_square}
+use Rattle.chess.specs.Public.Placements.{Placement, man_at, with_man}
+use Rattle.chess.specs.Public.Sets.{Places, is_in, IsSquaresOf}
+use Rattle.chess.specs.Private.CellFacts.{man_at-same, man_at-other}
 use Rattle.chess.specs.declared.board.man.Man.{Man}
 use Rattle.chess.proofs.PlaceFacts.{same_square-then, same_square-same}
-use Rattle.chess.specs.Positions.{rook_of, rook_from, rook_to}
-use Rattle.chess.specs.Moves.{with_rook}
+use Rattle.chess.specs.Public.Positions.{rook_of, rook_from, rook_to}
+use Rattle.chess.specs.Public.Moves.{with_rook}
 use Rattle.chess.specs.declared.board.man.Side.{Side}
 use Rattle.chess.specs.declared.board.man.Side.TheVariants.{White, Black}
 use Rattle.chess.specs.declared.board.man.Wing.{Wing}
 use Rattle.chess.specs.declared.board.man.Wing.TheVariants.{KingSide, QueenSide}
-use Rattle.pgn_game.specs.PlyCodes.{man_number, numbered_castle, numbered_man}
+use Rattle.pgn_game.specs.Public.PlyCodes.{man_number, numbered_castle, numbered_man}
 use Rattle.pgn_game.proofs.PlyCodeFacts.{man_again, man_back}
-use Rattle.pgn_criteria.specs.Tracks.{AreTaken, IsPut}
+use Rattle.pgn_criteria.specs.Private.Tracks.{AreTaken, IsPut}
 
 pub is_inserted : (swapped same was : Bool) → swapped ≡ same → (swapped || was) ≡ cond same true was
 is_inserted true true was e = refl

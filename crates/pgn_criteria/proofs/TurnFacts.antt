@@ -3,8 +3,8 @@ use Rattle.std.proofs.Common.{◌≡◌, ◌≢◌, ℕ, List, [], refl, sym, �
 use Rattle.std.specs.Prelude.{codes, Option, Some, None, MatchOption}
 use Rattle.chess.specs.declared.board.man.Side.{Side}
 use Rattle.chess.specs.declared.board.man.Side.TheVariants.{White, Black}
-use Rattle.pgn_criteria.specs.Reading.{run_of, after_word}
-use Rattle.pgn_criteria.specs.Lines.{side_text, SpellsClaim}
+use Rattle.pgn_criteria.specs.Private.Reading.{run_of, after_word}
+use Rattle.pgn_criteria.specs.Public.Lines.{side_text, SpellsClaim}
 use Rattle.pgn_criteria.specs.declared.condition.Claim.TheVariants.{Turn}
 use Rattle.pgn_criteria.proofs.SolidFacts.{AreSolid, EndsSolid, solid_begins, solid_ends, word_read, word_spelled}
 

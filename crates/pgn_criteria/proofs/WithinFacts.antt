@@ -7,10 +7,10 @@ use Rattle.std.specs.Option.{option_eq}
 use Rattle.std.specs.Iterator.{YieldsFirst}
 use Rattle.std.proofs.lemmas.Bool.{and_parts}
 use Rattle.std.proofs.lemmas.List.{take_all, length-drop}
-use Rattle.pgn_text.specs.Bytes.{is_plain}
-use Rattle.pgn_criteria.specs.Comparing.{Allows}
+use Rattle.pgn_text.specs.Public.Bytes.{is_plain}
+use Rattle.pgn_criteria.specs.Public.Comparing.{Allows}
 use Rattle.pgn_criteria.specs.declared.compare.Relation.TheVariants.{Has, Begins}
-use Rattle.pgn_text.specs.Strings.{Sign, Single, Escaped, spelled_sign, is_sign, IsContents}
+use Rattle.pgn_text.specs.Public.Strings.{Sign, Single, Escaped, spelled_sign, is_sign, IsContents}
 
 -- ---- contents without the first byte of their value
 

@@ -1,11 +1,11 @@
 //! Alternatives of criteria.
 ghost use Rattle.std.specs.Prelude.{◌≡◌, ◌↔◌, false, List, map, IsTrue, IfOk, IfSome, MatchOption};
-ghost use Rattle.chess.specs.Placements.{Placement};
-ghost use Rattle.pgn_criteria.specs.Planning.{Plans};
-ghost use Rattle.pgn_criteria.specs.Stages.{AreLegal, AreGood, AllOfGame, AllOfHeading, AllAskWithin, AreFreeOfMoves, AllOfPly, AllSaid, AllOfSeen, AreFixed, AreMirrored, OfPattern, AllOfPatterns, AllOfStage, AllOfRest, AreNoSpans, AreNoCounts, SpansStand, claim_seen, seen, stage_of};
-ghost use Rattle.pgn_criteria.specs.Sieves.{NowhereSeen, codes_in};
-ghost use Rattle.pgn_criteria.specs.Marks.{AreMarksOf, FitsSeen};
-ghost use Rattle.pgn_criteria.specs.Tracks.{Nowhere};
+ghost use Rattle.chess.specs.Public.Placements.{Placement};
+ghost use Rattle.pgn_criteria.specs.Private.Planning.{Plans};
+ghost use Rattle.pgn_criteria.specs.Private.Stages.{AreLegal, AreGood, AllOfGame, AllOfHeading, AllAskWithin, AreFreeOfMoves, AllOfPly, AllSaid, AllOfSeen, AreFixed, AreMirrored, OfPattern, AllOfPatterns, AllOfStage, AllOfRest, AreNoSpans, AreNoCounts, SpansStand, claim_seen, seen, stage_of};
+ghost use Rattle.pgn_criteria.specs.Public.Sieves.{NowhereSeen, codes_in};
+ghost use Rattle.pgn_criteria.specs.Private.Marks.{AreMarksOf, FitsSeen};
+ghost use Rattle.pgn_criteria.specs.Private.Tracks.{Nowhere};
 ghost use Rattle.pgn_criteria.specs.declared.meets.Stage.TheVariants.{Squares};
 
 use crate::by_marks::marks_of_all;
@@ -46,11 +46,11 @@ pub(crate) struct Form {
 
 impl Model for Form {
     ghost use Rattle.std.specs.Prelude.{ℕ, List, IfSome, IsTrue, map};
-    ghost use Rattle.pgn_criteria.specs.Tracks.{Sifts};
+    ghost use Rattle.pgn_criteria.specs.Private.Tracks.{Sifts};
     ghost use Rattle.pgn_criteria.specs.declared.condition.Condition.{Condition};
-    ghost use Rattle.pgn_criteria.specs.Layouts.{IsRest};
-    ghost use Rattle.pgn_criteria.specs.Planning.{IsSoundPlan, IsPlanned};
-    ghost use Rattle.pgn_criteria.specs.Stages.{ArePatterns, seen};
+    ghost use Rattle.pgn_criteria.specs.Private.Layouts.{IsRest};
+    ghost use Rattle.pgn_criteria.specs.Private.Planning.{IsSoundPlan, IsPlanned};
+    ghost use Rattle.pgn_criteria.specs.Private.Stages.{ArePatterns, seen};
 
     ghost Value = { List (Condition (List ℕ)) };
 
@@ -77,7 +77,7 @@ pub struct Alternative {
 impl Model for Alternative {
     ghost use Rattle.std.specs.Prelude.{ℕ, List, MatchOption};
     ghost use Rattle.pgn_criteria.specs.declared.condition.Condition.{Condition};
-    ghost use Rattle.pgn_criteria.specs.Stages.{AreFixed, AreMirrored};
+    ghost use Rattle.pgn_criteria.specs.Private.Stages.{AreFixed, AreMirrored};
 
     ghost Value = { List (Condition (List ℕ)) };
 

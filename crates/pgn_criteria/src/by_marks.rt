@@ -1,15 +1,15 @@
 //! Criteria that speak of no men and of no moves: the marks of a position tell whether it meets them, and no board is needed.
 ghost use Rattle.std.specs.Prelude.{◌≡◌, ◌↔◌, ◌%◌, ◌/◌, ◌-◌, ◌==◌, ℕ, if◌then◌else◌, true, map, IsTrue, IfSome, MatchOption};
-ghost use Rattle.chess.specs.Placements.{Placement};
-ghost use Rattle.pgn_text.specs.GameTexts.{GameText};
-ghost use Rattle.pgn_game.specs.PackedGames.{PackedGame, IsPacked, FitsRecord};
-ghost use Rattle.pgn_game.specs.PackReading.{IsRawOfGame, raw_of};
-ghost use Rattle.pgn_game.specs.Replays.{Replay};
-ghost use Rattle.pgn_criteria.specs.ByMarks.{first_place, has_marks, AreMetByMarks, NoneMeets, IsNextMet};
-ghost use Rattle.pgn_criteria.specs.Marks.{AreMarksOf, Needs};
-ghost use Rattle.pgn_criteria.specs.Meeting.{heading_of};
-ghost use Rattle.pgn_criteria.specs.Sieves.{codes_in};
-ghost use Rattle.pgn_criteria.specs.Stages.{AllSaid, AreFreeOfMoves, IsFreeOfMoves, SaysOfSeen, claim_seen, seen};
+ghost use Rattle.chess.specs.Public.Placements.{Placement};
+ghost use Rattle.pgn_text.specs.Public.GameTexts.{GameText};
+ghost use Rattle.pgn_game.specs.Public.PackedGames.{PackedGame, IsPacked, FitsRecord};
+ghost use Rattle.pgn_game.specs.Public.PackReading.{IsRawOfGame, raw_of};
+ghost use Rattle.pgn_game.specs.Public.Replays.{Replay};
+ghost use Rattle.pgn_criteria.specs.Public.ByMarks.{first_place, has_marks, AreMetByMarks, NoneMeets, IsNextMet};
+ghost use Rattle.pgn_criteria.specs.Private.Marks.{AreMarksOf, Needs};
+ghost use Rattle.pgn_criteria.specs.Public.Meeting.{heading_of};
+ghost use Rattle.pgn_criteria.specs.Public.Sieves.{codes_in};
+ghost use Rattle.pgn_criteria.specs.Private.Stages.{AllSaid, AreFreeOfMoves, IsFreeOfMoves, SaysOfSeen, claim_seen, seen};
 
 use crate::condition::{Claim, Condition};
 use crate::headed::Headed;

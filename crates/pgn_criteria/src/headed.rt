@@ -1,9 +1,9 @@
 //! What conditions ask of a game beside its moves: its tags and its result.
 ghost use Rattle.std.specs.Prelude.{◌≡◌, ℕ, List, Some, MatchOption};
-ghost use Rattle.pgn_text.specs.Strings.{IsContents};
-ghost use Rattle.pgn_criteria.specs.Meeting.{Heading, heading_of};
-ghost use Rattle.pgn_game.specs.PackReading.{IsRawOfGame};
-ghost use Rattle.pgn_criteria.specs.Records.{heading_of_raw};
+ghost use Rattle.pgn_text.specs.Public.Strings.{IsContents};
+ghost use Rattle.pgn_criteria.specs.Public.Meeting.{Heading, heading_of};
+ghost use Rattle.pgn_game.specs.Public.PackReading.{IsRawOfGame};
+ghost use Rattle.pgn_criteria.specs.Private.Records.{heading_of_raw};
 
 use crate::meets::contents_of;
 use pgn_game::pack::RawRecord;

@@ -1,6 +1,6 @@
 //! What holds of every text, whatever reads it. Each law is the contract of a function that does nothing.
 
-ghost use Rattle.pgn_criteria.specs.Laws.{TextHasOneMeaning, TextHasOneAnswer, MemoryIsTheOnlyFault, EachPositionMeetsOrDoesNot, MirrorIsUndone, FlipIsUndone, SidesAreAlike, StepShowsNextPosition};
+ghost use Rattle.pgn_criteria.specs.Public.Laws.{TextHasOneMeaning, TextHasOneAnswer, MemoryIsTheOnlyFault, EachPositionMeetsOrDoesNot, MirrorIsUndone, FlipIsUndone, SidesAreAlike, StepShowsNextPosition};
 
 /// A text spells at most one list of alternatives, and is either accepted, or too long, or refused for one of its lines. Memory runs out
 /// only where the text is neither too long nor bad.

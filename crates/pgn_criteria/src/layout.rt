@@ -1,17 +1,17 @@
 //! What patterns ask of squares that they name, laid out once.
 ghost use Rattle.std.specs.Prelude.{◌≡◌, ◌↔◌, ◌≤◌, ◌<◌, ◌+◌, ◌∷◌, List, Option, IsTrue, IfOk, IfSome, OnOk, MatchOption, length, drop, true};
-ghost use Rattle.chess.specs.Fen.{row};
-ghost use Rattle.chess.specs.Placements.{Placement, man_at};
-ghost use Rattle.chess.specs.Sets.{is_in, no_places, HoldsExactly};
-ghost use Rattle.chess.specs.Squares.{IsOnBoard};
+ghost use Rattle.chess.specs.Public.Fen.{row};
+ghost use Rattle.chess.specs.Public.Placements.{Placement, man_at};
+ghost use Rattle.chess.specs.Public.Sets.{is_in, no_places, HoldsExactly};
+ghost use Rattle.chess.specs.Public.Squares.{IsOnBoard};
 ghost use Rattle.chess.specs.declared.board.man.Kind.{Kind};
 ghost use Rattle.chess.specs.declared.board.man.Side.{Side};
-ghost use Rattle.pgn_criteria.specs.Items.{IsOf};
+ghost use Rattle.pgn_criteria.specs.Private.Items.{IsOf};
 ghost use Rattle.pgn_criteria.specs.declared.rank.SquareTest.TheVariants.{Not, Other};
-ghost use Rattle.pgn_criteria.specs.Layouts.{IsRest, EachFrom, AllStand, Laid, Lays, KindWithin, NoneOf};
-ghost use Rattle.pgn_criteria.specs.Mirrors.{beside, flipped_men};
-ghost use Rattle.pgn_criteria.specs.Patterns.{CanBeSplit, FitsPattern};
-ghost use Rattle.pgn_criteria.specs.Items.{items_of};
+ghost use Rattle.pgn_criteria.specs.Private.Layouts.{IsRest, EachFrom, AllStand, Laid, Lays, KindWithin, NoneOf};
+ghost use Rattle.pgn_criteria.specs.Public.Mirrors.{beside, flipped_men};
+ghost use Rattle.pgn_criteria.specs.Public.Patterns.{CanBeSplit, FitsPattern};
+ghost use Rattle.pgn_criteria.specs.Private.Items.{items_of};
 
 use crate::cut::next_part;
 use crate::rank::{Item, Kinds, Men, SquareTest, is_of, next_item, size_of};

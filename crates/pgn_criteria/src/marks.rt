@@ -2,11 +2,11 @@
 ghost use Rattle.std.specs.Prelude.{◌≡◌, ◌↔◌, ℕ, List, true, false, map, IsTrue};
 ghost use Rattle.std.specs.List.{AllByRecursion};
 ghost use Rattle.chess.specs.declared.board.man.Side.{Side};
-ghost use Rattle.pgn_game.specs.PlyCodes.{PlyCode};
-ghost use Rattle.pgn_criteria.specs.ByMarks.{NoneMeets, IsNextMet};
-ghost use Rattle.pgn_criteria.specs.Sieves.{NowhereSeen, codes_in};
-ghost use Rattle.pgn_criteria.specs.Marks.{NeedMark, LacksMarks, Needs, FitsSeen, asks_mark};
-ghost use Rattle.pgn_criteria.specs.Stages.{claim_seen, seen};
+ghost use Rattle.pgn_game.specs.Public.PlyCodes.{PlyCode};
+ghost use Rattle.pgn_criteria.specs.Public.ByMarks.{NoneMeets, IsNextMet};
+ghost use Rattle.pgn_criteria.specs.Public.Sieves.{NowhereSeen, codes_in};
+ghost use Rattle.pgn_criteria.specs.Private.Marks.{NeedMark, LacksMarks, Needs, FitsSeen, asks_mark};
+ghost use Rattle.pgn_criteria.specs.Private.Stages.{claim_seen, seen};
 
 use crate::condition::{Claim, Condition};
 use crate::seen::Seen;

@@ -1,15 +1,15 @@
 //! The plies of a game that is replayed which meet criteria, found at once.
 ghost use Rattle.std.specs.Prelude.{◌≡◌, ◌∷◌, ◌++◌, [], ℕ, List, IfOk};
-ghost use Rattle.chess.specs.Positions.{State};
-ghost use Rattle.pgn_text.specs.GameTexts.{GameText, tag_in};
-ghost use Rattle.pgn_game.specs.CodeLines.{IsLegalLine};
-ghost use Rattle.pgn_game.specs.PackedGames.{PackedGame, IsPacked, FitsRecord};
-ghost use Rattle.pgn_game.specs.PackReading.{IsRawOfGame, raw_of};
-ghost use Rattle.pgn_game.specs.Replays.{Replay, IsSomeReplay};
-ghost use Rattle.pgn_game.specs.Starts.{fen_tag};
+ghost use Rattle.chess.specs.Public.Positions.{State};
+ghost use Rattle.pgn_text.specs.Public.GameTexts.{GameText, tag_in};
+ghost use Rattle.pgn_game.specs.Public.CodeLines.{IsLegalLine};
+ghost use Rattle.pgn_game.specs.Public.PackedGames.{PackedGame, IsPacked, FitsRecord};
+ghost use Rattle.pgn_game.specs.Public.PackReading.{IsRawOfGame, raw_of};
+ghost use Rattle.pgn_game.specs.Public.Replays.{Replay, IsSomeReplay};
+ghost use Rattle.pgn_game.specs.Public.Starts.{fen_tag};
 ghost use Rattle.pgn_criteria.specs.declared.condition.Condition.{Condition};
-ghost use Rattle.pgn_criteria.specs.Meeting.{Heading, heading_of, AreMet};
-ghost use Rattle.pgn_criteria.specs.Stages.{AllGood, AreGood, AreLegal};
+ghost use Rattle.pgn_criteria.specs.Public.Meeting.{Heading, heading_of, AreMet};
+ghost use Rattle.pgn_criteria.specs.Private.Stages.{AllGood, AreGood, AreLegal};
 
 use crate::alternative::Alternative;
 use crate::headed::Headed;

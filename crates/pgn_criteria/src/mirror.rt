@@ -1,11 +1,11 @@
 //! Conditions that are tried at the mirror of a position.
 ghost use Rattle.std.specs.Prelude.{◌≡◌, ◌↔◌, ◌++◌, map, IsTrue, IfOk, OnOk};
-ghost use Rattle.chess.specs.Fen.{parted_at};
-ghost use Rattle.chess.specs.Placements.{Placement};
-ghost use Rattle.pgn_criteria.specs.Mirrors.{mirrored_men, can_be_mirrored};
-ghost use Rattle.pgn_criteria.specs.Turning.{other_letter, turned};
-ghost use Rattle.pgn_criteria.specs.Patterns.{FitsPattern, IsPattern};
-ghost use Rattle.pgn_criteria.specs.Stages.{AreFixed, IsMirrorOf, IsMirrored, AreMirrored, seen, claim_seen};
+ghost use Rattle.chess.specs.Public.Fen.{parted_at};
+ghost use Rattle.chess.specs.Public.Placements.{Placement};
+ghost use Rattle.pgn_criteria.specs.Public.Mirrors.{mirrored_men, can_be_mirrored};
+ghost use Rattle.pgn_criteria.specs.Private.Turning.{other_letter, turned};
+ghost use Rattle.pgn_criteria.specs.Public.Patterns.{FitsPattern, IsPattern};
+ghost use Rattle.pgn_criteria.specs.Private.Stages.{AreFixed, IsMirrorOf, IsMirrored, AreMirrored, seen, claim_seen};
 
 use crate::condition::{Claim, Condition};
 use crate::cut::next_part;

@@ -1,9 +1,9 @@
 //! What the text of a move may begin and end with, known from the move before its text is written.
 ghost use Rattle.std.specs.Prelude.{◌≡◌};
-ghost use Rattle.chess.specs.Letters.{kind_letter};
-ghost use Rattle.chess.specs.Positions.{State};
-ghost use Rattle.pgn_criteria.specs.MoveEnds.{BeginsWith, EndsWith, RulesOut};
-ghost use Rattle.pgn_criteria.specs.MoveTexts.{IsLike};
+ghost use Rattle.chess.specs.Public.Letters.{kind_letter};
+ghost use Rattle.chess.specs.Public.Positions.{State};
+ghost use Rattle.pgn_criteria.specs.Private.MoveEnds.{BeginsWith, EndsWith, RulesOut};
+ghost use Rattle.pgn_criteria.specs.Public.MoveTexts.{IsLike};
 
 use chess::{Kind, Move};
 use pgn_game::GamePosition;

@@ -1,13 +1,13 @@
 //! How many of a man stand, while the codes of plies move him: games in which there are never as few as a line `material` allows are passed
 //! over.
 ghost use Rattle.std.specs.Prelude.{◌≡◌, false, map, IfSome};
-ghost use Rattle.chess.specs.Placements.{Placement};
-ghost use Rattle.pgn_criteria.specs.Counting.{FitsKind};
-ghost use Rattle.pgn_criteria.specs.Sieves.{NowhereSeen, codes_in};
-ghost use Rattle.pgn_criteria.specs.Marks.{FitsSeen, IsMost, SaysOfNumbers};
-ghost use Rattle.pgn_criteria.specs.Materials.{FitsSide, FitsMaterial};
-ghost use Rattle.pgn_criteria.specs.Stages.{claim_seen, seen};
-ghost use Rattle.pgn_criteria.specs.Tracks.{AreFew, Nowhere};
+ghost use Rattle.chess.specs.Public.Placements.{Placement};
+ghost use Rattle.pgn_criteria.specs.Private.Counting.{FitsKind};
+ghost use Rattle.pgn_criteria.specs.Public.Sieves.{NowhereSeen, codes_in};
+ghost use Rattle.pgn_criteria.specs.Private.Marks.{FitsSeen, IsMost, SaysOfNumbers};
+ghost use Rattle.pgn_criteria.specs.Public.Materials.{FitsSide, FitsMaterial};
+ghost use Rattle.pgn_criteria.specs.Private.Stages.{claim_seen, seen};
+ghost use Rattle.pgn_criteria.specs.Private.Tracks.{AreFew, Nowhere};
 
 use crate::condition::{Claim, Condition};
 use crate::material::{Limit, Limits};

@@ -1,11 +1,11 @@
 //! What the patterns of an alternative ask of squares, laid out once, in whichever way they are asked.
 ghost use Rattle.std.specs.Prelude.{◌≡◌, ◌↔◌, [], IsTrue, IfOk, IfSome};
-ghost use Rattle.chess.specs.Placements.{Placement};
-ghost use Rattle.pgn_criteria.specs.Layouts.{IsRest, Laid};
-ghost use Rattle.pgn_criteria.specs.Planning.{AreSound, AreSoundWays, IsSoundPlan, AllEither, NoneLaid, Planned, Plans};
-ghost use Rattle.pgn_criteria.specs.Mirrors.{FitsEitherWay};
-ghost use Rattle.pgn_criteria.specs.Patterns.{FitsPattern};
-ghost use Rattle.pgn_criteria.specs.Tracks.{FitsSieve, Sifts};
+ghost use Rattle.chess.specs.Public.Placements.{Placement};
+ghost use Rattle.pgn_criteria.specs.Private.Layouts.{IsRest, Laid};
+ghost use Rattle.pgn_criteria.specs.Private.Planning.{AreSound, AreSoundWays, IsSoundPlan, AllEither, NoneLaid, Planned, Plans};
+ghost use Rattle.pgn_criteria.specs.Public.Mirrors.{FitsEitherWay};
+ghost use Rattle.pgn_criteria.specs.Public.Patterns.{FitsPattern};
+ghost use Rattle.pgn_criteria.specs.Private.Tracks.{FitsSieve, Sifts};
 
 use crate::layout::{Layout, Look};
 use crate::seen::Seen;

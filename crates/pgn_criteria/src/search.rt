@@ -1,17 +1,17 @@
 //! The plies of one game that meet criteria, looked for one after the other.
 ghost use Rattle.std.specs.Prelude.{◌≡◌, ◌↔◌, ◌==◌, ℕ, false, List, length, IsTrue, IfOk, IfSome, MatchResult};
-ghost use Rattle.chess.specs.Positions.{State};
-ghost use Rattle.pgn_text.specs.GameTexts.{GameText, tag_in};
-ghost use Rattle.pgn_game.specs.Faults.{IsFault};
-ghost use Rattle.pgn_game.specs.Replays.{Replay, IsSomeReplay, fault_of};
-ghost use Rattle.pgn_game.specs.PackedGames.{PackedGame, IsPacked, FitsRecord};
-ghost use Rattle.pgn_game.specs.PackReading.{IsRawOfGame, raw_of};
-ghost use Rattle.pgn_game.specs.Starts.{fen_tag};
+ghost use Rattle.chess.specs.Public.Positions.{State};
+ghost use Rattle.pgn_text.specs.Public.GameTexts.{GameText, tag_in};
+ghost use Rattle.pgn_game.specs.Public.Faults.{IsFault};
+ghost use Rattle.pgn_game.specs.Public.Replays.{Replay, IsSomeReplay, fault_of};
+ghost use Rattle.pgn_game.specs.Public.PackedGames.{PackedGame, IsPacked, FitsRecord};
+ghost use Rattle.pgn_game.specs.Public.PackReading.{IsRawOfGame, raw_of};
+ghost use Rattle.pgn_game.specs.Public.Starts.{fen_tag};
 ghost use Rattle.pgn_game.specs.declared.replays.replayer.Lines.TheVariants.{Main};
-ghost use Rattle.pgn_criteria.specs.Sieves.{MeetsSeen, NowhereSeen, codes_in};
-ghost use Rattle.pgn_criteria.specs.Meeting.{Heading, heading_of, SomeHold, Meets};
-ghost use Rattle.pgn_criteria.specs.Stages.{AllGood, AreLegal, EachAsksWithin};
-ghost use Rattle.pgn_criteria.specs.Walks.{IsSeenOf};
+ghost use Rattle.pgn_criteria.specs.Public.Sieves.{MeetsSeen, NowhereSeen, codes_in};
+ghost use Rattle.pgn_criteria.specs.Public.Meeting.{Heading, heading_of, SomeHold, Meets};
+ghost use Rattle.pgn_criteria.specs.Private.Stages.{AllGood, AreLegal, EachAsksWithin};
+ghost use Rattle.pgn_criteria.specs.Public.Walks.{IsSeenOf};
 
 use crate::alternative::Alternative;
 use crate::headed::Headed;
@@ -33,7 +33,7 @@ pub struct Search<'a> {
 impl<'a> Model for Search<'a> {
     ghost use Rattle.std.specs.Prelude.{ℕ, List, map};
     ghost use Rattle.pgn_criteria.specs.declared.condition.Condition.{Condition};
-    ghost use Rattle.pgn_criteria.specs.Stages.{on_positions};
+    ghost use Rattle.pgn_criteria.specs.Private.Stages.{on_positions};
 
     ghost Value = { List (List (Condition (List ℕ))) };
 

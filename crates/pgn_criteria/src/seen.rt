@@ -1,9 +1,9 @@
 //! What is asked of one position: the men on their squares, the side to move, whether it is in check, and whether it has no move.
 ghost use Rattle.std.specs.Prelude.{◌≡◌, ◌↔◌, IsTrue};
-ghost use Rattle.chess.specs.Moves.{HasMove};
-ghost use Rattle.chess.specs.Placements.{Placement, man_at, AreOnBoard};
-ghost use Rattle.chess.specs.Positions.{IsCheck};
-ghost use Rattle.chess.specs.Sets.{IsSquaresOf};
+ghost use Rattle.chess.specs.Public.Moves.{HasMove};
+ghost use Rattle.chess.specs.Public.Placements.{Placement, man_at, AreOnBoard};
+ghost use Rattle.chess.specs.Public.Positions.{IsCheck};
+ghost use Rattle.chess.specs.Public.Sets.{IsSquaresOf};
 ghost use Rattle.chess.specs.declared.board.man.Side.{Side};
 
 use chess::{Board, Man, Position, Side, Square, SquareSet};

@@ -1,11 +1,11 @@
 //! A man who has to stand on known squares, or may not. Games in which he never stands so are passed over.
 ghost use Rattle.std.specs.Prelude.{◌≡◌, IsTrue, IfSome, Some, false, option_map};
-ghost use Rattle.chess.specs.Placements.{Placement, man_at};
-ghost use Rattle.chess.specs.Squares.{IsOnBoard};
-ghost use Rattle.pgn_criteria.specs.Items.{IsOf};
-ghost use Rattle.pgn_criteria.specs.Layouts.{AllStand, Laid};
-ghost use Rattle.pgn_criteria.specs.Sieves.{codes_in};
-ghost use Rattle.pgn_criteria.specs.Tracks.{FitsSieve, LaidEither, Nowhere, StaysAs, StaysAt, StaysOn};
+ghost use Rattle.chess.specs.Public.Placements.{Placement, man_at};
+ghost use Rattle.chess.specs.Public.Squares.{IsOnBoard};
+ghost use Rattle.pgn_criteria.specs.Private.Items.{IsOf};
+ghost use Rattle.pgn_criteria.specs.Private.Layouts.{AllStand, Laid};
+ghost use Rattle.pgn_criteria.specs.Public.Sieves.{codes_in};
+ghost use Rattle.pgn_criteria.specs.Private.Tracks.{FitsSieve, LaidEither, Nowhere, StaysAs, StaysAt, StaysOn};
 ghost use Rattle.pgn_criteria.specs.declared.rank.SquareTest.TheVariants.{This};
 
 use crate::layout::{Asked, Layout};

@@ -1,6 +1,6 @@
 //! What `for` and `count` say of the plies at which the other conditions of an alternative fit.
 ghost use Rattle.std.specs.Prelude.{◌≡◌, ◌↔◌, ◌⊎◌, ◌+◌, ◌≤◌, ◌<◌, if◌then◌else◌, ℕ, map, length, get_or, false, IsTrue, IfSome};
-ghost use Rattle.pgn_criteria.specs.Stages.{AreLegal, FitsAt, FitsAbout, IsRun, AreSoMany, IsNoSpan, AreNoSpans, IsNoCount, AreNoCounts, SpanStands, SpansStand, IsFirstBefore, seen, claim_seen};
+ghost use Rattle.pgn_criteria.specs.Private.Stages.{AreLegal, FitsAt, FitsAbout, IsRun, AreSoMany, IsNoSpan, AreNoSpans, IsNoCount, AreNoCounts, SpanStands, SpansStand, IsFirstBefore, seen, claim_seen};
 
 use crate::alternative::Alternative;
 use crate::compare::compares;

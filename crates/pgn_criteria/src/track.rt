@@ -1,13 +1,13 @@
 //! The squares of one man, moved by the codes of plies. Where he never stands as is asked, no position of a game need be looked at.
 ghost use Rattle.std.specs.Prelude.{◌≡◌, ◌↔◌, ◌<◌, ◌+◌, ◌*◌, ◌/◌, ◌%◌, IsTrue, None, true, false};
-ghost use Rattle.chess.specs.Moves.{with_rook};
-ghost use Rattle.chess.specs.Placements.{Placement};
-ghost use Rattle.chess.specs.Sets.{IsSquaresOf};
-ghost use Rattle.chess.specs.Squares.{square_at};
+ghost use Rattle.chess.specs.Public.Moves.{with_rook};
+ghost use Rattle.chess.specs.Public.Placements.{Placement};
+ghost use Rattle.chess.specs.Public.Sets.{IsSquaresOf};
+ghost use Rattle.chess.specs.Public.Squares.{square_at};
 ghost use Rattle.chess.specs.declared.board.man.Man.{Man};
-ghost use Rattle.pgn_criteria.specs.Sieves.{codes_in};
-ghost use Rattle.pgn_criteria.specs.Tracks.{AreTaken, IsPut, Nowhere, gone};
-ghost use Rattle.pgn_game.specs.PlyCodes.{code_of, man_number, moved, numbered_castle, numbered_man};
+ghost use Rattle.pgn_criteria.specs.Public.Sieves.{codes_in};
+ghost use Rattle.pgn_criteria.specs.Private.Tracks.{AreTaken, IsPut, Nowhere, gone};
+ghost use Rattle.pgn_game.specs.Public.PlyCodes.{code_of, man_number, moved, numbered_castle, numbered_man};
 
 use crate::walk::{rook_arrives, rook_leaves};
 use chess::{Kind, Man, Side, Square, SquareSet};

@@ -1,8 +1,8 @@
 //! A walk over plies of which each is told by three bytes: the men are moved by them, with no question to the Laws.
 ghost use Rattle.std.specs.Prelude.{◌≡◌, IsTrue};
-ghost use Rattle.chess.specs.Positions.{rook_from, rook_to};
-ghost use Rattle.pgn_game.specs.PlyCodes.{code_of};
-ghost use Rattle.pgn_criteria.specs.Walks.{Sight, stepped};
+ghost use Rattle.chess.specs.Public.Positions.{rook_from, rook_to};
+ghost use Rattle.pgn_game.specs.Public.PlyCodes.{code_of};
+ghost use Rattle.pgn_criteria.specs.Public.Walks.{Sight, stepped};
 
 use crate::seen::Seen;
 use chess::{Board, Kind, Man, Side, Square, SquareSet, Wing};
@@ -19,8 +19,8 @@ pub struct Walk<B: Board> {
 }
 
 impl<B: Board> Model for Walk<B> {
-    ghost use Rattle.pgn_criteria.specs.SightCodes.{coded_sight};
-    ghost use Rattle.pgn_criteria.specs.Walks.{Sight};
+    ghost use Rattle.pgn_criteria.specs.Private.SightCodes.{coded_sight};
+    ghost use Rattle.pgn_criteria.specs.Public.Walks.{Sight};
 
     ghost Value = { Sight };
 

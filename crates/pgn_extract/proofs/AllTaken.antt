@@ -1,16 +1,16 @@
 -- Where each sound game is written, its first position is an entry of it.
 use Rattle.std.specs.Prelude.{Result, Ok, Err, OnOk, OnErr, IfErr, MatchResult}
 use Rattle.std.proofs.Common.{◌≡◌, ℕ, ◌+◌, ◌<◌, List, length, Option, sym, subst, inl, arith}
-use Rattle.pgn_text.specs.GameTexts.{GameText, tag_in}
-use Rattle.pgn_game.specs.MainLines.{main_words}
-use Rattle.pgn_game.specs.Replays.{Replay, IsReplay}
-use Rattle.pgn_game.specs.Starts.{fen_tag}
+use Rattle.pgn_text.specs.Public.GameTexts.{GameText, tag_in}
+use Rattle.pgn_game.specs.Public.MainLines.{main_words}
+use Rattle.pgn_game.specs.Public.Replays.{Replay, IsReplay}
+use Rattle.pgn_game.specs.Public.Starts.{fen_tag}
 use Rattle.pgn_game.proofs.OneReplay.{line_length}
-use Rattle.pgn_criteria.specs.Meeting.{heading_of, Heading}
+use Rattle.pgn_criteria.specs.Public.Meeting.{heading_of, Heading}
 use Rattle.pgn_criteria.specs.declared.condition.Condition.{Condition}
-use Rattle.pgn_extract.specs.Aims.{Aim, IsMet}
-use Rattle.pgn_extract.specs.Blockwise.{IsGameWritten, IsGivenText, TakesAll}
-use Rattle.pgn_extract.specs.Exports.{HasEntry, IsSelected, written_lines}
+use Rattle.pgn_extract.specs.Public.Aims.{Aim, IsMet}
+use Rattle.pgn_extract.specs.Private.Blockwise.{IsGameWritten, IsGivenText, TakesAll}
+use Rattle.pgn_extract.specs.Public.Exports.{HasEntry, IsSelected, written_lines}
 
 -- ply 0 is an entry
 first_is_entry : (aim : Aim) (tags : Heading) (replay : Replay) → TakesAll aim → 0 < length replay.positions → HasEntry aim tags replay

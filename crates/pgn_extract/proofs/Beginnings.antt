@@ -3,11 +3,11 @@ use Rattle.std.proofs.Common.{ℕ, ◌+◌, List, ◌++◌, length, take, Option
 use Rattle.std.specs.Io.KnownBytes.{Appends, Keeps}
 use Rattle.std.proofs.lemmas.List.{take_all}
 use Rattle.std.proofs.Math.Seq.{take-append-add}
-use Rattle.pgn_text.specs.Marks.{MarkedPiece}
-use Rattle.pgn_extract.specs.Blockwise.{Begins}
-use Rattle.pgn_extract.specs.Outcomes.{AppendsFront, Writes}
-use Rattle.pgn_extract.specs.Verdicts.{Verdict}
-use Rattle.pgn_extract.specs.Aims.{Aim}
+use Rattle.pgn_text.specs.Public.Marks.{MarkedPiece}
+use Rattle.pgn_extract.specs.Private.Blockwise.{Begins}
+use Rattle.pgn_extract.specs.Public.Outcomes.{AppendsFront, Writes}
+use Rattle.pgn_extract.specs.Public.Verdicts.{Verdict}
+use Rattle.pgn_extract.specs.Public.Aims.{Aim}
 use Rattle.pgn_extract.proofs.VerdictFacts.{output_text-append, fault_lines-append, verdicts-append}
 use Rattle.pgn_extract.proofs.Writing.{appends_join, appends_kept}
 

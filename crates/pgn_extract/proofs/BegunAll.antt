@@ -1,11 +1,11 @@
 -- A beginning of what is reported of the first pieces of a text is one of what is reported of all of them.
 use Rattle.std.proofs.Common.{◌≡◌, ℕ, ◌+◌, zero, suc, List, [], ◌∷◌, ◌++◌, length, take, Option, refl, sym, ap, subst}
 use Rattle.std.specs.Io.KnownBytes.{Appends}
-use Rattle.pgn_text.specs.Marks.{AreMarkedPieces}
-use Rattle.pgn_extract.specs.Blockwise.{BeginsFirst}
-use Rattle.pgn_extract.specs.Outcomes.{AppendsFront, BeginsAll}
-use Rattle.pgn_extract.specs.Verdicts.{output_text, fault_lines}
-use Rattle.pgn_extract.specs.Aims.{Aim}
+use Rattle.pgn_text.specs.Public.Marks.{AreMarkedPieces}
+use Rattle.pgn_extract.specs.Private.Blockwise.{BeginsFirst}
+use Rattle.pgn_extract.specs.Public.Outcomes.{AppendsFront, BeginsAll}
+use Rattle.pgn_extract.specs.Public.Verdicts.{output_text, fault_lines}
+use Rattle.pgn_extract.specs.Public.Aims.{Aim}
 use Rattle.pgn_extract.proofs.SomeReport.{rest_reported}
 use Rattle.pgn_extract.proofs.VerdictFacts.{output_text-append, fault_lines-append, verdicts-append}
 

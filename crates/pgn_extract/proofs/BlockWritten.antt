@@ -4,12 +4,12 @@ use Rattle.std.proofs.lemmas.Bool.{false_from_ne_true}
 use Rattle.std.proofs.lemmas.List.{append-nil}
 use Rattle.std.specs.Io.KnownBytes.{Appends}
 use Rattle.pgn_text.proofs.MarkedPieces.{of_block_exist}
-use Rattle.pgn_extract.specs.Blockwise.{GathersBlock, WritesBlock, BeginsBlock}
-use Rattle.pgn_extract.specs.Outcomes.{AppendsFront}
-use Rattle.pgn_extract.specs.RunParts.{WriteFaultsAre}
-use Rattle.pgn_extract.specs.Runs.{Passage}
+use Rattle.pgn_extract.specs.Private.Blockwise.{GathersBlock, WritesBlock, BeginsBlock}
+use Rattle.pgn_extract.specs.Public.Outcomes.{AppendsFront}
+use Rattle.pgn_extract.specs.Private.RunParts.{WriteFaultsAre}
+use Rattle.pgn_extract.specs.Public.Runs.{Passage}
 use Rattle.pgn_extract.specs.declared.engine.report.Report.{Report}
-use Rattle.pgn_extract.specs.Aims.{Aim}
+use Rattle.pgn_extract.specs.Public.Aims.{Aim}
 use Rattle.pgn_extract.proofs.Gathered.{gathers_begun}
 use Rattle.pgn_extract.proofs.Writing.{appends_none, appends_join}
 

@@ -3,10 +3,10 @@ use Rattle.std.proofs.Common.{◌≡◌, ℕ, ◌+◌, Bool, true, false, List, 
 use Rattle.std.specs.Prelude.{◌≢◌}
 use Rattle.std.proofs.lemmas.Bool.{cases_Bool, both_ways}
 use Rattle.std.proofs.lemmas.List.{append-nil}
-use Rattle.pgn_text.specs.Blocks.{IsFirstBlock, AreBlocks}
-use Rattle.pgn_text.specs.Complete.{AreCompletePieces}
-use Rattle.pgn_text.specs.Marks.{MarkedPiece, AreOfBlock, AreOfBlocks, AreMarkedPieces}
-use Rattle.pgn_text.specs.Windows.{Window, IsCutOff}
+use Rattle.pgn_text.specs.Public.Blocks.{IsFirstBlock, AreBlocks}
+use Rattle.pgn_text.specs.Public.Complete.{AreCompletePieces}
+use Rattle.pgn_text.specs.Public.Marks.{MarkedPiece, AreOfBlock, AreOfBlocks, AreMarkedPieces}
+use Rattle.pgn_text.specs.Public.Windows.{Window, IsCutOff}
 use Rattle.pgn_text.proofs.MarkedPieces.{of_blocks_exist}
 use Rattle.pgn_text.proofs.OneBlocks.{blocks_exist}
 

@@ -2,9 +2,9 @@
 use Rattle.std.proofs.Common.{◌≡◌, ◌<◌, ℕ, zero, suc, List, [], ◌∷◌, refl, sym, ap, ◌∙◌, subst, arith, inl, inr, ◌⊎◌}
 use Rattle.std.specs.List.{Contains}
 use Rattle.std.proofs.lemmas.List.Elements.{Contains-append_right}
-use Rattle.pgn_extract.specs.Listing.{Entry, Ascend}
-use Rattle.pgn_extract.specs.GameReports.{AreChosen}
-use Rattle.pgn_extract.specs.GameReports.AreChosen.{none, keep, leave}
+use Rattle.pgn_extract.specs.Public.Listing.{Entry, Ascend}
+use Rattle.pgn_extract.specs.Public.GameReports.{AreChosen}
+use Rattle.pgn_extract.specs.Public.GameReports.AreChosen.{none, keep, leave}
 
 -- the entry of a game at a ply
 abbrev pub entry_at : ℕ → ℕ → ℕ → List ℕ → Entry

@@ -1,15 +1,15 @@
 -- Each position of each sound game meets the criteria or does not, whatever they are.
 use Rattle.std.proofs.Common.{◌⊎◌, ℕ, ◌<◌, List, length, Option, Some, None, inl}
-use Rattle.pgn_text.specs.Games.{items_of, first_tag}
-use Rattle.pgn_text.specs.Parts.{Part}
-use Rattle.pgn_game.specs.Replays.{Replay}
-use Rattle.pgn_game.specs.Starts.{fen_tag}
+use Rattle.pgn_text.specs.Public.Games.{items_of, first_tag}
+use Rattle.pgn_text.specs.Public.Parts.{Part}
+use Rattle.pgn_game.specs.Public.Replays.{Replay}
+use Rattle.pgn_game.specs.Public.Starts.{fen_tag}
 use Rattle.pgn_game.specs.declared.replays.replayer.Lines.{Lines}
 use Rattle.pgn_criteria.specs.declared.condition.Condition.{Condition}
 use Rattle.pgn_criteria.proofs.MeetSettled.{each_position_meets}
-use Rattle.pgn_extract.specs.Aims.{Aim, IsMet}
-use Rattle.pgn_extract.specs.Listing.{heading_in}
-use Rattle.pgn_extract.specs.GameReports.{IsReplayOf}
+use Rattle.pgn_extract.specs.Public.Aims.{Aim, IsMet}
+use Rattle.pgn_extract.specs.Public.Listing.{heading_in}
+use Rattle.pgn_extract.specs.Public.GameReports.{IsReplayOf}
 
 -- the position is decided
 abbrev pub IsDecidedAt : Option (List (List (Condition (List ℕ)))) → List Part → Replay → ℕ → Type 0

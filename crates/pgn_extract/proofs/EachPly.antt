@@ -1,16 +1,16 @@
 -- The entries of a game where there are no criteria: plies in a row.
 use Rattle.std.proofs.Common.{◌≡◌, ◌↔◌, ℕ, zero, suc, ◌+◌, ◌-◌, ◌<◌, ◌≤◌, List, [], ◌∷◌, ◌++◌, length, drop, Option, None, true, sym, refl, ap, subst, arith, inl, inr}
 use Rattle.std.proofs.lemmas.Bool.{cases_lt}
-use Rattle.chess.specs.Positions.{State}
-use Rattle.pgn_game.specs.Replays.{Replay}
-use Rattle.pgn_criteria.specs.Meeting.{Heading}
+use Rattle.chess.specs.Public.Positions.{State}
+use Rattle.pgn_game.specs.Public.Replays.{Replay}
+use Rattle.pgn_criteria.specs.Public.Meeting.{Heading}
 use Rattle.pgn_criteria.specs.declared.condition.Condition.{Condition}
-use Rattle.pgn_extract.specs.Aims.{Aim, IsMet, IsEntry}
-use Rattle.pgn_extract.specs.Blockwise.{IsPlainEntry, lines_from}
-use Rattle.pgn_extract.specs.Finding.{named_mark}
-use Rattle.pgn_extract.specs.Listing.{Entry, AreFields, is_plain, entry_line, listing}
-use Rattle.pgn_extract.specs.GameReports.{plies_of, AreListed, AreChosen}
-use Rattle.pgn_extract.specs.GameReports.AreChosen.{keep}
+use Rattle.pgn_extract.specs.Public.Aims.{Aim, IsMet, IsEntry}
+use Rattle.pgn_extract.specs.Private.Blockwise.{IsPlainEntry, lines_from}
+use Rattle.pgn_extract.specs.Private.Finding.{named_mark}
+use Rattle.pgn_extract.specs.Public.Listing.{Entry, AreFields, is_plain, entry_line, listing}
+use Rattle.pgn_extract.specs.Public.GameReports.{plies_of, AreListed, AreChosen}
+use Rattle.pgn_extract.specs.Public.GameReports.AreChosen.{keep}
 use Rattle.pgn_extract.proofs.Chosen.{entry_at}
 use Rattle.pgn_extract.proofs.FieldTexts.{no_fields}
 use Rattle.pgn_extract.proofs.Picks.{leaves, leaves_all, dropped}

@@ -3,20 +3,20 @@ use Rattle.std.proofs.Common.{◌≡◌, ℕ, ◌+◌, ◌<◌, ◌≤◌, zero,
 use Rattle.std.specs.List.{Contains, slice_get}
 use Rattle.std.proofs.lemmas.Bool.{cases_lt}
 use Rattle.std.proofs.lemmas.List.Elements.{Contains-append_left, Contains-append_right, Contains-append_cases}
-use Rattle.chess.specs.Positions.{State}
-use Rattle.pgn_text.specs.Marks.{PieceKind, ReadableGame, UnreadableRest, TooLongBlock, MarkedPiece}
-use Rattle.pgn_text.specs.Parts.{Part}
-use Rattle.pgn_text.specs.Games.{Item, items_of, first_tag}
+use Rattle.chess.specs.Public.Positions.{State}
+use Rattle.pgn_text.specs.Public.Marks.{PieceKind, ReadableGame, UnreadableRest, TooLongBlock, MarkedPiece}
+use Rattle.pgn_text.specs.Public.Parts.{Part}
+use Rattle.pgn_text.specs.Public.Games.{Item, items_of, first_tag}
 use Rattle.pgn_game.proofs.OneReplay.{one_replay, no_fault}
-use Rattle.pgn_game.specs.Replays.{Replay, IsReplay, IsMainReplay}
+use Rattle.pgn_game.specs.Public.Replays.{Replay, IsReplay, IsMainReplay}
 use Rattle.pgn_game.specs.declared.replays.replayer.Lines.TheVariants.{Main}
-use Rattle.pgn_game.specs.Starts.{fen_tag}
-use Rattle.pgn_extract.specs.Aims.{Aim, IsEntry}
+use Rattle.pgn_game.specs.Public.Starts.{fen_tag}
+use Rattle.pgn_extract.specs.Public.Aims.{Aim, IsEntry}
 use Rattle.pgn_extract.proofs.Chosen.{entry_at, none_in, in_front, Rise, IsPicked, chosen_from, chosen_all, chosen_ascend}
 use Rattle.pgn_extract.proofs.FieldTexts.{one_text}
-use Rattle.pgn_extract.specs.Listing.{Entry, AreFields, heading_in, IsPlyOfGame, IsEarlier, Ascend, AreEntries}
-use Rattle.pgn_extract.specs.GameReports.{plies_of, IsReplayOf}
-use Rattle.pgn_extract.specs.EntryRows.{AreGameEntries, sound, faulty, ArePieceEntries, AreEntryRows}
+use Rattle.pgn_extract.specs.Public.Listing.{Entry, AreFields, heading_in, IsPlyOfGame, IsEarlier, Ascend, AreEntries}
+use Rattle.pgn_extract.specs.Public.GameReports.{plies_of, IsReplayOf}
+use Rattle.pgn_extract.specs.Private.EntryRows.{AreGameEntries, sound, faulty, ArePieceEntries, AreEntryRows}
 
 -- a replay of the main line alone is said in two ways
 main_of : {fen : Option (List ℕ)} {items : List Item} {replay : Replay} → IsReplay Main fen items replay → IsMainReplay fen items replay

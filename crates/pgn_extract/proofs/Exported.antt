@@ -2,10 +2,10 @@
 use Rattle.std.proofs.Common.{◌≡◌, ◌↔◌, ◌⊎◌, ℕ, ◌<◌, Bool, true, false, length, Option, Some, None, IsTrue, refl, inl, inr, subst, arith}
 use Rattle.std.proofs.lemmas.Bool.{false≢true}
 use Rattle.std.specs.Prelude.{is_some, not}
-use Rattle.pgn_game.specs.Replays.{Replay}
-use Rattle.pgn_criteria.specs.Meeting.{Heading, IsFirst}
-use Rattle.pgn_extract.specs.Aims.{Aim, IsMet}
-use Rattle.pgn_extract.specs.Exports.{HasEntry, IsSelected}
+use Rattle.pgn_game.specs.Public.Replays.{Replay}
+use Rattle.pgn_criteria.specs.Public.Meeting.{Heading, IsFirst}
+use Rattle.pgn_extract.specs.Public.Aims.{Aim, IsMet}
+use Rattle.pgn_extract.specs.Public.Exports.{HasEntry, IsSelected}
 use Rattle.pgn_extract.specs.declared.settings.Select.{Select}
 use Rattle.pgn_extract.specs.declared.settings.Select.TheVariants.{Matching, Others, Faulty}
 

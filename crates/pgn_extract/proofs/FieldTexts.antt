@@ -3,22 +3,22 @@ use Rattle.std.proofs.Common.{◌≡◌, ◌<◌, ℕ, zero, suc, Bool, true, fa
 use Rattle.std.specs.Prelude.{◌&&◌, Option, None, MatchOption, codes}
 use Rattle.std.specs.List.{slice_get}
 use Rattle.std.proofs.lemmas.Option.{slice_get-get_or}
-use Rattle.chess.specs.Placements.{AreOnBoard}
-use Rattle.chess.specs.Positions.{State}
-use Rattle.chess.specs.Moves.{after}
-use Rattle.chess.specs.Fen.{IsFen}
-use Rattle.chess.specs.San.{IsSan}
+use Rattle.chess.specs.Public.Placements.{AreOnBoard}
+use Rattle.chess.specs.Public.Positions.{State}
+use Rattle.chess.specs.Public.Moves.{after}
+use Rattle.chess.specs.Public.Fen.{IsFen}
+use Rattle.chess.specs.Public.San.{IsSan}
 use Rattle.chess.specs.declared.moves.Move.{Move}
 use Rattle.chess.proofs.FenOneText.{one_fen, some_fen}
 use Rattle.chess.proofs.OnBoard.{men_stay_on_board}
 use Rattle.chess.proofs.SanOnce.{one_san}
 use Rattle.chess.proofs.SanSettled.{some_san}
-use Rattle.pgn_text.specs.Games.{Item}
-use Rattle.pgn_game.specs.MainLines.{main_words, IsMainLine}
-use Rattle.pgn_game.specs.Replays.{Replay, IsReplay}
+use Rattle.pgn_text.specs.Public.Games.{Item}
+use Rattle.pgn_game.specs.Public.MainLines.{main_words, IsMainLine}
+use Rattle.pgn_game.specs.Public.Replays.{Replay, IsReplay}
 use Rattle.pgn_game.specs.declared.replays.replayer.Lines.{Lines}
 use Rattle.pgn_game.proofs.StartTexts.{start_read_back}
-use Rattle.pgn_extract.specs.Listing.{IsFenField, IsNextMove, IsNextField, AreFields, is_plain}
+use Rattle.pgn_extract.specs.Public.Listing.{IsFenField, IsNextMove, IsNextField, AreFields, is_plain}
 use Rattle.pgn_extract.specs.declared.settings.Fields.{Fields}
 
 same_state : (a b : State) → Some a ≡ Some b → a ≡ b

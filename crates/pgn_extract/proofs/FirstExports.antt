@@ -1,13 +1,13 @@
 -- What is exported is the same whether the first of each game is asked for or all: a game has an entry exactly where it has a first.
 use Rattle.std.proofs.Common.{ℕ, zero, suc, ◌+◌, ◌<◌, true, false, Bool, List, [], ◌∷◌, length, arith, inl, inr}
-use Rattle.pgn_text.specs.Marks.{PieceKind, ReadableGame, UnreadableRest, TooLongBlock, MarkedPiece}
-use Rattle.pgn_text.specs.Parts.{Part}
-use Rattle.pgn_game.specs.Replays.{Replay}
-use Rattle.pgn_extract.specs.Aims.{Aim, IsWanted}
-use Rattle.pgn_extract.specs.Exports.{AreExports, HasEntry, IsGameExport, IsPieceExport, IsTextOf, IsWritten, faulty, sound, selected, unselected, written_lines}
-use Rattle.pgn_extract.specs.GameReports.{IsReplayOf}
-use Rattle.pgn_extract.specs.Laws.{FirstChangesNoExport, with_first}
-use Rattle.pgn_extract.specs.Listing.{heading_in}
+use Rattle.pgn_text.specs.Public.Marks.{PieceKind, ReadableGame, UnreadableRest, TooLongBlock, MarkedPiece}
+use Rattle.pgn_text.specs.Public.Parts.{Part}
+use Rattle.pgn_game.specs.Public.Replays.{Replay}
+use Rattle.pgn_extract.specs.Public.Aims.{Aim, IsWanted}
+use Rattle.pgn_extract.specs.Public.Exports.{AreExports, HasEntry, IsGameExport, IsPieceExport, IsTextOf, IsWritten, faulty, sound, selected, unselected, written_lines}
+use Rattle.pgn_extract.specs.Public.GameReports.{IsReplayOf}
+use Rattle.pgn_extract.specs.Public.Laws.{FirstChangesNoExport, with_first}
+use Rattle.pgn_extract.specs.Public.Listing.{heading_in}
 use Rattle.pgn_extract.specs.declared.settings.Form.{Form}
 use Rattle.pgn_extract.specs.declared.settings.Form.TheVariants.{Standard, AsItStands, Line, Record}
 use Rattle.pgn_extract.proofs.Decided.{all_decided}

@@ -4,27 +4,27 @@ use Rattle.std.proofs.lemmas.Bool.{cases_lt, both_ways}
 use Rattle.std.proofs.lemmas.Option.{slice_get_within}
 use Rattle.std.specs.List.{slice_get}
 use Rattle.std.specs.Prelude.{MatchOption, codes}
-use Rattle.chess.specs.Moves.{after}
-use Rattle.chess.specs.Positions.{State}
-use Rattle.chess.specs.San.{IsSan}
+use Rattle.chess.specs.Public.Moves.{after}
+use Rattle.chess.specs.Public.Positions.{State}
+use Rattle.chess.specs.Public.San.{IsSan}
 use Rattle.chess.specs.declared.moves.Move.{Move}
-use Rattle.pgn_text.specs.GameTexts.{GameText, tag_in}
-use Rattle.pgn_text.specs.Games.{Item}
-use Rattle.pgn_game.specs.Faults.{Fault, IsMoveFault}
-use Rattle.pgn_game.specs.MainLines.{main_words, IsMainLine}
-use Rattle.pgn_game.specs.PlayedLines.{PlayedLine, IsBegun, PlaysWord, IsNextText}
-use Rattle.pgn_game.specs.Replays.{Replay, IsReplay, IsSomeReplay}
-use Rattle.pgn_game.specs.Starts.{fen_tag}
+use Rattle.pgn_text.specs.Public.GameTexts.{GameText, tag_in}
+use Rattle.pgn_text.specs.Public.Games.{Item}
+use Rattle.pgn_game.specs.Public.Faults.{Fault, IsMoveFault}
+use Rattle.pgn_game.specs.Public.MainLines.{main_words, IsMainLine}
+use Rattle.pgn_game.specs.Public.PlayedLines.{PlayedLine, IsBegun, PlaysWord, IsNextText}
+use Rattle.pgn_game.specs.Public.Replays.{Replay, IsReplay, IsSomeReplay}
+use Rattle.pgn_game.specs.Public.Starts.{fen_tag}
 use Rattle.pgn_game.specs.declared.replays.replayer.Lines.TheVariants.{Main}
 use Rattle.pgn_game.proofs.OneReplay.{one_move, one_start}
-use Rattle.pgn_criteria.specs.Meeting.{heading_of, Heading, SomeHold}
+use Rattle.pgn_criteria.specs.Public.Meeting.{heading_of, Heading, SomeHold}
 use Rattle.pgn_criteria.specs.declared.condition.Condition.{Condition}
 use Rattle.pgn_criteria.proofs.MeetFacts.{meets_at}
-use Rattle.pgn_extract.specs.Aims.{Aim, IsWanted, IsEntry}
-use Rattle.pgn_extract.specs.Finding.{AsksFor, IsOfGame, StopsAtFault, StopsInLine, GoesOnWith, IsPlayedTo, Finds, ShowsPosition, ShowsNext, ShowsHere}
-use Rattle.pgn_extract.specs.GameReports.{plies_of, AreChosen, AreListed}
-use Rattle.pgn_extract.specs.GameReports.AreChosen.{none, keep, leave}
-use Rattle.pgn_extract.specs.Listing.{Entry, IsFenField, IsNextMove, IsNextField, AreFields, entry_line, listing}
+use Rattle.pgn_extract.specs.Public.Aims.{Aim, IsWanted, IsEntry}
+use Rattle.pgn_extract.specs.Private.Finding.{AsksFor, IsOfGame, StopsAtFault, StopsInLine, GoesOnWith, IsPlayedTo, Finds, ShowsPosition, ShowsNext, ShowsHere}
+use Rattle.pgn_extract.specs.Public.GameReports.{plies_of, AreChosen, AreListed}
+use Rattle.pgn_extract.specs.Public.GameReports.AreChosen.{none, keep, leave}
+use Rattle.pgn_extract.specs.Public.Listing.{Entry, IsFenField, IsNextMove, IsNextField, AreFields, entry_line, listing}
 use Rattle.pgn_extract.specs.declared.settings.Fields.{Fields}
 use Rattle.pgn_extract.proofs.Chosen.{entry_at}
 use Rattle.pgn_extract.proofs.ModeOutputs.{listing-append}

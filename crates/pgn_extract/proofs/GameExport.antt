@@ -1,22 +1,22 @@
 -- The game of some parts has an export in each style, where it is sound in the lines that are written, and only one; and likewise a record.
 use Rattle.std.proofs.Common.{◌≡◌, ℕ, List, Option, sym, ap, subst, ◌∙◌}
-use Rattle.pgn_text.specs.GameTexts.{GameText, IsGameText, ShowsGame, tag_in}
-use Rattle.pgn_text.specs.Games.{Item, items_of}
-use Rattle.pgn_text.specs.Parts.{Part}
+use Rattle.pgn_text.specs.Public.GameTexts.{GameText, IsGameText, ShowsGame, tag_in}
+use Rattle.pgn_text.specs.Public.Games.{Item, items_of}
+use Rattle.pgn_text.specs.Public.Parts.{Part}
 use Rattle.pgn_text.proofs.ShownOnce.{one_game_text}
-use Rattle.pgn_game.specs.Exports.{AreMovetextTokens, lines_with}
-use Rattle.pgn_game.specs.PackedGames.{IsRecordOf}
-use Rattle.pgn_game.specs.Replays.{Replay, IsReplay}
-use Rattle.pgn_game.specs.Starts.{fen_tag, IsStart}
-use Rattle.pgn_game.specs.TagLines.{AreTagLines}
+use Rattle.pgn_game.specs.Public.Exports.{AreMovetextTokens, lines_with}
+use Rattle.pgn_game.specs.Public.PackedGames.{IsRecordOf}
+use Rattle.pgn_game.specs.Public.Replays.{Replay, IsReplay}
+use Rattle.pgn_game.specs.Public.Starts.{fen_tag, IsStart}
+use Rattle.pgn_game.specs.Public.TagLines.{AreTagLines}
 use Rattle.pgn_game.proofs.OneExport.{one_export}
 use Rattle.pgn_game.proofs.SomeExport.{some_export}
 use Rattle.pgn_game.proofs.SomeRecord.{a_record, one_spelling}
 use Rattle.pgn_game.specs.declared.replays.replayer.Lines.{Lines}
 use Rattle.pgn_game.specs.declared.replays.replayer.Lines.TheVariants.{Main}
 use Rattle.pgn_game.specs.declared.exports.style.Style.{Style}
-use Rattle.pgn_extract.specs.Exports.{IsExportOf}
-use Rattle.pgn_extract.specs.GameReports.{IsReplayOf}
+use Rattle.pgn_extract.specs.Public.Exports.{IsExportOf}
+use Rattle.pgn_extract.specs.Public.GameReports.{IsReplayOf}
 
 -- what is replayed of parts is replayed of a game that they make
 pub own_replay : (lines : Lines) (game : GameText) (parts : List Part) (replay : Replay) → ShowsGame game game.at parts → IsReplayOf lines parts replay

@@ -2,36 +2,36 @@
 use Rattle.std.proofs.Common.{◌≡◌, ℕ, ◌+◌, Bool, true, false, List, [], ◌++◌, Vec, Global, refl, sym, ap, ◌∙◌, subst, arith, codes, inl, inr}
 use Rattle.std.proofs.lemmas.List.{append-nil}
 use Rattle.std.specs.Prelude.{Option, if◌then◌else◌}
-use Rattle.pgn_text.specs.GameTexts.{GameText, IsGameText, ShowsGame, tag_in}
-use Rattle.pgn_text.specs.Games.{Item, first_tag}
-use Rattle.pgn_text.specs.Left.{IsPiece}
-use Rattle.pgn_text.specs.Limits.{depth_limit}
+use Rattle.pgn_text.specs.Public.GameTexts.{GameText, IsGameText, ShowsGame, tag_in}
+use Rattle.pgn_text.specs.Public.Games.{Item, first_tag}
+use Rattle.pgn_text.specs.Public.Left.{IsPiece}
+use Rattle.pgn_text.specs.Public.Limits.{depth_limit}
 use Rattle.pgn_text.proofs.StopsThere.{stops_alone}
-use Rattle.pgn_text.specs.Marks.{marked}
-use Rattle.pgn_text.specs.Parts.{Part}
-use Rattle.pgn_text.specs.Pieces as spec
+use Rattle.pgn_text.specs.Public.Marks.{marked}
+use Rattle.pgn_text.specs.Public.Parts.{Part}
+use Rattle.pgn_text.specs.Public.Pieces as spec
 use Rattle.pgn_text.specs.declared.game.pieces.PieceStart.{PieceStart}
 use Rattle.pgn_text.specs.declared.game.pieces.PieceStart.TheVariants as marks
 use Rattle.pgn_text.specs.declared.game.pieces.Piece.{Piece}
 use Rattle.pgn_text.specs.declared.game.pieces.Piece.TheVariants as given
-use Rattle.pgn_game.specs.Faults.{Fault, IsFault}
-use Rattle.pgn_game.specs.Replays.{Replay, IsReplay}
+use Rattle.pgn_game.specs.Public.Faults.{Fault, IsFault}
+use Rattle.pgn_game.specs.Public.Replays.{Replay, IsReplay}
 use Rattle.pgn_game.specs.declared.replays.replayer.Lines.{Lines}
 use Rattle.pgn_game.specs.declared.replays.replayer.Lines.TheVariants.{Main}
-use Rattle.pgn_game.specs.Starts.{fen_tag}
-use Rattle.pgn_extract.specs.Blockwise.{AddsVerdict, AddsListed, AddsExported, AddsGame, IsGivenText, IsGameWritten, AddsMark, IsPieceOf, AddsPiece, NamesBlockStop, IsBlockVerdict, IsMarkVerdict}
-use Rattle.pgn_extract.specs.Index.{fault_text, mark_line}
-use Rattle.pgn_extract.specs.Listing.{Entry, AreFields, listing, heading_in}
-use Rattle.pgn_extract.specs.GameReports.{plies_of, AreListed, cause_text, IsReplayOf, IsFaultOf}
-use Rattle.pgn_game.specs.GameLines.{IsGameLine}
+use Rattle.pgn_game.specs.Public.Starts.{fen_tag}
+use Rattle.pgn_extract.specs.Private.Blockwise.{AddsVerdict, AddsListed, AddsExported, AddsGame, IsGivenText, IsGameWritten, AddsMark, IsPieceOf, AddsPiece, NamesBlockStop, IsBlockVerdict, IsMarkVerdict}
+use Rattle.pgn_extract.specs.Public.Index.{fault_text, mark_line}
+use Rattle.pgn_extract.specs.Public.Listing.{Entry, AreFields, listing, heading_in}
+use Rattle.pgn_extract.specs.Public.GameReports.{plies_of, AreListed, cause_text, IsReplayOf, IsFaultOf}
+use Rattle.pgn_game.specs.Public.GameLines.{IsGameLine}
 use Rattle.pgn_extract.specs.declared.settings.Form.{Form}
 use Rattle.pgn_extract.specs.declared.settings.Form.TheVariants.{Standard, AsItStands, Line, Record}
-use Rattle.pgn_extract.specs.Exports.{written_lines, HasEntry, IsTextOf, IsWritten, selected, unselected, as_it_stands, faulty_text}
-use Rattle.pgn_extract.specs.Notes.{IsNote, NamesByte, NamesStop}
-use Rattle.pgn_extract.specs.Verdicts.{Verdict, SoundGame, FaultyGame, output_of, fault_line_of, is_faulty, IsVerdictIn, IsGameVerdict, IsUnreadableVerdict}
+use Rattle.pgn_extract.specs.Public.Exports.{written_lines, HasEntry, IsTextOf, IsWritten, selected, unselected, as_it_stands, faulty_text}
+use Rattle.pgn_extract.specs.Public.Notes.{IsNote, NamesByte, NamesStop}
+use Rattle.pgn_extract.specs.Public.Verdicts.{Verdict, SoundGame, FaultyGame, output_of, fault_line_of, is_faulty, IsVerdictIn, IsGameVerdict, IsUnreadableVerdict}
 use Rattle.pgn_extract.specs.declared.engine.report.Report.{Report}
-use Rattle.pgn_criteria.specs.Meeting.{Heading, heading_of}
-use Rattle.pgn_extract.specs.Aims.{Aim, IsEntry}
+use Rattle.pgn_criteria.specs.Public.Meeting.{Heading, heading_of}
+use Rattle.pgn_extract.specs.Public.Aims.{Aim, IsEntry}
 use Rattle.pgn_extract.proofs.Chosen.{chosen_by}
 use Rattle.pgn_extract.proofs.Exported.{selected_by}
 use Rattle.pgn_extract.proofs.RestOfBlock.{rest_of_block}

@@ -2,12 +2,12 @@
 use Rattle.std.proofs.Common.{◌≡◌, ℕ, ◌+◌, List, [], ◌∷◌, ◌++◌, length, Option, refl, sym, ap, ◌∙◌, subst, arith, append_assoc, length-append}
 use Rattle.std.specs.Prelude.{if◌then◌else◌}
 use Rattle.std.proofs.lemmas.List.Sums.{fold_push}
-use Rattle.pgn_text.specs.Marks.{MarkedPiece}
-use Rattle.pgn_extract.specs.Blockwise.{Reports, Gathers, Passes, AddsMark, Begins}
-use Rattle.pgn_extract.specs.Outcomes.{AppendsFront}
-use Rattle.pgn_extract.specs.Verdicts.{Verdict, AreVerdicts, output_of, fault_line_of, is_faulty}
+use Rattle.pgn_text.specs.Public.Marks.{MarkedPiece}
+use Rattle.pgn_extract.specs.Private.Blockwise.{Reports, Gathers, Passes, AddsMark, Begins}
+use Rattle.pgn_extract.specs.Public.Outcomes.{AppendsFront}
+use Rattle.pgn_extract.specs.Public.Verdicts.{Verdict, AreVerdicts, output_of, fault_line_of, is_faulty}
 use Rattle.pgn_extract.specs.declared.engine.report.Report.{Report}
-use Rattle.pgn_extract.specs.Aims.{Aim}
+use Rattle.pgn_extract.specs.Public.Aims.{Aim}
 use Rattle.pgn_extract.proofs.Beginnings.{front_join}
 use Rattle.pgn_extract.proofs.VerdictFacts.{output_text-append, fault_lines-append, verdicts-append, joined}
 use Rattle.pgn_extract.proofs.Writing.{appends_none, appends_join}

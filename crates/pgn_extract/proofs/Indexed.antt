@@ -2,18 +2,18 @@
 use Rattle.std.proofs.Common.{◌≡◌, ◌==◌, ℕ, ◌+◌, ◌≤◌, Bool, true, false, List, [], ◌∷◌, ◌++◌, map, length, Option, refl, sym, ap, ◌∙◌, subst, arith, append_assoc, length-append}
 use Rattle.std.specs.Prelude.{if◌then◌else◌}
 use Rattle.std.proofs.lemmas.List.{append-nil, map_push, length-map}
-use Rattle.pgn_text.specs.Limits.{block_limit, depth_limit}
-use Rattle.pgn_text.specs.Left.{Left, ArePiecesLeft}
-use Rattle.pgn_text.specs.LeftMarks.{IsMark, TakesMark}
-use Rattle.pgn_text.specs.Marks.{marked, within as in_limit}
-use Rattle.pgn_text.specs.Pieces as spec
+use Rattle.pgn_text.specs.Public.Limits.{block_limit, depth_limit}
+use Rattle.pgn_text.specs.Public.Left.{Left, ArePiecesLeft}
+use Rattle.pgn_text.specs.Public.LeftMarks.{IsMark, TakesMark}
+use Rattle.pgn_text.specs.Public.Marks.{marked, within as in_limit}
+use Rattle.pgn_text.specs.Public.Pieces as spec
 use Rattle.pgn_text.specs.declared.game.pieces.PieceStart.{PieceStart}
 use Rattle.pgn_text.specs.declared.game.pieces.PieceStart.TheVariants.{Game, Unreadable}
-use Rattle.pgn_extract.specs.Aims.{Aim}
-use Rattle.pgn_extract.specs.Blockwise.{Gathers, GathersBlock, Passes, BeginsBlock, AddsVerdict, IsPieceOf, IsMarkVerdict}
-use Rattle.pgn_extract.specs.Index.{mark_line}
-use Rattle.pgn_extract.specs.Outcomes.{AppendsFront}
-use Rattle.pgn_extract.specs.Verdicts.{Verdict, SoundGame, is_faulty, IsVerdict, IsVerdictIn}
+use Rattle.pgn_extract.specs.Public.Aims.{Aim}
+use Rattle.pgn_extract.specs.Private.Blockwise.{Gathers, GathersBlock, Passes, BeginsBlock, AddsVerdict, IsPieceOf, IsMarkVerdict}
+use Rattle.pgn_extract.specs.Public.Index.{mark_line}
+use Rattle.pgn_extract.specs.Public.Outcomes.{AppendsFront}
+use Rattle.pgn_extract.specs.Public.Verdicts.{Verdict, SoundGame, is_faulty, IsVerdict, IsVerdictIn}
 use Rattle.pgn_extract.specs.declared.engine.report.Report.{Report}
 use Rattle.pgn_extract.specs.declared.settings.Mode.TheVariants as modes
 use Rattle.pgn_extract.proofs.GameVerdict.{unreadable_there}

@@ -3,8 +3,8 @@ use Rattle.std.proofs.Common.{◌≡◌, ◌+◌, ◌-◌, ◌∷◌, ◌++◌, 
 use Rattle.pgn_text.proofs.FrontText.{front_of_text}
 use Rattle.pgn_text.proofs.MarkedPieces.{one_marked_pieces}
 use Rattle.pgn_text.proofs.ResumedText.{resumes}
-use Rattle.pgn_extract.specs.Laws.{PartsJoin}
-use Rattle.pgn_extract.specs.Verdicts.{AreVerdicts, fault_lines}
+use Rattle.pgn_extract.specs.Public.Laws.{PartsJoin}
+use Rattle.pgn_extract.specs.Public.Verdicts.{AreVerdicts, fault_lines}
 use Rattle.pgn_extract.proofs.OneReport.{same_report}
 use Rattle.pgn_extract.proofs.VerdictFacts.{output_text-append, fault_lines-append, verdicts-append, count_by-join, same_output, same_faulty}
 

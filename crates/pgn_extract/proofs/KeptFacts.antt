@@ -4,18 +4,18 @@ use Rattle.std.proofs.lemmas.Bool.{false≢true}
 use Rattle.std.proofs.lemmas.Option.{slice_get_within, slice_get_past}
 use Rattle.std.specs.List.{slice_get}
 use Rattle.std.specs.Prelude.{is_some, MatchOption, codes}
-use Rattle.chess.specs.Positions.{State}
-use Rattle.chess.specs.San.{IsSan}
+use Rattle.chess.specs.Public.Positions.{State}
+use Rattle.chess.specs.Public.San.{IsSan}
 use Rattle.chess.specs.declared.moves.Move.{Move}
-use Rattle.pgn_text.specs.GameTexts.{GameText}
-use Rattle.pgn_game.specs.Replays.{Replay}
-use Rattle.pgn_criteria.specs.Meeting.{Heading, heading_of, Meets, IsFirst}
+use Rattle.pgn_text.specs.Public.GameTexts.{GameText}
+use Rattle.pgn_game.specs.Public.Replays.{Replay}
+use Rattle.pgn_criteria.specs.Public.Meeting.{Heading, heading_of, Meets, IsFirst}
 use Rattle.pgn_criteria.specs.declared.condition.Condition.{Condition}
 use Rattle.pgn_criteria.proofs.OpeningFacts.{met_alike}
-use Rattle.pgn_extract.specs.Aims.{Aim, IsMet, IsWanted}
-use Rattle.pgn_extract.specs.Exports.{HasEntry}
-use Rattle.pgn_extract.specs.Finding.{IsOfGame, Finds, ShowsPosition}
-use Rattle.pgn_extract.specs.Listing.{IsFenField, IsNextMove, IsNextField, AreFields}
+use Rattle.pgn_extract.specs.Public.Aims.{Aim, IsMet, IsWanted}
+use Rattle.pgn_extract.specs.Public.Exports.{HasEntry}
+use Rattle.pgn_extract.specs.Private.Finding.{IsOfGame, Finds, ShowsPosition}
+use Rattle.pgn_extract.specs.Public.Listing.{IsFenField, IsNextMove, IsNextField, AreFields}
 use Rattle.pgn_extract.specs.declared.settings.Fields.{Fields}
 use Rattle.pgn_extract.proofs.Found.{finds_none}
 use Rattle.pgn_extract.proofs.Picks.{same_met}

@@ -1,19 +1,19 @@
 -- The line that the codes of a record tell is the main line of each game that has the record.
 use Rattle.std.proofs.Common.{◌≡◌, List, Some, sym, ap, ◌∙◌, subst}
-use Rattle.chess.specs.Positions.{State}
+use Rattle.chess.specs.Public.Positions.{State}
 use Rattle.chess.specs.declared.moves.Move.{Move}
-use Rattle.pgn_text.specs.GameTexts.{GameText, tag_in}
-use Rattle.pgn_game.specs.CodeLines.{positions_from, IsCodedLine, IsCodedReplay}
-use Rattle.pgn_game.specs.MainLines.{main_words, IsMainLine}
-use Rattle.pgn_game.specs.PackReading.{RawRecord}
-use Rattle.pgn_game.specs.PackedGames.{PackedGame}
-use Rattle.pgn_game.specs.PlyCodes.{AreCodes}
-use Rattle.pgn_game.specs.Replays.{Replay}
-use Rattle.pgn_game.specs.Starts.{fen_tag, IsStart}
+use Rattle.pgn_text.specs.Public.GameTexts.{GameText, tag_in}
+use Rattle.pgn_game.specs.Public.CodeLines.{positions_from, IsCodedLine, IsCodedReplay}
+use Rattle.pgn_game.specs.Public.MainLines.{main_words, IsMainLine}
+use Rattle.pgn_game.specs.Public.PackReading.{RawRecord}
+use Rattle.pgn_game.specs.Public.PackedGames.{PackedGame}
+use Rattle.pgn_game.specs.Public.PlyCodes.{AreCodes}
+use Rattle.pgn_game.specs.Public.Replays.{Replay}
+use Rattle.pgn_game.specs.Public.Starts.{fen_tag, IsStart}
 use Rattle.pgn_game.proofs.CodeLineFacts.{line_legal, line_positions}
 use Rattle.pgn_game.proofs.OneReplay.{one_start, line_head}
-use Rattle.pgn_extract.specs.KeptPacked.{IsStartOf, IsKeptOf}
-use Rattle.pgn_extract.specs.Packed.{IsOfRecord, HasNoText}
+use Rattle.pgn_extract.specs.Private.KeptPacked.{IsStartOf, IsKeptOf}
+use Rattle.pgn_extract.specs.Private.Packed.{IsOfRecord, HasNoText}
 
 same_state : (P Q : State) → Some P ≡ Some Q → P ≡ Q
 same_state P Q e = cc

@@ -2,16 +2,16 @@
 use Rattle.std.proofs.Common.{◌≡◌, ◌==◌, ℕ, ◌+◌, ◌≤◌, true, false, List, [], ◌∷◌, ◌++◌, map, length, take, drop, Option, refl, sym, ap, ◌∙◌, subst, arith, append_assoc, length-append, ◌⊎◌, inl, inr}
 use Rattle.std.proofs.lemmas.Bool.{both_ways}
 use Rattle.std.proofs.lemmas.List.{append-nil, map_push, map-append, length-map}
-use Rattle.pgn_text.specs.Limits.{block_limit, depth_limit}
-use Rattle.pgn_text.specs.Left.{Left, ArePiecesLeft, TakesPiece}
-use Rattle.pgn_text.specs.Marks.{marked, within as in_limit}
-use Rattle.pgn_text.specs.Pieces as spec
+use Rattle.pgn_text.specs.Public.Limits.{block_limit, depth_limit}
+use Rattle.pgn_text.specs.Public.Left.{Left, ArePiecesLeft, TakesPiece}
+use Rattle.pgn_text.specs.Public.Marks.{marked, within as in_limit}
+use Rattle.pgn_text.specs.Public.Pieces as spec
 use Rattle.pgn_text.specs.declared.game.pieces.Piece.{Piece}
 use Rattle.pgn_text.proofs.Existence.{pieces_exist}
-use Rattle.pgn_extract.specs.Blockwise.{Gathers, GathersBlock, Passes, BeginsBlock, IsPieceOf, AddsPiece}
-use Rattle.pgn_extract.specs.Outcomes.{AppendsFront}
+use Rattle.pgn_extract.specs.Private.Blockwise.{Gathers, GathersBlock, Passes, BeginsBlock, IsPieceOf, AddsPiece}
+use Rattle.pgn_extract.specs.Public.Outcomes.{AppendsFront}
 use Rattle.pgn_extract.specs.declared.engine.report.Report.{Report}
-use Rattle.pgn_extract.specs.Aims.{Aim}
+use Rattle.pgn_extract.specs.Public.Aims.{Aim}
 use Rattle.pgn_extract.proofs.Gathered.{gathers_none, gathers_more, gathers_passed, gathers_begun}
 
 -- the piece that completes those given is one of the block's

@@ -3,25 +3,25 @@ use Rattle.std.proofs.Common.{◌≡◌, ◌↔◌, ℕ, ◌+◌, ◌<◌, Bool,
 use Rattle.std.specs.Prelude.{◌==◌, ◌/◌, ◌%◌}
 use Rattle.std.specs.List.{slice_get}
 use Rattle.std.proofs.lemmas.List.{drop-drop}
-use Rattle.chess.specs.Placements.{opposite}
-use Rattle.chess.specs.Positions.{State}
+use Rattle.chess.specs.Public.Placements.{opposite}
+use Rattle.chess.specs.Public.Positions.{State}
 use Rattle.chess.specs.declared.board.man.Side.{Side}
-use Rattle.pgn_text.specs.GameTexts.{GameText}
-use Rattle.pgn_game.specs.MainLines.{main_words, IsMainLine}
-use Rattle.pgn_game.specs.PackReading.{RawRecord, raw_of}
-use Rattle.pgn_game.specs.PackedGames.{PackedGame}
-use Rattle.pgn_game.specs.PlyCodes.{PlyCode, AreCodes, AreMarks}
-use Rattle.pgn_game.specs.Replays.{Replay}
+use Rattle.pgn_text.specs.Public.GameTexts.{GameText}
+use Rattle.pgn_game.specs.Public.MainLines.{main_words, IsMainLine}
+use Rattle.pgn_game.specs.Public.PackReading.{RawRecord, raw_of}
+use Rattle.pgn_game.specs.Public.PackedGames.{PackedGame}
+use Rattle.pgn_game.specs.Public.PlyCodes.{PlyCode, AreCodes, AreMarks}
+use Rattle.pgn_game.specs.Public.Replays.{Replay}
 use Rattle.pgn_game.specs.declared.replays.replayer.Lines.TheVariants.{Main}
 use Rattle.pgn_game.proofs.HeadFacts.{head_shows}
-use Rattle.pgn_criteria.specs.ByMarks.{has_marks, NoneMeets, IsNextMet}
-use Rattle.pgn_criteria.specs.Meeting.{heading_of}
-use Rattle.pgn_criteria.specs.Sieves.{codes_in}
-use Rattle.pgn_criteria.specs.Walks.{Sight, IsSightOf, stepped}
-use Rattle.pgn_extract.specs.Aims.{Aim, IsMet}
-use Rattle.pgn_extract.specs.Finding.{GoesOnAt}
-use Rattle.pgn_extract.specs.MarkedPacked.{AreMetWith}
-use Rattle.pgn_extract.specs.Packed.{IsOfRecord}
+use Rattle.pgn_criteria.specs.Public.ByMarks.{has_marks, NoneMeets, IsNextMet}
+use Rattle.pgn_criteria.specs.Public.Meeting.{heading_of}
+use Rattle.pgn_criteria.specs.Public.Sieves.{codes_in}
+use Rattle.pgn_criteria.specs.Public.Walks.{Sight, IsSightOf, stepped}
+use Rattle.pgn_extract.specs.Public.Aims.{Aim, IsMet}
+use Rattle.pgn_extract.specs.Private.Finding.{GoesOnAt}
+use Rattle.pgn_extract.specs.Private.MarkedPacked.{AreMetWith}
+use Rattle.pgn_extract.specs.Private.Packed.{IsOfRecord}
 use Rattle.pgn_extract.proofs.Found.{at_seam, finds_open, leaves_unwanted}
 use Rattle.pgn_extract.proofs.KeptFacts.{unwanted_there}
 use Rattle.pgn_extract.proofs.PackedFacts.{IsWalkedTo, IsListedOf, begins, first_is, kept_start, same_state, walked_by, walked_all, walked_enough}

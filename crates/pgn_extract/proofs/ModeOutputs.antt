@@ -1,15 +1,15 @@
 -- What is reported to the output of pieces in a row is their index, the listing of their entries, or the exports of their games.
 use Rattle.std.proofs.Common.{◌≡◌, ℕ, ◌+◌, List, [], ◌∷◌, ◌++◌, refl, sym, ap, ◌∙◌, subst, append_assoc, Option}
-use Rattle.pgn_text.specs.Marks.{PieceKind, ReadableGame, UnreadableRest, TooLongBlock, MarkedPiece}
-use Rattle.pgn_text.specs.Parts.{Part}
-use Rattle.pgn_extract.specs.Index.{index, index_line}
-use Rattle.pgn_extract.specs.Listing.{Entry, entry_line, listing}
-use Rattle.pgn_extract.specs.EntryRows.{AreGameEntries, sound, faulty, ArePieceEntries, AreEntryRows}
-use Rattle.pgn_extract.specs.Exports.{IsGameExport, sound as exported, faulty as unexported, IsPieceExport, AreExports, faulty_text}
-use Rattle.pgn_extract.specs.Runs.{Job, Io, Adds, Completes, Indexes, Exports}
-use Rattle.pgn_extract.specs.Verdicts.{Verdict, SoundGame, FaultyGame, output_of, output_text, IsListed, IsExported, IsVerdictIn, IsPieceVerdict, AreVerdicts}
+use Rattle.pgn_text.specs.Public.Marks.{PieceKind, ReadableGame, UnreadableRest, TooLongBlock, MarkedPiece}
+use Rattle.pgn_text.specs.Public.Parts.{Part}
+use Rattle.pgn_extract.specs.Public.Index.{index, index_line}
+use Rattle.pgn_extract.specs.Public.Listing.{Entry, entry_line, listing}
+use Rattle.pgn_extract.specs.Private.EntryRows.{AreGameEntries, sound, faulty, ArePieceEntries, AreEntryRows}
+use Rattle.pgn_extract.specs.Public.Exports.{IsGameExport, sound as exported, faulty as unexported, IsPieceExport, AreExports, faulty_text}
+use Rattle.pgn_extract.specs.Public.Runs.{Job, Io, Adds, Completes, Indexes, Exports}
+use Rattle.pgn_extract.specs.Public.Verdicts.{Verdict, SoundGame, FaultyGame, output_of, output_text, IsListed, IsExported, IsVerdictIn, IsPieceVerdict, AreVerdicts}
 use Rattle.pgn_extract.specs.declared.output.outcome.Summary.{Summary}
-use Rattle.pgn_extract.specs.Aims.{Aim}
+use Rattle.pgn_extract.specs.Public.Aims.{Aim}
 use Rattle.pgn_extract.specs.declared.settings.Mode.TheVariants as modes
 
 -- the lines of entries, and then of others

@@ -6,17 +6,17 @@ use Rattle.std.proofs.lemmas.Bool.{and_from, and_parts, cases_eq}
 use Rattle.std.proofs.lemmas.Bool.Decides.{nat_tests}
 use Rattle.std.proofs.lemmas.List.{length-take-le}
 use Rattle.std.proofs.lemmas.List.Folds.{list_all-append}
-use Rattle.pgn_text.specs.Bytes.{is_white, is_name_byte, is_not_line_feed, after_run}
-use Rattle.pgn_text.specs.Limits.{depth_limit}
-use Rattle.pgn_text.specs.StopPlaces.{tag_name_of}
+use Rattle.pgn_text.specs.Public.Bytes.{is_white, is_name_byte, is_not_line_feed, after_run}
+use Rattle.pgn_text.specs.Public.Limits.{depth_limit}
+use Rattle.pgn_text.specs.Public.StopPlaces.{tag_name_of}
 use Rattle.pgn_text.specs.declared.error.error_position.Within.{Within}
 use Rattle.pgn_text.specs.declared.error.error_position.Within.TheVariants.{Comment, TagName, TagValue, Tags, Variation, MainLine, Game}
 use Rattle.pgn_text.proofs.EachStops.{stop_exists}
 use Rattle.pgn_text.proofs.Fronts.{list_all-run}
 use Rattle.pgn_game.proofs.PlainTokens.{AreDigits, decimal_digits}
-use Rattle.pgn_extract.specs.Blockwise.{NamesBlockStop}
-use Rattle.pgn_extract.specs.Notes.{IsNote, NamesByte, NamesStop, AreLines, indented}
-use Rattle.pgn_extract.specs.NoteTexts.{line_feeds, column_after, position_text, place_in, place_text, begin_in, begin_text, hex_digit, byte_text, stopper_text, context_text, stop_line, hints, IsStopNote, too_long_text}
+use Rattle.pgn_extract.specs.Private.Blockwise.{NamesBlockStop}
+use Rattle.pgn_extract.specs.Public.Notes.{IsNote, NamesByte, NamesStop, AreLines, indented}
+use Rattle.pgn_extract.specs.Private.NoteTexts.{line_feeds, column_after, position_text, place_in, place_text, begin_in, begin_text, hex_digit, byte_text, stopper_text, context_text, stop_line, hints, IsStopNote, too_long_text}
 use Rattle.pgn_extract.specs.declared.explain.notes.Origin.{Origin}
 use Rattle.pgn_extract.proofs.StopNotes.{stops_within}
 

@@ -3,8 +3,8 @@ use Rattle.std.proofs.Common.{◌≡◌, ◌⊎◌, ℕ, ◌+◌, ◌^◌, ◌<�
 use Rattle.std.proofs.lemmas.Fmt.{decimal_injective}
 use Rattle.std.proofs.lemmas.List.{append_cancel_left}
 use Rattle.pgn_game.proofs.PlainTokens.{AreDigits, decimal_digits}
-use Rattle.pgn_extract.specs.Laws.{NoNotes, NoteNamesTheStop}
-use Rattle.pgn_extract.specs.Notes.{IsLinePlace, NamesByte, indented}
+use Rattle.pgn_extract.specs.Public.Laws.{NoNotes, NoteNamesTheStop}
+use Rattle.pgn_extract.specs.Public.Notes.{IsLinePlace, NamesByte, indented}
 
 -- digits end where another byte follows
 digits_once : (c : ℕ) → (c < 48) ⊎ (57 < c) → (xs ys more others : List ℕ) → AreDigits xs → AreDigits ys → xs ++ c ∷ more ≡ ys ++ c ∷ others

@@ -1,14 +1,14 @@
 -- The exports of pieces are one text.
 use Rattle.std.proofs.Common.{◌≡◌, ℕ, ◌+◌, List, [], ◌∷◌, ◌++◌, sym, ap, ◌∙◌, subst}
-use Rattle.pgn_text.specs.Games.{items_of, first_tag}
-use Rattle.pgn_text.specs.Marks.{PieceKind, ReadableGame, UnreadableRest, TooLongBlock}
-use Rattle.pgn_text.specs.Parts.{Part}
-use Rattle.pgn_game.specs.Replays.{Replay}
-use Rattle.pgn_game.specs.Starts.{fen_tag}
+use Rattle.pgn_text.specs.Public.Games.{items_of, first_tag}
+use Rattle.pgn_text.specs.Public.Marks.{PieceKind, ReadableGame, UnreadableRest, TooLongBlock}
+use Rattle.pgn_text.specs.Public.Parts.{Part}
+use Rattle.pgn_game.specs.Public.Replays.{Replay}
+use Rattle.pgn_game.specs.Public.Starts.{fen_tag}
 use Rattle.pgn_game.proofs.OneReplay.{one_replay, no_fault}
-use Rattle.pgn_extract.specs.Aims.{Aim}
-use Rattle.pgn_extract.specs.Exports.{written_lines, IsWritten, IsGameExport, sound, faulty, IsPieceExport}
-use Rattle.pgn_extract.specs.Laws.{TextHasOneExport}
+use Rattle.pgn_extract.specs.Public.Aims.{Aim}
+use Rattle.pgn_extract.specs.Public.Exports.{written_lines, IsWritten, IsGameExport, sound, faulty, IsPieceExport}
+use Rattle.pgn_extract.specs.Public.Laws.{TextHasOneExport}
 use Rattle.pgn_extract.proofs.GameExport.{one_export_of_parts}
 use Rattle.pgn_extract.proofs.OneVerdict.{one_written}
 

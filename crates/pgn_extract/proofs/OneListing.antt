@@ -4,10 +4,10 @@ use Rattle.std.specs.Prelude.{nat_le, cond}
 use Rattle.std.specs.List.{Contains, slice_get}
 use Rattle.std.proofs.lemmas.Bool.{cases_lt}
 use Rattle.std.proofs.lemmas.Bool.Decides.{nat_tests}
-use Rattle.pgn_text.specs.Marks.{MarkedPiece}
-use Rattle.pgn_extract.specs.Aims.{Aim}
-use Rattle.pgn_extract.specs.Laws.{PiecesHaveOneListing}
-use Rattle.pgn_extract.specs.Listing.{Entry, IsPlyOfGame, IsEarlier, Ascend, AreEntries, entries_at_least}
+use Rattle.pgn_text.specs.Public.Marks.{MarkedPiece}
+use Rattle.pgn_extract.specs.Public.Aims.{Aim}
+use Rattle.pgn_extract.specs.Public.Laws.{PiecesHaveOneListing}
+use Rattle.pgn_extract.specs.Public.Listing.{Entry, IsPlyOfGame, IsEarlier, Ascend, AreEntries, entries_at_least}
 use Rattle.pgn_extract.specs.declared.settings.Mode.TheVariants as modes
 use Rattle.pgn_extract.proofs.Chosen.{none_in, in_front}
 use Rattle.pgn_extract.proofs.ExactEntries.{are_entries}

@@ -1,15 +1,15 @@
 -- With games as they stand, each piece is in one of three exports: with an entry, without one, or faulty.
 use Rattle.std.proofs.Common.{◌≡◌, ℕ, List, subst}
-use Rattle.pgn_text.specs.Games.{items_of, first_tag}
-use Rattle.pgn_text.specs.Marks.{ReadableGame, UnreadableRest, TooLongBlock}
-use Rattle.pgn_text.specs.Parts.{Part, spelled}
-use Rattle.pgn_game.specs.Exports.{lines_with}
-use Rattle.pgn_game.specs.Replays.{Replay}
-use Rattle.pgn_game.specs.Starts.{fen_tag}
+use Rattle.pgn_text.specs.Public.Games.{items_of, first_tag}
+use Rattle.pgn_text.specs.Public.Marks.{ReadableGame, UnreadableRest, TooLongBlock}
+use Rattle.pgn_text.specs.Public.Parts.{Part, spelled}
+use Rattle.pgn_game.specs.Public.Exports.{lines_with}
+use Rattle.pgn_game.specs.Public.Replays.{Replay}
+use Rattle.pgn_game.specs.Public.Starts.{fen_tag}
 use Rattle.pgn_game.proofs.OneReplay.{one_replay, no_fault}
-use Rattle.pgn_extract.specs.Aims.{Aim}
-use Rattle.pgn_extract.specs.Exports.{as_it_stands, IsWritten, selected, unselected, IsGameExport, sound, faulty}
-use Rattle.pgn_extract.specs.Laws.{as_they_stand, IsInOneOf, in_first, in_second, in_third, PieceIsInOneExport}
+use Rattle.pgn_extract.specs.Public.Aims.{Aim}
+use Rattle.pgn_extract.specs.Public.Exports.{as_it_stands, IsWritten, selected, unselected, IsGameExport, sound, faulty}
+use Rattle.pgn_extract.specs.Public.Laws.{as_they_stand, IsInOneOf, in_first, in_second, in_third, PieceIsInOneExport}
 use Rattle.pgn_extract.specs.declared.settings.Select.TheVariants.{Matching, Others, Faulty}
 
 module _ (aim : Aim) (number offset : ℕ) (parts : List Part) where

@@ -1,11 +1,11 @@
 -- The pieces of a text are reported in only one way, but for the notes.
 use Rattle.std.proofs.Common.{ℕ, List, sym, ◌∙◌}
-use Rattle.pgn_text.specs.Marks.{MarkedPiece}
+use Rattle.pgn_text.specs.Public.Marks.{MarkedPiece}
 use Rattle.pgn_game.proofs.OneReplay.{one_replay, one_fault, no_fault}
-use Rattle.pgn_extract.specs.Aims.{Aim}
-use Rattle.pgn_extract.specs.Laws.{TextHasOneReport}
+use Rattle.pgn_extract.specs.Public.Aims.{Aim}
+use Rattle.pgn_extract.specs.Public.Laws.{TextHasOneReport}
 use Rattle.pgn_extract.proofs.GameExport.{one_export_of_parts}
-use Rattle.pgn_extract.specs.Verdicts.{Verdict, AreVerdicts, IsSameReport}
+use Rattle.pgn_extract.specs.Public.Verdicts.{Verdict, AreVerdicts, IsSameReport}
 use Rattle.pgn_extract.proofs.OneVerdict.{all_one_verdict, bare_verdicts}
 
 pub same_report : (aim : Aim) (number : ℕ) (pieces : List MarkedPiece) (xs ys : List Verdict)

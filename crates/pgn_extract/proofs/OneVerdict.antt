@@ -1,23 +1,23 @@
 -- A piece is reported in one way in a mode, but for its note: its game has one replay or one fault, and one export.
 use Rattle.std.proofs.Common.{◌≡◌, ℕ, ◌+◌, false, List, [], ◌∷◌, map, sym, ap, ◌∙◌, subst, refl, codes}
-use Rattle.pgn_text.specs.Games.{items_of, first_tag}
-use Rattle.pgn_text.specs.Marks.{PieceKind, ReadableGame, UnreadableRest, TooLongBlock, MarkedPiece}
-use Rattle.pgn_text.specs.Parts.{Part}
-use Rattle.pgn_game.specs.Faults.{Fault}
-use Rattle.pgn_game.specs.Laws.{GameHasOneReplay, GameHasOneFault, SoundGameHasNoFault}
-use Rattle.pgn_game.specs.Replays.{Replay}
+use Rattle.pgn_text.specs.Public.Games.{items_of, first_tag}
+use Rattle.pgn_text.specs.Public.Marks.{PieceKind, ReadableGame, UnreadableRest, TooLongBlock, MarkedPiece}
+use Rattle.pgn_text.specs.Public.Parts.{Part}
+use Rattle.pgn_game.specs.Public.Faults.{Fault}
+use Rattle.pgn_game.specs.Public.Laws.{GameHasOneReplay, GameHasOneFault, SoundGameHasNoFault}
+use Rattle.pgn_game.specs.Public.Replays.{Replay}
 use Rattle.pgn_game.specs.declared.replays.replayer.Lines.TheVariants.{Main}
-use Rattle.pgn_game.specs.Starts.{fen_tag}
+use Rattle.pgn_game.specs.Public.Starts.{fen_tag}
 use Rattle.pgn_game.proofs.GameLineFacts.{one_game_line}
 use Rattle.pgn_extract.specs.declared.settings.Form.{Form}
 use Rattle.pgn_extract.specs.declared.settings.Form.TheVariants.{Standard, AsItStands, Line, Record}
-use Rattle.pgn_extract.specs.Exports.{line_with, written_lines, IsTextOf, IsWritten, selected, unselected, faulty_text}
-use Rattle.pgn_extract.specs.Index.{fault_text}
-use Rattle.pgn_extract.specs.Listing.{AreFields, listing, heading_in}
-use Rattle.pgn_extract.specs.GameReports.{plies_of, AreListed, cause_text}
-use Rattle.pgn_extract.specs.Notes.{IsNote}
-use Rattle.pgn_extract.specs.Verdicts.{Verdict, SoundGame, FaultyGame, IsListed, IsExported, IsVerdictIn, IsReportedBy, IsPieceVerdict, AreVerdicts, without_note, IsUnreadableVerdict}
-use Rattle.pgn_extract.specs.Aims.{Aim, IsEntry}
+use Rattle.pgn_extract.specs.Public.Exports.{line_with, written_lines, IsTextOf, IsWritten, selected, unselected, faulty_text}
+use Rattle.pgn_extract.specs.Public.Index.{fault_text}
+use Rattle.pgn_extract.specs.Public.Listing.{AreFields, listing, heading_in}
+use Rattle.pgn_extract.specs.Public.GameReports.{plies_of, AreListed, cause_text}
+use Rattle.pgn_extract.specs.Public.Notes.{IsNote}
+use Rattle.pgn_extract.specs.Public.Verdicts.{Verdict, SoundGame, FaultyGame, IsListed, IsExported, IsVerdictIn, IsReportedBy, IsPieceVerdict, AreVerdicts, without_note, IsUnreadableVerdict}
+use Rattle.pgn_extract.specs.Public.Aims.{Aim, IsEntry}
 use Rattle.pgn_extract.proofs.Chosen.{one_chosen}
 use Rattle.pgn_extract.proofs.FieldTexts.{one_text as one_fields}
 use Rattle.pgn_extract.proofs.GameExport.{PartsHaveOneExport, one_record_of_parts}

@@ -2,18 +2,18 @@
 use Rattle.std.proofs.Common.{◌≡◌, ℕ, ◌+◌, ◌^◌, ◌<◌, ◌≤◌, ◌==◌, Bool, List, [], ◌∷◌, ◌++◌, map, length, drop, Option, Some, sym, ap, ◌∙◌, subst, append_assoc, length-append, length-drop, arith}
 use Rattle.std.specs.List.{AllByRecursion}
 use Rattle.std.specs.Prelude.{IfSome}
-use Rattle.pgn_text.specs.Limits.{block_limit, depth_limit, largest_offset}
-use Rattle.pgn_text.specs.Marks.{PieceKind, ReadableGame, UnreadableRest, TooLongBlock, MarkedPiece, marked, AreOfBlock, over, within, AreOfBlocks, AreMarkedPieces}
-use Rattle.pgn_text.specs.Parts.{Part, spelled}
-use Rattle.pgn_text.specs.Pieces.{Piece, Game, Unreadable, ArePieces}
+use Rattle.pgn_text.specs.Public.Limits.{block_limit, depth_limit, largest_offset}
+use Rattle.pgn_text.specs.Public.Marks.{PieceKind, ReadableGame, UnreadableRest, TooLongBlock, MarkedPiece, marked, AreOfBlock, over, within, AreOfBlocks, AreMarkedPieces}
+use Rattle.pgn_text.specs.Public.Parts.{Part, spelled}
+use Rattle.pgn_text.specs.Public.Pieces.{Piece, Game, Unreadable, ArePieces}
 use Rattle.pgn_text.proofs.MarkBounds.{mark_bounds}
 use Rattle.pgn_game.proofs.PackRoom.{game_fits}
-use Rattle.pgn_game.specs.PackedGames.{PackedGame, FitsRecord, longest_name}
+use Rattle.pgn_game.specs.Public.PackedGames.{PackedGame, FitsRecord, longest_name}
 use Rattle.pgn_game.specs.declared.replays.replayer.Lines.TheVariants.{Main}
-use Rattle.pgn_extract.specs.Aims.{aim_of}
-use Rattle.pgn_extract.specs.Laws.{PackIsListedAsItsText}
-use Rattle.pgn_extract.specs.Runs.{job_of, Completes, Exports}
-use Rattle.pgn_extract.specs.Searching.{AreGameRecords, sound, faulty, ArePieceRecords, AreRecords, IsPackOf, PackedTextIsAPack}
+use Rattle.pgn_extract.specs.Public.Aims.{aim_of}
+use Rattle.pgn_extract.specs.Public.Laws.{PackIsListedAsItsText}
+use Rattle.pgn_extract.specs.Public.Runs.{job_of, Completes, Exports}
+use Rattle.pgn_extract.specs.Public.Searching.{AreGameRecords, sound, faulty, ArePieceRecords, AreRecords, IsPackOf, PackedTextIsAPack}
 use Rattle.pgn_extract.specs.declared.settings.Mode.TheVariants as modes
 use Rattle.pgn_extract.proofs.GameExport.{own_replay}
 use Rattle.pgn_extract.proofs.PackTaken.{pieces_records}

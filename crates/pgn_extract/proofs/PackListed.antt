@@ -1,21 +1,21 @@
 -- The listing of a pack is that of the text that was packed, and its index is that of the sound games.
 use Rattle.std.proofs.Common.{◌≡◌, ◌⊎◌, ℕ, ◌+◌, inl, inr, List, [], ◌∷◌, ◌++◌, Option, refl, sym, ap, ◌∙◌, subst, append_assoc, append-nil}
-use Rattle.pgn_text.specs.GameTexts.{GameText, ShowsGame}
-use Rattle.pgn_text.specs.Games.{items_of, first_tag}
-use Rattle.pgn_text.specs.Marks.{PieceKind, ReadableGame, UnreadableRest, TooLongBlock, MarkedPiece}
-use Rattle.pgn_text.specs.Parts.{Part}
+use Rattle.pgn_text.specs.Public.GameTexts.{GameText, ShowsGame}
+use Rattle.pgn_text.specs.Public.Games.{items_of, first_tag}
+use Rattle.pgn_text.specs.Public.Marks.{PieceKind, ReadableGame, UnreadableRest, TooLongBlock, MarkedPiece}
+use Rattle.pgn_text.specs.Public.Parts.{Part}
 use Rattle.pgn_game.proofs.OneReplay.{no_fault}
 use Rattle.pgn_game.proofs.PackOnce.{one_pack}
-use Rattle.pgn_game.specs.PackedGames.{PackedGame, IsPacked, pack_bytes}
-use Rattle.pgn_game.specs.Starts.{fen_tag}
+use Rattle.pgn_game.specs.Public.PackedGames.{PackedGame, IsPacked, pack_bytes}
+use Rattle.pgn_game.specs.Public.Starts.{fen_tag}
 use Rattle.pgn_game.specs.declared.replays.replayer.Lines.TheVariants.{Main}
-use Rattle.pgn_criteria.specs.Meeting.{Heading, heading_of}
-use Rattle.pgn_extract.specs.Aims.{Aim}
-use Rattle.pgn_extract.specs.EntryRows.{AreGameEntries, sound as sound_rows, faulty as faulty_rows, ArePieceEntries, AreEntryRows}
-use Rattle.pgn_extract.specs.GameReports.{AreListed}
-use Rattle.pgn_extract.specs.Index.{mark_line}
-use Rattle.pgn_extract.specs.Listing.{Entry, AreEntries, listing, heading_in}
-use Rattle.pgn_extract.specs.Searching.{AreGameRecords, sound, faulty, ArePieceRecords, AreRecords, IsPackOf, IsRecordListing, AreRecordLines, ArePackLines, BeginsWithRecords, IsSoundPiece, IsIndexOfSoundGames, none as no_pieces, keep, leave}
+use Rattle.pgn_criteria.specs.Public.Meeting.{Heading, heading_of}
+use Rattle.pgn_extract.specs.Public.Aims.{Aim}
+use Rattle.pgn_extract.specs.Private.EntryRows.{AreGameEntries, sound as sound_rows, faulty as faulty_rows, ArePieceEntries, AreEntryRows}
+use Rattle.pgn_extract.specs.Public.GameReports.{AreListed}
+use Rattle.pgn_extract.specs.Public.Index.{mark_line}
+use Rattle.pgn_extract.specs.Public.Listing.{Entry, AreEntries, listing, heading_in}
+use Rattle.pgn_extract.specs.Public.Searching.{AreGameRecords, sound, faulty, ArePieceRecords, AreRecords, IsPackOf, IsRecordListing, AreRecordLines, ArePackLines, BeginsWithRecords, IsSoundPiece, IsIndexOfSoundGames, none as no_pieces, keep, leave}
 use Rattle.pgn_extract.specs.declared.settings.Mode.{Mode}
 use Rattle.pgn_extract.specs.declared.settings.Mode.TheVariants as modes
 use Rattle.pgn_extract.proofs.ExactEntries.{are_entries}

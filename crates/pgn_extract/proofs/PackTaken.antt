@@ -1,24 +1,24 @@
 -- Where each sound game is packed, what is exported of pieces is the records of these games.
 use Rattle.std.proofs.Common.{◌≡◌, ℕ, ◌+◌, ◌<◌, List, [], ◌∷◌, ◌++◌, length, Option, refl, sym, ap, ◌∙◌, subst, append-nil, arith}
 use Rattle.std.proofs.lemmas.List.Concat.{flat_map-append}
-use Rattle.pgn_text.specs.GameTexts.{tag_in}
-use Rattle.pgn_text.specs.Games.{Item, items_of}
-use Rattle.pgn_text.specs.Marks.{PieceKind, ReadableGame, UnreadableRest, TooLongBlock, MarkedPiece}
-use Rattle.pgn_text.specs.Parts.{Part, spelled}
+use Rattle.pgn_text.specs.Public.GameTexts.{tag_in}
+use Rattle.pgn_text.specs.Public.Games.{Item, items_of}
+use Rattle.pgn_text.specs.Public.Marks.{PieceKind, ReadableGame, UnreadableRest, TooLongBlock, MarkedPiece}
+use Rattle.pgn_text.specs.Public.Parts.{Part, spelled}
 use Rattle.pgn_game.proofs.OneReplay.{line_length}
-use Rattle.pgn_game.specs.MainLines.{main_words}
-use Rattle.pgn_game.specs.PackedGames.{PackedGame, record_bytes, pack_bytes}
-use Rattle.pgn_game.specs.Replays.{Replay, IsReplay}
-use Rattle.pgn_game.specs.Starts.{fen_tag}
+use Rattle.pgn_game.specs.Public.MainLines.{main_words}
+use Rattle.pgn_game.specs.Public.PackedGames.{PackedGame, record_bytes, pack_bytes}
+use Rattle.pgn_game.specs.Public.Replays.{Replay, IsReplay}
+use Rattle.pgn_game.specs.Public.Starts.{fen_tag}
 use Rattle.pgn_game.specs.declared.replays.replayer.Lines.{Lines}
 use Rattle.pgn_game.specs.declared.replays.replayer.Lines.TheVariants.{Main}
-use Rattle.pgn_criteria.specs.Meeting.{Heading}
+use Rattle.pgn_criteria.specs.Public.Meeting.{Heading}
 use Rattle.pgn_criteria.specs.declared.condition.Condition.{Condition}
-use Rattle.pgn_extract.specs.Aims.{Aim, IsMet}
-use Rattle.pgn_extract.specs.Exports.{HasEntry, IsSelected, IsWritten, selected, unselected, IsTextOf, sound as exported, faulty as unexported, IsPieceExport, AreExports, faulty_text, lines_in}
-use Rattle.pgn_extract.specs.GameReports.{IsReplayOf, IsFaultOf}
-use Rattle.pgn_extract.specs.Listing.{heading_in}
-use Rattle.pgn_extract.specs.Searching.{AreGameRecords, sound, faulty, ArePieceRecords, AreRecords, PacksAll}
+use Rattle.pgn_extract.specs.Public.Aims.{Aim, IsMet}
+use Rattle.pgn_extract.specs.Public.Exports.{HasEntry, IsSelected, IsWritten, selected, unselected, IsTextOf, sound as exported, faulty as unexported, IsPieceExport, AreExports, faulty_text, lines_in}
+use Rattle.pgn_extract.specs.Public.GameReports.{IsReplayOf, IsFaultOf}
+use Rattle.pgn_extract.specs.Public.Listing.{heading_in}
+use Rattle.pgn_extract.specs.Public.Searching.{AreGameRecords, sound, faulty, ArePieceRecords, AreRecords, PacksAll}
 use Rattle.pgn_extract.specs.declared.settings.Form.{Form}
 use Rattle.pgn_extract.specs.declared.settings.Mode.TheVariants as modes
 use Rattle.pgn_extract.specs.declared.settings.Select.{Select}

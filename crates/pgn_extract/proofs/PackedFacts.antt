@@ -3,30 +3,30 @@ use Rattle.std.proofs.Common.{◌≡◌, ◌⊎◌, ℕ, suc, ◌+◌, ◌*◌, 
 use Rattle.std.specs.Prelude.{◌==◌, ◌/◌, ◌%◌}
 use Rattle.std.specs.List.{slice_get}
 use Rattle.std.proofs.Math.ListN.{drop_of_length-le}
-use Rattle.chess.specs.Moves.{after, IsPseudoLegal}
-use Rattle.chess.specs.Positions.{State}
+use Rattle.chess.specs.Public.Moves.{after, IsPseudoLegal}
+use Rattle.chess.specs.Public.Positions.{State}
 use Rattle.chess.specs.declared.moves.Move.{Move}
-use Rattle.pgn_text.specs.GameTexts.{GameText, tag_in}
-use Rattle.pgn_game.specs.MainLines.{main_words, IsMainLine}
-use Rattle.pgn_game.specs.PackReading.{RawRecord, raw_of}
-use Rattle.pgn_game.specs.PackedGames.{PackedGame, FitsRecord}
-use Rattle.pgn_game.specs.PlyCodes.{PlyCode, IsCode, AreCodes, AreMarks}
-use Rattle.pgn_game.specs.Replays.{Replay}
-use Rattle.pgn_game.specs.Starts.{fen_tag, IsStart}
+use Rattle.pgn_text.specs.Public.GameTexts.{GameText, tag_in}
+use Rattle.pgn_game.specs.Public.MainLines.{main_words, IsMainLine}
+use Rattle.pgn_game.specs.Public.PackReading.{RawRecord, raw_of}
+use Rattle.pgn_game.specs.Public.PackedGames.{PackedGame, FitsRecord}
+use Rattle.pgn_game.specs.Public.PlyCodes.{PlyCode, IsCode, AreCodes, AreMarks}
+use Rattle.pgn_game.specs.Public.Replays.{Replay}
+use Rattle.pgn_game.specs.Public.Starts.{fen_tag, IsStart}
 use Rattle.pgn_game.specs.declared.replays.replayer.Lines.TheVariants.{Main}
 use Rattle.pgn_game.proofs.HeadFacts.{head_shows}
 use Rattle.pgn_game.proofs.OneReplay.{one_start, line_length}
 use Rattle.pgn_game.proofs.RecordFacts.{plies_size}
-use Rattle.pgn_criteria.specs.Meeting.{heading_of}
-use Rattle.pgn_criteria.specs.Walks.{Sight, IsSightOf, stepped}
+use Rattle.pgn_criteria.specs.Public.Meeting.{heading_of}
+use Rattle.pgn_criteria.specs.Public.Walks.{Sight, IsSightOf, stepped}
 use Rattle.pgn_criteria.specs.declared.condition.Condition.{Condition}
 use Rattle.pgn_criteria.proofs.WalkFacts.{step_shows_next_position}
-use Rattle.pgn_extract.specs.Aims.{Aim}
-use Rattle.pgn_extract.specs.Finding.{AsksFor, Finds}
-use Rattle.pgn_extract.specs.GameReports.{AreListed}
-use Rattle.pgn_extract.specs.Listing.{Entry, listing}
-use Rattle.pgn_extract.specs.Packed.{PutsRecord, IsOfRecord, HasNoText, HasItsMarks, GoesOnSeen, ListsRecord}
-use Rattle.pgn_extract.specs.Searching.{AreRecordLines, IsOfNoGame, IsRecordListing}
+use Rattle.pgn_extract.specs.Public.Aims.{Aim}
+use Rattle.pgn_extract.specs.Private.Finding.{AsksFor, Finds}
+use Rattle.pgn_extract.specs.Public.GameReports.{AreListed}
+use Rattle.pgn_extract.specs.Public.Listing.{Entry, listing}
+use Rattle.pgn_extract.specs.Private.Packed.{PutsRecord, IsOfRecord, HasNoText, HasItsMarks, GoesOnSeen, ListsRecord}
+use Rattle.pgn_extract.specs.Public.Searching.{AreRecordLines, IsOfNoGame, IsRecordListing}
 use Rattle.pgn_extract.specs.declared.settings.Mode.{Mode}
 use Rattle.pgn_extract.specs.declared.settings.Mode.TheVariants as modes
 use Rattle.pgn_extract.proofs.Found.{finds_none, finds_all, leaves_shut}

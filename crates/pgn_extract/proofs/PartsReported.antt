@@ -1,10 +1,10 @@
 -- What is reported of the two parts of a text, cut at a mark, is what is reported of the whole.
 use Rattle.std.proofs.Common.{◌≡◌, ◌+◌, ◌-◌, List, ◌∷◌, length, take, drop, sym, ap, ◌∙◌, subst, arith}
-use Rattle.pgn_text.specs.Marks.{MarkedPiece, AreMarkedPieces}
+use Rattle.pgn_text.specs.Public.Marks.{MarkedPiece, AreMarkedPieces}
 use Rattle.pgn_text.proofs.FrontText.{front_of_text}
 use Rattle.pgn_text.proofs.MarkedPieces.{one_marked_pieces}
-use Rattle.pgn_extract.specs.Laws.{AreJoined, PartsAreReported}
-use Rattle.pgn_extract.specs.Verdicts.{AreVerdicts}
+use Rattle.pgn_extract.specs.Public.Laws.{AreJoined, PartsAreReported}
+use Rattle.pgn_extract.specs.Public.Verdicts.{AreVerdicts}
 use Rattle.pgn_extract.proofs.JoinedParts.{parts_join}
 
 pub parts_reported : PartsAreReported

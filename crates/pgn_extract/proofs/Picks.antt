@@ -1,16 +1,16 @@
 -- Plies of a game that are left, and criteria that are asked in place of others.
 use Rattle.std.proofs.Common.{◌≡◌, ◌↔◌, ℕ, zero, suc, ◌+◌, ◌<◌, ◌≤◌, List, [], ◌∷◌, length, drop, Option, Some, None, sym, subst, inl, arith}
 use Rattle.std.specs.Prelude.{IfSome}
-use Rattle.chess.specs.Positions.{State}
-use Rattle.pgn_game.specs.Replays.{Replay}
-use Rattle.pgn_text.specs.GameTexts.{GameText}
-use Rattle.pgn_criteria.specs.Meeting.{Heading, heading_of, Meets}
+use Rattle.chess.specs.Public.Positions.{State}
+use Rattle.pgn_game.specs.Public.Replays.{Replay}
+use Rattle.pgn_text.specs.Public.GameTexts.{GameText}
+use Rattle.pgn_criteria.specs.Public.Meeting.{Heading, heading_of, Meets}
 use Rattle.pgn_criteria.specs.declared.condition.Condition.{Condition}
-use Rattle.pgn_extract.specs.Aims.{Aim, IsMet}
-use Rattle.pgn_extract.specs.Finding.{IsOfGame, AsksFor}
-use Rattle.pgn_extract.specs.Listing.{Entry}
-use Rattle.pgn_extract.specs.GameReports.{plies_of, AreChosen}
-use Rattle.pgn_extract.specs.GameReports.AreChosen.{none, leave}
+use Rattle.pgn_extract.specs.Public.Aims.{Aim, IsMet}
+use Rattle.pgn_extract.specs.Private.Finding.{IsOfGame, AsksFor}
+use Rattle.pgn_extract.specs.Public.Listing.{Entry}
+use Rattle.pgn_extract.specs.Public.GameReports.{plies_of, AreChosen}
+use Rattle.pgn_extract.specs.Public.GameReports.AreChosen.{none, leave}
 use Rattle.pgn_extract.proofs.FieldTexts.{some_position}
 
 module _ (number offset : ℕ) (P : ℕ → Type 0) (S : ℕ → List ℕ → Type 0) where

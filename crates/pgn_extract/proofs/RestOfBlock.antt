@@ -1,11 +1,11 @@
 -- Bytes that are no game are the rest of their block.
 use Rattle.std.proofs.Common.{◌≡◌, ℕ, ◌-◌, ◌==◌, Bool, List, [], ◌∷◌, ◌++◌, length, take, drop, arith, sym, ap, ◌∙◌, append_assoc, drop_at}
 use Rattle.std.proofs.lemmas.List.{length-drop, take_all}
-use Rattle.pgn_text.specs.Limits.{depth_limit}
-use Rattle.pgn_text.specs.Parts.{spelled}
-use Rattle.pgn_text.specs.Pieces.{Piece, Game, Unreadable, ArePieces}
+use Rattle.pgn_text.specs.Public.Limits.{depth_limit}
+use Rattle.pgn_text.specs.Public.Parts.{spelled}
+use Rattle.pgn_text.specs.Public.Pieces.{Piece, Game, Unreadable, ArePieces}
 use Rattle.pgn_text.proofs.ResumedText.{not_nil}
-use Rattle.pgn_extract.specs.Blockwise.{IsPieceOf}
+use Rattle.pgn_extract.specs.Private.Blockwise.{IsPieceOf}
 
 rest_after : (max_depth : ℕ) (f : Bool) (before : List ℕ) (earlier : List Piece) (at : ℕ) (bytes : List ℕ) (later : List Piece) (text : List ℕ)
     → ArePieces max_depth f before (earlier ++ Unreadable at bytes ∷ later) text → drop at (before ++ text) ≡ bytes

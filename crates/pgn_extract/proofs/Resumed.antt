@@ -2,13 +2,13 @@
 use Rattle.std.proofs.Common.{◌≡◌, ℕ, ◌+◌, ◌≤◌, true, false, List, [], ◌∷◌, ◌++◌, length, drop, refl, sym, ap, ◌∙◌, subst, arith, Option}
 use Rattle.std.specs.Prelude.{nat_le, if◌then◌else◌, Some, None, Ok, Err, Result, IfOk, IfSome, OnOk}
 use Rattle.std.proofs.lemmas.Bool.Decides.{nat_tests}
-use Rattle.pgn_text.specs.Marks.{MarkedPiece, AreMarkedPieces}
+use Rattle.pgn_text.specs.Public.Marks.{MarkedPiece, AreMarkedPieces}
 use Rattle.pgn_text.proofs.ResumedText.{resumed_pieces}
-use Rattle.pgn_extract.specs.Runs.{Job, Io, Completes, Resumes}
-use Rattle.pgn_extract.specs.Resuming.{IsMarkAmong, WritesRest, verdicts_at_least}
-use Rattle.pgn_extract.specs.Verdicts.{Verdict, AreVerdicts, IsSameReport}
+use Rattle.pgn_extract.specs.Public.Runs.{Job, Io, Completes, Resumes}
+use Rattle.pgn_extract.specs.Public.Resuming.{IsMarkAmong, WritesRest, verdicts_at_least}
+use Rattle.pgn_extract.specs.Public.Verdicts.{Verdict, AreVerdicts, IsSameReport}
 use Rattle.pgn_extract.specs.declared.output.outcome.Summary.{Summary}
-use Rattle.pgn_extract.specs.Aims.{Aim}
+use Rattle.pgn_extract.specs.Public.Aims.{Aim}
 use Rattle.pgn_extract.proofs.OneReport.{same_report}
 
 -- pieces that are all numbered high enough

@@ -1,12 +1,12 @@
 -- How a run ends: as the run over its blocks does, once the bytes before its begin are dropped.
 use Rattle.std.proofs.Common.{◌≡◌, ℕ, ◌≤◌, true, List, ◌∷◌, drop, refl, sym, subst, Option}
 use Rattle.std.specs.Prelude.{Some, None, Ok, Err, Result, IfOk, IfErr, IfSome}
-use Rattle.pgn_text.specs.Limits.{largest_offset}
-use Rattle.pgn_text.specs.Marks.{AreMarkedPieces}
+use Rattle.pgn_text.specs.Public.Limits.{largest_offset}
+use Rattle.pgn_text.specs.Public.Marks.{AreMarkedPieces}
 use Rattle.pgn_text.proofs.ResumedText.{resumed_pieces}
-use Rattle.pgn_extract.specs.Blockwise.{Drops, DropsSome, EndsBlocks, BreaksOff}
-use Rattle.pgn_extract.specs.Listing.{AreEntries, listing, entries_at_least}
-use Rattle.pgn_extract.specs.Runs.{Job, Io, Adds, Completes, FaultsAre, IsRun, Lists, ListsRest}
+use Rattle.pgn_extract.specs.Private.Blockwise.{Drops, DropsSome, EndsBlocks, BreaksOff}
+use Rattle.pgn_extract.specs.Public.Listing.{AreEntries, listing, entries_at_least}
+use Rattle.pgn_extract.specs.Public.Runs.{Job, Io, Adds, Completes, FaultsAre, IsRun, Lists, ListsRest}
 use Rattle.pgn_extract.specs.declared.output.outcome.RunError.{RunError}
 use Rattle.pgn_extract.specs.declared.output.outcome.RunError.TheVariants.{Read}
 use Rattle.pgn_extract.specs.declared.output.outcome.Summary.{Summary}

@@ -4,21 +4,21 @@ use Rattle.std.specs.Prelude.{◌≢◌, count_by, IfSome}
 use Rattle.std.specs.Io.KnownBytes.{Keeps, IsAtEnd}
 use Rattle.std.proofs.lemmas.Bool.{cases_Bool, both_ways}
 use Rattle.std.proofs.lemmas.List.{append-nil}
-use Rattle.pgn_text.specs.Blocks.{IsFirstBlock}
-use Rattle.pgn_text.specs.Marks.{MarkedPiece, AreMarkedPieces}
-use Rattle.pgn_text.specs.Tallies.{Reads}
-use Rattle.pgn_text.specs.Windows.{Window, fresh_window, IsCutOff, FailsAfter}
+use Rattle.pgn_text.specs.Public.Blocks.{IsFirstBlock}
+use Rattle.pgn_text.specs.Public.Marks.{MarkedPiece, AreMarkedPieces}
+use Rattle.pgn_text.specs.Public.Tallies.{Reads}
+use Rattle.pgn_text.specs.Public.Windows.{Window, fresh_window, IsCutOff, FailsAfter}
 use Rattle.pgn_text.specs.declared.io.blocks.ReadError.{ReadError}
 use Rattle.pgn_text.specs.declared.io.blocks.ReadError.TheVariants as cause
 use Rattle.pgn_text.proofs.Joined.{reads_join, reads_none}
 use Rattle.pgn_text.proofs.OneBlocks.{empty_first}
-use Rattle.pgn_extract.specs.Blockwise.{WritesBlock, Begins, BeginsBlock, EndsBlocks, BeginsFirst, BreaksOff, StandsOver, run_error_of}
-use Rattle.pgn_extract.specs.Outcomes.{Writes}
+use Rattle.pgn_extract.specs.Private.Blockwise.{WritesBlock, Begins, BeginsBlock, EndsBlocks, BeginsFirst, BreaksOff, StandsOver, run_error_of}
+use Rattle.pgn_extract.specs.Public.Outcomes.{Writes}
 use Rattle.pgn_extract.specs.declared.output.outcome.RunError.{RunError}
 use Rattle.pgn_extract.specs.declared.output.outcome.RunError.TheVariants.{Write, OutOfMemory}
-use Rattle.pgn_extract.specs.Verdicts.{Verdict, is_faulty}
+use Rattle.pgn_extract.specs.Public.Verdicts.{Verdict, is_faulty}
 use Rattle.pgn_extract.specs.declared.output.outcome.Summary.{Summary}
-use Rattle.pgn_extract.specs.Aims.{Aim}
+use Rattle.pgn_extract.specs.Public.Aims.{Aim}
 use Rattle.pgn_extract.proofs.Beginnings.{says_kept, writes_more, begins_written, begins_more}
 use Rattle.pgn_extract.proofs.BlocksGiven.{Given, none_given, one_given, all_given, all_but_last, goes_on}
 use Rattle.pgn_extract.proofs.Dropping.{all_read}

@@ -1,17 +1,17 @@
 -- What is wanted of a game speaks of its tags by their names: where the same contents are found for each name, the same is wanted.
 use Rattle.std.proofs.Common.{◌≡◌, ◌↔◌, ℕ, Bool, true, false, List, [], ◌∷◌, Option, Some, None, sym, ◌∙◌, inl, inr}
-use Rattle.chess.specs.Fen.{parted_at}
-use Rattle.chess.specs.Positions.{State}
-use Rattle.pgn_game.specs.Replays.{Replay}
-use Rattle.pgn_criteria.specs.Meeting.{Heading, HasOneOf, IsSo, Taken, Holds, AllHold, HoldsThere, SomeHold, is_turned, EachHold}
+use Rattle.chess.specs.Public.Fen.{parted_at}
+use Rattle.chess.specs.Public.Positions.{State}
+use Rattle.pgn_game.specs.Public.Replays.{Replay}
+use Rattle.pgn_criteria.specs.Public.Meeting.{Heading, HasOneOf, IsSo, Taken, Holds, AllHold, HoldsThere, SomeHold, is_turned, EachHold}
 use Rattle.pgn_criteria.specs.declared.compare.Relation.{Relation}
 use Rattle.std.specs.Prelude.{if◌then◌else◌}
-use Rattle.pgn_criteria.specs.Mirrors.{mirror}
+use Rattle.pgn_criteria.specs.Public.Mirrors.{mirror}
 use Rattle.pgn_criteria.specs.declared.condition.Condition.{Condition}
 use Rattle.pgn_criteria.specs.declared.condition.Claim.{Claim}
 use Rattle.pgn_criteria.specs.declared.condition.Claim.TheVariants.{Tag, Fen, Flip, Material, Moves, Plies, Result, Next, Played, For, Count, Turn, Check, Mate, Stalemate}
 use Rattle.pgn_criteria.proofs.SpanFacts.{spans_same}
-use Rattle.pgn_extract.specs.Aims.{Aim, IsMet, IsWanted, IsEntry}
+use Rattle.pgn_extract.specs.Public.Aims.{Aim, IsMet, IsWanted, IsEntry}
 
 taken_same : {A B : Type 0} (denied : Bool) → (A → B) → (B → A) → Taken denied A → Taken denied B
 taken_same false there back a = there a

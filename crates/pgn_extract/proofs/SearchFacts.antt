@@ -6,17 +6,17 @@ use Rattle.std.specs.List.{AllByRecursion}
 use Rattle.std.proofs.KnownBytes.{Appends-nil, Appends-trans, Consumes-nil, Consumes-trans, Consumes-whole}
 use Rattle.std.proofs.lemmas.List.Concat.{flat_map-cons, flat_map-append}
 use Rattle.std.proofs.Math.Seq.{take-append-add, take-length}
-use Rattle.pgn_text.specs.Limits.{largest_offset}
-use Rattle.pgn_game.specs.PackStreams.{Window, fresh_window, HasNoRecord, BreaksOff, IsPastEnd, PassesOn, StepGives}
-use Rattle.pgn_game.specs.PackedGames.{PackedGame, FitsRecord, record_bytes, pack_bytes}
+use Rattle.pgn_text.specs.Public.Limits.{largest_offset}
+use Rattle.pgn_game.specs.Public.PackStreams.{Window, fresh_window, HasNoRecord, BreaksOff, IsPastEnd, PassesOn, StepGives}
+use Rattle.pgn_game.specs.Public.PackedGames.{PackedGame, FitsRecord, record_bytes, pack_bytes}
 use Rattle.pgn_game.specs.declared.pack.records.RecordsError.{RecordsError}
 use Rattle.pgn_game.specs.declared.pack.records.RecordsError.TheVariants as cause
 use Rattle.pgn_game.proofs.PackOnce.{one_record}
 use Rattle.pgn_game.proofs.PackStreamFacts.{record_size}
-use Rattle.pgn_extract.specs.Aims.{Aim}
-use Rattle.pgn_extract.specs.Outcomes.{AppendsFront}
-use Rattle.pgn_extract.specs.Searching.{AreRecordLines, IsOfNoGame, HasNoGame, BeginsWithRecords, Searches, ListsWhatWasPacked, IndexesWhatWasPacked, StopsAtBytes, StopsAtLimit, StopsAtRead, StopsWithin, StopsSearch, IsSearch}
-use Rattle.pgn_extract.specs.SearchSteps.{HasSearched, PutsRest, PutsSome, search_error_of}
+use Rattle.pgn_extract.specs.Public.Aims.{Aim}
+use Rattle.pgn_extract.specs.Public.Outcomes.{AppendsFront}
+use Rattle.pgn_extract.specs.Public.Searching.{AreRecordLines, IsOfNoGame, HasNoGame, BeginsWithRecords, Searches, ListsWhatWasPacked, IndexesWhatWasPacked, StopsAtBytes, StopsAtLimit, StopsAtRead, StopsWithin, StopsSearch, IsSearch}
+use Rattle.pgn_extract.specs.Private.SearchSteps.{HasSearched, PutsRest, PutsSome, search_error_of}
 use Rattle.pgn_extract.specs.declared.packed.searching.SearchError.{SearchError}
 use Rattle.pgn_extract.proofs.PackListed.{one_more_record, packed_listing, packed_index}
 

@@ -8,9 +8,9 @@ use Rattle.std.specs.Option.{option_map}
 use Rattle.std.specs.declared.io.ErrorKind.{ErrorKind}
 use Rattle.std.specs.declared.io.ErrorKind.TheVariants.{OutOfMemory}
 use Rattle.pgn_extract.proofs.Writing.{appends_join}
-use Rattle.pgn_extract.specs.Runs.{Completes, Io}
-use Rattle.pgn_extract.specs.Several.{AreKnown, AreOfPaths, AtPath, FileOf, IsOfPath, IsRead, IsRefused, NamesUnopened, NoFile, Order, Unknown, is_no_file}
-use Rattle.pgn_extract.specs.Verdicts.{fault_lines, output_text}
+use Rattle.pgn_extract.specs.Public.Runs.{Completes, Io}
+use Rattle.pgn_extract.specs.Public.Several.{AreKnown, AreOfPaths, AtPath, FileOf, IsOfPath, IsRead, IsRefused, NamesUnopened, NoFile, Order, Unknown, is_no_file}
+use Rattle.pgn_extract.specs.Public.Verdicts.{fault_lines, output_text}
 use Rattle.pgn_extract.specs.declared.output.outcome.Summary.{Summary}
 
 -- what is written of one path more

@@ -2,24 +2,24 @@
 use Rattle.std.proofs.Common.{◌≡◌, ◌∷◌, ℕ, zero, suc, Some, None, List, [], refl, sym, ap, subst, ◌∙◌, append-nil, arith}
 use Rattle.std.specs.Prelude.{IsTrue}
 use Rattle.std.specs.List.{slice_get, flat_map, AllByRecursion}
-use Rattle.chess.specs.Moves.{after}
-use Rattle.chess.specs.Positions.{State}
+use Rattle.chess.specs.Public.Moves.{after}
+use Rattle.chess.specs.Public.Positions.{State}
 use Rattle.chess.specs.declared.moves.Move.{Move}
-use Rattle.pgn_game.specs.MainLines.{main_words, IsMainLine}
-use Rattle.pgn_game.specs.PackReading.{RawRecord}
-use Rattle.pgn_game.specs.PlyCodes.{PlyCode, FitsCode, AreCodes, code_bytes}
-use Rattle.pgn_game.specs.Replays.{Replay}
+use Rattle.pgn_game.specs.Public.MainLines.{main_words, IsMainLine}
+use Rattle.pgn_game.specs.Public.PackReading.{RawRecord}
+use Rattle.pgn_game.specs.Public.PlyCodes.{PlyCode, FitsCode, AreCodes, code_bytes}
+use Rattle.pgn_game.specs.Public.Replays.{Replay}
 use Rattle.pgn_game.specs.declared.replays.replayer.Lines.TheVariants.{Main}
 use Rattle.pgn_game.proofs.PlyCodeFacts.{code_again}
-use Rattle.pgn_criteria.specs.Sieves.{MeetsSeen, NowhereSeen, codes_in}
-use Rattle.pgn_criteria.specs.Meeting.{heading_of, Heading, SomeHold}
-use Rattle.pgn_criteria.specs.Walks.{Sight, IsSightOf, stepped}
+use Rattle.pgn_criteria.specs.Public.Sieves.{MeetsSeen, NowhereSeen, codes_in}
+use Rattle.pgn_criteria.specs.Public.Meeting.{heading_of, Heading, SomeHold}
+use Rattle.pgn_criteria.specs.Public.Walks.{Sight, IsSightOf, stepped}
 use Rattle.pgn_criteria.specs.declared.condition.Condition.{Condition}
 use Rattle.pgn_criteria.proofs.WalkFacts.{step_shows_next_position}
-use Rattle.pgn_extract.specs.Aims.{Aim, IsEntry}
-use Rattle.pgn_extract.specs.Finding.{AsksFor}
-use Rattle.pgn_extract.specs.Listing.{AreFields}
-use Rattle.pgn_extract.specs.Packed.{EachOfRecord, StartsThere, ListsRecord}
+use Rattle.pgn_extract.specs.Public.Aims.{Aim, IsEntry}
+use Rattle.pgn_extract.specs.Private.Finding.{AsksFor}
+use Rattle.pgn_extract.specs.Public.Listing.{AreFields}
+use Rattle.pgn_extract.specs.Private.Packed.{EachOfRecord, StartsThere, ListsRecord}
 use Rattle.pgn_extract.proofs.PackedFacts.{begins, first_is, kept_start, same_state, next_ply, line_ended}
 use Rattle.pgn_extract.proofs.Picks.{leaves_all}
 

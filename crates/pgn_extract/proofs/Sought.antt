@@ -2,19 +2,19 @@
 use Rattle.std.proofs.Common.{◌≡◌, ◌↔◌, ℕ, ◌+◌, ◌≤◌, Bool, true, List, [], ◌∷◌, ◌++◌, length, Option, Some, None, IsTrue, refl, sym, ap, ◌∙◌, subst, append_assoc, append-nil, length-append, inl, inr, arith}
 use Rattle.std.proofs.lemmas.Bool.{cases_lt, false≢true}
 use Rattle.std.specs.Prelude.{is_some, not}
-use Rattle.chess.specs.Positions.{State}
-use Rattle.pgn_text.specs.GameTexts.{GameText, tag_in}
-use Rattle.pgn_game.specs.Faults.{Fault, IsFault}
-use Rattle.pgn_game.specs.MainLines.{main_words, IsMainLine}
-use Rattle.pgn_game.specs.Replays.{Replay, IsReplay}
+use Rattle.chess.specs.Public.Positions.{State}
+use Rattle.pgn_text.specs.Public.GameTexts.{GameText, tag_in}
+use Rattle.pgn_game.specs.Public.Faults.{Fault, IsFault}
+use Rattle.pgn_game.specs.Public.MainLines.{main_words, IsMainLine}
+use Rattle.pgn_game.specs.Public.Replays.{Replay, IsReplay}
 use Rattle.pgn_game.specs.declared.replays.replayer.Lines.TheVariants.{Main}
-use Rattle.pgn_game.specs.Starts.{fen_tag}
+use Rattle.pgn_game.specs.Public.Starts.{fen_tag}
 use Rattle.pgn_game.proofs.OneReplay.{line_length, no_fault, one_line, one_start}
 use Rattle.pgn_criteria.specs.declared.condition.Condition.{Condition}
-use Rattle.pgn_extract.specs.Aims.{Aim, IsMet, IsWanted}
-use Rattle.pgn_extract.specs.Exports.{HasEntry}
-use Rattle.pgn_extract.specs.Finding.{IsFirstWanted, IsOfGame}
-use Rattle.pgn_criteria.specs.Meeting.{heading_of}
+use Rattle.pgn_extract.specs.Public.Aims.{Aim, IsMet, IsWanted}
+use Rattle.pgn_extract.specs.Public.Exports.{HasEntry}
+use Rattle.pgn_extract.specs.Private.Finding.{IsFirstWanted, IsOfGame}
+use Rattle.pgn_criteria.specs.Public.Meeting.{heading_of}
 
 -- before the first position none is wanted
 pub sought_none : (aim : Aim) (game : GameText) → IsFirstWanted aim game [] None

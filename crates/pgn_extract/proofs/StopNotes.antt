@@ -1,12 +1,12 @@
 -- The note on bytes that are no game is about a place of the block.
 use Rattle.std.proofs.Common.{◌≡◌, ℕ, ◌+◌, ◌<◌, ◌≤◌, Bool, true, List, [], ◌∷◌, ◌++◌, take, drop, length, refl, ap, ◌∙◌, arith, append_assoc, length-append, length-drop}
-use Rattle.pgn_text.specs.Bytes.{begins}
-use Rattle.pgn_text.specs.Parts.{Part, spelled}
-use Rattle.pgn_text.specs.StopPlaces.{PartsThen, StandsWithin, is_open_brace, is_open_bracket}
-use Rattle.pgn_text.specs.Stops.{IsLongestViablePrefix}
+use Rattle.pgn_text.specs.Public.Bytes.{begins}
+use Rattle.pgn_text.specs.Public.Parts.{Part, spelled}
+use Rattle.pgn_text.specs.Public.StopPlaces.{PartsThen, StandsWithin, is_open_brace, is_open_bracket}
+use Rattle.pgn_text.specs.Public.Stops.{IsLongestViablePrefix}
 use Rattle.pgn_text.specs.declared.error.error_position.Within.{Within}
 use Rattle.pgn_text.specs.declared.error.error_position.Within.TheVariants.{Comment, TagName, TagValue, Tags, Variation, MainLine, Game}
-use Rattle.pgn_extract.specs.NoteTexts.{IsWithinBlock}
+use Rattle.pgn_extract.specs.Private.NoteTexts.{IsWithinBlock}
 
 pub stops_within : (max_depth : ℕ) (f : Bool) (block : List ℕ) (begin agreeing : ℕ) → begin ≤ length block
     → IsLongestViablePrefix max_depth f (take begin block) (drop begin block) agreeing → begin + agreeing ≤ length block

@@ -2,7 +2,7 @@
 use Rattle.std.proofs.Common.{◌≡◌, ℕ, zero, suc, ◌+◌, ◌-◌, ◌*◌, ◌/◌, ◌%◌, ◌^◌, ◌<◌, ◌≤◌, List, [], ◌∷◌, ◌++◌, length, take, get_or, set, decimal, sym, ap, ◌∙◌, arith, append_assoc, append-nil, length-append, take_at}
 use Rattle.std.proofs.Math.Seq.{get_or_at, set_at}
 use Rattle.std.proofs.lemmas.Fmt.{decimal_step}
-use Rattle.pgn_extract.specs.Blockwise.{lines_from}
+use Rattle.pgn_extract.specs.Private.Blockwise.{lines_from}
 use Rattle.pgn_extract.proofs.NextLine.{next_digit, parted}
 
 -- the line at a ply

@@ -1,17 +1,17 @@
 -- The text of a game in its form is put, or nothing is, and the first fault of the lines that are written is answered.
 use Rattle.std.proofs.Common.{◌≡◌, ℕ, List, [], ◌++◌, refl, sym, subst}
-use Rattle.pgn_text.specs.GameTexts.{GameText, tag_in}
-use Rattle.pgn_game.specs.Exports.{IsExport, lines_with}
-use Rattle.pgn_game.specs.Faults.{Fault, IsFault}
-use Rattle.pgn_game.specs.GameLines.{IsGameLine}
-use Rattle.pgn_game.specs.PackedGames.{IsRecordOf}
-use Rattle.pgn_game.specs.Replays.{Replay, IsReplay, IsSoundGame}
-use Rattle.pgn_game.specs.Starts.{fen_tag}
+use Rattle.pgn_text.specs.Public.GameTexts.{GameText, tag_in}
+use Rattle.pgn_game.specs.Public.Exports.{IsExport, lines_with}
+use Rattle.pgn_game.specs.Public.Faults.{Fault, IsFault}
+use Rattle.pgn_game.specs.Public.GameLines.{IsGameLine}
+use Rattle.pgn_game.specs.Public.PackedGames.{IsRecordOf}
+use Rattle.pgn_game.specs.Public.Replays.{Replay, IsReplay, IsSoundGame}
+use Rattle.pgn_game.specs.Public.Starts.{fen_tag}
 use Rattle.pgn_game.specs.declared.exports.notation.Notation.{Notation}
 use Rattle.pgn_game.specs.declared.replays.replayer.Lines.TheVariants.{Main}
-use Rattle.pgn_extract.specs.Aims.{Aim}
-use Rattle.pgn_extract.specs.Blockwise.{IsGivenText, PutsText}
-use Rattle.pgn_extract.specs.Exports.{as_it_stands, line_with, lines_in, written_lines}
+use Rattle.pgn_extract.specs.Public.Aims.{Aim}
+use Rattle.pgn_extract.specs.Private.Blockwise.{IsGivenText, PutsText}
+use Rattle.pgn_extract.specs.Public.Exports.{as_it_stands, line_with, lines_in, written_lines}
 use Rattle.pgn_extract.specs.declared.settings.Form.{Form}
 use Rattle.pgn_extract.specs.declared.settings.Form.TheVariants.{Standard, AsItStands, Line, Record}
 

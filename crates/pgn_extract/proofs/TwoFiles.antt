@@ -4,12 +4,12 @@ use Rattle.std.proofs.lemmas.List.{append_assoc, append-nil}
 use Rattle.std.specs.Str.{bytes_eq}
 use Rattle.pgn_extract.proofs.ExactEntries.{are_entries}
 use Rattle.pgn_extract.proofs.ModeOutputs.{of_pieces}
-use Rattle.pgn_text.specs.Marks.{MarkedPiece}
-use Rattle.pgn_extract.specs.Listing.{AreEntries, Entry, listing}
-use Rattle.pgn_extract.specs.Runs.{ArePieces, Job}
-use Rattle.pgn_extract.specs.TwoFiles.{known_of_two}
+use Rattle.pgn_text.specs.Public.Marks.{MarkedPiece}
+use Rattle.pgn_extract.specs.Public.Listing.{AreEntries, Entry, listing}
+use Rattle.pgn_extract.specs.Public.Runs.{ArePieces, Job}
+use Rattle.pgn_extract.specs.Private.TwoFiles.{known_of_two}
 use Rattle.pgn_extract.specs.declared.settings.Mode.TheVariants as modes
-use Rattle.pgn_extract.specs.Several.{AreKnown, AreOfPaths, FileOf, IsRead, IsReport, NamesUnopened, NoFile, Order, Unknown}
+use Rattle.pgn_extract.specs.Public.Several.{AreKnown, AreOfPaths, FileOf, IsRead, IsReport, NamesUnopened, NoFile, Order, Unknown}
 
 abbrev pub three_paths : List (List ℕ)
 three_paths = codes "first.pgn" ∷ codes "none.pgn" ∷ codes "second.pgn" ∷ []

@@ -3,13 +3,13 @@ use Rattle.std.proofs.Common.{◌≡◌, ℕ, ◌+◌, List, [], ◌∷◌, ◌+
 use Rattle.std.specs.Prelude.{count_by, fold, if◌then◌else◌}
 use Rattle.std.proofs.lemmas.List.Sums.{fold-append}
 use Rattle.std.proofs.lemmas.List.{append-nil}
-use Rattle.pgn_text.specs.Marks.{MarkedPiece}
-use Rattle.pgn_extract.specs.Blockwise.{Reports, too_long_piece}
-use Rattle.pgn_extract.specs.Index.{fault_text}
-use Rattle.pgn_extract.specs.Notes.{IsNote}
-use Rattle.pgn_extract.specs.Verdicts.{Verdict, SoundGame, FaultyGame, without_note, AreVerdicts, output_of, fault_line_of, output_text, fault_lines, is_faulty}
+use Rattle.pgn_text.specs.Public.Marks.{MarkedPiece}
+use Rattle.pgn_extract.specs.Private.Blockwise.{Reports, too_long_piece}
+use Rattle.pgn_extract.specs.Public.Index.{fault_text}
+use Rattle.pgn_extract.specs.Public.Notes.{IsNote}
+use Rattle.pgn_extract.specs.Public.Verdicts.{Verdict, SoundGame, FaultyGame, without_note, AreVerdicts, output_of, fault_line_of, output_text, fault_lines, is_faulty}
 use Rattle.pgn_extract.specs.declared.engine.report.Report.{Report}
-use Rattle.pgn_extract.specs.Aims.{Aim}
+use Rattle.pgn_extract.specs.Public.Aims.{Aim}
 
 -- what goes to the output of some, and then of others
 pub output_text-append : (xs ys : List Verdict) → output_text (xs ++ ys) ≡ output_text xs ++ output_text ys

@@ -4,11 +4,11 @@ use Rattle.std.specs.Prelude.{IfSome}
 use Rattle.std.specs.Io.KnownBytes.{Appends}
 use Rattle.std.proofs.lemmas.Bool.{cases_lt}
 use Rattle.std.proofs.lemmas.List.{append-nil, append_cancel_left, drop_all, drop_at, take_at}
-use Rattle.pgn_text.specs.Complete.{AreCompletePieces}
-use Rattle.pgn_text.specs.Marks.{AreMarkedPieces}
-use Rattle.pgn_extract.specs.Blockwise.{Drops, DropsSome, EndsBlocks, BeginsFirst, BreaksOff, StandsOver}
-use Rattle.pgn_extract.specs.Outcomes.{WritesComplete, BeginsAll}
-use Rattle.pgn_extract.specs.Runs.{Job, Io, Completes, Stops}
+use Rattle.pgn_text.specs.Public.Complete.{AreCompletePieces}
+use Rattle.pgn_text.specs.Public.Marks.{AreMarkedPieces}
+use Rattle.pgn_extract.specs.Private.Blockwise.{Drops, DropsSome, EndsBlocks, BeginsFirst, BreaksOff, StandsOver}
+use Rattle.pgn_extract.specs.Public.Outcomes.{WritesComplete, BeginsAll}
+use Rattle.pgn_extract.specs.Public.Runs.{Job, Io, Completes, Stops}
 use Rattle.pgn_extract.specs.declared.output.outcome.RunError.{RunError}
 use Rattle.pgn_extract.specs.declared.output.outcome.RunError.TheVariants.{Read, Write, OutOfMemory, InputTooLong}
 use Rattle.pgn_extract.specs.declared.output.outcome.Summary.{Summary}

@@ -1,6 +1,6 @@
 //! The program over arguments and files that are handed in.
 ghost use Rattle.std.specs.Prelude.{◌≡◌, ◌≤◌, ◌^◌, false, true, OnErr};
-ghost use Rattle.pgn_extract.specs.Listing.{is_plain};
+ghost use Rattle.pgn_extract.specs.Public.Listing.{is_plain};
 
 mod command;
 mod conditions;

@@ -1,9 +1,9 @@
 //! The run over an input: block by block, each reported before the next is read.
 ghost use Rattle.std.specs.Prelude.{◌≡◌, ◌^◌, ◌≤◌, false, true, IfOk, IfErr, OnOk};
 ghost use Rattle.std.specs.Io.KnownBytes.{Keeps};
-ghost use Rattle.pgn_text.specs.Limits.{largest_offset};
-ghost use Rattle.pgn_extract.specs.RunParts.{Broken, Finished, WriteFaultsAre};
-ghost use Rattle.pgn_extract.specs.Runs.{FaultsAre, IsReady, IsRun, io_of, job_of, passage};
+ghost use Rattle.pgn_text.specs.Public.Limits.{largest_offset};
+ghost use Rattle.pgn_extract.specs.Private.RunParts.{Broken, Finished, WriteFaultsAre};
+ghost use Rattle.pgn_extract.specs.Public.Runs.{FaultsAre, IsReady, IsRun, io_of, job_of, passage};
 
 mod exporting;
 mod piecewise;

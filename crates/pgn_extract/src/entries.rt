@@ -1,9 +1,9 @@
 //! The entries of a game, found while its main line is played.
 ghost use Rattle.std.specs.Prelude.{◌≡◌, true, MatchResult, IfOk, IfSome, Some};
-ghost use Rattle.pgn_game.specs.Replays.{fault_of};
-ghost use Rattle.pgn_extract.specs.Aims.{aim_of};
-ghost use Rattle.pgn_extract.specs.Finding.{named_mark, AsksFor, AddsEntries, StopsAtFault, GoesOn};
-ghost use Rattle.pgn_extract.specs.Listing.{is_plain};
+ghost use Rattle.pgn_game.specs.Public.Replays.{fault_of};
+ghost use Rattle.pgn_extract.specs.Public.Aims.{aim_of};
+ghost use Rattle.pgn_extract.specs.Private.Finding.{named_mark, AsksFor, AddsEntries, StopsAtFault, GoesOn};
+ghost use Rattle.pgn_extract.specs.Public.Listing.{is_plain};
 
 pub(crate) mod choosing;
 mod kept;

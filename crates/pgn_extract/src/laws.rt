@@ -1,7 +1,7 @@
 //! What holds of every text, whatever lists or reports it. Each law is the contract of a function that does nothing.
 
-ghost use Rattle.pgn_extract.specs.Searching.{PackedTextIsAPack};
-ghost use Rattle.pgn_extract.specs.Laws.{PiecesHaveOneListing, EachPieceHasAMark, TextHasAReport, TextHasOneReport, ExportsAreWritten, TextHasOneExport, PackIsListedAsItsText, FirstChangesNoExport, PieceIsInOneExport, NoteNamesTheStop, NoNotes, PartsJoin, PartsAreReported};
+ghost use Rattle.pgn_extract.specs.Public.Searching.{PackedTextIsAPack};
+ghost use Rattle.pgn_extract.specs.Public.Laws.{PiecesHaveOneListing, EachPieceHasAMark, TextHasAReport, TextHasOneReport, ExportsAreWritten, TextHasOneExport, PackIsListedAsItsText, FirstChangesNoExport, PieceIsInOneExport, NoteNamesTheStop, NoNotes, PartsJoin, PartsAreReported};
 
 /// The pieces of each text have entries, and these are one list: the plies of its sound games that are within the bounds and whose position
 /// meets the criteria, or the least such of each game, each once, in the order of the games and their plies.

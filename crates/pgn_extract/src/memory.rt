@@ -1,19 +1,19 @@
 //! Runs over memory: what each clause of `run` says where all bytes are known.
 ghost use Rattle.std.specs.Prelude.{◌≡◌, ◌≢◌, ◌↔◌, ◌⊎◌, ◌≤◌, ◌<◌, ◌^◌, ◌+◌, ◌++◌, ℕ, true, false, List, [], Option, codes, drop, length, take, count_by, IfErr, IfOk, OnOk, IsErrOf};
-ghost use Rattle.pgn_text.specs.Complete.{AreCompletePieces};
-ghost use Rattle.pgn_text.specs.Limits.{block_limit, depth_limit, largest_offset};
-ghost use Rattle.pgn_text.specs.Marks.{MarkedPiece, AreMarkedPieces};
-ghost use Rattle.pgn_game.specs.PackedGames.{PackedGame, pack_bytes, record_bytes};
-ghost use Rattle.pgn_game.specs.PackStreams.{HasNoRecord};
-ghost use Rattle.pgn_extract.specs.Aims.{aim_of};
-ghost use Rattle.pgn_extract.specs.Exports.{AreExports};
-ghost use Rattle.pgn_extract.specs.Index.{index};
-ghost use Rattle.pgn_extract.specs.Listing.{Entry, AreEntries, entries_at_least, is_plain, listing};
-ghost use Rattle.pgn_extract.specs.Resuming.{IsMarkAmong, verdicts_at_least};
-ghost use Rattle.pgn_extract.specs.Runs.{ArePieces, job_of};
-ghost use Rattle.pgn_extract.specs.Searching.{ArePackLines, HasNoGame, IsIndexOfSoundGames, IsPackOf};
-ghost use Rattle.pgn_extract.specs.Several.{IsReport, NamesUnopened};
-ghost use Rattle.pgn_extract.specs.Verdicts.{Verdict, AreVerdicts, IsSameReport, fault_lines, is_faulty, output_text};
+ghost use Rattle.pgn_text.specs.Public.Complete.{AreCompletePieces};
+ghost use Rattle.pgn_text.specs.Public.Limits.{block_limit, depth_limit, largest_offset};
+ghost use Rattle.pgn_text.specs.Public.Marks.{MarkedPiece, AreMarkedPieces};
+ghost use Rattle.pgn_game.specs.Public.PackedGames.{PackedGame, pack_bytes, record_bytes};
+ghost use Rattle.pgn_game.specs.Public.PackStreams.{HasNoRecord};
+ghost use Rattle.pgn_extract.specs.Public.Aims.{aim_of};
+ghost use Rattle.pgn_extract.specs.Public.Exports.{AreExports};
+ghost use Rattle.pgn_extract.specs.Public.Index.{index};
+ghost use Rattle.pgn_extract.specs.Public.Listing.{Entry, AreEntries, entries_at_least, is_plain, listing};
+ghost use Rattle.pgn_extract.specs.Public.Resuming.{IsMarkAmong, verdicts_at_least};
+ghost use Rattle.pgn_extract.specs.Public.Runs.{ArePieces, job_of};
+ghost use Rattle.pgn_extract.specs.Public.Searching.{ArePackLines, HasNoGame, IsIndexOfSoundGames, IsPackOf};
+ghost use Rattle.pgn_extract.specs.Public.Several.{IsReport, NamesUnopened};
+ghost use Rattle.pgn_extract.specs.Public.Verdicts.{Verdict, AreVerdicts, IsSameReport, fault_lines, is_faulty, output_text};
 
 use crate::app::files::{Files, Task, run_files};
 use crate::engine::run;
@@ -40,7 +40,7 @@ pub struct TwoFiles<'a> {
 }
 
 impl<'a> Files for TwoFiles<'a> {
-    ghost use Rattle.pgn_extract.specs.TwoFiles.{known_of_two};
+    ghost use Rattle.pgn_extract.specs.Private.TwoFiles.{known_of_two};
 
     type Input = &'a [u8];
 

@@ -1,19 +1,19 @@
 //! The entries of a packed game: a walk over the codes of its plies shows its positions.
 ghost use Rattle.std.specs.Prelude.{◌≡◌, ◌≢◌, ◌+◌, ◌<◌, ◌≤◌, ◌++◌, ◌==◌, ◌/◌, ◌%◌, ℕ, length, true, false, Some, None, codes, OnOk, IfOk, IfErr};
-ghost use Rattle.pgn_text.specs.GameTexts.{tag_in};
-ghost use Rattle.pgn_game.specs.Faults.{Fault};
-ghost use Rattle.pgn_game.specs.Replays.{fault_of};
-ghost use Rattle.pgn_game.specs.Starts.{fen_tag};
-ghost use Rattle.pgn_game.specs.PackReading.{IsRawOfGame};
-ghost use Rattle.pgn_extract.specs.Aims.{aim_of};
-ghost use Rattle.pgn_extract.specs.Finding.{named_mark, AsksFor};
-ghost use Rattle.pgn_extract.specs.Index.{mark_line, titled};
-ghost use Rattle.pgn_extract.specs.Listing.{is_plain};
-ghost use Rattle.pgn_criteria.specs.ByMarks.{has_marks, NoneMeets};
-ghost use Rattle.pgn_criteria.specs.Meeting.{heading_of};
-ghost use Rattle.pgn_criteria.specs.Sieves.{codes_in};
-ghost use Rattle.pgn_extract.specs.MarkedPacked.{StartsWith, AreMetWith};
-ghost use Rattle.pgn_extract.specs.Packed.{PutsRecord, LeavesRecord, EachOfRecord, HasNoText, record_aim, Grows, ShowsInitial, StartsThere, GoesOnSeen, ListsRecord};
+ghost use Rattle.pgn_text.specs.Public.GameTexts.{tag_in};
+ghost use Rattle.pgn_game.specs.Public.Faults.{Fault};
+ghost use Rattle.pgn_game.specs.Public.Replays.{fault_of};
+ghost use Rattle.pgn_game.specs.Public.Starts.{fen_tag};
+ghost use Rattle.pgn_game.specs.Public.PackReading.{IsRawOfGame};
+ghost use Rattle.pgn_extract.specs.Public.Aims.{aim_of};
+ghost use Rattle.pgn_extract.specs.Private.Finding.{named_mark, AsksFor};
+ghost use Rattle.pgn_extract.specs.Public.Index.{mark_line, titled};
+ghost use Rattle.pgn_extract.specs.Public.Listing.{is_plain};
+ghost use Rattle.pgn_criteria.specs.Public.ByMarks.{has_marks, NoneMeets};
+ghost use Rattle.pgn_criteria.specs.Public.Meeting.{heading_of};
+ghost use Rattle.pgn_criteria.specs.Public.Sieves.{codes_in};
+ghost use Rattle.pgn_extract.specs.Private.MarkedPacked.{StartsWith, AreMetWith};
+ghost use Rattle.pgn_extract.specs.Private.Packed.{PutsRecord, LeavesRecord, EachOfRecord, HasNoText, record_aim, Grows, ShowsInitial, StartsThere, GoesOnSeen, ListsRecord};
 
 mod kept_packed;
 mod marked_packed;

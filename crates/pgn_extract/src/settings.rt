@@ -1,6 +1,6 @@
 //! What a run is to do.
 ghost use Rattle.std.specs.Prelude.{◌≡◌};
-ghost use Rattle.pgn_extract.specs.Listing.{is_plain};
+ghost use Rattle.pgn_extract.specs.Public.Listing.{is_plain};
 
 use crate::output::file_name::FileName;
 use pgn_criteria::Criteria;

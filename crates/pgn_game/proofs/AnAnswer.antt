@@ -1,24 +1,24 @@
 -- A game has a replay or a fault, where its FEN tag has the contents of a string.
 use Rattle.std.proofs.Common.{◌≡◌, ◌⊎◌, ℕ, ◌+◌, ◌-◌, Bool, true, false, ◌&&◌, List, [], ◌∷◌, ◌++◌, Option, Some, None, IfSome, flat_map, refl, sym, ap, ◌∙◌, subst, inl, inr}
-use Rattle.chess.specs.Placements.{AreOnBoard}
-use Rattle.chess.specs.Positions.{State}
-use Rattle.chess.specs.Start.{initial}
-use Rattle.chess.specs.Moves.{after}
+use Rattle.chess.specs.Public.Placements.{AreOnBoard}
+use Rattle.chess.specs.Public.Positions.{State}
+use Rattle.chess.specs.Public.Start.{initial}
+use Rattle.chess.specs.Public.Moves.{after}
 use Rattle.chess.specs.declared.moves.Move.{Move}
 use Rattle.chess.proofs.FenSettled.{fen_answer}
 use Rattle.chess.proofs.NamedSettled.{each_text_names}
 use Rattle.chess.proofs.OnBoard.{spelled_men_on_board, men_stay_on_board}
 use Rattle.chess.proofs.StartFacts.{initial_kept}
 use Rattle.chess.proofs.LegalSettled.{settled_check}
-use Rattle.pgn_text.specs.GameTexts.{IsPaired}
-use Rattle.pgn_text.specs.Games.{Item}
-use Rattle.pgn_text.specs.Strings.{IsContents, value_of_sign}
-use Rattle.pgn_game.specs.Laws.{GameHasAnAnswer}
-use Rattle.pgn_game.specs.MainLines.{main_words, IsMainLine}
-use Rattle.pgn_game.specs.Starts.{IsValueOf, IsStart, IsBadStart}
-use Rattle.pgn_game.specs.AllLines.{Line, LineEnd, ThenMove, ThenGlyph, ThenComment, ThenVariation, is_pass, SaysTurn, after_turn, IsPlayed, ArePlayed, own_words}
-use Rattle.pgn_game.specs.Faults.{Fault, BadStart, IllegalMove, AmbiguousMove, IsMoveFault, RefusesTurn, IsLineFault, HasLineFault}
-use Rattle.pgn_game.specs.Replays.{AreTurns, IsSoundGame}
+use Rattle.pgn_text.specs.Public.GameTexts.{IsPaired}
+use Rattle.pgn_text.specs.Public.Games.{Item}
+use Rattle.pgn_text.specs.Public.Strings.{IsContents, value_of_sign}
+use Rattle.pgn_game.specs.Public.Laws.{GameHasAnAnswer}
+use Rattle.pgn_game.specs.Public.MainLines.{main_words, IsMainLine}
+use Rattle.pgn_game.specs.Public.Starts.{IsValueOf, IsStart, IsBadStart}
+use Rattle.pgn_game.specs.Public.AllLines.{Line, LineEnd, ThenMove, ThenGlyph, ThenComment, ThenVariation, is_pass, SaysTurn, after_turn, IsPlayed, ArePlayed, own_words}
+use Rattle.pgn_game.specs.Public.Faults.{Fault, BadStart, IllegalMove, AmbiguousMove, IsMoveFault, RefusesTurn, IsLineFault, HasLineFault}
+use Rattle.pgn_game.specs.Public.Replays.{AreTurns, IsSoundGame}
 use Rattle.pgn_game.specs.declared.replays.replayer.Lines.{Lines}
 use Rattle.pgn_game.specs.declared.replays.replayer.Lines.TheVariants.{Main, All}
 use Rattle.pgn_game.specs.declared.turns.line_move.LineMove.{LineMove}

@@ -2,18 +2,18 @@
 use Rattle.std.proofs.Common.{◌≡◌, ℕ, zero, suc, ◌+◌, ◌*◌, ◌<◌, ◌≤◌, Bool, true, false, not, ◌&&◌, cond, List, [], ◌∷◌, ◌++◌, length, drop, get_or, Option, Some, None, refl, sym, ap, ◌∙◌, subst, append_assoc, append-nil, length-append, inl, inr, arith}
 use Rattle.std.specs.List.{slice_get, flat_map, AllByRecursion}
 use Rattle.std.proofs.Math.ListN.{drop_of_length-le}
-use Rattle.chess.specs.Placements.{man_at}
-use Rattle.chess.specs.Positions.{State}
-use Rattle.chess.specs.Moves.{after, arriving, is_pawn, Goes, IsPseudoLegal, IsLegal, IsPromotionKind, IsPromotion}
+use Rattle.chess.specs.Public.Placements.{man_at}
+use Rattle.chess.specs.Public.Positions.{State}
+use Rattle.chess.specs.Public.Moves.{after, arriving, is_pawn, Goes, IsPseudoLegal, IsLegal, IsPromotionKind, IsPromotion}
 use Rattle.chess.specs.declared.board.man.Man.{Man}
 use Rattle.chess.specs.declared.board.man.Side.{Side}
 use Rattle.chess.specs.declared.board.man.Kind.{Kind}
 use Rattle.chess.specs.declared.board.man.Kind.TheVariants.{King, Queen, Rook, Bishop, Knight, Pawn}
 use Rattle.chess.specs.declared.moves.Move.{Move}
-use Rattle.pgn_game.specs.CodeLines.{AreLegalMoves, positions_from, IsCodedLine, IsCodedReplay}
-use Rattle.pgn_game.specs.CodeWords.{promoted, told_move, HasReplayed}
-use Rattle.pgn_game.specs.MainLines.{IsMainLine}
-use Rattle.pgn_game.specs.PlyCodes.{PlyCode, FitsCode, IsCode, AreCodes, code_bytes, code_of}
+use Rattle.pgn_game.specs.Public.CodeLines.{AreLegalMoves, positions_from, IsCodedLine, IsCodedReplay}
+use Rattle.pgn_game.specs.Private.CodeWords.{promoted, told_move, HasReplayed}
+use Rattle.pgn_game.specs.Public.MainLines.{IsMainLine}
+use Rattle.pgn_game.specs.Public.PlyCodes.{PlyCode, FitsCode, IsCode, AreCodes, code_bytes, code_of}
 use Rattle.pgn_game.proofs.PlyCodeFacts.{code_again, code_of_a_move_fits}
 use Rattle.pgn_game.proofs.RecordFacts.{plies_size}
 

@@ -1,14 +1,14 @@
 -- A game without variations: all its lines are its main line.
 use Rattle.std.proofs.Common.{◌≡◌, ◌∙◌, ℕ, false, List, [], ◌∷◌, Option, refl, ap, subst}
-use Rattle.chess.specs.Positions.{State}
-use Rattle.chess.specs.Moves.{after}
+use Rattle.chess.specs.Public.Positions.{State}
+use Rattle.chess.specs.Public.Moves.{after}
 use Rattle.chess.specs.declared.moves.Move.{Move}
-use Rattle.pgn_text.specs.Games.{Item}
-use Rattle.pgn_text.specs.GameTexts.{IsPaired}
-use Rattle.pgn_game.specs.AllLines.{Line, LineEnd, ThenMove, ThenGlyph, ThenComment, ThenVariation, IsPlayed, own_words, spelled}
-use Rattle.pgn_game.specs.LineWalks.{IsFlat}
-use Rattle.pgn_game.specs.MainLines.{main_words, IsMainLine}
-use Rattle.pgn_game.specs.Replays.{IsSoundGame}
+use Rattle.pgn_text.specs.Public.Games.{Item}
+use Rattle.pgn_text.specs.Public.GameTexts.{IsPaired}
+use Rattle.pgn_game.specs.Public.AllLines.{Line, LineEnd, ThenMove, ThenGlyph, ThenComment, ThenVariation, IsPlayed, own_words, spelled}
+use Rattle.pgn_game.specs.Private.LineWalks.{IsFlat}
+use Rattle.pgn_game.specs.Public.MainLines.{main_words, IsMainLine}
+use Rattle.pgn_game.specs.Public.Replays.{IsSoundGame}
 use Rattle.pgn_game.specs.declared.replays.replayer.Lines.TheVariants.{Main, All}
 use Rattle.pgn_game.specs.declared.turns.line_move.LineMove.{LineMove}
 use Rattle.pgn_game.specs.declared.turns.line_move.LineMove.TheVariants.{Played}

@@ -1,17 +1,17 @@
 -- A sound game has one line in each notation, and no other game has it.
 use Rattle.std.proofs.Common.{◌≡◌, ℕ, ◌+◌, List, [], ◌∷◌, ◌++◌, refl, sym, ap, ◌∙◌, subst, inr, append_assoc, append-nil}
 use Rattle.std.specs.Prelude.{Option}
-use Rattle.chess.specs.Placements.{AreOnBoard}
-use Rattle.chess.specs.Positions.{State, IsSound}
-use Rattle.chess.specs.Moves.{after}
+use Rattle.chess.specs.Public.Placements.{AreOnBoard}
+use Rattle.chess.specs.Public.Positions.{State, IsSound}
+use Rattle.chess.specs.Public.Moves.{after}
 use Rattle.chess.specs.declared.moves.Move.{Move}
 use Rattle.chess.proofs.OnBoard.{men_stay_on_board}
 use Rattle.chess.proofs.SoundFacts.{after_sound}
-use Rattle.pgn_text.specs.Games.{Item, MoveText}
-use Rattle.pgn_game.specs.Faults.{IsMoveFault}
-use Rattle.pgn_game.specs.GameLines.{IsStartText, AreMoveTexts, IsGameLine, SoundGameHasALine, GameHasOneLine, LineIsTheGame}
-use Rattle.pgn_game.specs.LineTexts.{AreWritten, HasPutSome, PutsElement, PutsMove}
-use Rattle.pgn_game.specs.MainLines.{IsMainLine, main_words}
+use Rattle.pgn_text.specs.Public.Games.{Item, MoveText}
+use Rattle.pgn_game.specs.Public.Faults.{IsMoveFault}
+use Rattle.pgn_game.specs.Public.GameLines.{IsStartText, AreMoveTexts, IsGameLine, SoundGameHasALine, GameHasOneLine, LineIsTheGame}
+use Rattle.pgn_game.specs.Private.LineTexts.{AreWritten, HasPutSome, PutsElement, PutsMove}
+use Rattle.pgn_game.specs.Public.MainLines.{IsMainLine, main_words}
 use Rattle.pgn_game.specs.declared.replays.main_line.MainWalk.{MainWalk}
 use Rattle.pgn_game.specs.declared.exports.notation.Notation.{Notation}
 use Rattle.pgn_game.proofs.MoveTexts.{some_move_text, one_move_text, move_unspaced, same_by_text}

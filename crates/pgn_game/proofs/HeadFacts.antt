@@ -1,11 +1,11 @@
 -- The head of a record shows its game, and a name is read as it was written.
 use Rattle.std.proofs.Common.{◌≡◌, ℕ, zero, suc, ◌+◌, ◌*◌, ◌/◌, ◌%◌, ◌^◌, ◌<◌, ◌==◌, Bool, true, false, List, ◌++◌, length, Option, Some, None, Ok, refl, sym, ap, subst, ◌∙◌, arith, inl, inr}
 use Rattle.std.specs.Prelude.{IfSome, is_some}
-use Rattle.pgn_text.specs.GameTexts.{IsResult}
-use Rattle.pgn_game.specs.PlyCodes.{marks_number}
-use Rattle.pgn_game.specs.PackedGames.{head_of, name_bytes, named_number, result_number, numbered_result}
-use Rattle.pgn_game.specs.PackReading.{text_at, name_at}
-use Rattle.pgn_game.specs.Laws.{HeadIsReadBack}
+use Rattle.pgn_text.specs.Public.GameTexts.{IsResult}
+use Rattle.pgn_game.specs.Public.PlyCodes.{marks_number}
+use Rattle.pgn_game.specs.Public.PackedGames.{head_of, name_bytes, named_number, result_number, numbered_result}
+use Rattle.pgn_game.specs.Public.PackReading.{text_at, name_at}
+use Rattle.pgn_game.specs.Public.Laws.{HeadIsReadBack}
 use Rattle.pgn_game.proofs.PlyCodeFacts.{first_mark, second_mark}
 use Rattle.pgn_game.proofs.RecordFields.{IsBytes, Takes, bind_ok, ok_is, text_takes, text_again}
 

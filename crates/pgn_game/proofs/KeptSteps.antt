@@ -2,13 +2,13 @@
 use Rattle.std.proofs.Common.{◌≡◌, ℕ, Bool, false, List, [], ◌∷◌, ◌++◌, length, refl, sym, ap, ◌∙◌, subst, append_assoc, append-nil, arith}
 use Rattle.std.proofs.lemmas.Bool.Decides.{nat_tests}
 use Rattle.std.specs.Prelude.{◌==◌, if◌then◌else◌}
-use Rattle.chess.specs.Positions.{State}
+use Rattle.chess.specs.Public.Positions.{State}
 use Rattle.chess.specs.declared.moves.Move.{Move}
-use Rattle.pgn_text.specs.Games.{Item, MoveText, GlyphNumber, CommentText, VariationOpen, VariationClose}
-use Rattle.pgn_game.specs.AllLines.{IsTurn, after_turn}
-use Rattle.pgn_game.specs.LineWalks.{is_inside, gone_on, begun, first_level, main_now, Runs}
-use Rattle.pgn_game.specs.MainLines.{main_words, IsMainLine}
-use Rattle.pgn_game.specs.Steps.{Step, Turned, Visits, Walks, WalksOn, KeepsStep, around}
+use Rattle.pgn_text.specs.Public.Games.{Item, MoveText, GlyphNumber, CommentText, VariationOpen, VariationClose}
+use Rattle.pgn_game.specs.Public.AllLines.{IsTurn, after_turn}
+use Rattle.pgn_game.specs.Private.LineWalks.{is_inside, gone_on, begun, first_level, main_now, Runs}
+use Rattle.pgn_game.specs.Public.MainLines.{main_words, IsMainLine}
+use Rattle.pgn_game.specs.Private.Steps.{Step, Turned, Visits, Walks, WalksOn, KeepsStep, around}
 use Rattle.pgn_game.specs.declared.replays.all_lines.ReplayKeeper.{ReplayKeeper}
 use Rattle.pgn_game.specs.declared.turns.line_move.LineMove.{LineMove}
 use Rattle.pgn_game.specs.declared.turns.line_move.LineMove.TheVariants.{Played, Passed}

@@ -1,8 +1,8 @@
 -- What a writer in lines adds is laid.
 use Rattle.std.proofs.Common.{◌≡◌, ◌⊎◌, ℕ, ◌+◌, ◌<◌, Bool, true, false, List, [], ◌∷◌, ◌++◌, length, nat_le, refl, sym, ap, ◌∙◌, subst, inl, inr, append_assoc, append-nil, length-append, arith}
 use Rattle.std.proofs.lemmas.Bool.Decides.{nat_tests}
-use Rattle.pgn_game.specs.TextLines.{joined, tokens_of, text_of, IsLine, IsFull, AreLines, TokensHaveAText}
-use Rattle.pgn_game.specs.Pens.{added, parted, column_after, AddedIsLaid}
+use Rattle.pgn_game.specs.Public.TextLines.{joined, tokens_of, text_of, IsLine, IsFull, AreLines, TokensHaveAText}
+use Rattle.pgn_game.specs.Private.Pens.{added, parted, column_after, AddedIsLaid}
 
 -- a line and one token more
 joined_more : (first : List ℕ) (line : List (List ℕ)) (token : List ℕ) → joined ((first ∷ line) ++ token ∷ []) ≡ joined (first ∷ line) ++ 32 ∷ token

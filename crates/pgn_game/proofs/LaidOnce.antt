@@ -1,6 +1,6 @@
 -- Tokens have one text of a width at most.
 use Rattle.std.proofs.Common.{◌≡◌, ℕ, ◌+◌, ◌<◌, ◌≤◌, List, [], ◌∷◌, ◌++◌, length, refl, sym, ap, ◌∙◌, subst, length-append, arith}
-use Rattle.pgn_game.specs.TextLines.{joined, tokens_of, text_of, IsLine, IsFull, AreLines, TokensHaveOneText}
+use Rattle.pgn_game.specs.Public.TextLines.{joined, tokens_of, text_of, IsLine, IsFull, AreLines, TokensHaveOneText}
 
 -- a token more makes no line shorter
 after_first : (x y : List ℕ) (ys : List (List ℕ)) → length (joined (x ∷ y ∷ ys)) ≡ length x + 1 + length (joined (y ∷ ys))

@@ -1,12 +1,12 @@
 -- The text of a move in a notation: each legal move has one, which holds no space, and no other legal move has it.
 use Rattle.std.proofs.Common.{◌≡◌, ℕ, ◌+◌, ◌≤◌, List, [], ◌∷◌, refl, sym, ap, ◌∙◌, subst, arith}
 use Rattle.std.specs.Prelude.{Option, Some, None}
-use Rattle.chess.specs.Squares.{Place, gap}
-use Rattle.chess.specs.Placements.{AreOnBoard, man_at}
-use Rattle.chess.specs.Positions.{State, IsSound, king_from, king_to}
-use Rattle.chess.specs.Moves.{Castles, Goes, IsKingMove, IsLegal}
-use Rattle.chess.specs.Attacks.{IsNear}
-use Rattle.chess.specs.Letters.{kind_letter}
+use Rattle.chess.specs.Public.Squares.{Place, gap}
+use Rattle.chess.specs.Public.Placements.{AreOnBoard, man_at}
+use Rattle.chess.specs.Public.Positions.{State, IsSound, king_from, king_to}
+use Rattle.chess.specs.Public.Moves.{Castles, Goes, IsKingMove, IsLegal}
+use Rattle.chess.specs.Public.Attacks.{IsNear}
+use Rattle.chess.specs.Public.Letters.{kind_letter}
 use Rattle.chess.specs.declared.board.man.Man.{Man}
 use Rattle.chess.specs.declared.board.man.Kind.{Kind}
 use Rattle.chess.specs.declared.board.man.Kind.TheVariants.{King, Queen, Rook, Bishop, Knight, Pawn}
@@ -17,7 +17,7 @@ use Rattle.chess.specs.declared.moves.Move.{Move}
 use Rattle.chess.proofs.SanNamesFacts.{san_names}
 use Rattle.chess.proofs.SanOnce.{one_san}
 use Rattle.chess.proofs.SanSettled.{some_san}
-use Rattle.pgn_game.specs.GameLines.{IsMoveText, promotion_letter, uci_text}
+use Rattle.pgn_game.specs.Public.GameLines.{IsMoveText, promotion_letter, uci_text}
 use Rattle.pgn_game.specs.declared.exports.notation.Notation.{Notation}
 use Rattle.pgn_game.specs.declared.exports.notation.Notation.TheVariants.{San, Uci}
 use Rattle.pgn_game.specs.declared.turns.line_move.LineMove.TheVariants.{Played}

@@ -1,7 +1,7 @@
 -- What a pen writes.
 use Rattle.std.proofs.Common.{◌≡◌, ℕ, false, List, [], ◌∷◌, ◌++◌, refl, ap, ◌∙◌, append_assoc, append-nil}
-use Rattle.pgn_game.specs.Pens.{HasPut, after_tokens}
-use Rattle.pgn_game.specs.TextLines.{IsLaid}
+use Rattle.pgn_game.specs.Private.Pens.{HasPut, after_tokens}
+use Rattle.pgn_game.specs.Public.TextLines.{IsLaid}
 use Rattle.pgn_game.specs.declared.exports.pen.Pen.{Pen}
 use Rattle.pgn_game.proofs.LaidFacts.{added_is_laid}
 

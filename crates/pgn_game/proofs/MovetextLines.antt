@@ -4,23 +4,23 @@ use Rattle.std.proofs.Math.Bool.{or_comm}
 use Rattle.std.proofs.lemmas.Bool.Decides.{nat_tests}
 use Rattle.std.specs.List.{slice_get}
 use Rattle.std.specs.Prelude.{◌==◌, ◌||◌, if◌then◌else◌, Option, Some, None, IfSome, codes, decimal}
-use Rattle.chess.specs.Positions.{State}
-use Rattle.chess.specs.Moves.{after}
-use Rattle.chess.specs.San.{IsOnlyNamed}
+use Rattle.chess.specs.Public.Positions.{State}
+use Rattle.chess.specs.Public.Moves.{after}
+use Rattle.chess.specs.Public.San.{IsOnlyNamed}
 use Rattle.chess.specs.declared.moves.Move.{Move}
-use Rattle.pgn_text.specs.GameTexts.{IsPaired}
-use Rattle.pgn_text.specs.Games.{Item, MoveText, GlyphNumber, CommentText, VariationOpen, VariationClose}
-use Rattle.pgn_game.specs.AllLines.{Line, LineEnd, ThenMove, ThenGlyph, ThenComment, ThenVariation, spelled, own_words, SaysTurn, after_turn, IsPlayed}
-use Rattle.pgn_game.specs.Comments.{comment_tokens}
-use Rattle.pgn_game.specs.Exports.{number_tokens, kept, lines_with, AreMovetextTokens, AreTokens, IsReplayFor}
-use Rattle.pgn_game.specs.Faults.{Fault, HasLineFault, IsMoveFault}
-use Rattle.pgn_game.specs.LineWalks.{Stops, begun, first_level, gone_on, is_inside}
-use Rattle.pgn_game.specs.MainLines.{main_words, IsMainLine}
-use Rattle.pgn_game.specs.MovetextWalks.{WritesStep}
-use Rattle.pgn_game.specs.Pens.{HasPut}
-use Rattle.pgn_game.specs.Steps.{Step, Visits, Walks, WalksOn, around, outside, shown_if, shown_items}
-use Rattle.pgn_game.specs.Replays.{Replay, AreTurns, IsReplay, IsSoundGame, fault_of}
-use Rattle.pgn_game.specs.Starts.{IsStart}
+use Rattle.pgn_text.specs.Public.GameTexts.{IsPaired}
+use Rattle.pgn_text.specs.Public.Games.{Item, MoveText, GlyphNumber, CommentText, VariationOpen, VariationClose}
+use Rattle.pgn_game.specs.Public.AllLines.{Line, LineEnd, ThenMove, ThenGlyph, ThenComment, ThenVariation, spelled, own_words, SaysTurn, after_turn, IsPlayed}
+use Rattle.pgn_game.specs.Public.Comments.{comment_tokens}
+use Rattle.pgn_game.specs.Public.Exports.{number_tokens, kept, lines_with, AreMovetextTokens, AreTokens, IsReplayFor}
+use Rattle.pgn_game.specs.Public.Faults.{Fault, HasLineFault, IsMoveFault}
+use Rattle.pgn_game.specs.Private.LineWalks.{Stops, begun, first_level, gone_on, is_inside}
+use Rattle.pgn_game.specs.Public.MainLines.{main_words, IsMainLine}
+use Rattle.pgn_game.specs.Private.MovetextWalks.{WritesStep}
+use Rattle.pgn_game.specs.Private.Pens.{HasPut}
+use Rattle.pgn_game.specs.Private.Steps.{Step, Visits, Walks, WalksOn, around, outside, shown_if, shown_items}
+use Rattle.pgn_game.specs.Public.Replays.{Replay, AreTurns, IsReplay, IsSoundGame, fault_of}
+use Rattle.pgn_game.specs.Public.Starts.{IsStart}
 use Rattle.pgn_game.specs.declared.replays.walk.Level.{Level}
 use Rattle.pgn_game.specs.declared.turns.fault.GameFault.{GameFault}
 use Rattle.pgn_game.specs.declared.replays.line_stack.LineStack.{LineStack}

@@ -7,14 +7,14 @@ use Rattle.std.proofs.Math.Seq.{get_or-append_seam}
 use Rattle.std.proofs.lemmas.Bool.{cases_eq}
 use Rattle.std.proofs.lemmas.List.{map-append, length-map, get_or-map}
 use Rattle.std.proofs.lemmas.List.Elements.{Contains-get_or, Contains-push, Contains-push_cases, Contains-append_left}
-use Rattle.chess.specs.Positions.{State}
-use Rattle.chess.specs.San.{IsNamed}
-use Rattle.chess.specs.SetFacts.{square_at-index_of, index_of-below}
-use Rattle.chess.specs.SquareFacts.{index_of-square_at}
-use Rattle.chess.specs.Squares.{Place, square_at, index_of}
+use Rattle.chess.specs.Public.Positions.{State}
+use Rattle.chess.specs.Public.San.{IsNamed}
+use Rattle.chess.specs.Private.SetFacts.{square_at-index_of, index_of-below}
+use Rattle.chess.specs.Private.SquareFacts.{index_of-square_at}
+use Rattle.chess.specs.Public.Squares.{Place, square_at, index_of}
 use Rattle.chess.specs.declared.moves.Move.{Move}
-use Rattle.pgn_game.specs.Refusals.{AreNamed}
-use Rattle.pgn_game.specs.RefusalWalks.{AddsFrom}
+use Rattle.pgn_game.specs.Public.Refusals.{AreNamed}
+use Rattle.pgn_game.specs.Private.RefusalWalks.{AddsFrom}
 
 -- a number above the last of numbers that ascend
 increasing_push : (xs : List ℕ) (y : ℕ) → IsStrictlyIncreasing xs → ((k : ℕ) → k < length xs → slice_index xs k < y) → IsStrictlyIncreasing (xs ++ y ∷ [])

@@ -1,12 +1,12 @@
 -- In each position of a main line men stand on the board alone, and the move that is played in it is legal.
 use Rattle.std.proofs.Common.{◌≡◌, ℕ, zero, suc, List, [], ◌∷◌, Some, None, sym, ap, ◌∙◌, subst}
 use Rattle.std.specs.List.{slice_get}
-use Rattle.chess.specs.Placements.{AreOnBoard}
-use Rattle.chess.specs.Positions.{State}
-use Rattle.chess.specs.Moves.{after, IsLegal}
+use Rattle.chess.specs.Public.Placements.{AreOnBoard}
+use Rattle.chess.specs.Public.Positions.{State}
+use Rattle.chess.specs.Public.Moves.{after, IsLegal}
 use Rattle.chess.specs.declared.moves.Move.{Move}
 use Rattle.chess.proofs.OnBoard.{men_stay_on_board}
-use Rattle.pgn_game.specs.MainLines.{IsMainLine}
+use Rattle.pgn_game.specs.Public.MainLines.{IsMainLine}
 use Rattle.pgn_game.proofs.OneReplay.{move_at}
 use Rattle.pgn_game.proofs.WalkFacts.{same_state}
 

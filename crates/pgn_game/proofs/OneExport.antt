@@ -1,12 +1,12 @@
 -- In a style a game has one export at most.
 use Rattle.std.proofs.Common.{◌≡◌, ℕ, List, [], ◌∷◌, ◌++◌, sym, ap, ◌∙◌, subst}
 use Rattle.std.specs.Prelude.{Option, Some, None, flat_map}
-use Rattle.pgn_text.specs.GameTexts.{tag_in}
-use Rattle.pgn_game.specs.Starts.{fen_tag}
-use Rattle.pgn_game.specs.TagLines.{missing_text, escaped, IsTagText, tag_line, AreLinesOf, written_names}
-use Rattle.pgn_game.specs.TextLines.{IsLaid}
-use Rattle.pgn_game.specs.Exports.{AreMovetextTokens}
-use Rattle.pgn_game.specs.Laws.{GameHasOneExport}
+use Rattle.pgn_text.specs.Public.GameTexts.{tag_in}
+use Rattle.pgn_game.specs.Public.Starts.{fen_tag}
+use Rattle.pgn_game.specs.Public.TagLines.{missing_text, escaped, IsTagText, tag_line, AreLinesOf, written_names}
+use Rattle.pgn_game.specs.Public.TextLines.{IsLaid}
+use Rattle.pgn_game.specs.Public.Exports.{AreMovetextTokens}
+use Rattle.pgn_game.specs.Public.Laws.{GameHasOneExport}
 use Rattle.pgn_game.proofs.LaidOnce.{one_text}
 use Rattle.pgn_game.proofs.OneMovetext.{one_movetext}
 use Rattle.pgn_game.proofs.OneReplay.{same_value, one_start}

@@ -2,13 +2,13 @@
 use Rattle.std.proofs.Common.{◌≡◌, ℕ, ◌+◌, ◌-◌, ◌<◌, Bool, true, false, ◌&&◌, List, [], ◌∷◌, ◌++◌, refl, sym, ap, ◌∙◌, subst, inl, inr, append_assoc, append-nil, arith}
 use Rattle.std.proofs.lemmas.Bool.Decides.{nat_tests}
 use Rattle.std.specs.Prelude.{◌==◌, if◌then◌else◌}
-use Rattle.chess.specs.Positions.{State}
-use Rattle.chess.specs.Moves.{after}
+use Rattle.chess.specs.Public.Positions.{State}
+use Rattle.chess.specs.Public.Moves.{after}
 use Rattle.chess.specs.declared.moves.Move.{Move}
-use Rattle.pgn_text.specs.Games.{Item, VariationClose}
-use Rattle.pgn_game.specs.MainLines.{main_words, IsMainLine}
-use Rattle.pgn_game.specs.Faults.{Fault, RefusesTurn, IsLineFault}
-use Rattle.pgn_game.specs.AllLines.{Line, LineEnd, ThenMove, ThenGlyph, ThenComment, ThenVariation, spelled, own_words, is_pass, SaysTurn, after_turn, IsPlayed}
+use Rattle.pgn_text.specs.Public.Games.{Item, VariationClose}
+use Rattle.pgn_game.specs.Public.MainLines.{main_words, IsMainLine}
+use Rattle.pgn_game.specs.Public.Faults.{Fault, RefusesTurn, IsLineFault}
+use Rattle.pgn_game.specs.Public.AllLines.{Line, LineEnd, ThenMove, ThenGlyph, ThenComment, ThenVariation, spelled, own_words, is_pass, SaysTurn, after_turn, IsPlayed}
 use Rattle.pgn_game.specs.declared.turns.line_move.LineMove.{LineMove}
 use Rattle.pgn_game.specs.declared.turns.line_move.LineMove.TheVariants.{Played, Passed}
 use Rattle.pgn_game.proofs.OneWord.{named_or_refused, one_refused}

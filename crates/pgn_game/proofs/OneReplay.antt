@@ -2,20 +2,20 @@
 use Rattle.std.proofs.Common.{◌≡◌, ℕ, ◌+◌, zero, suc, List, [], ◌∷◌, length, refl, sym, ap, ◌∙◌, subst, false, inl, inr, arith}
 use Rattle.std.specs.Prelude.{Option, Some, None}
 use Rattle.std.specs.List.{slice_get}
-use Rattle.chess.specs.Positions.{State}
-use Rattle.chess.specs.Moves.{after}
-use Rattle.chess.specs.Fen.{SpellsPosition, IsRefused}
-use Rattle.chess.specs.San.{IsOnlyNamed}
+use Rattle.chess.specs.Public.Positions.{State}
+use Rattle.chess.specs.Public.Moves.{after}
+use Rattle.chess.specs.Public.Fen.{SpellsPosition, IsRefused}
+use Rattle.chess.specs.Public.San.{IsOnlyNamed}
 use Rattle.chess.specs.declared.moves.Move.{Move}
 use Rattle.chess.proofs.FenOnce.{one_spelling, read_or_refused}
 use Rattle.pgn_text.proofs.Values.{one_value}
-use Rattle.pgn_text.specs.Games.{Item}
-use Rattle.pgn_game.specs.MainLines.{main_words, IsMainLine}
-use Rattle.pgn_game.specs.Starts.{IsValueOf, IsStart, IsBadStart}
-use Rattle.pgn_game.specs.AllLines.{IsPlayed, ArePlayed}
-use Rattle.pgn_game.specs.Faults.{Fault, IsMoveFault, IsLineFault, HaveFault, HasLineFault, IsFault}
-use Rattle.pgn_game.specs.Laws.{GameHasOneReplay, GameHasOneFault, SoundGameHasNoFault}
-use Rattle.pgn_game.specs.Replays.{Replay, AreTurns, IsReplay}
+use Rattle.pgn_text.specs.Public.Games.{Item}
+use Rattle.pgn_game.specs.Public.MainLines.{main_words, IsMainLine}
+use Rattle.pgn_game.specs.Public.Starts.{IsValueOf, IsStart, IsBadStart}
+use Rattle.pgn_game.specs.Public.AllLines.{IsPlayed, ArePlayed}
+use Rattle.pgn_game.specs.Public.Faults.{Fault, IsMoveFault, IsLineFault, HaveFault, HasLineFault, IsFault}
+use Rattle.pgn_game.specs.Public.Laws.{GameHasOneReplay, GameHasOneFault, SoundGameHasNoFault}
+use Rattle.pgn_game.specs.Public.Replays.{Replay, AreTurns, IsReplay}
 use Rattle.pgn_game.specs.declared.replays.replayer.Lines.{Lines}
 use Rattle.pgn_game.specs.declared.replays.replayer.Lines.TheVariants.{Main, All}
 use Rattle.pgn_game.specs.declared.turns.line_move.LineMove.{LineMove}

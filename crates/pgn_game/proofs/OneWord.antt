@@ -1,9 +1,9 @@
 -- A word names one legal move alone, or is refused, and is refused in one way.
 use Rattle.std.proofs.Common.{◌≡◌, ℕ, ◌+◌, List, sym, ap, ◌∙◌}
-use Rattle.chess.specs.Positions.{State}
-use Rattle.chess.specs.San.{IsOnlyNamed}
+use Rattle.chess.specs.Public.Positions.{State}
+use Rattle.chess.specs.Public.San.{IsOnlyNamed}
 use Rattle.chess.specs.declared.moves.Move.{Move}
-use Rattle.pgn_game.specs.Faults.{Fault, BadStart, IllegalMove, AmbiguousMove, NamesSeveral, IsRefusedWord}
+use Rattle.pgn_game.specs.Public.Faults.{Fault, BadStart, IllegalMove, AmbiguousMove, NamesSeveral, IsRefusedWord}
 
 -- a word that names one legal move alone is not refused
 pub named_or_refused : (now : State) (plies : ℕ) (word : List ℕ) (m : Move) (fault : Fault) → IsOnlyNamed now word m → IsRefusedWord now plies word fault → ⊥

@@ -2,15 +2,15 @@
 use Rattle.std.proofs.Common.{◌≡◌, ℕ, ◌<◌, ◌≤◌, zero, suc, List, [], ◌∷◌, ◌++◌, length, sym, ap, ◌∙◌, subst, inl, inr, arith}
 use Rattle.std.specs.Prelude.{◌⊎◌, Option, Some, None}
 use Rattle.std.specs.List.{slice_get}
-use Rattle.chess.specs.Positions.{State}
-use Rattle.chess.specs.Moves.{after, IsLegal}
-use Rattle.chess.specs.San.{IsOnlyNamed}
+use Rattle.chess.specs.Public.Positions.{State}
+use Rattle.chess.specs.Public.Moves.{after, IsLegal}
+use Rattle.chess.specs.Public.San.{IsOnlyNamed}
 use Rattle.chess.specs.declared.moves.Move.{Move}
-use Rattle.pgn_text.specs.Games.{Item}
-use Rattle.pgn_game.specs.MainLines.{main_words, IsMainLine}
-use Rattle.pgn_game.specs.Openings.{IsOpening}
-use Rattle.pgn_game.specs.Replays.{Replay, IsSomeReplay}
-use Rattle.pgn_game.specs.Laws.{GameHasOneOpening}
+use Rattle.pgn_text.specs.Public.Games.{Item}
+use Rattle.pgn_game.specs.Public.MainLines.{main_words, IsMainLine}
+use Rattle.pgn_game.specs.Public.Openings.{IsOpening}
+use Rattle.pgn_game.specs.Public.Replays.{Replay, IsSomeReplay}
+use Rattle.pgn_game.specs.Public.Laws.{GameHasOneOpening}
 use Rattle.pgn_game.proofs.OneReplay.{line_head, one_move, one_start, move_at, same_replay}
 
 -- one line goes on where another ends

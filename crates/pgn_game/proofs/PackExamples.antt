@@ -1,13 +1,13 @@
 -- Codes of plies and a record, worked out by hand.
 use Rattle.std.proofs.Common.{◌≡◌, ℕ, ◌+◌, ◌*◌, true, false, List, [], ◌∷◌, ◌++◌, Some, None, Ok, Err, codes, refl}
-use Rattle.chess.specs.Squares.{Place}
-use Rattle.chess.specs.Positions.{king_of, pawn_of}
+use Rattle.chess.specs.Public.Squares.{Place}
+use Rattle.chess.specs.Public.Positions.{king_of, pawn_of}
 use Rattle.chess.specs.declared.board.man.Side.TheVariants.{White, Black}
 use Rattle.chess.specs.declared.board.man.Kind.TheVariants.{Queen}
 use Rattle.chess.specs.declared.board.man.Wing.TheVariants.{KingSide, QueenSide}
-use Rattle.pgn_game.specs.PlyCodes.{PlyCode, code_bytes, code_of}
-use Rattle.pgn_game.specs.PackedGames.{PackedGame, record_bytes, pack_bytes, body_size, result_number}
-use Rattle.pgn_game.specs.PackReading.{raw_of, text_at, after_tags, body_at, record_at}
+use Rattle.pgn_game.specs.Public.PlyCodes.{PlyCode, code_bytes, code_of}
+use Rattle.pgn_game.specs.Public.PackedGames.{PackedGame, record_bytes, pack_bytes, body_size, result_number}
+use Rattle.pgn_game.specs.Public.PackReading.{raw_of, text_at, after_tags, body_at, record_at}
 use Rattle.pgn_game.specs.declared.pack.error.RecordError.TheVariants.{CutShort, TooLarge, PartOfPly}
 
 abbrev pub square : ℕ → ℕ → Place

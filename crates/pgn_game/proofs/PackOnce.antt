@@ -2,10 +2,10 @@
 use Rattle.std.proofs.Common.{◌≡◌, ℕ, ◌/◌, ◌%◌, ◌^◌, ◌<◌, ◌==◌, List, [], ◌∷◌, ◌++◌, length, refl, sym, ap, ◌∙◌, append_assoc, arith}
 use Rattle.std.specs.List.{flat_map, AllByRecursion}
 use Rattle.std.proofs.lemmas.List.Concat.{flat_map-cons}
-use Rattle.pgn_game.specs.PlyCodes.{PlyCode, FitsCode, code_bytes, code_of}
-use Rattle.pgn_game.specs.PackedGames.{PackedGame, Tag, FitsTag, FitsRecord, with_length, tag_bytes, head_of, numbered_result, record_bytes, pack_bytes}
-use Rattle.pgn_game.specs.PackReading.{RawRecord, raw_of, text_at, record_at}
-use Rattle.pgn_game.specs.Laws.{CodeIsReadBack, RecordHasOneReading, PackHasOneReading}
+use Rattle.pgn_game.specs.Public.PlyCodes.{PlyCode, FitsCode, code_bytes, code_of}
+use Rattle.pgn_game.specs.Public.PackedGames.{PackedGame, Tag, FitsTag, FitsRecord, with_length, tag_bytes, head_of, numbered_result, record_bytes, pack_bytes}
+use Rattle.pgn_game.specs.Public.PackReading.{RawRecord, raw_of, text_at, record_at}
+use Rattle.pgn_game.specs.Public.Laws.{CodeIsReadBack, RecordHasOneReading, PackHasOneReading}
 use Rattle.pgn_game.proofs.PlyCodeFacts.{code_again}
 use Rattle.pgn_game.proofs.HeadFacts.{head_shows}
 use Rattle.pgn_game.proofs.RecordFields.{ok_is, text_again}

@@ -8,22 +8,22 @@ use Rattle.std.proofs.lemmas.Cmp.{nat_list_cmp_total, nat_list_eq_equiv}
 use Rattle.std.proofs.lemmas.List.{length-append}
 use Rattle.std.proofs.lemmas.List.Concat.{flat_map-cons}
 use Rattle.std.proofs.lemmas.Map.Text.{is_eq-slice_cmp}
-use Rattle.chess.specs.Letters.{square_text}
-use Rattle.chess.specs.Moves.{after}
-use Rattle.chess.specs.Positions.{State}
-use Rattle.chess.specs.San.{IsNamed, Spells, Said, IsCastlingText, letter_text, file_text, rank_text, promotion_text}
+use Rattle.chess.specs.Public.Letters.{square_text}
+use Rattle.chess.specs.Public.Moves.{after}
+use Rattle.chess.specs.Public.Positions.{State}
+use Rattle.chess.specs.Public.San.{IsNamed, Spells, Said, IsCastlingText, letter_text, file_text, rank_text, promotion_text}
 use Rattle.chess.specs.declared.board.man.Wing.{Wing}
 use Rattle.chess.specs.declared.board.man.Wing.TheVariants.{KingSide, QueenSide}
 use Rattle.chess.specs.declared.moves.Move.{Move}
-use Rattle.pgn_text.specs.GameTexts.{GameText, IsGameText, IsResult, ShowsGame}
-use Rattle.pgn_text.specs.Games.{Item, MoveText, GlyphNumber, CommentText, VariationOpen, VariationClose, is_move_text, glyphs_of_marks, items_of, items_of_part, first_tag}
-use Rattle.pgn_text.specs.Parts.{Part, ByteOrderMark, White, Brace, Line, EscapeLine, Tag, Word, Star, Dot, Glyph, Marks, Open, Close, spelled, spelled_part}
+use Rattle.pgn_text.specs.Public.GameTexts.{GameText, IsGameText, IsResult, ShowsGame}
+use Rattle.pgn_text.specs.Public.Games.{Item, MoveText, GlyphNumber, CommentText, VariationOpen, VariationClose, is_move_text, glyphs_of_marks, items_of, items_of_part, first_tag}
+use Rattle.pgn_text.specs.Public.Parts.{Part, ByteOrderMark, White, Brace, Line, EscapeLine, Tag, Word, Star, Dot, Glyph, Marks, Open, Close, spelled, spelled_part}
 use Rattle.pgn_text.proofs.ShownOnce.{same_tags}
 use Rattle.pgn_text.proofs.SortedTags.{name_cmp, names_of_sorted, find-tag_in}
-use Rattle.pgn_game.specs.Laws.{GameOfABlockFits}
-use Rattle.pgn_game.specs.MainLines.{main_words, IsMainLine}
-use Rattle.pgn_game.specs.PackedGames.{Tag as NamedTag, longest_name, name_size, tags_size}
-use Rattle.pgn_game.specs.PlyCodes.{AreCodes}
+use Rattle.pgn_game.specs.Public.Laws.{GameOfABlockFits}
+use Rattle.pgn_game.specs.Public.MainLines.{main_words, IsMainLine}
+use Rattle.pgn_game.specs.Public.PackedGames.{Tag as NamedTag, longest_name, name_size, tags_size}
+use Rattle.pgn_game.specs.Public.PlyCodes.{AreCodes}
 use Rattle.pgn_game.proofs.OneReplay.{line_head}
 use Rattle.pgn_game.proofs.RecordWriting.{codes_count, record_fits}
 use Rattle.pgn_game.proofs.WalkFacts.{same_state}

@@ -2,11 +2,11 @@
 use Rattle.std.proofs.Common.{◌≡◌, ℕ, ◌+◌, ◌-◌, ◌<◌, ◌≤◌, Bool, true, false, List, [], ◌++◌, length, take, drop, Option, Some, None, Ok, Err, refl, sym, ap, ◌∙◌, append_assoc, arith, take-append-drop, length-append}
 use Rattle.std.specs.Int.{w32, to_be_bytes, from_be_bytes}
 use Rattle.std.proofs.lemmas.List.{take_at, take-append-le, length-take-le}
-use Rattle.pgn_text.specs.Limits.{largest_offset}
-use Rattle.pgn_game.specs.PackedGames.{PackedGame, FitsRecord, body_bytes, record_bytes, largest_body}
-use Rattle.pgn_game.specs.PackReading.{record_at}
-use Rattle.pgn_game.specs.PackSteps.{HoldsWhole, IsWhole, IsPart, ReadsOn, size_in}
-use Rattle.pgn_game.specs.PackStreams.{Window, IsRecord, HasNoRecord, PassesOn, StepGives}
+use Rattle.pgn_text.specs.Public.Limits.{largest_offset}
+use Rattle.pgn_game.specs.Public.PackedGames.{PackedGame, FitsRecord, body_bytes, record_bytes, largest_body}
+use Rattle.pgn_game.specs.Public.PackReading.{record_at}
+use Rattle.pgn_game.specs.Private.PackSteps.{HoldsWhole, IsWhole, IsPart, ReadsOn, size_in}
+use Rattle.pgn_game.specs.Public.PackStreams.{Window, IsRecord, HasNoRecord, PassesOn, StepGives}
 use Rattle.pgn_game.specs.declared.pack.error.RecordError.{RecordError}
 use Rattle.pgn_game.specs.declared.pack.records.RecordsError.TheVariants.{BadPack, InputTooLong}
 use Rattle.pgn_game.proofs.RecordFacts.{record_again}

@@ -2,8 +2,8 @@
 use Rattle.std.proofs.Common.{◌≡◌, ◌+◌, ◌≤◌, ℕ, true, List, [], ◌∷◌, ◌++◌, length, sym, ap, subst, ◌∙◌, arith, append_assoc, length-append}
 use Rattle.std.specs.Prelude.{nat_le}
 use Rattle.std.proofs.lemmas.Bool.Decides.{nat_tests}
-use Rattle.pgn_game.specs.Pens.{HasPut, added, parted, column_after, after_tokens}
-use Rattle.pgn_game.specs.TextLines.{joined}
+use Rattle.pgn_game.specs.Private.Pens.{HasPut, added, parted, column_after, after_tokens}
+use Rattle.pgn_game.specs.Public.TextLines.{joined}
 use Rattle.pgn_game.specs.declared.exports.pen.Pen.{Pen}
 
 -- what was written in two goes is written in one

@@ -4,13 +4,13 @@ use Rattle.std.proofs.lemmas.Bool.{and_parts}
 use Rattle.std.proofs.lemmas.Slice.Eq.{bytes_eq-Decides}
 use Rattle.std.specs.List.{list_all}
 use Rattle.std.specs.Prelude.{◌==◌, not, bytes_eq, if◌then◌else◌, codes, filter, flat_map, is_some, Option, Some, None}
-use Rattle.pgn_text.specs.Blocks.{event_line}
-use Rattle.pgn_text.specs.Bytes.{is_name_byte, is_plain}
-use Rattle.pgn_text.specs.GameTexts.{IsResult, tag_in, tag_names}
-use Rattle.pgn_text.specs.Strings.{Sign, Single, Escaped, is_sign, value_of_sign}
-use Rattle.pgn_game.specs.Laws.{IsMisread, IsReadAsOne, ExportIsReadAsOne}
-use Rattle.pgn_game.specs.Starts.{fen_tag}
-use Rattle.pgn_game.specs.TagLines.{missing_text, escaped, IsTagText, tag_line, AreLinesOf, is_beside}
+use Rattle.pgn_text.specs.Public.Blocks.{event_line}
+use Rattle.pgn_text.specs.Public.Bytes.{is_name_byte, is_plain}
+use Rattle.pgn_text.specs.Public.GameTexts.{IsResult, tag_in, tag_names}
+use Rattle.pgn_text.specs.Public.Strings.{Sign, Single, Escaped, is_sign, value_of_sign}
+use Rattle.pgn_game.specs.Public.Laws.{IsMisread, IsReadAsOne, ExportIsReadAsOne}
+use Rattle.pgn_game.specs.Public.Starts.{fen_tag}
+use Rattle.pgn_game.specs.Public.TagLines.{missing_text, escaped, IsTagText, tag_line, AreLinesOf, is_beside}
 use Rattle.pgn_game.specs.declared.exports.style.Style.{Style}
 use Rattle.pgn_game.proofs.PlainLines.{HasNoFeed, IsRight, same_word, solid_feed, after_feed, line_right, feed_right, movetext_right, feed_alone}
 use Rattle.pgn_game.proofs.PlainTokens.{AllOf, IsInk, IsSolid, all_append, result_may}

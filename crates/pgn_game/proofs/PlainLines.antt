@@ -1,13 +1,13 @@
 -- No line of tokens that may begin a line is misread.
 use Rattle.std.proofs.Common.{◌≡◌, ◌⊎◌, ℕ, List, [], ◌∷◌, ◌++◌, refl, sym, ap, ◌∙◌, subst, inl, inr, append_assoc, append-nil, arith}
 use Rattle.std.specs.Prelude.{codes}
-use Rattle.chess.specs.Positions.{State}
-use Rattle.pgn_text.specs.Blocks.{event_line}
-use Rattle.pgn_text.specs.GameTexts.{IsResult}
-use Rattle.pgn_text.specs.Games.{Item}
-use Rattle.pgn_game.specs.Exports.{AreMovetextTokens}
-use Rattle.pgn_game.specs.Laws.{BeginsLine, IsMisread, NoLineIsMisread}
-use Rattle.pgn_game.specs.TextLines.{joined, tokens_of, text_of, AreLines, IsLaid}
+use Rattle.chess.specs.Public.Positions.{State}
+use Rattle.pgn_text.specs.Public.Blocks.{event_line}
+use Rattle.pgn_text.specs.Public.GameTexts.{IsResult}
+use Rattle.pgn_text.specs.Public.Games.{Item}
+use Rattle.pgn_game.specs.Public.Exports.{AreMovetextTokens}
+use Rattle.pgn_game.specs.Public.Laws.{BeginsLine, IsMisread, NoLineIsMisread}
+use Rattle.pgn_game.specs.Public.TextLines.{joined, tokens_of, text_of, AreLines, IsLaid}
 use Rattle.pgn_game.specs.declared.exports.style.Style.{Style}
 use Rattle.pgn_game.proofs.PlainTokens.{AllOf, IsInk, IsSolid, MayBegin, AllMayBegin, all_append, all_front, all_back, movetext_may}
 

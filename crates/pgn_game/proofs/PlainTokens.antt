@@ -3,10 +3,10 @@ use Rattle.std.proofs.Common.{◌≡◌, ◌≢◌, ◌⊎◌, ℕ, zero, suc, �
 use Rattle.std.proofs.lemmas.Bool.Decides.{nat_tests}
 use Rattle.std.specs.Prelude.{◌==◌, not, ◌||◌, if◌then◌else◌, bytes_eq, filter, Option, Some, None, codes, decimal, nat_lt}
 use Rattle.std.specs.Fmt.{digit_glyph, digits_onto, digits}
-use Rattle.chess.specs.Letters.{kind_letter, square_text}
-use Rattle.chess.specs.Moves.{after}
-use Rattle.chess.specs.Positions.{State}
-use Rattle.chess.specs.San.{castling_text, capture_text, is_capture, pawn_text, promotion_text, IsDisambiguation, alone, by_file, by_rank, by_both, IsPieceText, IsBody, IsCheckMark, mate, check, quiet}
+use Rattle.chess.specs.Public.Letters.{kind_letter, square_text}
+use Rattle.chess.specs.Public.Moves.{after}
+use Rattle.chess.specs.Public.Positions.{State}
+use Rattle.chess.specs.Public.San.{castling_text, capture_text, is_capture, pawn_text, promotion_text, IsDisambiguation, alone, by_file, by_rank, by_both, IsPieceText, IsBody, IsCheckMark, mate, check, quiet}
 use Rattle.chess.specs.declared.board.man.Kind.{Kind}
 use Rattle.chess.specs.declared.board.man.Kind.TheVariants.{King, Queen, Rook, Bishop, Knight, Pawn}
 use Rattle.chess.specs.declared.board.man.Side.{Side}
@@ -14,12 +14,12 @@ use Rattle.chess.specs.declared.board.man.Side.TheVariants.{White, Black}
 use Rattle.chess.specs.declared.board.man.Wing.{Wing}
 use Rattle.chess.specs.declared.board.man.Wing.TheVariants.{KingSide, QueenSide}
 use Rattle.chess.specs.declared.moves.Move.{Move}
-use Rattle.pgn_text.specs.Games.{Item}
-use Rattle.pgn_text.specs.GameTexts.{IsResult}
-use Rattle.pgn_text.specs.Bytes.{is_white, is_empty, begins}
-use Rattle.pgn_game.specs.AllLines.{Line, LineEnd, ThenMove, ThenGlyph, ThenComment, ThenVariation, after_turn}
-use Rattle.pgn_game.specs.Comments.{in_first, cut_at_white, words_in, unbraced, later_word, closed, braced, comment_tokens}
-use Rattle.pgn_game.specs.Exports.{number_tokens, IsTurnText, kept, AreTokens, AreMovetextTokens}
+use Rattle.pgn_text.specs.Public.Games.{Item}
+use Rattle.pgn_text.specs.Public.GameTexts.{IsResult}
+use Rattle.pgn_text.specs.Public.Bytes.{is_white, is_empty, begins}
+use Rattle.pgn_game.specs.Public.AllLines.{Line, LineEnd, ThenMove, ThenGlyph, ThenComment, ThenVariation, after_turn}
+use Rattle.pgn_game.specs.Public.Comments.{in_first, cut_at_white, words_in, unbraced, later_word, closed, braced, comment_tokens}
+use Rattle.pgn_game.specs.Public.Exports.{number_tokens, IsTurnText, kept, AreTokens, AreMovetextTokens}
 use Rattle.pgn_game.specs.declared.exports.style.Style.{Style}
 use Rattle.pgn_game.specs.declared.turns.line_move.LineMove.{LineMove}
 use Rattle.pgn_game.specs.declared.turns.line_move.LineMove.TheVariants.{Played, Passed}

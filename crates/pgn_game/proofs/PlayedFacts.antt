@@ -4,13 +4,13 @@ use Rattle.std.specs.Prelude.{Option, Some, None}
 use Rattle.std.specs.Option.{is_some}
 use Rattle.std.proofs.lemmas.List.{take_all}
 use Rattle.chess.specs.declared.moves.Move.{Move}
-use Rattle.chess.specs.Moves.{after}
-use Rattle.chess.specs.San.{IsOnlyNamed}
-use Rattle.pgn_text.specs.Elements.{item_of}
+use Rattle.chess.specs.Public.Moves.{after}
+use Rattle.chess.specs.Public.San.{IsOnlyNamed}
+use Rattle.pgn_text.specs.Public.Elements.{item_of}
 use Rattle.pgn_text.specs.declared.game.Element.{Element}
-use Rattle.pgn_game.specs.MainLines.{main_words}
-use Rattle.pgn_game.specs.PlayedLines.{PlayedLine, PlaysWord, HasEnded}
-use Rattle.pgn_game.specs.Walks.{HasStepped}
+use Rattle.pgn_game.specs.Public.MainLines.{main_words}
+use Rattle.pgn_game.specs.Public.PlayedLines.{PlayedLine, PlaysWord, HasEnded}
+use Rattle.pgn_game.specs.Private.Walks.{HasStepped}
 use Rattle.pgn_game.specs.declared.replays.main_line.MainWalk.{MainWalk}
 use Rattle.pgn_game.proofs.WalkFacts.{items_step}
 

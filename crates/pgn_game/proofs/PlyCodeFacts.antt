@@ -1,11 +1,11 @@
 -- The men moved by the code of a move are the men after it; three bytes spell one code, and each three bytes do.
 use Rattle.std.proofs.Common.{◌≡◌, ◌↔◌, ℕ, zero, suc, ◌+◌, ◌*◌, ◌/◌, ◌%◌, ◌<◌, ◌==◌, ltb, Bool, true, false, cond, List, [], ◌∷◌, Option, Some, None, IfSome, refl, sym, ap, subst, ◌∙◌, arith}
-use Rattle.chess.specs.Squares.{Place, IsOnBoard, square_at, index_of}
-use Rattle.chess.specs.SquareFacts.{index_of-square_at}
-use Rattle.chess.specs.SetFacts.{square_at-index_of, index_of-below, on_board-square_at}
-use Rattle.chess.specs.Placements.{Placement, with_man}
-use Rattle.chess.specs.Positions.{State, king_of}
-use Rattle.chess.specs.Moves.{after, arriving, with_rook, is_en_passant, Goes, IsPseudoLegal}
+use Rattle.chess.specs.Public.Squares.{Place, IsOnBoard, square_at, index_of}
+use Rattle.chess.specs.Private.SquareFacts.{index_of-square_at}
+use Rattle.chess.specs.Private.SetFacts.{square_at-index_of, index_of-below, on_board-square_at}
+use Rattle.chess.specs.Public.Placements.{Placement, with_man}
+use Rattle.chess.specs.Public.Positions.{State, king_of}
+use Rattle.chess.specs.Public.Moves.{after, arriving, with_rook, is_en_passant, Goes, IsPseudoLegal}
 use Rattle.chess.specs.declared.board.man.Man.{Man}
 use Rattle.chess.specs.declared.board.man.Side.{Side}
 use Rattle.chess.specs.declared.board.man.Side.TheVariants.{White, Black}
@@ -14,8 +14,8 @@ use Rattle.chess.specs.declared.board.man.Kind.TheVariants.{King, Queen, Rook, B
 use Rattle.chess.specs.declared.board.man.Wing.{Wing}
 use Rattle.chess.specs.declared.board.man.Wing.TheVariants.{KingSide, QueenSide}
 use Rattle.chess.specs.declared.moves.Move.{Move}
-use Rattle.pgn_game.specs.Laws.{MoveHasOneCode, CodeOfAMoveFits, CodeMovesAsItsMove, GameHasOneRecord}
-use Rattle.pgn_game.specs.PlyCodes.{PlyCode, AreMarks, IsCode, AreCodes, FitsCode, bit, marks_number, man_number, numbered_kind, numbered_man, numbered_castle, code_bytes, code_of}
+use Rattle.pgn_game.specs.Public.Laws.{MoveHasOneCode, CodeOfAMoveFits, CodeMovesAsItsMove, GameHasOneRecord}
+use Rattle.pgn_game.specs.Public.PlyCodes.{PlyCode, AreMarks, IsCode, AreCodes, FitsCode, bit, marks_number, man_number, numbered_kind, numbered_man, numbered_castle, code_bytes, code_of}
 
 some_is : {A : Type 0} (x y : A) → Some x ≡ Some y → x ≡ y
 some_is x y e = cc

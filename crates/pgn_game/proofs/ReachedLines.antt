@@ -3,14 +3,14 @@ use Rattle.std.proofs.Common.{◌≡◌, ℕ, ◌+◌, ◌-◌, zero, suc, Bool,
 use Rattle.std.proofs.lemmas.Bool.Decides.{nat_tests}
 use Rattle.std.proofs.lemmas.List.{map-append}
 use Rattle.std.specs.Prelude.{◌==◌, if◌then◌else◌}
-use Rattle.chess.specs.Positions.{State}
-use Rattle.pgn_text.specs.Games.{Item, MoveText, GlyphNumber, CommentText, VariationOpen, VariationClose}
-use Rattle.pgn_text.specs.GameTexts.{IsPaired}
-use Rattle.pgn_game.specs.AllLines.{is_pass, IsTurn}
-use Rattle.pgn_game.specs.Faults.{Fault, IsRefusedTurn, IsMoveFault, HasLineFault}
-use Rattle.pgn_game.specs.LineWalks.{is_inside, gone_on, begun, first_level, Stops, Leads}
-use Rattle.pgn_game.specs.MainLines.{main_words}
-use Rattle.pgn_game.specs.Refusals.{played_items, PlayedLine, after_move, in_its_place, main_line, is_variation, LeadTo, IsPlayedThere, OneLineIsReached, RefusedWordIsTheFault}
+use Rattle.chess.specs.Public.Positions.{State}
+use Rattle.pgn_text.specs.Public.Games.{Item, MoveText, GlyphNumber, CommentText, VariationOpen, VariationClose}
+use Rattle.pgn_text.specs.Public.GameTexts.{IsPaired}
+use Rattle.pgn_game.specs.Public.AllLines.{is_pass, IsTurn}
+use Rattle.pgn_game.specs.Public.Faults.{Fault, IsRefusedTurn, IsMoveFault, HasLineFault}
+use Rattle.pgn_game.specs.Private.LineWalks.{is_inside, gone_on, begun, first_level, Stops, Leads}
+use Rattle.pgn_game.specs.Public.MainLines.{main_words}
+use Rattle.pgn_game.specs.Public.Refusals.{played_items, PlayedLine, after_move, in_its_place, main_line, is_variation, LeadTo, IsPlayedThere, OneLineIsReached, RefusedWordIsTheFault}
 use Rattle.pgn_game.specs.declared.replays.walk.Level.{Level}
 use Rattle.pgn_game.specs.declared.replays.replayer.Lines.{Lines}
 use Rattle.pgn_game.specs.declared.replays.replayer.Lines.TheVariants.{Main, All}

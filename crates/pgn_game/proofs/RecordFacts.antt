@@ -8,9 +8,9 @@ use Rattle.std.proofs.lemmas.List.{length-append, length-take, take_at, drop_at,
 use Rattle.std.proofs.lemmas.List.Concat.{flat_map-cons}
 use Rattle.pgn_game.specs.declared.pack.error.RecordError.{RecordError}
 use Rattle.pgn_game.specs.declared.pack.error.RecordError.TheVariants.{CutShort, TooLarge, PartOfPly}
-use Rattle.pgn_game.specs.PlyCodes.{PlyCode, FitsCode, marks_number, code_bytes, code_of}
-use Rattle.pgn_game.specs.PackedGames.{PackedGame, Tag, FitsTag, FitsRecord, with_length, name_bytes, numbered_result, tag_bytes, head_of, tail_bytes, body_bytes, record_bytes, largest_body}
-use Rattle.pgn_game.specs.PackReading.{Gives, RawRecord, raw_of, number_at, text_at, name_at, tag_at, after_tag, after_tags, body_at, size_at, record_at}
+use Rattle.pgn_game.specs.Public.PlyCodes.{PlyCode, FitsCode, marks_number, code_bytes, code_of}
+use Rattle.pgn_game.specs.Public.PackedGames.{PackedGame, Tag, FitsTag, FitsRecord, with_length, name_bytes, numbered_result, tag_bytes, head_of, tail_bytes, body_bytes, record_bytes, largest_body}
+use Rattle.pgn_game.specs.Public.PackReading.{Gives, RawRecord, raw_of, number_at, text_at, name_at, tag_at, after_tag, after_tags, body_at, size_at, record_at}
 use Rattle.pgn_game.proofs.PlyCodeFacts.{code_takes, code_fits, pairs}
 use Rattle.pgn_game.proofs.HeadFacts.{name_takes, name_again, named_below, result_taken, result_is_below, head_taken, head_shows, mark_below}
 use Rattle.pgn_game.proofs.RecordFields.{◌>>=◌, IsBytes, IsBytes-take, IsBytes-rest, bind_ok, guard_ok, ok_is, Takes, Takes-then, wide32, wide64, number_takes, number_again, text_takes, text_again}

@@ -6,8 +6,8 @@ use Rattle.std.proofs.lemmas.List.{take_at, drop_at, take-append-drop, length-ap
 use Rattle.std.proofs.lemmas.Nat.{be_bytes_4, be_bytes_8, from_be_bytes-to_be_bytes_4, from_be_bytes-to_be_bytes_8}
 use Rattle.pgn_game.specs.declared.pack.error.RecordError.{RecordError}
 use Rattle.pgn_game.specs.declared.pack.error.RecordError.TheVariants.{CutShort}
-use Rattle.pgn_game.specs.PackedGames.{with_length}
-use Rattle.pgn_game.specs.PackReading.{and_then, number_at, text_at, after_tag, after_tags}
+use Rattle.pgn_game.specs.Public.PackedGames.{with_length}
+use Rattle.pgn_game.specs.Public.PackReading.{and_then, number_at, text_at, after_tag, after_tags}
 
 -- the next step after one
 infixl 10 ◌>>=◌

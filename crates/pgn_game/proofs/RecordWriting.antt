@@ -9,16 +9,16 @@ use Rattle.std.specs.Prelude.{option_map, IfSome}
 use Rattle.std.proofs.lemmas.Option.{slice_get-map}
 use Rattle.std.proofs.lemmas.List.{append-nil, length-append}
 use Rattle.std.proofs.lemmas.List.Concat.{flat_map-cons}
-use Rattle.chess.specs.Positions.{State}
-use Rattle.chess.specs.Moves.{after, HasMove}
+use Rattle.chess.specs.Public.Positions.{State}
+use Rattle.chess.specs.Public.Moves.{after, HasMove}
 use Rattle.chess.specs.declared.moves.Move.{Move}
-use Rattle.pgn_text.specs.Elements.{tag_of}
-use Rattle.pgn_text.specs.GameTexts.{GameText, IsResult}
-use Rattle.pgn_game.specs.MainLines.{IsMainLine}
-use Rattle.pgn_game.specs.Replays.{Replay}
-use Rattle.pgn_game.specs.PlyCodes.{PlyCode, AreMarks, IsCode, AreCodes, FitsCode, code_bytes}
-use Rattle.pgn_game.specs.PackedGames.{PackedGame, Tag, FitsTag, FitsRecord, IsPacked, with_length, name_bytes, name_size, tag_bytes, tags_size, body_size, tail_bytes, body_bytes, record_bytes, head_of, largest_body}
-use Rattle.pgn_game.specs.PackWords.{IsLinePlayed, AreMarksAfter, PutsFront, PutsHead, PutsPly, HasPutPlies, PutsPlies}
+use Rattle.pgn_text.specs.Public.Elements.{tag_of}
+use Rattle.pgn_text.specs.Public.GameTexts.{GameText, IsResult}
+use Rattle.pgn_game.specs.Public.MainLines.{IsMainLine}
+use Rattle.pgn_game.specs.Public.Replays.{Replay}
+use Rattle.pgn_game.specs.Public.PlyCodes.{PlyCode, AreMarks, IsCode, AreCodes, FitsCode, code_bytes}
+use Rattle.pgn_game.specs.Public.PackedGames.{PackedGame, Tag, FitsTag, FitsRecord, IsPacked, with_length, name_bytes, name_size, tag_bytes, tags_size, body_size, tail_bytes, body_bytes, record_bytes, head_of, largest_body}
+use Rattle.pgn_game.specs.Private.PackWords.{IsLinePlayed, AreMarksAfter, PutsFront, PutsHead, PutsPly, HasPutPlies, PutsPlies}
 use Rattle.pgn_game.proofs.OneReplay.{line_head, move_at}
 use Rattle.pgn_game.proofs.OnBoard.{line_legal}
 use Rattle.pgn_game.proofs.WalkFacts.{same_state}

@@ -1,13 +1,13 @@
 -- What the definitions refuse: moves that a word names out of their order, and a reason that is not the word's.
 use Rattle.std.proofs.Common.{ℕ, List, [], ◌∷◌, Bool, codes, inl, inr, arith}
 use Rattle.std.specs.Prelude.{None}
-use Rattle.chess.specs.Positions.{State}
-use Rattle.chess.specs.San.{IsCastlingText}
+use Rattle.chess.specs.Public.Positions.{State}
+use Rattle.chess.specs.Public.San.{IsCastlingText}
 use Rattle.chess.specs.declared.board.man.Wing.{Wing}
 use Rattle.chess.specs.declared.board.man.Wing.TheVariants.{KingSide, QueenSide}
 use Rattle.chess.specs.declared.move_text.refusal.Refusal.TheVariants.{NoCastling, CastlingAttacked}
 use Rattle.chess.specs.declared.moves.Move.{Move}
-use Rattle.pgn_game.specs.Refusals.{AreNamed, IsWhy}
+use Rattle.pgn_game.specs.Public.Refusals.{AreNamed, IsWhy}
 use Rattle.pgn_game.specs.declared.explain.Why.TheVariants.{Illegal}
 
 -- h1 does not stand before a1

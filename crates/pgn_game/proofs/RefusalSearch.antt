@@ -4,19 +4,19 @@ use Rattle.std.specs.Prelude.{Option, Some, None, IfSome, MatchOption, option_ma
 use Rattle.std.specs.List.{slice_get}
 use Rattle.std.proofs.lemmas.List.{take_more, take_all}
 use Rattle.std.proofs.lemmas.Option.{slice_get_within, get_or_from_slice_get, slice_get-map, slice_get-get_or}
-use Rattle.chess.specs.Positions.{State}
+use Rattle.chess.specs.Public.Positions.{State}
 use Rattle.chess.specs.declared.moves.Move.{Move}
-use Rattle.pgn_text.specs.Elements.{item_of}
-use Rattle.pgn_text.specs.Games.{Item, MoveText}
-use Rattle.pgn_text.specs.GameTexts.{IsPaired}
+use Rattle.pgn_text.specs.Public.Elements.{item_of}
+use Rattle.pgn_text.specs.Public.Games.{Item, MoveText}
+use Rattle.pgn_text.specs.Public.GameTexts.{IsPaired}
 use Rattle.pgn_text.specs.declared.game.Element.{Element}
-use Rattle.pgn_game.specs.Faults.{Fault, BadStart, IllegalMove, AmbiguousMove, NamesNone, NamesSeveral, IsRefusedWord, IsRefusedTurn, HasLineFault, IsFault}
-use Rattle.pgn_game.specs.LineWalks.{is_inside, gone_on, first_level, Runs, Stops, Leads}
-use Rattle.pgn_game.specs.MainLines.{main_words, IsMainLine}
-use Rattle.pgn_game.specs.Refusals.{played_items, IsReached, IsRefusedFrom, IsRefusedAt}
-use Rattle.pgn_game.specs.Starts.{IsStart}
-use Rattle.pgn_game.specs.Steps.{AreWithin, StopsAt, Walks, WalksOn, around}
-use Rattle.pgn_game.specs.RefusalWalks.{IsCounted, GoesOn, IsRefusedHere, IsSearched}
+use Rattle.pgn_game.specs.Public.Faults.{Fault, BadStart, IllegalMove, AmbiguousMove, NamesNone, NamesSeveral, IsRefusedWord, IsRefusedTurn, HasLineFault, IsFault}
+use Rattle.pgn_game.specs.Private.LineWalks.{is_inside, gone_on, first_level, Runs, Stops, Leads}
+use Rattle.pgn_game.specs.Public.MainLines.{main_words, IsMainLine}
+use Rattle.pgn_game.specs.Public.Refusals.{played_items, IsReached, IsRefusedFrom, IsRefusedAt}
+use Rattle.pgn_game.specs.Public.Starts.{IsStart}
+use Rattle.pgn_game.specs.Private.Steps.{AreWithin, StopsAt, Walks, WalksOn, around}
+use Rattle.pgn_game.specs.Private.RefusalWalks.{IsCounted, GoesOn, IsRefusedHere, IsSearched}
 use Rattle.pgn_game.specs.declared.replays.walk.Level.{Level}
 use Rattle.pgn_game.specs.declared.replays.line_stack.LineStack.{LineStack}
 use Rattle.pgn_game.specs.declared.explain.Refused.{Refused}

@@ -1,12 +1,12 @@
 -- What the elements left of a line do, by the line that they spell.
 use Rattle.std.proofs.Common.{◌≡◌, true, List, [], ◌∷◌, ◌++◌, refl, sym, ap, ◌∙◌, subst, inl, inr, append_assoc, append-nil}
 use Rattle.std.specs.Prelude.{◌⊎◌}
-use Rattle.chess.specs.Positions.{State}
-use Rattle.pgn_text.specs.Games.{Item, VariationClose}
-use Rattle.pgn_game.specs.Faults.{Fault, IsLineFault, HaveFault}
-use Rattle.pgn_game.specs.AllLines.{Line, LineEnd, ThenMove, ThenGlyph, ThenComment, ThenVariation, spelled, IsPlayed, ArePlayed}
-use Rattle.pgn_game.specs.LineWalks.{is_inside, gone_on, begun, first_level, Runs, Stops}
-use Rattle.pgn_text.specs.GameTexts.{IsPaired}
+use Rattle.chess.specs.Public.Positions.{State}
+use Rattle.pgn_text.specs.Public.Games.{Item, VariationClose}
+use Rattle.pgn_game.specs.Public.Faults.{Fault, IsLineFault, HaveFault}
+use Rattle.pgn_game.specs.Public.AllLines.{Line, LineEnd, ThenMove, ThenGlyph, ThenComment, ThenVariation, spelled, IsPlayed, ArePlayed}
+use Rattle.pgn_game.specs.Private.LineWalks.{is_inside, gone_on, begun, first_level, Runs, Stops}
+use Rattle.pgn_text.specs.Public.GameTexts.{IsPaired}
 use Rattle.pgn_game.proofs.Spelling.{one_spelt}
 use Rattle.pgn_game.specs.declared.turns.line_move.LineMove.{LineMove}
 use Rattle.pgn_game.specs.declared.replays.walk.Level.{Level}

@@ -1,18 +1,18 @@
 -- A game that is replayed has a movetext.
 use Rattle.std.proofs.Common.{◌≡◌, ℕ, Bool, true, false, ◌&&◌, ◌||◌, List, [], ◌∷◌, ◌++◌, refl, sym, ap, ◌∙◌, subst}
 use Rattle.std.specs.Prelude.{codes, decimal}
-use Rattle.chess.specs.Placements.{AreOnBoard}
-use Rattle.chess.specs.Positions.{State}
-use Rattle.chess.specs.Moves.{after}
+use Rattle.chess.specs.Public.Placements.{AreOnBoard}
+use Rattle.chess.specs.Public.Positions.{State}
+use Rattle.chess.specs.Public.Moves.{after}
 use Rattle.chess.specs.declared.moves.Move.{Move}
 use Rattle.chess.proofs.OnBoard.{men_stay_on_board}
 use Rattle.chess.proofs.SanSettled.{some_san}
-use Rattle.pgn_game.specs.AllLines.{Line, LineEnd, ThenMove, ThenGlyph, ThenComment, ThenVariation, spelled, is_pass, SaysTurn, after_turn, IsPlayed, own_words}
-use Rattle.pgn_game.specs.Comments.{comment_tokens}
-use Rattle.pgn_game.specs.Exports.{number_tokens, IsTurnText, kept, AreTokens}
-use Rattle.pgn_game.specs.Laws.{MovetextHasTokens}
-use Rattle.pgn_game.specs.MainLines.{main_words, IsMainLine}
-use Rattle.pgn_game.specs.Replays.{AreTurns}
+use Rattle.pgn_game.specs.Public.AllLines.{Line, LineEnd, ThenMove, ThenGlyph, ThenComment, ThenVariation, spelled, is_pass, SaysTurn, after_turn, IsPlayed, own_words}
+use Rattle.pgn_game.specs.Public.Comments.{comment_tokens}
+use Rattle.pgn_game.specs.Public.Exports.{number_tokens, IsTurnText, kept, AreTokens}
+use Rattle.pgn_game.specs.Public.Laws.{MovetextHasTokens}
+use Rattle.pgn_game.specs.Public.MainLines.{main_words, IsMainLine}
+use Rattle.pgn_game.specs.Public.Replays.{AreTurns}
 use Rattle.pgn_game.specs.declared.exports.style.Style.{Style}
 use Rattle.pgn_game.specs.declared.turns.line_move.LineMove.{LineMove}
 use Rattle.pgn_game.specs.declared.turns.line_move.LineMove.TheVariants.{Played, Passed}

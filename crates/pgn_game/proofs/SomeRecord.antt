@@ -1,9 +1,9 @@
 -- A game whose main line is sound has a record, and one alone.
 use Rattle.std.proofs.Common.{◌≡◌, ◌↔◌, ℕ, Bool, true, false, List, [], ◌∷◌, Option, Some, None, refl, sym, ap, subst, ◌∙◌, inl, inr}
-use Rattle.chess.specs.Squares.{Place, IsOnBoard}
-use Rattle.chess.specs.Placements.{AreOnBoard}
-use Rattle.chess.specs.Positions.{State}
-use Rattle.chess.specs.Moves.{after, arriving, taken, CanGo, HasMove, IsPseudoLegal}
+use Rattle.chess.specs.Public.Squares.{Place, IsOnBoard}
+use Rattle.chess.specs.Public.Placements.{AreOnBoard}
+use Rattle.chess.specs.Public.Positions.{State}
+use Rattle.chess.specs.Public.Moves.{after, arriving, taken, CanGo, HasMove, IsPseudoLegal}
 use Rattle.chess.specs.declared.board.man.Man.{Man}
 use Rattle.chess.specs.declared.board.man.Kind.{Kind}
 use Rattle.chess.specs.declared.moves.Move.{Move}
@@ -12,13 +12,13 @@ use Rattle.chess.proofs.MateSettled.{settled_can_go}
 use Rattle.chess.proofs.OnBoard.{men_stay_on_board}
 use Rattle.chess.proofs.Searches.{search_square}
 use Rattle.chess.proofs.Settled.{Settled, settled_like, settled_not}
-use Rattle.pgn_text.specs.GameTexts.{tag_in}
-use Rattle.pgn_game.specs.Laws.{SoundGameHasARecord, GameHasOneSpelling}
-use Rattle.pgn_game.specs.MainLines.{IsMainLine, main_words}
-use Rattle.pgn_game.specs.PackedGames.{PackedGame, IsPacked, record_bytes}
-use Rattle.pgn_game.specs.PlyCodes.{PlyCode, AreMarks, IsCode, AreCodes}
-use Rattle.pgn_game.specs.Replays.{Replay}
-use Rattle.pgn_game.specs.Starts.{fen_tag}
+use Rattle.pgn_text.specs.Public.GameTexts.{tag_in}
+use Rattle.pgn_game.specs.Public.Laws.{SoundGameHasARecord, GameHasOneSpelling}
+use Rattle.pgn_game.specs.Public.MainLines.{IsMainLine, main_words}
+use Rattle.pgn_game.specs.Public.PackedGames.{PackedGame, IsPacked, record_bytes}
+use Rattle.pgn_game.specs.Public.PlyCodes.{PlyCode, AreMarks, IsCode, AreCodes}
+use Rattle.pgn_game.specs.Public.Replays.{Replay}
+use Rattle.pgn_game.specs.Public.Starts.{fen_tag}
 use Rattle.pgn_game.specs.declared.replays.replayer.Lines.TheVariants.{Main}
 use Rattle.pgn_game.proofs.AnAnswer.{start_on_board}
 use Rattle.pgn_game.proofs.OneReplay.{line_head, one_replay}

@@ -5,14 +5,14 @@ use Rattle.std.proofs.lemmas.Fmt.{decimal_digit}
 use Rattle.std.proofs.lemmas.Slice.Eq.{bytes_eq-Decides}
 use Rattle.std.specs.Prelude.{◌==◌, ◌&&◌, if◌then◌else◌, bytes_eq, codes, decimal, Option, Some, None, Result, Ok, Err, OnOk, is_ok}
 use Rattle.std.specs.List.{list_all}
-use Rattle.chess.specs.Squares.{Place}
-use Rattle.chess.specs.Placements.{Placement, man_at}
-use Rattle.chess.specs.Positions.{State, IsSound, FitsEnPassant}
-use Rattle.chess.specs.Start.{initial, initial_man, initial_men}
-use Rattle.chess.specs.Letters.{man_letter}
-use Rattle.chess.specs.Fen.{IsSquares, SpellsRank, SpellRanks, row, side_text, is_digit, number_from, IsCount, GiveCounts, joined, or_dash, rights_letters, en_passant_text, IsFen}
-use Rattle.chess.specs.Fen.IsSquares.{letter, step}
-use Rattle.chess.specs.FenTextWords.{spelled_from, rank_texts}
+use Rattle.chess.specs.Public.Squares.{Place}
+use Rattle.chess.specs.Public.Placements.{Placement, man_at}
+use Rattle.chess.specs.Public.Positions.{State, IsSound, FitsEnPassant}
+use Rattle.chess.specs.Public.Start.{initial, initial_man, initial_men}
+use Rattle.chess.specs.Public.Letters.{man_letter}
+use Rattle.chess.specs.Public.Fen.{IsSquares, SpellsRank, SpellRanks, row, side_text, is_digit, number_from, IsCount, GiveCounts, joined, or_dash, rights_letters, en_passant_text, IsFen}
+use Rattle.chess.specs.Public.Fen.IsSquares.{letter, step}
+use Rattle.chess.specs.Private.FenTextWords.{spelled_from, rank_texts}
 use Rattle.chess.specs.declared.board.man.Man.{Man}
 use Rattle.chess.specs.declared.board.man.Kind.{Kind}
 use Rattle.chess.specs.declared.board.man.Kind.TheVariants.{King, Queen, Rook, Bishop, Knight, Pawn}
@@ -25,8 +25,8 @@ use Rattle.chess.proofs.FenReadBack.{fen_spells}
 use Rattle.chess.proofs.FenTextFacts.{spell_ranks, shortest_ranks}
 use Rattle.chess.proofs.SoundRead.{read_sound}
 use Rattle.chess.proofs.StartFacts.{initial_at, initial_kept}
-use Rattle.pgn_game.specs.Starts.{IsStart}
-use Rattle.pgn_game.specs.GameLines.{unspaced, IsStartText, as_initial, as_fen}
+use Rattle.pgn_game.specs.Public.Starts.{IsStart}
+use Rattle.pgn_game.specs.Public.GameLines.{unspaced, IsStartText, as_initial, as_fen}
 use Rattle.pgn_game.proofs.PlainTokens.{AllOf, all_append, AreDigits, decimal_digits}
 
 -- ---- each position has a text

@@ -1,9 +1,9 @@
 -- A walk's steps, one after another.
 use Rattle.std.proofs.Common.{◌≡◌, ℕ, ◌+◌, Bool, true, false, List, [], ◌∷◌, ◌++◌, refl, sym, ap, subst, arith}
-use Rattle.pgn_text.specs.Games.{Item, MoveText, GlyphNumber, CommentText, VariationOpen, VariationClose}
+use Rattle.pgn_text.specs.Public.Games.{Item, MoveText, GlyphNumber, CommentText, VariationOpen, VariationClose}
 use Rattle.std.specs.Prelude.{Result, Ok, Err, OnOk}
-use Rattle.pgn_game.specs.Steps.{AreWithin, IsBack, IsWithin, Step, Turned, Beside, Visits, Walks, around, shown_items}
-use Rattle.pgn_game.specs.LineWalks.{Runs, begun, gone_on}
+use Rattle.pgn_game.specs.Private.Steps.{AreWithin, IsBack, IsWithin, Step, Turned, Beside, Visits, Walks, around, shown_items}
+use Rattle.pgn_game.specs.Private.LineWalks.{Runs, begun, gone_on}
 use Rattle.pgn_game.specs.declared.replays.line_stack.LineStack.{LineStack}
 use Rattle.pgn_game.specs.declared.turns.line_move.LineMove.{LineMove}
 use Rattle.pgn_game.specs.declared.replays.walk.Level.{Level}

@@ -4,9 +4,9 @@ use Rattle.std.specs.Prelude.{Bool, true, filter, if◌then◌else◌}
 use Rattle.std.specs.Map.Iter.{deref_pair}
 use Rattle.std.proofs.lemmas.List.{append_assoc, append-nil, take_more, map-append}
 use Rattle.std.proofs.lemmas.List.Elements.{filter-append}
-use Rattle.pgn_text.specs.Elements.{tag_of}
-use Rattle.pgn_text.specs.GameTexts.{tag_in, tag_names}
-use Rattle.pgn_game.specs.TagLines.{IsLineOf, AreLinesOf}
+use Rattle.pgn_text.specs.Public.Elements.{tag_of}
+use Rattle.pgn_text.specs.Public.GameTexts.{tag_in, tag_names}
+use Rattle.pgn_game.specs.Public.TagLines.{IsLineOf, AreLinesOf}
 
 -- those of some names and then those of others
 pub lines_join : (tags : List (List ℕ × List ℕ)) (result : List ℕ) (names more : List (List ℕ)) (lines ends : List ℕ)

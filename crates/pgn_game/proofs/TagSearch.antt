@@ -4,11 +4,11 @@ use Rattle.std.specs.Prelude.{bytes_eq}
 use Rattle.std.specs.List.{flat_map, AllByRecursion}
 use Rattle.std.proofs.Math.ListN.{drop_of_length-le}
 use Rattle.std.proofs.lemmas.List.Concat.{flat_map-cons}
-use Rattle.pgn_text.specs.GameTexts.{tag_in}
+use Rattle.pgn_text.specs.Public.GameTexts.{tag_in}
 use Rattle.pgn_game.specs.declared.pack.error.RecordError.{RecordError}
-use Rattle.pgn_game.specs.PlyCodes.{code_bytes}
-use Rattle.pgn_game.specs.PackedGames.{PackedGame, Tag, FitsTag, FitsRecord, with_length, tag_bytes}
-use Rattle.pgn_game.specs.PackReading.{RawRecord, raw_of, tag_at}
+use Rattle.pgn_game.specs.Public.PlyCodes.{code_bytes}
+use Rattle.pgn_game.specs.Public.PackedGames.{PackedGame, Tag, FitsTag, FitsRecord, with_length, tag_bytes}
+use Rattle.pgn_game.specs.Public.PackReading.{RawRecord, raw_of, tag_at}
 use Rattle.pgn_game.proofs.HeadFacts.{head_shows}
 use Rattle.pgn_game.proofs.RecordFields.{ok_is, text_again}
 

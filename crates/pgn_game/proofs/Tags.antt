@@ -4,9 +4,9 @@ use Rattle.std.specs.Prelude.{Option, Some, None, IfSome, is_some, option_map}
 use Rattle.std.specs.BTreeMap.{BTreeMap, get_by}
 use Rattle.std.specs.Ordering.{nat_cmp}
 use Rattle.std.specs.Cmp.Lexicographic.{slice_cmp}
-use Rattle.pgn_text.specs.Elements.{tags_of}
-use Rattle.pgn_text.specs.GameTexts.{HoldStrings, tag_in}
-use Rattle.pgn_text.specs.Strings.{IsContents}
+use Rattle.pgn_text.specs.Public.Elements.{tags_of}
+use Rattle.pgn_text.specs.Public.GameTexts.{HoldStrings, tag_in}
+use Rattle.pgn_text.specs.Public.Strings.{IsContents}
 use Rattle.pgn_text.proofs.TagLemmas.{tag_in-tags_of}
 
 pub tag_found : (tags : BTreeMap (Bor (List ℕ)) (Bor (List ℕ))) (wanted : List ℕ) (found : Option (Bor (List ℕ)))

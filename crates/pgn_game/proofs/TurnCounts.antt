@@ -1,9 +1,9 @@
 -- Each move text has a turn, where all lines are replayed.
 use Rattle.std.proofs.Common.{◌≡◌, ◌+◌, Bool, true, false, List, [], ◌∷◌, ◌++◌, length, sym, ap, ◌∙◌, length-append, arith}
-use Rattle.chess.specs.Positions.{State}
-use Rattle.pgn_text.specs.Games.{Item, MoveText, GlyphNumber, CommentText, VariationOpen, VariationClose}
-use Rattle.pgn_game.specs.AllLines.{Line, LineEnd, ThenMove, ThenGlyph, ThenComment, ThenVariation, spelled, after_turn, IsPlayed}
-use Rattle.pgn_game.specs.Laws.{move_count, EachMoveHasATurn}
+use Rattle.chess.specs.Public.Positions.{State}
+use Rattle.pgn_text.specs.Public.Games.{Item, MoveText, GlyphNumber, CommentText, VariationOpen, VariationClose}
+use Rattle.pgn_game.specs.Public.AllLines.{Line, LineEnd, ThenMove, ThenGlyph, ThenComment, ThenVariation, spelled, after_turn, IsPlayed}
+use Rattle.pgn_game.specs.Public.Laws.{move_count, EachMoveHasATurn}
 use Rattle.pgn_game.specs.declared.turns.line_move.LineMove.{LineMove}
 
 count_append : (items more : List Item) → move_count (items ++ more) ≡ move_count items + move_count more

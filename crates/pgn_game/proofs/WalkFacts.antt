@@ -3,15 +3,15 @@ use Rattle.std.proofs.Common.{◌≡◌, ℕ, ◌+◌, ◌<◌, ◌≤◌, List,
 use Rattle.std.specs.Prelude.{Option, Some, None, IfSome}
 use Rattle.std.proofs.lemmas.List.{drop_more, drop_all}
 use Rattle.std.proofs.lemmas.Option.{IfSome_then}
-use Rattle.chess.specs.Positions.{State}
+use Rattle.chess.specs.Public.Positions.{State}
 use Rattle.chess.specs.declared.moves.Move.{Move}
-use Rattle.pgn_text.specs.Elements.{item_of}
-use Rattle.pgn_text.specs.Games.{Item, MoveText}
+use Rattle.pgn_text.specs.Public.Elements.{item_of}
+use Rattle.pgn_text.specs.Public.Games.{Item, MoveText}
 use Rattle.pgn_text.specs.declared.game.Element.{Element}
-use Rattle.pgn_game.specs.MainLines.{main_words, IsMainLine}
-use Rattle.pgn_game.specs.Faults.{IsMoveFault}
-use Rattle.pgn_game.specs.Replays.{fault_of}
-use Rattle.pgn_game.specs.Walks.{HasPlayed, HasPassed, HasStepped, IsStuck, HasWalked, KeepsLine}
+use Rattle.pgn_game.specs.Public.MainLines.{main_words, IsMainLine}
+use Rattle.pgn_game.specs.Public.Faults.{IsMoveFault}
+use Rattle.pgn_game.specs.Public.Replays.{fault_of}
+use Rattle.pgn_game.specs.Private.Walks.{HasPlayed, HasPassed, HasStepped, IsStuck, HasWalked, KeepsLine}
 use Rattle.pgn_game.specs.declared.turns.fault.GameFault.{GameFault}
 use Rattle.pgn_game.specs.declared.replays.main_line.LineKeeper.{LineKeeper}
 use Rattle.pgn_game.specs.declared.replays.main_line.MainWalk.{MainWalk}

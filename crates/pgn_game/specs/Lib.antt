@@ -1,33 +1,3 @@
--- What a reader must believe, in the order in which it is best read.
-pub mod Starts
-pub mod MainLines
-pub mod AllLines
-pub mod Faults
-pub mod Replays
-pub mod PlayedLines
-pub mod Openings
-pub mod Refusals
-pub mod TagLines
-pub mod TextLines
-pub mod Comments
-pub mod Exports
-pub mod GameLines
-pub mod PlyCodes
-pub mod CodeLines
-pub mod PackedGames
-pub mod PackReading
-pub mod PackStreams
-pub mod Laws
--- Private words: how a replay is stored, and what its walks, its pen, and the writer and the reader of its record keep. No public contract cites them.
-pub mod Codes
-pub mod Walks
-pub mod LineTexts
-pub mod LineWalks
-pub mod Steps
-pub mod RefusalWalks
-pub mod Pens
-pub mod CommentWords
-pub mod MovetextWalks
-pub mod PackWords
-pub mod PackSteps
-pub mod CodeWords
+-- Definitions: those that a reader must believe, and private words.
+pub mod Public
+pub mod Private

@@ -1,12 +1,12 @@
 //! At which word of a game its replay ends, and why.
 ghost use Rattle.std.specs.Prelude.{◌≡◌, ◌+◌, ◌<◌, ◌≤◌, ◌↔◌, ℕ, map, None, MatchOption, MatchResult, IfOk, IfSome, IsTrue, OnOk};
-ghost use Rattle.pgn_text.specs.Elements.{item_of};
-ghost use Rattle.pgn_text.specs.GameTexts.{IsPaired, tag_in};
-ghost use Rattle.pgn_game.specs.Starts.{fen_tag, IsBadStart};
-ghost use Rattle.pgn_game.specs.Faults.{Fault, BadStart, NamesSeveral, IsFault, HasLineFault, IsRefusedTurn};
-ghost use Rattle.pgn_game.specs.Refusals.{AreNamed, IsWhy, IsRefusedAt, IsRefusedFrom};
-ghost use Rattle.pgn_game.specs.RefusalWalks.{AddsFrom, IsCounted, GoesOn, IsRefusedHere};
-ghost use Rattle.pgn_game.specs.Replays.{fault_of};
+ghost use Rattle.pgn_text.specs.Public.Elements.{item_of};
+ghost use Rattle.pgn_text.specs.Public.GameTexts.{IsPaired, tag_in};
+ghost use Rattle.pgn_game.specs.Public.Starts.{fen_tag, IsBadStart};
+ghost use Rattle.pgn_game.specs.Public.Faults.{Fault, BadStart, NamesSeveral, IsFault, HasLineFault, IsRefusedTurn};
+ghost use Rattle.pgn_game.specs.Public.Refusals.{AreNamed, IsWhy, IsRefusedAt, IsRefusedFrom};
+ghost use Rattle.pgn_game.specs.Private.RefusalWalks.{AddsFrom, IsCounted, GoesOn, IsRefusedHere};
+ghost use Rattle.pgn_game.specs.Public.Replays.{fault_of};
 
 use crate::replays::line_stack::LineStack;
 use crate::replays::replayer::Lines;

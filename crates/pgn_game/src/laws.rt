@@ -1,10 +1,10 @@
 //! What holds of every game, whatever replays it, and of every pack. Each law is the contract of a function that does nothing.
 
-ghost use Rattle.pgn_game.specs.Exports.{MovetextHasOneList};
-ghost use Rattle.pgn_game.specs.Refusals.{OneLineIsReached, RefusedWordIsTheFault};
-ghost use Rattle.pgn_game.specs.TextLines.{TokensHaveAText, TokensHaveOneText};
-ghost use Rattle.pgn_game.specs.GameLines.{SoundGameHasALine, GameHasOneLine, LineIsTheGame};
-ghost use Rattle.pgn_game.specs.Laws.{EachMoveIsNamed, MainLineIsTheLine, EachMoveHasATurn, GameHasOneReplay, GameHasOneOpening, GameHasOneFault, SoundGameHasNoFault, GameHasAnAnswer, MovetextHasTokens, GameHasAnExport, GameHasOneExport, NoLineIsMisread, ExportIsReadAsOne, ThreeBytesAreACode, CodeIsReadBack, MoveHasOneCode, CodeOfAMoveFits, CodeMovesAsItsMove, GameHasOneRecord, GameHasOneSpelling, SoundGameHasARecord, GameOfABlockFits, HeadIsReadBack, RecordHasOneReading, PackHasOneReading};
+ghost use Rattle.pgn_game.specs.Public.Exports.{MovetextHasOneList};
+ghost use Rattle.pgn_game.specs.Public.Refusals.{OneLineIsReached, RefusedWordIsTheFault};
+ghost use Rattle.pgn_game.specs.Public.TextLines.{TokensHaveAText, TokensHaveOneText};
+ghost use Rattle.pgn_game.specs.Public.GameLines.{SoundGameHasALine, GameHasOneLine, LineIsTheGame};
+ghost use Rattle.pgn_game.specs.Public.Laws.{EachMoveIsNamed, MainLineIsTheLine, EachMoveHasATurn, GameHasOneReplay, GameHasOneOpening, GameHasOneFault, SoundGameHasNoFault, GameHasAnAnswer, MovetextHasTokens, GameHasAnExport, GameHasOneExport, NoLineIsMisread, ExportIsReadAsOne, ThreeBytesAreACode, CodeIsReadBack, MoveHasOneCode, CodeOfAMoveFits, CodeMovesAsItsMove, GameHasOneRecord, GameHasOneSpelling, SoundGameHasARecord, GameOfABlockFits, HeadIsReadBack, RecordHasOneReading, PackHasOneReading};
 
 /// Whichever lines are replayed, each move of the main line is the only legal move that its word names in the position before it.
 pub fn one_legal_move()

@@ -6,13 +6,13 @@ use Rattle.std.specs.Cmp.Lexicographic.{pointwise}
 use Rattle.std.proofs.lemmas.List.{drop_more, get_or_append_left, take-append-le, drop-append-le, drop_at, append-nil, get_or-append_right, get_or-drop, drop-drop}
 use Rattle.std.proofs.Math.Seq.{drop-append-add}
 use Rattle.std.proofs.lemmas.Bool.{and_parts, both_ways, cases_lt, eqb-true, false_from_ne_true}
-use Rattle.pgn_text.specs.Blocks.{event_line, is_event_line, IsFirstBlock}
+use Rattle.pgn_text.specs.Public.Blocks.{event_line, is_event_line, IsFirstBlock}
 use Rattle.std.proofs.lemmas.Bool.Decides.{Decides-eqb}
 use Rattle.std.proofs.lemmas.Slice.Eq.{starts_is}
 use Rattle.memchr.specs.Find.{OccursAt, FindsNeedle}
 use Rattle.memchr.proofs.lemmas.MatchLemmas.{OccursAt-part, OccursAt-from_part}
-use Rattle.pgn_text.specs.Cuts.{is_cut, NoCutBefore}
-use Rattle.pgn_text.specs.Searches.{IsNextCut}
+use Rattle.pgn_text.specs.Private.Cuts.{is_cut, NoCutBefore}
+use Rattle.pgn_text.specs.Private.Searches.{IsNextCut}
 
 -- the test of a cut, over the byte before and the eight bytes from there on
 abbrev cut_test : ℕ → List ℕ → Bool

@@ -2,8 +2,8 @@
 use Rattle.std.proofs.Common.{◌≡◌, ◌≢◌, ℕ, ◌+◌, ◌<◌, Bool, true, false, List, [], ◌∷◌, ◌++◌, Some, map, length, refl, sym, ap, subst, ◌∙◌, inl, inr, arith, append_assoc, append-nil, length-append}
 use Rattle.std.proofs.lemmas.Bool.{cases_Bool, both_ways}
 use Rattle.std.proofs.lemmas.List.{map-append}
-use Rattle.pgn_text.specs.Blocks.{IsFirstBlock, AreBlocks}
-use Rattle.pgn_text.specs.Windows.{Window, fresh_window, IsCutOff}
+use Rattle.pgn_text.specs.Public.Blocks.{IsFirstBlock, AreBlocks}
+use Rattle.pgn_text.specs.Public.Windows.{Window, fresh_window, IsCutOff}
 use Rattle.pgn_text.proofs.OneBlocks.{empty_first}
 use Rattle.pgn_text.proofs.OneList.{no_bytes}
 

@@ -4,11 +4,11 @@ use Rattle.std.specs.List.{list_all}
 use Rattle.std.proofs.lemmas.Bool.{and_parts, and_from, cases_Bool}
 use Rattle.std.proofs.lemmas.Bool.Decides.{nat_tests}
 use Rattle.std.proofs.lemmas.List.Folds.{list_all-append}
-use Rattle.pgn_text.specs.Bytes.{is_byte, is_white, is_digit, is_word_byte, is_mark, is_not_line_feed, is_not_brace}
-use Rattle.pgn_text.specs.Parts.{Part, ByteOrderMark, White, Brace, Line, EscapeLine, Tag, Word, Star, Dot, Glyph, Marks, Open, Close, Standing, Stands, spelled_part}
-use Rattle.pgn_text.specs.Games.{is_tag}
-use Rattle.pgn_text.specs.Steps.{State}
-use Rattle.pgn_text.specs.PartFronts.{Follows, IsPartFront, Ends}
+use Rattle.pgn_text.specs.Public.Bytes.{is_byte, is_white, is_digit, is_word_byte, is_mark, is_not_line_feed, is_not_brace}
+use Rattle.pgn_text.specs.Public.Parts.{Part, ByteOrderMark, White, Brace, Line, EscapeLine, Tag, Word, Star, Dot, Glyph, Marks, Open, Close, Standing, Stands, spelled_part}
+use Rattle.pgn_text.specs.Public.Games.{is_tag}
+use Rattle.pgn_text.specs.Private.Steps.{State}
+use Rattle.pgn_text.specs.Private.PartFronts.{Follows, IsPartFront, Ends}
 use Rattle.pgn_text.specs.declared.error.error_position.InTag.TheVariants.{BeforeName}
 use Rattle.pgn_text.proofs.InTag.{tag_is, tag_ends, tag_bytes}
 use Rattle.pgn_text.proofs.Lines.{cut_append}

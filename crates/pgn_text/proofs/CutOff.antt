@@ -1,12 +1,12 @@
 -- A block cut off from the bytes held, as the window shows it.
 use Rattle.std.proofs.Common.{◌≡◌, ℕ, ◌+◌, ◌-◌, ◌≤◌, Bool, false, List, [], ◌++◌, length, take, drop, Option, sym, ap, ◌∙◌, arith, append_assoc, length-append, length-drop}
 use Rattle.std.proofs.lemmas.List.{append-nil, drop_all, take-append-drop}
-use Rattle.pgn_text.specs.Limits.{block_limit}
-use Rattle.pgn_text.specs.Searches.{FindsEnd}
-use Rattle.pgn_text.specs.Tallies.{Reads}
-use Rattle.pgn_text.specs.Windows.{Window, EndsIn, HoldsTheRest, IsCutOff}
+use Rattle.pgn_text.specs.Public.Limits.{block_limit}
+use Rattle.pgn_text.specs.Private.Searches.{FindsEnd}
+use Rattle.pgn_text.specs.Public.Tallies.{Reads}
+use Rattle.pgn_text.specs.Public.Windows.{Window, EndsIn, HoldsTheRest, IsCutOff}
 use Rattle.pgn_text.specs.declared.io.blocks.BlockEnd.{BlockEnd}
-use Rattle.pgn_text.specs.AnswerLaws.{DoneWithTheBlock}
+use Rattle.pgn_text.specs.Public.AnswerLaws.{DoneWithTheBlock}
 use Rattle.pgn_text.proofs.OneList.{same_fronts}
 
 -- the window over some bytes, of which those before a place are done with

@@ -1,11 +1,11 @@
 -- A block cut into pieces: one piece more in front of those that are left.
 use Rattle.std.proofs.Common.{◌≡◌, ◌≢◌, ℕ, ◌≤◌, Bool, List, [], ◌∷◌, ◌++◌, length, take, drop, refl, sym, ap, ◌∙◌, subst, arith, append-nil, length-drop}
 use Rattle.std.proofs.lemmas.List.{length-take-le, drop_all}
-use Rattle.pgn_text.specs.Parts.{Part, spelled}
-use Rattle.pgn_text.specs.Games.{IsGame}
-use Rattle.pgn_text.specs.Gaps.{IsLongestGap}
-use Rattle.pgn_text.specs.Pieces.{Piece, Game, Unreadable, ArePieces, NoGame}
-use Rattle.pgn_text.specs.Walk.{GapTo, LongestGapTo, GameTo}
+use Rattle.pgn_text.specs.Public.Parts.{Part, spelled}
+use Rattle.pgn_text.specs.Public.Games.{IsGame}
+use Rattle.pgn_text.specs.Public.Gaps.{IsLongestGap}
+use Rattle.pgn_text.specs.Public.Pieces.{Piece, Game, Unreadable, ArePieces, NoGame}
+use Rattle.pgn_text.specs.Private.Walk.{GapTo, LongestGapTo, GameTo}
 use Rattle.pgn_text.proofs.OneList.{no_bytes, game_has_byte, one_gap}
 
 -- lists that join to none have no element

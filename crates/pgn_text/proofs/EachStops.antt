@@ -3,12 +3,12 @@ use Rattle.std.proofs.Common.{◌≡◌, ℕ, zero, suc, ◌+◌, ◌<◌, Bool,
 use Rattle.std.proofs.lemmas.Bool.{cases_Bool, cases_eq}
 use Rattle.std.proofs.lemmas.List.{take_all}
 use Rattle.std.proofs.Math.Seq.{take-length}
-use Rattle.pgn_text.specs.Parts.{Part, standing_of, Stands, AllStand, spelled, spelled_part}
-use Rattle.pgn_text.specs.Games.{is_result}
-use Rattle.pgn_text.specs.Steps.{State, start, step}
-use Rattle.pgn_text.specs.Stops.{IsGameFront, IsLongestViablePrefix}
-use Rattle.pgn_text.specs.ErrorPosition.{Walks}
-use Rattle.pgn_text.specs.PartFronts.{Follows, NoneFollows}
+use Rattle.pgn_text.specs.Public.Parts.{Part, standing_of, Stands, AllStand, spelled, spelled_part}
+use Rattle.pgn_text.specs.Public.Games.{is_result}
+use Rattle.pgn_text.specs.Private.Steps.{State, start, step}
+use Rattle.pgn_text.specs.Public.Stops.{IsGameFront, IsLongestViablePrefix}
+use Rattle.pgn_text.specs.Private.ErrorPosition.{Walks}
+use Rattle.pgn_text.specs.Private.PartFronts.{Follows, NoneFollows}
 use Rattle.pgn_text.proofs.OneList.{shorter}
 use Rattle.pgn_text.proofs.FoundLemmas.{part_or_none}
 use Rattle.pgn_text.proofs.GameFronts.{Halts, stops, halts_in_part, halts_at_game, front_from}

@@ -4,13 +4,13 @@ use Rattle.std.specs.Prelude.{◌≢◌}
 use Rattle.std.specs.Io.KnownBytes.{IsAtEnd}
 use Rattle.std.proofs.lemmas.Bool.{both_ways, cases_lt}
 use Rattle.std.proofs.lemmas.List.{append-nil, take-append-drop, length-take-le, nil_from_length, drop-append-le, drop-drop, drop_all, take_all}
-use Rattle.pgn_text.specs.Blocks.{IsFirstBlock}
-use Rattle.pgn_text.specs.Cuts.{is_cut, NoCutBefore}
-use Rattle.pgn_text.specs.Held.{IsOccupiedBy}
-use Rattle.pgn_text.specs.Limits.{block_limit, largest_offset, window_limit}
-use Rattle.pgn_text.specs.Searches.{IsNextCut, FindsMore, FindsEnd, FailsFrom, GivesUp}
-use Rattle.pgn_text.specs.Tallies.{AppendsRead, Reads}
-use Rattle.pgn_text.specs.Windows.{FailsAfter}
+use Rattle.pgn_text.specs.Public.Blocks.{IsFirstBlock}
+use Rattle.pgn_text.specs.Private.Cuts.{is_cut, NoCutBefore}
+use Rattle.pgn_text.specs.Private.Held.{IsOccupiedBy}
+use Rattle.pgn_text.specs.Public.Limits.{block_limit, largest_offset, window_limit}
+use Rattle.pgn_text.specs.Private.Searches.{IsNextCut, FindsMore, FindsEnd, FailsFrom, GivesUp}
+use Rattle.pgn_text.specs.Public.Tallies.{AppendsRead, Reads}
+use Rattle.pgn_text.specs.Public.Windows.{FailsAfter}
 use Rattle.pgn_text.specs.declared.io.blocks.ReadError.{ReadError}
 use Rattle.pgn_text.specs.declared.io.blocks.ReadError.TheVariants.{Read, OutOfMemory, InputTooLong, Failed}
 use Rattle.pgn_text.proofs.BlockCuts.{cut_stays, cut_moved, no_cut_moved, no_cut_join, first_block_at_cut, first_block_at_end}

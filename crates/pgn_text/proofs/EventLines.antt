@@ -1,10 +1,10 @@
 -- An event line parts the pieces of a text.
 use Rattle.std.proofs.Common.{◌≡◌, ◌≢◌, ℕ, ◌+◌, true, List, [], ◌∷◌, ◌++◌, length, sym, ap, subst, ◌∙◌, arith, append_assoc, append-nil, length-append, IsTrue}
 use Rattle.std.proofs.lemmas.Bool.{and_parts, and_from, false≢true}
-use Rattle.pgn_text.specs.Bytes.{ends_in_line_feed}
-use Rattle.pgn_text.specs.Blocks.{is_event_line, IsFirstBlock, AreBlocks}
-use Rattle.pgn_text.specs.Marks.{MarkedPiece, AreOfBlocks}
-use Rattle.pgn_text.specs.TextLaws.{PiecesJoinAtEventLines, PiecesPartAtEventLines}
+use Rattle.pgn_text.specs.Public.Bytes.{ends_in_line_feed}
+use Rattle.pgn_text.specs.Public.Blocks.{is_event_line, IsFirstBlock, AreBlocks}
+use Rattle.pgn_text.specs.Public.Marks.{MarkedPiece, AreOfBlocks}
+use Rattle.pgn_text.specs.Public.TextLaws.{PiecesJoinAtEventLines, PiecesPartAtEventLines}
 use Rattle.pgn_text.proofs.FrontText.{event_front}
 use Rattle.pgn_text.proofs.LineFronts.{begins_line, line_front}
 use Rattle.pgn_text.proofs.MarkedPieces.{marked_pieces_exist, one_marked_pieces}

@@ -1,10 +1,10 @@
 -- What the first calls over a block give.
 use Rattle.std.proofs.Common.{◌≡◌, ℕ, Bool, false, List, [], ◌∷◌, Some, None, Ok, take, drop, refl, subst}
 use Rattle.std.specs.Prelude.{Option, MatchOption}
-use Rattle.pgn_text.specs.Left.{Left, ArePiecesLeft, IsPiece, GivesPiece}
-use Rattle.pgn_text.specs.LeftMarks.{IsMark, GivesMark}
-use Rattle.pgn_text.specs.Pieces.{ArePieces}
-use Rattle.pgn_text.specs.Pieces as spec
+use Rattle.pgn_text.specs.Public.Left.{Left, ArePiecesLeft, IsPiece, GivesPiece}
+use Rattle.pgn_text.specs.Public.LeftMarks.{IsMark, GivesMark}
+use Rattle.pgn_text.specs.Public.Pieces.{ArePieces}
+use Rattle.pgn_text.specs.Public.Pieces as spec
 use Rattle.pgn_text.specs.declared.game.pieces.PieceStart.{PieceStart}
 use Rattle.pgn_text.specs.declared.game.pieces.Piece.{Piece}
 use Rattle.pgn_text.proofs.Existence.{pieces_exist}

@@ -3,8 +3,8 @@ use Rattle.std.proofs.Common.{◌≡◌, ℕ, suc, ◌+◌, ◌<◌, ◌≤◌, 
 use Rattle.std.specs.Prelude.{◌==◌}
 use Rattle.std.proofs.Math.ListN.{drop_of_length-le}
 use Rattle.std.proofs.lemmas.Bool.{cases_Bool}
-use Rattle.pgn_text.specs.PartFronts.{front_length, no_byte}
-use Rattle.pgn_text.specs.Bytes.{run_of}
+use Rattle.pgn_text.specs.Private.PartFronts.{front_length, no_byte}
+use Rattle.pgn_text.specs.Public.Bytes.{run_of}
 
 -- the word alone, and bytes after it, as far as the word does not stand whole
 pub front_short : (test : ℕ → Bool) (word text : List ℕ) → front_length no_byte word text < length word

@@ -1,12 +1,12 @@
 -- The text in front of one of its pieces has exactly the pieces before that one.
 use Rattle.std.proofs.Common.{◌≡◌, ◌≢◌, ℕ, ◌+◌, ◌-◌, ◌≤◌, ◌==◌, Bool, true, List, [], ◌∷◌, ◌++◌, map, length, take, get_or, refl, sym, ap, subst, ◌∙◌, inl, inr, arith, append_assoc, append-nil, length-append, take_at, IsTrue}
 use Rattle.std.proofs.lemmas.Bool.{and_parts, and_from}
-use Rattle.pgn_text.specs.Parts.{spelled}
-use Rattle.pgn_text.specs.Gaps.{IsGap}
-use Rattle.pgn_text.specs.Pieces.{Piece, Game, Unreadable, ArePieces}
-use Rattle.pgn_text.specs.Blocks.{event_line, is_event_line, IsFirstBlock, AreBlocks}
-use Rattle.pgn_text.specs.Marks.{TooLongBlock, MarkedPiece, marked, AreOfBlock, over, within, AreOfBlocks, AreMarkedPieces}
-use Rattle.pgn_text.specs.Laws.{FrontHasThePiecesBefore}
+use Rattle.pgn_text.specs.Public.Parts.{spelled}
+use Rattle.pgn_text.specs.Public.Gaps.{IsGap}
+use Rattle.pgn_text.specs.Public.Pieces.{Piece, Game, Unreadable, ArePieces}
+use Rattle.pgn_text.specs.Public.Blocks.{event_line, is_event_line, IsFirstBlock, AreBlocks}
+use Rattle.pgn_text.specs.Public.Marks.{TooLongBlock, MarkedPiece, marked, AreOfBlock, over, within, AreOfBlocks, AreMarkedPieces}
+use Rattle.pgn_text.specs.Public.Laws.{FrontHasThePiecesBefore}
 use Rattle.pgn_text.proofs.LineFronts.{begins_line, starts_more, short_front, gap_line, game_line, block_line}
 use Rattle.pgn_text.proofs.Lines.{cut_append, cut_single}
 use Rattle.pgn_text.proofs.MarkedPieces.{one_marked_pieces}

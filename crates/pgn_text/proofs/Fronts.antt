@@ -3,7 +3,7 @@ use Rattle.std.proofs.Common.{◌≡◌, ℕ, Bool, true, false, List, [], ◌�
 use Rattle.std.specs.Prelude.{if◌then◌else◌, IsTrue}
 use Rattle.std.specs.List.{list_all}
 use Rattle.std.proofs.lemmas.Bool.{and_parts, not-true, not_from_false}
-use Rattle.pgn_text.specs.Bytes.{stops, run_of, after_run}
+use Rattle.pgn_text.specs.Public.Bytes.{stops, run_of, after_run}
 
 pub run_of-append : (test : ℕ → Bool) (xs after : List ℕ) → IsTrue (list_all test xs) → IsTrue (stops test after) → run_of test (xs ++ after) ≡ xs
 run_of-append test [] [] all ends = refl

@@ -3,7 +3,7 @@ use Rattle.std.proofs.Common.{◌≡◌, ℕ, zero, suc, ◌≤◌, Bool, true, 
 use Rattle.std.proofs.Math.Nat.{max-eq_left, max-eq_right}
 use Rattle.std.specs.Prelude.{max, ◌==◌, if◌then◌else◌}
 use Rattle.std.specs.List.{list_all}
-use Rattle.pgn_text.specs.PartFronts.{Longest, IsFrontOf, front_length}
+use Rattle.pgn_text.specs.Private.PartFronts.{Longest, IsFrontOf, front_length}
 use Rattle.std.proofs.lemmas.Bool.{false≢true, and_parts, and_from, cases_Bool, cases_eq, cases_lt, ne_eqb, eq-eqb}
 
 -- the same by another property

@@ -4,12 +4,12 @@ use Rattle.std.specs.List.{list_all}
 use Rattle.std.proofs.Math.Seq.{take-append-add}
 use Rattle.std.proofs.lemmas.List.{take-append-drop}
 use Rattle.std.proofs.lemmas.Bool.{and_from, cases_Bool, cases_lt, not_from_false}
-use Rattle.pgn_text.specs.Parts.{Part, ByteOrderMark, White, Brace, Line, EscapeLine, standing_of, AllStand, spelled}
-use Rattle.pgn_text.specs.Games.{is_gap_part, begins_outside_gap}
-use Rattle.pgn_text.specs.Steps.{State, start, Leads}
-use Rattle.pgn_text.specs.Stops.{IsGameFront, IsLongestViablePrefix}
-use Rattle.pgn_text.specs.ErrorPosition.{Walks}
-use Rattle.pgn_text.specs.PartFronts.{IsPartFront, NoneFollows}
+use Rattle.pgn_text.specs.Public.Parts.{Part, ByteOrderMark, White, Brace, Line, EscapeLine, standing_of, AllStand, spelled}
+use Rattle.pgn_text.specs.Public.Games.{is_gap_part, begins_outside_gap}
+use Rattle.pgn_text.specs.Private.Steps.{State, start, Leads}
+use Rattle.pgn_text.specs.Public.Stops.{IsGameFront, IsLongestViablePrefix}
+use Rattle.pgn_text.specs.Private.ErrorPosition.{Walks}
+use Rattle.pgn_text.specs.Private.PartFronts.{IsPartFront, NoneFollows}
 use Rattle.pgn_text.proofs.GameLeads.{game_leads, game_from}
 use Rattle.pgn_text.proofs.Halfway.{Reads, stands_join, stands_cut, spelled-append, one_reading}
 use Rattle.pgn_text.proofs.Stopping.{instead_nothing, instead_same, all_instead, Front, ByteFront, front_here, front_back, front_on, front_in_part, part_front_goes}

@@ -2,9 +2,9 @@
 use Rattle.std.proofs.Common.{◌≡◌, ◌≢◌, ℕ, ◌+◌, ◌-◌, ◌≤◌, ◌↔◌, Bool, true, false, cond, ◌&&◌, ◌||◌, List, [], ◌∷◌, ◌++◌, Some, None, IsTrue, MatchBool, count_by, refl, sym, subst, ◌∙◌, inl, inr, arith, nat_lt}
 use Rattle.std.specs.List.{list_all}
 use Rattle.std.proofs.lemmas.Bool.{false≢true, and_parts, and_from, ltb-true, lt-ltb, cases_Bool, or_left, or_right, MatchBool-at_true, MatchBool-at_false, true_from_ne_false, false_from_ne_true}
-use Rattle.pgn_text.specs.Parts.{Part, ByteOrderMark, White, Brace, Line, EscapeLine, Tag, Word, Star, Dot, Glyph, Marks, Open, Close, AllStand}
-use Rattle.pgn_text.specs.Games.{is_number, is_result_word, is_move_text, is_gap_part, is_tag, is_result, is_meant, is_open, is_close, EachFrom, depth_after, MoveInLine, begins_outside_gap, IsGame}
-use Rattle.pgn_text.specs.Steps.{State, start, in_movetext, step, Leads}
+use Rattle.pgn_text.specs.Public.Parts.{Part, ByteOrderMark, White, Brace, Line, EscapeLine, Tag, Word, Star, Dot, Glyph, Marks, Open, Close, AllStand}
+use Rattle.pgn_text.specs.Public.Games.{is_number, is_result_word, is_move_text, is_gap_part, is_tag, is_result, is_meant, is_open, is_close, EachFrom, depth_after, MoveInLine, begins_outside_gap, IsGame}
+use Rattle.pgn_text.specs.Private.Steps.{State, start, in_movetext, step, Leads}
 use Rattle.pgn_text.proofs.Lines.{Shows, shows_start, shows_more, when_some, count_push_yes, count_push_not, depth_is}
 
 -- what a game says of its parts after `front`, beside where they stand

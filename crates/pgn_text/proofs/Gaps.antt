@@ -3,10 +3,10 @@ use Rattle.std.proofs.Common.{◌≡◌, ℕ, ◌<◌, ◌≤◌, Bool, true, fa
 use Rattle.std.specs.Prelude.{IsTrue}
 use Rattle.std.specs.List.{list_all}
 use Rattle.std.proofs.lemmas.Bool.{and_parts, and_from}
-use Rattle.pgn_text.specs.Parts.{Part, Stands, AllStand, standing_of, spelled_part, spelled}
-use Rattle.pgn_text.specs.Games.{is_gap_part}
-use Rattle.pgn_text.specs.Gaps.{IsGap, IsLongestGap}
-use Rattle.pgn_text.specs.Walk.{PartAt, GapPartAt, NoGapPartAt, GapTo, LongestGapTo}
+use Rattle.pgn_text.specs.Public.Parts.{Part, Stands, AllStand, standing_of, spelled_part, spelled}
+use Rattle.pgn_text.specs.Public.Games.{is_gap_part}
+use Rattle.pgn_text.specs.Public.Gaps.{IsGap, IsLongestGap}
+use Rattle.pgn_text.specs.Private.Walk.{PartAt, GapPartAt, NoGapPartAt, GapTo, LongestGapTo}
 use Rattle.pgn_text.proofs.PartLemmas.{one_part}
 use Rattle.pgn_text.proofs.Halfway.{stands_join, before_more, spelled-append}
 

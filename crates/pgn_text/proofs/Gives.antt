@@ -2,11 +2,11 @@
 use Rattle.std.proofs.Common.{◌≡◌, ◌≢◌, ℕ, ◌<◌, ◌≤◌, Bool, true, false, List, length, take, drop, refl, subst, arith}
 use Rattle.std.specs.Prelude.{Some, Ok, Err}
 use Rattle.std.specs.declared.alloc.AllocError.{AllocError}
-use Rattle.pgn_text.specs.Parts.{Part}
-use Rattle.pgn_text.specs.Pieces.{Game as GameOf, Unreadable as UnreadableOf, NoGame}
-use Rattle.pgn_text.specs.GameTexts.{GameText, ShowsGame}
-use Rattle.pgn_text.specs.Walk.{LongestGapTo, GameTo}
-use Rattle.pgn_text.specs.Left.{Left, GivesPiece}
+use Rattle.pgn_text.specs.Public.Parts.{Part}
+use Rattle.pgn_text.specs.Public.Pieces.{Game as GameOf, Unreadable as UnreadableOf, NoGame}
+use Rattle.pgn_text.specs.Public.GameTexts.{GameText, ShowsGame}
+use Rattle.pgn_text.specs.Private.Walk.{LongestGapTo, GameTo}
+use Rattle.pgn_text.specs.Public.Left.{Left, GivesPiece}
 use Rattle.pgn_text.specs.declared.game.pieces.Piece.TheVariants.{Game, Unreadable}
 use Rattle.pgn_text.proofs.Cuts.{piece_game, piece_unreadable, piece_left}
 use Rattle.pgn_text.proofs.Existence.{pieces_exist}

@@ -1,11 +1,11 @@
 -- What a call of `next` gives of the places of a block's pieces.
 use Rattle.std.proofs.Common.{◌≡◌, ◌≢◌, ℕ, ◌<◌, ◌≤◌, Bool, false, List, length, take, drop, refl, subst, arith}
 use Rattle.std.specs.Prelude.{Some}
-use Rattle.pgn_text.specs.Parts.{Part}
-use Rattle.pgn_text.specs.Pieces.{Game as GameOf, Unreadable as UnreadableOf, NoGame}
-use Rattle.pgn_text.specs.Walk.{LongestGapTo, GameTo}
-use Rattle.pgn_text.specs.Left.{Left}
-use Rattle.pgn_text.specs.LeftMarks.{GivesMark}
+use Rattle.pgn_text.specs.Public.Parts.{Part}
+use Rattle.pgn_text.specs.Public.Pieces.{Game as GameOf, Unreadable as UnreadableOf, NoGame}
+use Rattle.pgn_text.specs.Private.Walk.{LongestGapTo, GameTo}
+use Rattle.pgn_text.specs.Public.Left.{Left}
+use Rattle.pgn_text.specs.Public.LeftMarks.{GivesMark}
 use Rattle.pgn_text.specs.declared.game.pieces.PieceStart.TheVariants.{Game, Unreadable}
 use Rattle.pgn_text.proofs.Cuts.{piece_game, piece_unreadable}
 use Rattle.pgn_text.proofs.Gives.{left_at}

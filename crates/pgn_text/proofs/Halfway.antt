@@ -2,9 +2,9 @@
 use Rattle.std.proofs.Common.{◌≡◌, ◌≢◌, ℕ, Bool, true, false, List, [], ◌∷◌, ◌++◌, Some, None, IsTrue, MatchBool, refl, sym, ap, subst, ◌∙◌, inl, inr, append_assoc, append-nil}
 use Rattle.std.proofs.lemmas.List.Concat.{flat_map-append}
 use Rattle.std.proofs.lemmas.Bool.{MatchBool-at_true, MatchBool-at_false, cases_Bool}
-use Rattle.pgn_text.specs.Parts.{Part, standing_of, Stands, AllStand, spelled, spelled_part}
-use Rattle.pgn_text.specs.Games.{is_result, begins_outside_gap, IsGame}
-use Rattle.pgn_text.specs.Steps.{State, start, step, Leads}
+use Rattle.pgn_text.specs.Public.Parts.{Part, standing_of, Stands, AllStand, spelled, spelled_part}
+use Rattle.pgn_text.specs.Public.Games.{is_result, begins_outside_gap, IsGame}
+use Rattle.pgn_text.specs.Private.Steps.{State, start, step, Leads}
 use Rattle.pgn_text.proofs.GameLeads.{game_leads, game_from}
 use Rattle.pgn_text.proofs.PartLemmas.{one_part}
 

@@ -4,12 +4,12 @@ use Rattle.std.specs.Prelude.{◌==◌, ◌&&◌, ◌||◌, nat_le, bytes_eq, �
 use Rattle.std.specs.List.{list_all}
 use Rattle.std.proofs.lemmas.Bool.{and_parts, and_from, cases_Bool, or_cases, or_left, or_right, false≢true, le-leb, leb-true}
 use Rattle.std.proofs.lemmas.List.Folds.{list_all-append}
-use Rattle.pgn_text.specs.Bytes.{is_white, is_digit, is_letter, is_word_byte, is_mark, is_not_brace, begins}
-use Rattle.pgn_text.specs.Parts.{Part, ByteOrderMark, White, Brace, Line, EscapeLine, Tag, Word, Star, Dot, Glyph, Marks, Open, Close, Standing, Stands, spelled_part, number_from, number_of}
-use Rattle.pgn_text.specs.Games.{is_number, is_result_word, is_move_text, is_tag}
-use Rattle.pgn_text.specs.Steps.{State, in_movetext, step}
+use Rattle.pgn_text.specs.Public.Bytes.{is_white, is_digit, is_letter, is_word_byte, is_mark, is_not_brace, begins}
+use Rattle.pgn_text.specs.Public.Parts.{Part, ByteOrderMark, White, Brace, Line, EscapeLine, Tag, Word, Star, Dot, Glyph, Marks, Open, Close, Standing, Stands, spelled_part, number_from, number_of}
+use Rattle.pgn_text.specs.Public.Games.{is_number, is_result_word, is_move_text, is_tag}
+use Rattle.pgn_text.specs.Private.Steps.{State, in_movetext, step}
 use Rattle.pgn_text.proofs.Classes.{is_white-word, is_word_byte-mark}
-use Rattle.pgn_text.specs.PartFronts.{Longest, Follows, IsPartFront, IsWordFront, is_glyph_front, Ends, IsTagFront}
+use Rattle.pgn_text.specs.Private.PartFronts.{Longest, Follows, IsPartFront, IsWordFront, is_glyph_front, Ends, IsTagFront}
 use Rattle.pgn_text.specs.declared.error.error_position.InTag.TheVariants.{BeforeName}
 use Rattle.pgn_text.proofs.Furthest.{longest_after, longest_nothing, longest_take, greedy, longest_greedy}
 use Rattle.pgn_text.proofs.InTag.{tag_is, tag_ends}

@@ -5,12 +5,12 @@ use Rattle.std.specs.List.{list_all}
 use Rattle.std.proofs.Math.Seq.{drop-cons}
 use Rattle.std.proofs.Math.ListN.{drop_of_length-le}
 use Rattle.std.proofs.lemmas.Bool.{and_parts, and_from, cases_Bool, eqb-true, not_from_false, not-true}
-use Rattle.pgn_text.specs.Bytes.{is_byte, is_white, is_name_byte, is_plain, is_empty}
-use Rattle.pgn_text.specs.Strings.{Sign, Single, Escaped, spelled_sign, is_sign, IsContents}
-use Rattle.pgn_text.specs.Parts.{Part, Tag, Standing, Stands, spelled_part}
-use Rattle.pgn_text.specs.Games.{is_tag}
+use Rattle.pgn_text.specs.Public.Bytes.{is_byte, is_white, is_name_byte, is_plain, is_empty}
+use Rattle.pgn_text.specs.Public.Strings.{Sign, Single, Escaped, spelled_sign, is_sign, IsContents}
+use Rattle.pgn_text.specs.Public.Parts.{Part, Tag, Standing, Stands, spelled_part}
+use Rattle.pgn_text.specs.Public.Games.{is_tag}
 use Rattle.pgn_text.proofs.Classes.{is_name_byte-white, is_white-name}
-use Rattle.pgn_text.specs.PartFronts.{Longest, next_in, Ends, IsTagFront}
+use Rattle.pgn_text.specs.Private.PartFronts.{Longest, next_in, Ends, IsTagFront}
 use Rattle.pgn_text.specs.declared.error.error_position.InTag.{InTag}
 use Rattle.pgn_text.specs.declared.error.error_position.InTag.TheVariants.{BeforeName, Name, AfterName, Contents, AfterBackslash, AfterString, Closed}
 use Rattle.pgn_text.proofs.Furthest.{longest_after, longest_nothing}

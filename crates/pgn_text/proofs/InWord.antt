@@ -3,9 +3,9 @@ use Rattle.std.proofs.Common.{◌≡◌, ℕ, Bool, true, false, List, [], ◌�
 use Rattle.std.specs.Prelude.{◌==◌, ◌&&◌, ◌||◌, not, nat_eq, bytes_eq}
 use Rattle.std.specs.List.{list_all, starts_with}
 use Rattle.std.proofs.lemmas.Bool.{and_parts, and_from, or_cases, or_left, or_right, eqb-true}
-use Rattle.pgn_text.specs.Bytes.{is_digit, is_letter, is_word_byte, is_check_mark, is_empty}
-use Rattle.pgn_text.specs.Games.{is_number, is_result_word, is_zero_castling, is_move_text}
-use Rattle.pgn_text.specs.PartFronts.{no_byte, IsFrontOf, IsMoveFront, IsResultFront}
+use Rattle.pgn_text.specs.Public.Bytes.{is_digit, is_letter, is_word_byte, is_check_mark, is_empty}
+use Rattle.pgn_text.specs.Public.Games.{is_number, is_result_word, is_zero_castling, is_move_text}
+use Rattle.pgn_text.specs.Private.PartFronts.{no_byte, IsFrontOf, IsMoveFront, IsResultFront}
 use Rattle.pgn_text.proofs.Furthest.{as_far_front, as_far_whole, as_far_goes}
 
 -- the word has a meaning; a result has one only where `closed`

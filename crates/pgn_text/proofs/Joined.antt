@@ -1,7 +1,7 @@
 -- One read after another.
 use Rattle.std.proofs.Common.{◌≡◌, ℕ, ◌+◌, ◌-◌, ◌^◌, min, List, [], ◌++◌, length, Option, Some, None, refl, sym, ap, ◌∙◌, arith, length-append, append_assoc}
 use Rattle.std.specs.Io.KnownBytes.{Consumes}
-use Rattle.pgn_text.specs.Tallies.{Reads}
+use Rattle.pgn_text.specs.Public.Tallies.{Reads}
 
 -- known bytes that lose some, and then others, lose both
 consumes_join : (first then last : Option (List ℕ)) (front back : List ℕ)

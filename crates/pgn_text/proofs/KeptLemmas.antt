@@ -5,11 +5,11 @@ use Rattle.std.proofs.lemmas.Bool.{or_cases, or_left, or_from, and_parts, and_le
 use Rattle.std.proofs.lemmas.Bool.Decides.{nat_tests}
 use Rattle.std.specs.List.{list_all, starts_with}
 use Rattle.std.proofs.lemmas.List.Concat.{flat_map-append}
-use Rattle.pgn_text.specs.Bytes.{is_digit, is_letter, begins}
-use Rattle.pgn_text.specs.Parts.{Part, ByteOrderMark, White, Brace, Line, EscapeLine, Tag, Word, Star, Dot, Glyph, Marks, Open, Close}
-use Rattle.pgn_text.specs.Games.{is_move_text, is_number, is_result_word, is_result, MoveText, items_of_part, items_of}
-use Rattle.pgn_text.specs.Reading.{Kept, kept, kept_word, is_kept_result, step_kept, items_of_kept, KeptGap, KeptComment, KeptTag, KeptMove, KeptNumber, KeptResult, KeptStray, KeptDot, KeptGlyph, KeptMarks, KeptOpen, KeptClose}
-use Rattle.pgn_text.specs.Steps.{State, step, in_movetext}
+use Rattle.pgn_text.specs.Public.Bytes.{is_digit, is_letter, begins}
+use Rattle.pgn_text.specs.Public.Parts.{Part, ByteOrderMark, White, Brace, Line, EscapeLine, Tag, Word, Star, Dot, Glyph, Marks, Open, Close}
+use Rattle.pgn_text.specs.Public.Games.{is_move_text, is_number, is_result_word, is_result, MoveText, items_of_part, items_of}
+use Rattle.pgn_text.specs.Private.Reading.{Kept, kept, kept_word, is_kept_result, step_kept, items_of_kept, KeptGap, KeptComment, KeptTag, KeptMove, KeptNumber, KeptResult, KeptStray, KeptDot, KeptGlyph, KeptMarks, KeptOpen, KeptClose}
+use Rattle.pgn_text.specs.Private.Steps.{State, step, in_movetext}
 use Rattle.pgn_text.proofs.TagLemmas.{bytes_eq-same}
 
 -- a word that begins with a letter is move text

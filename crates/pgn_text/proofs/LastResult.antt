@@ -2,9 +2,9 @@
 use Rattle.std.proofs.Common.{◌≡◌, ℕ, ◌↔◌, ◌||◌, Bool, true, false, List, [], ◌∷◌, ◌++◌, refl, inl, inr}
 use Rattle.std.specs.Prelude.{bytes_eq, codes, IsTrue}
 use Rattle.std.proofs.lemmas.Bool.{or_cases}
-use Rattle.pgn_text.specs.Parts.{Part, ByteOrderMark, White, Brace, Line, EscapeLine, Tag, Word, Star, Dot, Glyph, Marks, Open, Close, spelled_part}
-use Rattle.pgn_text.specs.Games.{is_result, is_result_word, result_of, EachFrom, IsGame}
-use Rattle.pgn_text.specs.GameTexts.{IsResult}
+use Rattle.pgn_text.specs.Public.Parts.{Part, ByteOrderMark, White, Brace, Line, EscapeLine, Tag, Word, Star, Dot, Glyph, Marks, Open, Close, spelled_part}
+use Rattle.pgn_text.specs.Public.Games.{is_result, is_result_word, result_of, EachFrom, IsGame}
+use Rattle.pgn_text.specs.Public.GameTexts.{IsResult}
 use Rattle.pgn_text.proofs.TagLemmas.{bytes_eq-same}
 
 word_result : (text : List ℕ) → is_result_word text ≡ true → IsResult text

@@ -1,9 +1,9 @@
 -- The pieces of a block end where none is left, or after an error.
 use Rattle.std.proofs.Common.{◌≡◌, ℕ, List, [], ◌∷◌, Some, None, Ok, Err, take, drop, refl, sym, ◌∙◌, inl, inr}
 use Rattle.std.proofs.lemmas.Bool.{false≢true}
-use Rattle.pgn_text.specs.AnswerLaws.{EndsWhereNothingIsLeft, EndsAfterAnError}
-use Rattle.pgn_text.specs.Left.{Left, ArePiecesLeft}
-use Rattle.pgn_text.specs.Pieces as spec
+use Rattle.pgn_text.specs.Public.AnswerLaws.{EndsWhereNothingIsLeft, EndsAfterAnError}
+use Rattle.pgn_text.specs.Public.Left.{Left, ArePiecesLeft}
+use Rattle.pgn_text.specs.Public.Pieces as spec
 use Rattle.pgn_text.proofs.Existence.{pieces_exist}
 use Rattle.pgn_text.proofs.OneList.{one_list}
 

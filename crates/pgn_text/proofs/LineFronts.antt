@@ -6,10 +6,10 @@ use Rattle.std.specs.List.{starts_with, list_all}
 use Rattle.std.proofs.lemmas.Bool.{and_parts, and_from, false≢true, or_cases}
 use Rattle.std.proofs.lemmas.Bool.Decides.{nat_tests}
 use Rattle.std.proofs.lemmas.List.Folds.{list_all-append}
-use Rattle.pgn_text.specs.Bytes.{is_white, ends_in_line_feed}
-use Rattle.pgn_text.specs.Parts.{Part, ByteOrderMark, White, Brace, Line, EscapeLine, Word, Star, Standing, standing_of, Stands, AllStand, spelled, spelled_part}
-use Rattle.pgn_text.specs.Games.{is_gap_part, is_result, is_result_word, EachFrom, IsGame}
-use Rattle.pgn_text.specs.Blocks.{event_line, IsFirstBlock}
+use Rattle.pgn_text.specs.Public.Bytes.{is_white, ends_in_line_feed}
+use Rattle.pgn_text.specs.Public.Parts.{Part, ByteOrderMark, White, Brace, Line, EscapeLine, Word, Star, Standing, standing_of, Stands, AllStand, spelled, spelled_part}
+use Rattle.pgn_text.specs.Public.Games.{is_gap_part, is_result, is_result_word, EachFrom, IsGame}
+use Rattle.pgn_text.specs.Public.Blocks.{event_line, IsFirstBlock}
 use Rattle.pgn_text.proofs.TagLemmas.{bytes_eq-same}
 
 -- the text begins with an event line

@@ -5,9 +5,9 @@ use Rattle.std.specs.List.{list_all}
 use Rattle.std.proofs.lemmas.List.Sums.{sum_by_push}
 use Rattle.std.proofs.lemmas.List.Folds.{list_all-append}
 use Rattle.std.proofs.lemmas.Bool.{false≢true, and_parts, ltb-true, cases_lt}
-use Rattle.pgn_text.specs.Parts.{Part, ByteOrderMark, White, Brace, Line, EscapeLine, Tag, Word, Star, Dot, Glyph, Marks, Open, Close}
-use Rattle.pgn_text.specs.Games.{is_number, is_move_text, is_gap_part, is_tag, is_move, is_open, is_close, depth_after, MoveInLine}
-use Rattle.pgn_text.specs.Steps.{State, start, in_movetext, step}
+use Rattle.pgn_text.specs.Public.Parts.{Part, ByteOrderMark, White, Brace, Line, EscapeLine, Tag, Word, Star, Dot, Glyph, Marks, Open, Close}
+use Rattle.pgn_text.specs.Public.Games.{is_number, is_move_text, is_gap_part, is_tag, is_move, is_open, is_close, depth_after, MoveInLine}
+use Rattle.pgn_text.specs.Private.Steps.{State, start, in_movetext, step}
 
 -- where two lists joined are cut within the first or at its end, or further on
 pub cut_append : {X : Type 0} (a b c d : List X) → a ++ b ≡ c ++ d

@@ -3,11 +3,11 @@ use Rattle.std.proofs.Common.{◌≡◌, ◌⊎◌, ℕ, ◌+◌, ◌/◌, ◌%�
 use Rattle.std.specs.Prelude.{is_some, Option, ◌-◌}
 use Rattle.std.proofs.lemmas.List.{length-take-le}
 use Rattle.std.proofs.lemmas.List.Concat.{flat_map-append}
-use Rattle.pgn_text.specs.Parts.{Part, Stands, AllStand, standing_of, spelled_part, spelled}
-use Rattle.pgn_text.specs.Games.{items_of, items_of_part, first_tag, glyphs_of_marks}
-use Rattle.pgn_text.specs.PartPlaces.{IsPlaceOf, GivesElement, IsFirstTag, IsElementPlace, IsTagPlace}
-use Rattle.pgn_text.specs.Reading.{Kept, kept, items_of_kept, named_kept}
-use Rattle.pgn_text.specs.Walk.{PartAt, KeptAt, NothingAt}
+use Rattle.pgn_text.specs.Public.Parts.{Part, Stands, AllStand, standing_of, spelled_part, spelled}
+use Rattle.pgn_text.specs.Public.Games.{items_of, items_of_part, first_tag, glyphs_of_marks}
+use Rattle.pgn_text.specs.Public.PartPlaces.{IsPlaceOf, GivesElement, IsFirstTag, IsElementPlace, IsTagPlace}
+use Rattle.pgn_text.specs.Private.Reading.{Kept, kept, items_of_kept, named_kept}
+use Rattle.pgn_text.specs.Private.Walk.{PartAt, KeptAt, NothingAt}
 use Rattle.std.specs.Option.{option_or}
 use Rattle.pgn_text.proofs.Halfway.{stands_join, spelled-append, before_more}
 use Rattle.pgn_text.proofs.KeptLemmas.{items-kept, items-push}

@@ -1,11 +1,11 @@
 -- Where the pieces of a text begin.
 use Rattle.std.proofs.Common.{◌≡◌, ◌≢◌, ℕ, ◌+◌, ◌<◌, ◌≤◌, ◌==◌, Bool, List, [], ◌∷◌, ◌++◌, length, refl, sym, ap, ◌∙◌, inl, inr, arith, append-nil, length-append}
 use Rattle.std.proofs.lemmas.List.{length-map}
-use Rattle.pgn_text.specs.Parts.{spelled}
-use Rattle.pgn_text.specs.Pieces.{Piece, Game, Unreadable, ArePieces}
-use Rattle.pgn_text.specs.Blocks.{AreBlocks}
-use Rattle.pgn_text.specs.Marks.{TooLongBlock, MarkedPiece, marked, AreOfBlock, over, within, AreOfBlocks}
-use Rattle.pgn_text.specs.TextLaws.{PieceBeginsInItsText}
+use Rattle.pgn_text.specs.Public.Parts.{spelled}
+use Rattle.pgn_text.specs.Public.Pieces.{Piece, Game, Unreadable, ArePieces}
+use Rattle.pgn_text.specs.Public.Blocks.{AreBlocks}
+use Rattle.pgn_text.specs.Public.Marks.{TooLongBlock, MarkedPiece, marked, AreOfBlock, over, within, AreOfBlocks}
+use Rattle.pgn_text.specs.Public.TextLaws.{PieceBeginsInItsText}
 use Rattle.pgn_text.proofs.Lines.{cut_append, cut_single}
 use Rattle.pgn_text.proofs.OneList.{game_has_byte}
 use Rattle.pgn_text.proofs.ResumedText.{not_nil, map_cut, place_of_piece, offset_of_marked}

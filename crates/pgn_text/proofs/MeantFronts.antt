@@ -3,13 +3,13 @@ use Rattle.std.proofs.Common.{◌≡◌, ℕ, true, false, List, [], ◌∷◌, 
 use Rattle.std.specs.Prelude.{Option, ◌||◌, bytes_eq}
 use Rattle.std.specs.List.{list_all, list_any}
 use Rattle.std.proofs.lemmas.Bool.{and_parts, and_from, cases_Bool, or_cases, or_left, or_right, false≢true, false_from_ne_true}
-use Rattle.pgn_text.specs.ErrorPosition.{Walks}
-use Rattle.pgn_text.specs.Bytes.{is_word_byte}
-use Rattle.pgn_text.specs.Games.{is_number, is_result_word, is_move_text, is_result, is_meant}
-use Rattle.pgn_text.specs.PartFronts.{Follows, IsPartFront, NoneFollows}
-use Rattle.pgn_text.specs.Parts.{Part, ByteOrderMark, White, Brace, Line, EscapeLine, Tag, Word, Star, Dot, Glyph, Marks, Open, Close, Standing, Stands, spelled_part}
-use Rattle.pgn_text.specs.Reading.{part_front}
-use Rattle.pgn_text.specs.Steps.{State, in_movetext, step}
+use Rattle.pgn_text.specs.Private.ErrorPosition.{Walks}
+use Rattle.pgn_text.specs.Public.Bytes.{is_word_byte}
+use Rattle.pgn_text.specs.Public.Games.{is_number, is_result_word, is_move_text, is_result, is_meant}
+use Rattle.pgn_text.specs.Private.PartFronts.{Follows, IsPartFront, NoneFollows}
+use Rattle.pgn_text.specs.Public.Parts.{Part, ByteOrderMark, White, Brace, Line, EscapeLine, Tag, Word, Star, Dot, Glyph, Marks, Open, Close, Standing, Stands, spelled_part}
+use Rattle.pgn_text.specs.Private.Reading.{part_front}
+use Rattle.pgn_text.specs.Private.Steps.{State, in_movetext, step}
 use Rattle.pgn_text.proofs.InPart.{from_word, word_follows, word_step}
 use Rattle.pgn_text.proofs.InWord.{bytes_same}
 use Rattle.pgn_text.proofs.PartLemmas.{stands-read}

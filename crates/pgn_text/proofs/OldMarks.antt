@@ -3,10 +3,10 @@ use Rattle.std.proofs.Common.{ℕ, ◌+◌, ◌≤◌, ◌==◌, Bool, List, [],
 use Rattle.std.specs.List.{list_all}
 use Rattle.std.proofs.lemmas.Bool.{false≢true, and_parts}
 use Rattle.std.proofs.lemmas.List.Folds.{list_all-append}
-use Rattle.pgn_text.specs.Parts.{Part, spelled}
-use Rattle.pgn_text.specs.Games.{EachFrom, depth_after, IsGame}
-use Rattle.pgn_text.specs.Pieces.{Piece, Game, Unreadable, ArePieces}
-use Rattle.pgn_text.specs.Marks.{MarkedPiece, marked, is_readable, AreOfBlock, over, within, AreOfBlocks, AreMarkedPieces}
+use Rattle.pgn_text.specs.Public.Parts.{Part, spelled}
+use Rattle.pgn_text.specs.Public.Games.{EachFrom, depth_after, IsGame}
+use Rattle.pgn_text.specs.Public.Pieces.{Piece, Game, Unreadable, ArePieces}
+use Rattle.pgn_text.specs.Public.Marks.{MarkedPiece, marked, is_readable, AreOfBlock, over, within, AreOfBlocks, AreMarkedPieces}
 
 each_within : (low high : ℕ) (front parts : List Part)
     → low ≤ high

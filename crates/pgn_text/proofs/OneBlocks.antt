@@ -4,7 +4,7 @@ use Rattle.std.specs.Prelude.{◌≢◌, ◌⊎◌, ◌&&◌, ◌==◌, nat_eq, 
 use Rattle.std.specs.List.{starts_with}
 use Rattle.std.proofs.lemmas.Bool.{cases_Bool, both_ways, false≢true, and_right}
 use Rattle.std.proofs.lemmas.List.{append-nil}
-use Rattle.pgn_text.specs.Blocks.{event_line, is_event_line, IsFirstBlock, AreBlocks}
+use Rattle.pgn_text.specs.Public.Blocks.{event_line, is_event_line, IsFirstBlock, AreBlocks}
 
 -- two cuts of one text: one of the fronts begins the other
 cuts : (a b rest rest' : List ℕ) → a ++ rest ≡ b ++ rest'

@@ -1,9 +1,9 @@
 -- A block has one list of pieces at most.
 use Rattle.std.proofs.Common.{◌≡◌, ◌≢◌, ℕ, suc, ◌<◌, Bool, List, [], ◌∷◌, ◌++◌, length, take, drop, refl, sym, ap, ◌∙◌, arith, append-nil, length-append, le_antisymm, take_at, drop_at}
-use Rattle.pgn_text.specs.Parts.{Part, standing_of, spelled, spelled_part}
-use Rattle.pgn_text.specs.Games.{IsGame}
-use Rattle.pgn_text.specs.Gaps.{IsLongestGap}
-use Rattle.pgn_text.specs.Pieces.{Piece, Game, Unreadable, ArePieces}
+use Rattle.pgn_text.specs.Public.Parts.{Part, standing_of, spelled, spelled_part}
+use Rattle.pgn_text.specs.Public.Games.{IsGame}
+use Rattle.pgn_text.specs.Public.Gaps.{IsLongestGap}
+use Rattle.pgn_text.specs.Public.Pieces.{Piece, Game, Unreadable, ArePieces}
 use Rattle.pgn_text.proofs.PartLemmas.{part_has_byte}
 use Rattle.pgn_text.proofs.Halfway.{one_game}
 

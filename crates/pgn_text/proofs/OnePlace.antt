@@ -2,11 +2,11 @@
 use Rattle.std.proofs.Common.{◌≡◌, ℕ, ◌+◌, true, false, List, [], ◌∷◌, ◌++◌, length, None, refl, sym, ap, subst, ◌∙◌, inl, inr, arith, append_assoc, append-nil, length-append}
 use Rattle.std.specs.Prelude.{is_some}
 use Rattle.std.proofs.lemmas.List.Concat.{flat_map-append}
-use Rattle.pgn_text.specs.Parts.{Part, spelled}
-use Rattle.pgn_text.specs.Games.{items_of, items_of_part, first_tag}
-use Rattle.pgn_text.specs.PartPlaces.{IsPlaceOf, GivesElement, IsFirstTag}
-use Rattle.pgn_text.specs.AnswerLaws.{OneElementPlace, OneTagPlace}
-use Rattle.pgn_text.specs.Reading.{kept, named_kept}
+use Rattle.pgn_text.specs.Public.Parts.{Part, spelled}
+use Rattle.pgn_text.specs.Public.Games.{items_of, items_of_part, first_tag}
+use Rattle.pgn_text.specs.Public.PartPlaces.{IsPlaceOf, GivesElement, IsFirstTag}
+use Rattle.pgn_text.specs.Public.AnswerLaws.{OneElementPlace, OneTagPlace}
+use Rattle.pgn_text.specs.Private.Reading.{kept, named_kept}
 use Rattle.pgn_text.proofs.Lines.{cut_append}
 use Rattle.pgn_text.proofs.Located.{fewer_items, neither, none_earlier}
 use Rattle.pgn_text.proofs.TagLemmas.{first_tag-cons, first_tag-push}

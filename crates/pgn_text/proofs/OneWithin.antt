@@ -5,11 +5,11 @@ use Rattle.std.specs.List.{list_all, list_any}
 use Rattle.std.proofs.lemmas.Bool.{and_parts, false≢true, eqb-true, or_left, or_right}
 use Rattle.std.proofs.lemmas.Bool.Decides.{nat_tests}
 use Rattle.std.proofs.lemmas.List.Folds.{list_all-append, list_any-append}
-use Rattle.pgn_text.specs.AnswerLaws.{StandsInOneThing, CommentIsOpen}
-use Rattle.pgn_text.specs.Bytes.{begins, is_not_brace}
-use Rattle.pgn_text.specs.Games.{is_open, is_result, is_meant, depth_after}
-use Rattle.pgn_text.specs.Parts.{Part, Open, Stands, standing_of, AllStand, spelled_part, spelled}
-use Rattle.pgn_text.specs.StopPlaces.{PartsThen, StandsWithin, is_open_brace, is_open_bracket, is_quote, is_before_movetext}
+use Rattle.pgn_text.specs.Public.AnswerLaws.{StandsInOneThing, CommentIsOpen}
+use Rattle.pgn_text.specs.Public.Bytes.{begins, is_not_brace}
+use Rattle.pgn_text.specs.Public.Games.{is_open, is_result, is_meant, depth_after}
+use Rattle.pgn_text.specs.Public.Parts.{Part, Open, Stands, standing_of, AllStand, spelled_part, spelled}
+use Rattle.pgn_text.specs.Public.StopPlaces.{PartsThen, StandsWithin, is_open_brace, is_open_bracket, is_quote, is_before_movetext}
 use Rattle.pgn_text.specs.declared.error.error_position.Within.{Within}
 use Rattle.pgn_text.specs.declared.error.error_position.Within.TheVariants.{Comment, TagName, TagValue, Tags, Variation, MainLine, Game}
 use Rattle.pgn_text.proofs.Halfway.{spelled-append, stands_cut}

@@ -8,12 +8,12 @@ use Rattle.std.specs.Cmp.Lexicographic.{slice_cmp}
 use Rattle.std.specs.Map.{keys_of}
 use Rattle.std.specs.declared.cmp.Ordering.TheVariants.{Less}
 use Rattle.std.proofs.lemmas.Bool.{cases_Bool, ltb-true, MatchBool-at_true, MatchBool-at_false}
-use Rattle.pgn_text.specs.Parts.{Part}
-use Rattle.pgn_text.specs.Games.{Item, is_result, items_of, items_of_part, glyphs_of_marks}
-use Rattle.pgn_text.specs.GameTexts.{IsPaired, tag_names}
-use Rattle.pgn_text.specs.Elements.{tag_of}
-use Rattle.pgn_text.specs.Steps.{State, Leads}
-use Rattle.pgn_text.specs.Reading.{Kept, KeptGap, KeptComment, KeptTag, KeptMove, KeptNumber, KeptResult, KeptStray, KeptDot, KeptGlyph, KeptMarks, KeptOpen, KeptClose, kept, step_kept, items_of_kept}
+use Rattle.pgn_text.specs.Public.Parts.{Part}
+use Rattle.pgn_text.specs.Public.Games.{Item, is_result, items_of, items_of_part, glyphs_of_marks}
+use Rattle.pgn_text.specs.Public.GameTexts.{IsPaired, tag_names}
+use Rattle.pgn_text.specs.Public.Elements.{tag_of}
+use Rattle.pgn_text.specs.Private.Steps.{State, Leads}
+use Rattle.pgn_text.specs.Private.Reading.{Kept, KeptGap, KeptComment, KeptTag, KeptMove, KeptNumber, KeptResult, KeptStray, KeptDot, KeptGlyph, KeptMarks, KeptOpen, KeptClose, kept, step_kept, items_of_kept}
 use Rattle.pgn_text.proofs.KeptLemmas.{is_result-kept, step-kept, items-kept, kept_result}
 
 -- glyphs pair nothing

@@ -7,11 +7,11 @@ use Rattle.pgn_text.proofs.Fronts.{run_of-append, after_run-append, run-append-a
 use Rattle.std.specs.List.{list_all}
 use Rattle.std.proofs.lemmas.Bool.{and_parts, and_from, not_from_false}
 use Rattle.std.proofs.lemmas.List.{drop_more, drop_all, nil_from_length, get_or-drop}
-use Rattle.pgn_text.specs.Bytes.{is_white, is_digit, is_letter, is_mark, is_word_byte, begins, stops, run_of, after_run}
-use Rattle.pgn_text.specs.Parts.{Part, White, Brace, Word, Dot, Marks, Open, Close, Standing, standing_of, spelled_part}
-use Rattle.pgn_text.specs.Reading.{Kept, KeptGap, KeptComment, kept_found, brace_front, KeptMove, KeptNumber, KeptDot, KeptMarks, KeptOpen, KeptClose, kept_word, part_front, game_front}
-use Rattle.pgn_text.specs.Tokens.{RunTo}
-use Rattle.pgn_text.specs.Walk.{PartAt, KeptAt, NothingAt, GapPartAt}
+use Rattle.pgn_text.specs.Public.Bytes.{is_white, is_digit, is_letter, is_mark, is_word_byte, begins, stops, run_of, after_run}
+use Rattle.pgn_text.specs.Public.Parts.{Part, White, Brace, Word, Dot, Marks, Open, Close, Standing, standing_of, spelled_part}
+use Rattle.pgn_text.specs.Private.Reading.{Kept, KeptGap, KeptComment, kept_found, brace_front, KeptMove, KeptNumber, KeptDot, KeptMarks, KeptOpen, KeptClose, kept_word, part_front, game_front}
+use Rattle.pgn_text.specs.Private.Tokens.{RunTo}
+use Rattle.pgn_text.specs.Private.Walk.{PartAt, KeptAt, NothingAt, GapPartAt}
 use Rattle.pgn_text.proofs.FoundLemmas.{read-stands}
 use Rattle.pgn_text.proofs.PartLemmas.{no_gap-word, no_gap-mark, part_has_byte}
 use Rattle.pgn_text.proofs.Places.{part_placed, kept_at, nothing_at}

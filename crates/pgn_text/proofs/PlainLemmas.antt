@@ -1,10 +1,10 @@
 -- A game read on over plain movetext.
 use Rattle.std.proofs.Common.{◌≡◌, ◌⊎◌, ℕ, Bool, true, false, List, refl, sym, ap, ◌∙◌, subst, inl, inr}
 use Rattle.std.specs.Prelude.{Option, Some}
-use Rattle.pgn_text.specs.Games.{Item}
-use Rattle.pgn_text.specs.Movetext.{is_plain_kept, ArePlain, none, one_more, PlainTo, HoldsAny}
-use Rattle.pgn_text.specs.Reading.{Kept, KeptGap, KeptComment, KeptTag, KeptMove, KeptNumber, KeptResult, KeptStray, KeptDot, KeptGlyph, KeptMarks, KeptOpen, KeptClose, is_kept_result, step_kept}
-use Rattle.pgn_text.specs.Steps.{State}
+use Rattle.pgn_text.specs.Public.Games.{Item}
+use Rattle.pgn_text.specs.Private.Movetext.{is_plain_kept, ArePlain, none, one_more, PlainTo, HoldsAny}
+use Rattle.pgn_text.specs.Private.Reading.{Kept, KeptGap, KeptComment, KeptTag, KeptMove, KeptNumber, KeptResult, KeptStray, KeptDot, KeptGlyph, KeptMarks, KeptOpen, KeptClose, is_kept_result, step_kept}
+use Rattle.pgn_text.specs.Private.Steps.{State}
 use Rattle.pgn_text.proofs.ReadLemmas.{KeptUpTo, kept_more}
 
 -- a part of plain movetext is no result

@@ -1,10 +1,10 @@
 -- The parts of plain movetext at places of a block.
 use Rattle.std.proofs.Common.{◌≡◌, ℕ, ◌+◌, ◌<◌, ◌≤◌, Bool, true, false, List, length, get_or, refl, sym, subst, arith, inl, inr}
-use Rattle.pgn_text.specs.Bytes.{is_white, is_digit, is_letter, is_word_byte}
-use Rattle.pgn_text.specs.Movetext.{is_plain_kept, ArePlain, none, one_more, PlainTo}
-use Rattle.pgn_text.specs.Reading.{Kept, KeptGap, KeptMove, KeptNumber, KeptDot}
-use Rattle.pgn_text.specs.Tokens.{RunTo}
-use Rattle.pgn_text.specs.Walk.{PartAt, KeptAt, Passes}
+use Rattle.pgn_text.specs.Public.Bytes.{is_white, is_digit, is_letter, is_word_byte}
+use Rattle.pgn_text.specs.Private.Movetext.{is_plain_kept, ArePlain, none, one_more, PlainTo}
+use Rattle.pgn_text.specs.Private.Reading.{Kept, KeptGap, KeptMove, KeptNumber, KeptDot}
+use Rattle.pgn_text.specs.Private.Tokens.{RunTo}
+use Rattle.pgn_text.specs.Private.Walk.{PartAt, KeptAt, Passes}
 use Rattle.pgn_text.proofs.PartsAt.{kept_letters, kept_digits, kept_dot, kept_white}
 use Rattle.pgn_text.proofs.RunsTo.{AllPass, passed_to}
 

@@ -4,14 +4,14 @@ use Rattle.std.specs.Prelude.{Option, Some, None, IsTrue}
 use Rattle.std.specs.Option.{option_or}
 use Rattle.std.proofs.lemmas.Bool.{not_from_false}
 use Rattle.std.proofs.lemmas.List.{length-take-le, take_at}
-use Rattle.pgn_text.specs.Parts.{Part, Stands, standing_of, spelled_part, spelled}
-use Rattle.pgn_text.specs.Games.{Item, is_result, begins_outside_gap, items_of, first_tag, result_of}
-use Rattle.pgn_text.specs.GameTexts.{IsPaired}
-use Rattle.pgn_text.specs.Pieces.{NoGame}
-use Rattle.pgn_text.specs.Steps.{State, start, step}
-use Rattle.pgn_text.specs.Reading.{Kept, KeptGap, KeptDot, KeptResult, kept, is_kept_result, step_kept, items_of_kept, named_kept}
-use Rattle.pgn_text.specs.Readings.{GoesOn, StuckAt, EndsAt}
-use Rattle.pgn_text.specs.Walk.{PartAt, KeptAt, Passes, NothingAt, NoGapPartAt, GameRead}
+use Rattle.pgn_text.specs.Public.Parts.{Part, Stands, standing_of, spelled_part, spelled}
+use Rattle.pgn_text.specs.Public.Games.{Item, is_result, begins_outside_gap, items_of, first_tag, result_of}
+use Rattle.pgn_text.specs.Public.GameTexts.{IsPaired}
+use Rattle.pgn_text.specs.Public.Pieces.{NoGame}
+use Rattle.pgn_text.specs.Private.Steps.{State, start, step}
+use Rattle.pgn_text.specs.Private.Reading.{Kept, KeptGap, KeptDot, KeptResult, kept, is_kept_result, step_kept, items_of_kept, named_kept}
+use Rattle.pgn_text.specs.Private.Readings.{GoesOn, StuckAt, EndsAt}
+use Rattle.pgn_text.specs.Private.Walk.{PartAt, KeptAt, Passes, NothingAt, NoGapPartAt, GameRead}
 use Rattle.pgn_text.proofs.Halfway.{Reads, Halfway, halfway_start, halfway_more, halfway_end, halfway_stuck, halfway_none, game_reads, reads_game, before_more}
 use Rattle.pgn_text.proofs.KeptLemmas.{is_result-kept, step-kept, items-push, kept_result}
 use Rattle.pgn_text.proofs.Pairing.{leads_paired}

@@ -1,9 +1,9 @@
 -- The pieces of a block read again from one of them on, as a block by itself that is not at the file's start.
 use Rattle.std.proofs.Common.{◌≢◌, ℕ, ◌-◌, Bool, false, List, [], ◌∷◌, ◌++◌, map, length, refl, arith, append_assoc, length-append}
-use Rattle.pgn_text.specs.Parts.{Part, spelled}
-use Rattle.pgn_text.specs.Games.{IsGame}
-use Rattle.pgn_text.specs.Gaps.{IsLongestGap}
-use Rattle.pgn_text.specs.Pieces.{NoGame, Piece, Game, Unreadable, ArePieces}
+use Rattle.pgn_text.specs.Public.Parts.{Part, spelled}
+use Rattle.pgn_text.specs.Public.Games.{IsGame}
+use Rattle.pgn_text.specs.Public.Gaps.{IsLongestGap}
+use Rattle.pgn_text.specs.Public.Pieces.{NoGame, Piece, Game, Unreadable, ArePieces}
 use Rattle.pgn_text.proofs.ShorterText.{game_elsewhere}
 use Rattle.pgn_text.proofs.OneList.{game_has_byte}
 use Rattle.pgn_text.proofs.Resumption.{IsClear, some_bytes, stand_there, stand_back, game_there, game_back, no_gap_there, gap_there}

@@ -3,10 +3,10 @@ use Rattle.std.proofs.Common.{◌≡◌, ◌≢◌, ℕ, ◌+◌, ◌-◌, ◌�
 use Rattle.std.specs.List.{starts_with}
 use Rattle.std.proofs.lemmas.Bool.{ne_eqb}
 use Rattle.std.proofs.lemmas.List.{get_or-append-add, nil_from_length}
-use Rattle.pgn_text.specs.Parts.{spelled}
-use Rattle.pgn_text.specs.Pieces.{Piece, Game, Unreadable, ArePieces}
-use Rattle.pgn_text.specs.Blocks.{event_line, is_event_line, IsFirstBlock, AreBlocks}
-use Rattle.pgn_text.specs.Marks.{ReadableGame, UnreadableRest, TooLongBlock, MarkedPiece, marked, AreOfBlock, over, within, AreOfBlocks, AreMarkedPieces, ResumesAt}
+use Rattle.pgn_text.specs.Public.Parts.{spelled}
+use Rattle.pgn_text.specs.Public.Pieces.{Piece, Game, Unreadable, ArePieces}
+use Rattle.pgn_text.specs.Public.Blocks.{event_line, is_event_line, IsFirstBlock, AreBlocks}
+use Rattle.pgn_text.specs.Public.Marks.{ReadableGame, UnreadableRest, TooLongBlock, MarkedPiece, marked, AreOfBlock, over, within, AreOfBlocks, AreMarkedPieces, ResumesAt}
 use Rattle.pgn_text.proofs.Lines.{cut_append, cut_single}
 use Rattle.pgn_text.proofs.MarkedPieces.{one_marked_pieces}
 use Rattle.pgn_text.proofs.OneList.{no_bytes, game_has_byte}

@@ -5,10 +5,10 @@ use Rattle.std.proofs.lemmas.Bool.{false≢true, and_parts, and_from, not-true}
 use Rattle.std.proofs.lemmas.List.{get_or-append-add, nil_from_length}
 use Rattle.std.proofs.lemmas.List.Folds.{list_all-append}
 use Rattle.std.proofs.lemmas.Bool.Decides.{nat_tests}
-use Rattle.pgn_text.specs.Bytes.{is_white, is_word_byte, is_mark, is_empty}
-use Rattle.pgn_text.specs.Parts.{Part, ByteOrderMark, White, Brace, Line, EscapeLine, Tag, Word, Star, Dot, Glyph, Marks, Open, Close, Standing, standing_of, is_column_one, Stands, AllStand, spelled, spelled_part}
-use Rattle.pgn_text.specs.Games.{is_gap_part, begins_outside_gap, IsGame}
-use Rattle.pgn_text.specs.Gaps.{IsGap, IsLongestGap}
+use Rattle.pgn_text.specs.Public.Bytes.{is_white, is_word_byte, is_mark, is_empty}
+use Rattle.pgn_text.specs.Public.Parts.{Part, ByteOrderMark, White, Brace, Line, EscapeLine, Tag, Word, Star, Dot, Glyph, Marks, Open, Close, Standing, standing_of, is_column_one, Stands, AllStand, spelled, spelled_part}
+use Rattle.pgn_text.specs.Public.Games.{is_gap_part, begins_outside_gap, IsGame}
+use Rattle.pgn_text.specs.Public.Gaps.{IsGap, IsLongestGap}
 use Rattle.pgn_text.proofs.PartLemmas.{part_has_byte}
 use Rattle.pgn_text.proofs.ShorterText.{game_elsewhere}
 use Rattle.pgn_text.proofs.OneList.{no_bytes}

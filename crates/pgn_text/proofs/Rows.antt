@@ -1,12 +1,12 @@
 -- Worked rows of the definitions.
 use Rattle.std.proofs.Common.{◌≡◌, true, false, List, [], ◌∷◌, codes, refl, sym, ap, ◌∙◌}
-use Rattle.pgn_text.specs.Parts.{Part, White, Word, Star, Dot, Open, Close, spelled, standing_of}
-use Rattle.pgn_text.specs.Games.{IsGame}
-use Rattle.pgn_text.specs.Pieces.{NoGame}
-use Rattle.pgn_text.specs.Steps.{start}
+use Rattle.pgn_text.specs.Public.Parts.{Part, White, Word, Star, Dot, Open, Close, spelled, standing_of}
+use Rattle.pgn_text.specs.Public.Games.{IsGame}
+use Rattle.pgn_text.specs.Public.Pieces.{NoGame}
+use Rattle.pgn_text.specs.Private.Steps.{start}
 use Rattle.pgn_text.proofs.GameLeads.{game_from}
 use Rattle.pgn_text.proofs.Halfway.{halfway_start, halfway_stuck, game_reads, halfway_none}
-use Rattle.pgn_text.specs.Reading.{part_front}
+use Rattle.pgn_text.specs.Private.Reading.{part_front}
 use Rattle.pgn_text.proofs.PartLemmas.{stands-read}
 
 -- `1. e4 *` is a game

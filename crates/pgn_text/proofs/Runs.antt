@@ -4,7 +4,7 @@ use Rattle.std.proofs.lemmas.Bool.{eqb-true, not_from_true, not_from_false, fals
 use Rattle.std.proofs.lemmas.List.{drop_more, drop_all}
 use Rattle.memchr.specs.Find.{IsFirstByte, is_byte}
 use Rattle.std.specs.Prelude.{if◌then◌else◌, Some, None, ◌==◌}
-use Rattle.pgn_text.specs.Bytes.{is_empty, run_of, after_run}
+use Rattle.pgn_text.specs.Public.Bytes.{is_empty, run_of, after_run}
 
 pub take_run : (test : ℕ → Bool) (xs : List ℕ) → take (length (run_of test xs)) xs ≡ run_of test xs
 take_run test [] = refl

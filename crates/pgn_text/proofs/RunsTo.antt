@@ -3,8 +3,8 @@ use Rattle.std.proofs.Common.{◌≡◌, inl, inr, ℕ, ◌+◌, ◌-◌, ◌<�
 use Rattle.std.proofs.lemmas.Bool.{cases_lt}
 use Rattle.std.proofs.lemmas.List.{get_or-drop}
 use Rattle.std.proofs.Math.Seq.{take-add}
-use Rattle.pgn_text.specs.Bytes.{run_of, after_run}
-use Rattle.pgn_text.specs.Tokens.{RunTo}
+use Rattle.pgn_text.specs.Public.Bytes.{run_of, after_run}
+use Rattle.pgn_text.specs.Private.Tokens.{RunTo}
 use Rattle.pgn_text.proofs.Runs.{run_length_is, run_on, take_run, drop_run}
 
 -- a place up to which all bytes pass, and at which one fails or the block ends, is the run's end

@@ -2,10 +2,10 @@
 use Rattle.std.proofs.Common.{ℕ, Bool, List, [], ◌∷◌, ◌++◌, length, refl, sym, ap, ◌∙◌, arith, append_assoc, length-append, IsTrue}
 use Rattle.std.specs.List.{list_all}
 use Rattle.std.proofs.lemmas.Bool.{false≢true, not-true}
-use Rattle.pgn_text.specs.Bytes.{stops}
-use Rattle.pgn_text.specs.Parts.{Part, ByteOrderMark, White, Brace, Line, EscapeLine, Tag, Word, Star, Dot, Glyph, Marks, Open, Close, Standing, standing_of, Stands, AllStand, spelled, spelled_part}
-use Rattle.pgn_text.specs.Games.{is_gap_part, IsGame}
-use Rattle.pgn_text.specs.Gaps.{IsGap, IsLongestGap}
+use Rattle.pgn_text.specs.Public.Bytes.{stops}
+use Rattle.pgn_text.specs.Public.Parts.{Part, ByteOrderMark, White, Brace, Line, EscapeLine, Tag, Word, Star, Dot, Glyph, Marks, Open, Close, Standing, standing_of, Stands, AllStand, spelled, spelled_part}
+use Rattle.pgn_text.specs.Public.Games.{is_gap_part, IsGame}
+use Rattle.pgn_text.specs.Public.Gaps.{IsGap, IsLongestGap}
 use Rattle.pgn_text.proofs.Gaps.{longest_gap}
 use Rattle.pgn_text.proofs.PartLemmas.{one_part}
 

@@ -7,11 +7,11 @@ use Rattle.std.proofs.lemmas.Map.Text.{is_eq-slice_cmp}
 use Rattle.std.specs.Prelude.{Some, if◌then◌else◌}
 use Rattle.std.specs.FinMap.{entries, entries_sorted, find, from_entries, get-entries, get-from_entries}
 use Rattle.std.specs.Ordering.{is_eq}
-use Rattle.pgn_text.specs.Parts.{Part, spelled, ByteOrderMark, White, Brace, Line, EscapeLine, Tag, Word, Star, Dot, Glyph, Marks, Open, Close}
-use Rattle.pgn_text.specs.Games.{IsGame, first_tag, items_of, result_of}
-use Rattle.pgn_text.specs.GameTexts.{GameText, IsGameText, ShowsGame, tag_in}
-use Rattle.pgn_text.specs.Steps.{start}
-use Rattle.pgn_text.specs.Walk.{GameTo}
+use Rattle.pgn_text.specs.Public.Parts.{Part, spelled, ByteOrderMark, White, Brace, Line, EscapeLine, Tag, Word, Star, Dot, Glyph, Marks, Open, Close}
+use Rattle.pgn_text.specs.Public.Games.{IsGame, first_tag, items_of, result_of}
+use Rattle.pgn_text.specs.Public.GameTexts.{GameText, IsGameText, ShowsGame, tag_in}
+use Rattle.pgn_text.specs.Private.Steps.{start}
+use Rattle.pgn_text.specs.Private.Walk.{GameTo}
 use Rattle.pgn_text.proofs.GameLeads.{game_leads}
 use Rattle.pgn_text.proofs.LastResult.{game_result}
 use Rattle.pgn_text.proofs.Pairing.{leads_paired}

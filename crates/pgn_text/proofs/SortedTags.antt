@@ -10,7 +10,7 @@ use Rattle.std.specs.Ordering.{nat_cmp, is_eq, is_lt}
 use Rattle.std.specs.declared.cmp.Ordering.{Ordering}
 use Rattle.std.specs.declared.cmp.Ordering.TheVariants.{Less, Equal, Greater}
 use Rattle.std.proofs.lemmas.Map.Text.{is_eq-slice_cmp}
-use Rattle.pgn_text.specs.GameTexts.{tag_in, tag_names}
+use Rattle.pgn_text.specs.Public.GameTexts.{tag_in, tag_names}
 
 -- the order of names
 abbrev pub name_cmp : List ℕ → List ℕ → Ordering

@@ -5,15 +5,15 @@ use Rattle.std.proofs.lemmas.Bool.{and_from, eqb-true}
 use Rattle.std.proofs.lemmas.List.{length-take-le, take-append-drop}
 use Rattle.std.proofs.lemmas.List.Folds.{list_all-append}
 use Rattle.std.specs.Prelude.{◌&&◌}
-use Rattle.pgn_text.specs.ErrorPosition.{Walks, WalkedTo, AfterGame, FrontWithin}
-use Rattle.pgn_text.specs.Bytes.{begins, is_not_brace}
-use Rattle.pgn_text.specs.Games.{is_meant}
-use Rattle.pgn_text.specs.PartFronts.{IsPartFront, NoneFollows}
-use Rattle.pgn_text.specs.Parts.{Part, Standing, standing_of, Stands, AllStand, spelled_part, spelled}
-use Rattle.pgn_text.specs.Reading.{Kept, is_kept_result}
-use Rattle.pgn_text.specs.Steps.{State, start}
-use Rattle.pgn_text.specs.StopPlaces.{PartsThen, StandsWithin, is_open_brace}
-use Rattle.pgn_text.specs.Walk.{PartAt, KeptAt}
+use Rattle.pgn_text.specs.Private.ErrorPosition.{Walks, WalkedTo, AfterGame, FrontWithin}
+use Rattle.pgn_text.specs.Public.Bytes.{begins, is_not_brace}
+use Rattle.pgn_text.specs.Public.Games.{is_meant}
+use Rattle.pgn_text.specs.Private.PartFronts.{IsPartFront, NoneFollows}
+use Rattle.pgn_text.specs.Public.Parts.{Part, Standing, standing_of, Stands, AllStand, spelled_part, spelled}
+use Rattle.pgn_text.specs.Private.Reading.{Kept, is_kept_result}
+use Rattle.pgn_text.specs.Private.Steps.{State, start}
+use Rattle.pgn_text.specs.Public.StopPlaces.{PartsThen, StandsWithin, is_open_brace}
+use Rattle.pgn_text.specs.Private.Walk.{PartAt, KeptAt}
 use Rattle.pgn_text.specs.declared.error.error_position.Within.{Within}
 use Rattle.pgn_text.specs.declared.error.error_position.Within.TheVariants.{Comment, TagName, TagValue, Tags, Variation, MainLine, Game}
 use Rattle.pgn_text.proofs.Halfway.{stands_join, spelled-append}

@@ -2,16 +2,16 @@
 use Rattle.std.proofs.Common.{◌≡◌, ◌≢◌, ℕ, ◌+◌, ◌<◌, ◌≤◌, Bool, true, false, List, [], ◌∷◌, ◌++◌, Some, None, take, drop, length, sym, ap, subst, ◌∙◌, inl, inr, arith, append_assoc, append-nil, length-append}
 use Rattle.std.proofs.lemmas.Bool.{cases_Bool}
 use Rattle.std.proofs.lemmas.List.{length-take-le}
-use Rattle.pgn_text.specs.Parts.{Stands, AllStand, standing_of, spelled_part, spelled}
-use Rattle.pgn_text.specs.Games.{is_result}
-use Rattle.pgn_text.specs.Steps.{State, start}
-use Rattle.pgn_text.specs.Reading.{Kept, is_kept_result, step_kept}
-use Rattle.pgn_text.specs.Stops.{IsLongestViablePrefix}
-use Rattle.pgn_text.specs.Walk.{PartAt, KeptAt}
+use Rattle.pgn_text.specs.Public.Parts.{Stands, AllStand, standing_of, spelled_part, spelled}
+use Rattle.pgn_text.specs.Public.Games.{is_result}
+use Rattle.pgn_text.specs.Private.Steps.{State, start}
+use Rattle.pgn_text.specs.Private.Reading.{Kept, is_kept_result, step_kept}
+use Rattle.pgn_text.specs.Public.Stops.{IsLongestViablePrefix}
+use Rattle.pgn_text.specs.Private.Walk.{PartAt, KeptAt}
 use Rattle.pgn_text.proofs.EachStops.{wrong_part}
-use Rattle.pgn_text.specs.ErrorPosition.{WalkedTo}
-use Rattle.pgn_text.specs.Stops.{IsErrorPosition}
-use Rattle.pgn_text.specs.PartFronts.{Longest, Follows, IsPartFront, NoneFollows}
+use Rattle.pgn_text.specs.Private.ErrorPosition.{WalkedTo}
+use Rattle.pgn_text.specs.Public.Stops.{IsErrorPosition}
+use Rattle.pgn_text.specs.Private.PartFronts.{Longest, Follows, IsPartFront, NoneFollows}
 use Rattle.pgn_text.proofs.GameFronts.{stops_in_part, stops_at_game}
 use Rattle.pgn_text.proofs.Halfway.{Reads, reads_end, stands_join, spelled-append, before_more}
 use Rattle.pgn_text.proofs.KeptLemmas.{is_result-kept, step-kept}

@@ -3,13 +3,13 @@ use Rattle.std.proofs.Common.{◌≡◌, ◌≢◌, ℕ, zero, suc, ◌-◌, Boo
 use Rattle.std.specs.List.{list_all}
 use Rattle.std.proofs.lemmas.Bool.{lt-ltb, MatchBool-at_true, MatchBool-at_false, and_from, cases_Bool, not_from_false}
 use Rattle.std.proofs.lemmas.List.Folds.{list_all-append}
-use Rattle.pgn_text.specs.Bytes.{is_byte, is_digit, is_word_byte, is_mark, is_not_line_feed, stops}
-use Rattle.pgn_text.specs.Parts.{Part, ByteOrderMark, White, Brace, Line, EscapeLine, Tag, Word, Star, Dot, Glyph, Marks, Open, Close, Standing, standing_of, Stands, AllStand, spelled, spelled_part}
-use Rattle.pgn_text.specs.Games.{is_result}
-use Rattle.pgn_text.specs.Steps.{State, step, Leads}
-use Rattle.pgn_text.specs.Stops.{IsLongestViablePrefix}
-use Rattle.pgn_text.specs.ErrorPosition.{Walks}
-use Rattle.pgn_text.specs.PartFronts.{Follows, IsPartFront, NoneFollows}
+use Rattle.pgn_text.specs.Public.Bytes.{is_byte, is_digit, is_word_byte, is_mark, is_not_line_feed, stops}
+use Rattle.pgn_text.specs.Public.Parts.{Part, ByteOrderMark, White, Brace, Line, EscapeLine, Tag, Word, Star, Dot, Glyph, Marks, Open, Close, Standing, standing_of, Stands, AllStand, spelled, spelled_part}
+use Rattle.pgn_text.specs.Public.Games.{is_result}
+use Rattle.pgn_text.specs.Private.Steps.{State, step, Leads}
+use Rattle.pgn_text.specs.Public.Stops.{IsLongestViablePrefix}
+use Rattle.pgn_text.specs.Private.ErrorPosition.{Walks}
+use Rattle.pgn_text.specs.Private.PartFronts.{Follows, IsPartFront, NoneFollows}
 use Rattle.pgn_text.proofs.Halfway.{Reads, reads_more, reads_end, reads_first}
 use Rattle.pgn_text.proofs.ByteFronts.{InBytes, part_bytes}
 use Rattle.pgn_text.proofs.Lines.{cut_append}

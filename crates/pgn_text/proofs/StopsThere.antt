@@ -3,12 +3,12 @@ use Rattle.std.proofs.Common.{◌≡◌, ℕ, ◌+◌, ◌==◌, Bool, true, fal
 use Rattle.std.specs.List.{list_all}
 use Rattle.std.proofs.lemmas.Bool.{false≢true, and_parts, ne_eqb}
 use Rattle.std.proofs.lemmas.List.{take-append-drop}
-use Rattle.pgn_text.specs.Bytes.{is_byte, is_not_line_feed, run_of, after_run}
-use Rattle.pgn_text.specs.Parts.{Part, ByteOrderMark, White, Brace, Line, EscapeLine, Tag, Word, Star, Dot, Glyph, Marks, Open, Close, standing_of, Stands, spelled, spelled_part}
-use Rattle.pgn_text.specs.Games.{is_gap_part, IsGame}
-use Rattle.pgn_text.specs.Gaps.{IsGap, IsLongestGap}
-use Rattle.pgn_text.specs.Pieces.{Piece, Game, Unreadable, ArePieces}
-use Rattle.pgn_text.specs.Stops.{IsGameFront, IsLongestViablePrefix}
+use Rattle.pgn_text.specs.Public.Bytes.{is_byte, is_not_line_feed, run_of, after_run}
+use Rattle.pgn_text.specs.Public.Parts.{Part, ByteOrderMark, White, Brace, Line, EscapeLine, Tag, Word, Star, Dot, Glyph, Marks, Open, Close, standing_of, Stands, spelled, spelled_part}
+use Rattle.pgn_text.specs.Public.Games.{is_gap_part, IsGame}
+use Rattle.pgn_text.specs.Public.Gaps.{IsGap, IsLongestGap}
+use Rattle.pgn_text.specs.Public.Pieces.{Piece, Game, Unreadable, ArePieces}
+use Rattle.pgn_text.specs.Public.Stops.{IsGameFront, IsLongestViablePrefix}
 use Rattle.pgn_text.proofs.ByteFronts.{bytes_after}
 use Rattle.pgn_text.proofs.Fronts.{run-append-after, list_all-run, stops-after_run}
 use Rattle.pgn_text.proofs.PartLemmas.{part_has_byte}

@@ -4,12 +4,12 @@ use Rattle.std.specs.Prelude.{max, ◌==◌, ◌||◌, bytes_eq}
 use Rattle.std.specs.List.{list_all}
 use Rattle.std.proofs.lemmas.Bool.{and_parts, and_from, cases_Bool, or_left, or_right, eqb-true, eq-eqb, ne_eqb, cases_eq, false≢true, not_from_false}
 use Rattle.std.proofs.lemmas.List.Folds.{list_all-append}
-use Rattle.pgn_text.specs.Bytes.{is_white, is_digit, is_letter, is_word_byte, is_mark, is_check_mark, is_not_brace, is_not_line_feed, begins, run_of, after_run}
-use Rattle.pgn_text.specs.Parts.{Part, ByteOrderMark, White, Brace, Line, EscapeLine, Tag, Word, Star, Dot, Glyph, Marks, Open, Close, Standing, Stands, spelled_part}
-use Rattle.pgn_text.specs.Games.{is_result, is_move_text, is_zero_castling, is_number, is_tag}
-use Rattle.pgn_text.specs.Steps.{State, in_movetext, step}
+use Rattle.pgn_text.specs.Public.Bytes.{is_white, is_digit, is_letter, is_word_byte, is_mark, is_check_mark, is_not_brace, is_not_line_feed, begins, run_of, after_run}
+use Rattle.pgn_text.specs.Public.Parts.{Part, ByteOrderMark, White, Brace, Line, EscapeLine, Tag, Word, Star, Dot, Glyph, Marks, Open, Close, Standing, Stands, spelled_part}
+use Rattle.pgn_text.specs.Public.Games.{is_result, is_move_text, is_zero_castling, is_number, is_tag}
+use Rattle.pgn_text.specs.Private.Steps.{State, in_movetext, step}
 use Rattle.pgn_text.proofs.Fronts.{run-append-after, list_all-run, stops-after_run}
-use Rattle.pgn_text.specs.PartFronts.{Longest, Follows, IsPartFront, NoneFollows, no_byte, IsFrontOf, front_length, IsMoveFront, IsResultFront, IsWordFront, is_glyph_front}
+use Rattle.pgn_text.specs.Private.PartFronts.{Longest, Follows, IsPartFront, NoneFollows, no_byte, IsFrontOf, front_length, IsMoveFront, IsResultFront, IsWordFront, is_glyph_front}
 use Rattle.pgn_text.specs.declared.error.error_position.InTag.TheVariants.{BeforeName}
 use Rattle.pgn_text.proofs.Furthest.{longest_same, longest_take, longest_max, as_far, as_far_goes, as_far_front, greedy}
 use Rattle.pgn_text.proofs.InTag.{tag_far, tag_longest}

@@ -2,7 +2,7 @@
 use Rattle.std.proofs.Common.{◌≡◌, ℕ, zero, suc, ◌<◌, Bool, true, false, ◌&&◌, not, nat_eq, bit_and, get_or, List, refl, arith, inl, inr}
 use Rattle.std.specs.Bool.{beq}
 use Rattle.std.proofs.lemmas.Bool.{cases_eq}
-use Rattle.pgn_text.specs.Tokens.{test_of, flag_of}
+use Rattle.pgn_text.specs.Private.Tokens.{test_of, flag_of}
 use Rattle.pgn_text.specs.declared.lex.class.ByteClass.{ByteClass}
 use Rattle.pgn_text.specs.declared.lex.class.ByteClass.TheVariants.{White, Digit, Letter, Name, Word, Mark, Single}
 use Rattle.pgn_text.specs.declared.lex.class.TheConstants.{CLASSES}

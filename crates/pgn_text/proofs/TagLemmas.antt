@@ -8,13 +8,13 @@ use Rattle.std.specs.Ordering.{nat_cmp, is_eq}
 use Rattle.std.specs.Cmp.Lexicographic.{slice_cmp}
 use Rattle.std.proofs.lemmas.Map.Text.{btree_map_updates_str, is_eq-slice_cmp}
 use Rattle.std.proofs.lemmas.Slice.Eq.{bytes_eq-Decides}
-use Rattle.pgn_text.specs.Bytes.{is_letter, begins}
-use Rattle.pgn_text.specs.Parts.{Part, ByteOrderMark, White, Brace, Line, EscapeLine, Tag, Word, Star, Dot, Glyph, Marks, Open, Close}
-use Rattle.pgn_text.specs.Games.{first_tag, is_move_text, is_number, is_result_word}
-use Rattle.pgn_text.specs.Reading.{kept, kept_word, named_kept, KeptMove, KeptNumber, KeptResult, KeptStray}
-use Rattle.pgn_text.specs.Elements.{tag_of, tags_of}
-use Rattle.pgn_text.specs.TagOrder.{tag_at}
-use Rattle.pgn_text.specs.GameTexts.{tag_in}
+use Rattle.pgn_text.specs.Public.Bytes.{is_letter, begins}
+use Rattle.pgn_text.specs.Public.Parts.{Part, ByteOrderMark, White, Brace, Line, EscapeLine, Tag, Word, Star, Dot, Glyph, Marks, Open, Close}
+use Rattle.pgn_text.specs.Public.Games.{first_tag, is_move_text, is_number, is_result_word}
+use Rattle.pgn_text.specs.Private.Reading.{kept, kept_word, named_kept, KeptMove, KeptNumber, KeptResult, KeptStray}
+use Rattle.pgn_text.specs.Public.Elements.{tag_of, tags_of}
+use Rattle.pgn_text.specs.Private.TagOrder.{tag_at}
+use Rattle.pgn_text.specs.Public.GameTexts.{tag_in}
 
 -- equal bytes are one text
 pub bytes_eq-same : (xs ys : List ℕ) → bytes_eq xs ys ≡ true → xs ≡ ys

@@ -3,10 +3,10 @@ use Rattle.std.proofs.Common.{◌≡◌, ◌≢◌, ℕ, ◌+◌, ◌-◌, ◌�
 use Rattle.std.specs.Prelude.{Some, option_map}
 use Rattle.std.proofs.lemmas.Bool.{ne_eqb}
 use Rattle.std.proofs.lemmas.List.{length-take-le}
-use Rattle.pgn_text.specs.Bytes.{is_white, is_name_byte, is_empty, run_of}
-use Rattle.pgn_text.specs.Parts.{Tag}
-use Rattle.pgn_text.specs.Reading.{KeptTag, kept_found, rest_after, tag_front, tag_name, tag_string}
-use Rattle.pgn_text.specs.Tokens.{RunTo, ContentsTo}
+use Rattle.pgn_text.specs.Public.Bytes.{is_white, is_name_byte, is_empty, run_of}
+use Rattle.pgn_text.specs.Public.Parts.{Tag}
+use Rattle.pgn_text.specs.Private.Reading.{KeptTag, kept_found, rest_after, tag_front, tag_name, tag_string}
+use Rattle.pgn_text.specs.Private.Tokens.{RunTo, ContentsTo}
 use Rattle.pgn_text.proofs.Runs.{is_empty_length}
 
 -- how many bytes a run has

@@ -2,10 +2,10 @@
 use Rattle.std.proofs.Common.{◌≡◌, ℕ, Bool, true, false, List, [], ◌∷◌, ◌++◌, refl, subst}
 use Rattle.std.specs.Prelude.{Some, bytes_eq, if◌then◌else◌, IsTrue}
 use Rattle.std.specs.List.{list_all}
-use Rattle.pgn_text.specs.Bytes.{is_name_byte}
-use Rattle.pgn_text.specs.Parts.{Part, ByteOrderMark, White, Brace, Line, EscapeLine, Tag, Word, Star, Dot, Glyph, Marks, Open, Close, AllStand, spelled_part}
-use Rattle.pgn_text.specs.Games.{first_tag}
-use Rattle.pgn_text.specs.Strings.{IsContents}
+use Rattle.pgn_text.specs.Public.Bytes.{is_name_byte}
+use Rattle.pgn_text.specs.Public.Parts.{Part, ByteOrderMark, White, Brace, Line, EscapeLine, Tag, Word, Star, Dot, Glyph, Marks, Open, Close, AllStand, spelled_part}
+use Rattle.pgn_text.specs.Public.Games.{first_tag}
+use Rattle.pgn_text.specs.Public.Strings.{IsContents}
 use Rattle.pgn_text.proofs.TagLemmas.{bytes_eq-same}
 
 same_contents : (a b : List ℕ) → Some a ≡ Some b → a ≡ b

@@ -1,10 +1,10 @@
 -- A failed read and the largest offset end no block that is held whole.
 use Rattle.std.proofs.Common.{◌≢◌, ℕ, List, [], ◌++◌, sym, subst, append_assoc, append-nil, inl, inr, IsTrue}
 use Rattle.std.proofs.lemmas.Bool.{and_parts, false≢true}
-use Rattle.pgn_text.specs.Bytes.{ends_in_line_feed}
-use Rattle.pgn_text.specs.Blocks.{is_event_line, IsFirstBlock}
-use Rattle.pgn_text.specs.AnswerLaws.{FailsBeforeNoEventLine}
-use Rattle.pgn_text.specs.Windows.{IsCutShort, IsPastEnd, FailsAfter}
+use Rattle.pgn_text.specs.Public.Bytes.{ends_in_line_feed}
+use Rattle.pgn_text.specs.Public.Blocks.{is_event_line, IsFirstBlock}
+use Rattle.pgn_text.specs.Public.AnswerLaws.{FailsBeforeNoEventLine}
+use Rattle.pgn_text.specs.Public.Windows.{IsCutShort, IsPastEnd, FailsAfter}
 use Rattle.pgn_text.proofs.EventLines.{line_has_byte}
 use Rattle.pgn_text.proofs.FrontText.{event_front}
 use Rattle.pgn_text.proofs.LineFronts.{begins_line}

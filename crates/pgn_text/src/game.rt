@@ -4,16 +4,16 @@ ghost use Rattle.std.specs.Prelude.{◌≡◌, ◌≤◌, ◌⊎◌, ℕ, List, 
 ghost use Rattle.std.specs.Cmp.Lexicographic.{slice_cmp};
 ghost use Rattle.std.specs.List.Sorted.{IsStrictlySortedBy};
 ghost use Rattle.std.specs.Ordering.{nat_cmp};
-ghost use Rattle.pgn_text.specs.Elements.{item_of, tags_of};
-ghost use Rattle.pgn_text.specs.GameTexts.{GameText, HoldStrings, IsGameText, IsPaired, ShowsGame, tag_names};
-ghost use Rattle.pgn_text.specs.Games.{Item};
-ghost use Rattle.pgn_text.specs.Limits.{depth_limit};
-ghost use Rattle.pgn_text.specs.Movetext.{HoldsAny, PlainTo};
-ghost use Rattle.pgn_text.specs.Parts.{Part};
-ghost use Rattle.pgn_text.specs.Pieces.{NoGame};
-ghost use Rattle.pgn_text.specs.Readings.{IsReading, IsStep};
-ghost use Rattle.pgn_text.specs.Tokens.{state_of, token_of};
-ghost use Rattle.pgn_text.specs.Walk.{GameTo, GameRead, NoGapPartAt};
+ghost use Rattle.pgn_text.specs.Public.Elements.{item_of, tags_of};
+ghost use Rattle.pgn_text.specs.Public.GameTexts.{GameText, HoldStrings, IsGameText, IsPaired, ShowsGame, tag_names};
+ghost use Rattle.pgn_text.specs.Public.Games.{Item};
+ghost use Rattle.pgn_text.specs.Public.Limits.{depth_limit};
+ghost use Rattle.pgn_text.specs.Private.Movetext.{HoldsAny, PlainTo};
+ghost use Rattle.pgn_text.specs.Public.Parts.{Part};
+ghost use Rattle.pgn_text.specs.Public.Pieces.{NoGame};
+ghost use Rattle.pgn_text.specs.Private.Readings.{IsReading, IsStep};
+ghost use Rattle.pgn_text.specs.Private.Tokens.{state_of, token_of};
+ghost use Rattle.pgn_text.specs.Private.Walk.{GameTo, GameRead, NoGapPartAt};
 
 mod game_builder;
 pub(crate) mod pieces;
@@ -119,9 +119,9 @@ trait Visitor<'a>: Drop {
 
     ghost use Rattle.std.specs.Prelude.{ℕ, List, ◌++◌, Option, OnOk, IsTrue};
     ghost use Rattle.std.specs.Option.{option_or};
-    ghost use Rattle.pgn_text.specs.Games.{Item};
-    ghost use Rattle.pgn_text.specs.Reading.{items_of_kept, named_kept};
-    ghost use Rattle.pgn_text.specs.Tokens.{token_of};
+    ghost use Rattle.pgn_text.specs.Public.Games.{Item};
+    ghost use Rattle.pgn_text.specs.Private.Reading.{items_of_kept, named_kept};
+    ghost use Rattle.pgn_text.specs.Private.Tokens.{token_of};
 
     // Holds where these tags and elements were kept.
     ghost kept: { Self → (List ℕ → Option (List ℕ)) → List Item → Type 0 };
@@ -155,7 +155,7 @@ impl<'a> Visitor<'a> for Discard {
 }
 
 impl<'a> Visitor<'a> for GameBuilder<'a> {
-    ghost use Rattle.pgn_text.specs.GameBuilders.{IsBuilderOf};
+    ghost use Rattle.pgn_text.specs.Private.GameBuilders.{IsBuilderOf};
 
     type Error = AllocError;
 

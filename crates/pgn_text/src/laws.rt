@@ -1,9 +1,9 @@
 //! What holds of every text, whatever reads it. Each law is the contract of a function that does nothing.
 
-ghost use Rattle.pgn_text.specs.StopLaws.{EachTextStopsOnce, FrontsOfGameFronts, StopsAfterGame, StopsAfterChange, UnreadableStopsAlone};
-ghost use Rattle.pgn_text.specs.Laws.{AtMostOneGame, GameHasAGameText, GameTextIsOne, TextHasOneParting, BlockHasOneList, TextHasOneList, ResumesAnywhere, FrontHasThePiecesBefore, BlockKeepsPieces, TextKeepsPieces};
-ghost use Rattle.pgn_text.specs.TextLaws.{PieceBeginsInItsText, PiecesJoinAtEventLines, PiecesPartAtEventLines};
-ghost use Rattle.pgn_text.specs.AnswerLaws.{OneElementPlace, OneTagPlace, StandsInOneThing, CommentIsOpen, EndsWhereNothingIsLeft, EndsAfterAnError, FailsBeforeNoEventLine, DoneWithTheBlock};
+ghost use Rattle.pgn_text.specs.Public.StopLaws.{EachTextStopsOnce, FrontsOfGameFronts, StopsAfterGame, StopsAfterChange, UnreadableStopsAlone};
+ghost use Rattle.pgn_text.specs.Public.Laws.{AtMostOneGame, GameHasAGameText, GameTextIsOne, TextHasOneParting, BlockHasOneList, TextHasOneList, ResumesAnywhere, FrontHasThePiecesBefore, BlockKeepsPieces, TextKeepsPieces};
+ghost use Rattle.pgn_text.specs.Public.TextLaws.{PieceBeginsInItsText, PiecesJoinAtEventLines, PiecesPartAtEventLines};
+ghost use Rattle.pgn_text.specs.Public.AnswerLaws.{OneElementPlace, OneTagPlace, StandsInOneThing, CommentIsOpen, EndsWhereNothingIsLeft, EndsAfterAnError, FailsBeforeNoEventLine, DoneWithTheBlock};
 
 /// A text has one reading: one parting into blocks, one list of pieces in each block, and so one list of pieces with their offsets;
 /// and at any place of a block at most one game begins.

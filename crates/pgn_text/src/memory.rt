@@ -1,13 +1,13 @@
 //! Texts in memory: what the calls of this crate say where all bytes are known. Each function is an example of one call.
 
 ghost use Rattle.std.specs.Prelude.{◌≡◌, ◌≤◌, ℕ, List, [], ◌∷◌, ◌++◌, length, take, map, IfOk, MatchResult, MatchOption};
-ghost use Rattle.pgn_text.specs.Blocks.{AreBlocks};
-ghost use Rattle.pgn_text.specs.Left.{IsPiece};
-ghost use Rattle.pgn_text.specs.LeftMarks.{IsMark};
-ghost use Rattle.pgn_text.specs.Limits.{depth_limit};
-ghost use Rattle.pgn_text.specs.Pieces.{ArePieces};
-ghost use Rattle.pgn_text.specs.Pieces as spec;
-ghost use Rattle.pgn_text.specs.Windows.{Shows};
+ghost use Rattle.pgn_text.specs.Public.Blocks.{AreBlocks};
+ghost use Rattle.pgn_text.specs.Public.Left.{IsPiece};
+ghost use Rattle.pgn_text.specs.Public.LeftMarks.{IsMark};
+ghost use Rattle.pgn_text.specs.Public.Limits.{depth_limit};
+ghost use Rattle.pgn_text.specs.Public.Pieces.{ArePieces};
+ghost use Rattle.pgn_text.specs.Public.Pieces as spec;
+ghost use Rattle.pgn_text.specs.Public.Windows.{Shows};
 
 use crate::game::pieces::start::{games, marks};
 use crate::game::pieces::{Piece, PieceStart};

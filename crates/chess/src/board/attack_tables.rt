@@ -1,12 +1,12 @@
 //! What men see on the empty board and the squares between two squares, by tables.
 ghost use Rattle.std.specs.Prelude.{◌≡◌, ◌↔◌, ◌<◌, IsTrue, true, false};
-ghost use Rattle.chess.specs.Squares.{Place, IsOnBoard, index_of};
-ghost use Rattle.chess.specs.Placements.{Placement, IsEmpty};
-ghost use Rattle.chess.specs.Attacks.{IsNear, Reaches};
-ghost use Rattle.chess.specs.Sets.{HoldsExactly};
-ghost use Rattle.chess.specs.SetWords.{has_bit};
-ghost use Rattle.chess.specs.BitWords.{IsWordOf, pseudo_attacks_row_of};
-ghost use Rattle.chess.specs.PseudoAttacks.{IsPseudoAttack, IsUnblocked, StandsBetween};
+ghost use Rattle.chess.specs.Public.Squares.{Place, IsOnBoard, index_of};
+ghost use Rattle.chess.specs.Public.Placements.{Placement, IsEmpty};
+ghost use Rattle.chess.specs.Public.Attacks.{IsNear, Reaches};
+ghost use Rattle.chess.specs.Public.Sets.{HoldsExactly};
+ghost use Rattle.chess.specs.Private.SetWords.{has_bit};
+ghost use Rattle.chess.specs.Private.BitWords.{IsWordOf, pseudo_attacks_row_of};
+ghost use Rattle.chess.specs.Private.PseudoAttacks.{IsPseudoAttack, IsUnblocked, StandsBetween};
 
 mod lines_table;
 mod pseudo_attacks_table;

@@ -1,6 +1,6 @@
 //! The eight ways along which men run.
 ghost use Rattle.std.specs.Prelude.{◌≤◌, MatchOption};
-ghost use Rattle.chess.specs.Squares.{Place, IsOnBoard, IsAhead};
+ghost use Rattle.chess.specs.Public.Squares.{Place, IsOnBoard, IsAhead};
 
 use crate::board::Square;
 

@@ -1,9 +1,9 @@
 //! Words of 64 bits as squares: steps, and the squares that men attack.
 ghost use Rattle.std.specs.Prelude.{◌≡◌};
-ghost use Rattle.chess.specs.Squares.{Place, IsOnBoard};
-ghost use Rattle.chess.specs.Placements.{Placement, IsEmpty};
-ghost use Rattle.chess.specs.Attacks.{IsOnRay, IsNear, IsJump, IsPawnHit, Reaches};
-ghost use Rattle.chess.specs.BitWords.{IsWordOf, IsNextWord, IsStraightRun, IsDiagonalRun, square_word, step_word, two_steps_word, beside_word, upright_word, forward_way};
+ghost use Rattle.chess.specs.Public.Squares.{Place, IsOnBoard};
+ghost use Rattle.chess.specs.Public.Placements.{Placement, IsEmpty};
+ghost use Rattle.chess.specs.Public.Attacks.{IsOnRay, IsNear, IsJump, IsPawnHit, Reaches};
+ghost use Rattle.chess.specs.Private.BitWords.{IsWordOf, IsNextWord, IsStraightRun, IsDiagonalRun, square_word, step_word, two_steps_word, beside_word, upright_word, forward_way};
 
 use crate::board::{Direction, Kind, Man, Side, Square};
 

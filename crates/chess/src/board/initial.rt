@@ -1,6 +1,6 @@
 //! Where the men stand as games usually begin (Laws 2.3).
 ghost use Rattle.std.specs.Prelude.{◌≡◌};
-ghost use Rattle.chess.specs.Start.{initial_piece, initial_man};
+ghost use Rattle.chess.specs.Public.Start.{initial_piece, initial_man};
 
 use crate::board::{Kind, Man, Side, Square};
 

@@ -1,13 +1,13 @@
 //! The plain board: 64 cells, and attacks as the Laws say them.
 ghost use Rattle.std.specs.Prelude.{◌≡◌, ◌↔◌, ◌<◌, ◌≤◌, IsTrue, Some, None, length, replicate};
 ghost use Rattle.chess.specs.declared.board.direction.Direction.{Direction};
-ghost use Rattle.chess.specs.Squares.{IsStraight, gap};
-ghost use Rattle.chess.specs.Placements.{man_at};
-ghost use Rattle.chess.specs.Attacks.{IsOnRay, IsClearFor, IsNear, IsJump, IsPawnHit, Reaches, IsForward};
-ghost use Rattle.chess.specs.PseudoAttacks.{IsHitFrom};
-ghost use Rattle.chess.specs.Sets.{HoldsExactly, IsAttacker};
-ghost use Rattle.chess.specs.Cells.{cells_men, cell_of};
-ghost use Rattle.chess.specs.CellFacts.{on_board-men_of};
+ghost use Rattle.chess.specs.Public.Squares.{IsStraight, gap};
+ghost use Rattle.chess.specs.Public.Placements.{man_at};
+ghost use Rattle.chess.specs.Public.Attacks.{IsOnRay, IsClearFor, IsNear, IsJump, IsPawnHit, Reaches, IsForward};
+ghost use Rattle.chess.specs.Private.PseudoAttacks.{IsHitFrom};
+ghost use Rattle.chess.specs.Public.Sets.{HoldsExactly, IsAttacker};
+ghost use Rattle.chess.specs.Private.Cells.{cells_men, cell_of};
+ghost use Rattle.chess.specs.Private.CellFacts.{on_board-men_of};
 
 use crate::board::initial::initial_man;
 use crate::board::{Board, Direction, Kind, Man, Side, Square, SquareSet};

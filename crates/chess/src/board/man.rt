@@ -1,8 +1,8 @@
 //! Men: their sides and kinds.
 ghost use Rattle.std.specs.Prelude.{◌≡◌, ◌↔◌, ◌<◌, IsTrue};
-ghost use Rattle.chess.specs.Attacks.{IsForward};
-ghost use Rattle.chess.specs.Placements.{opposite};
-ghost use Rattle.chess.specs.Positions.{has_right};
+ghost use Rattle.chess.specs.Public.Attacks.{IsForward};
+ghost use Rattle.chess.specs.Public.Placements.{opposite};
+ghost use Rattle.chess.specs.Public.Positions.{has_right};
 
 /// A side.
 #[derive(Clone, Copy, Debug, PartialEq, Eq)]

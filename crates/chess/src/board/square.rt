@@ -1,6 +1,6 @@
 //! Squares of the board.
 ghost use Rattle.std.specs.Prelude.{◌≡◌, ◌<◌, ◌↔◌, IsTrue, MatchOption};
-ghost use Rattle.chess.specs.Squares.{IsOnBoard, square_at, index_of};
+ghost use Rattle.chess.specs.Public.Squares.{IsOnBoard, square_at, index_of};
 
 use std::marker::Model;
 
@@ -12,9 +12,9 @@ pub struct Square {
 
 impl Model for Square {
     ghost use Rattle.std.specs.Prelude.{◌<◌};
-    ghost use Rattle.chess.specs.Squares.{Place, square_at, index_of};
-    ghost use Rattle.chess.specs.PlaceCodes.{coded_place};
-    ghost use Rattle.chess.specs.SquareFacts.{index_of-square_at};
+    ghost use Rattle.chess.specs.Public.Squares.{Place, square_at, index_of};
+    ghost use Rattle.chess.specs.Private.PlaceCodes.{coded_place};
+    ghost use Rattle.chess.specs.Private.SquareFacts.{index_of-square_at};
 
     ghost Value = { Place };
 

@@ -1,7 +1,7 @@
 //! The position that a text spells in Forsyth-Edwards notation (PGN 16.1).
 ghost use Rattle.std.specs.Prelude.{◌≡◌, ◌∷◌, List, ℕ, IfOk, MatchOption, MatchResult};
-ghost use Rattle.chess.specs.Positions.{State, IsSound};
-ghost use Rattle.chess.specs.Fen.{fields_of, SpellsPosition, ReadsFen, IsRefused};
+ghost use Rattle.chess.specs.Public.Positions.{State, IsSound};
+ghost use Rattle.chess.specs.Public.Fen.{fields_of, SpellsPosition, ReadsFen, IsRefused};
 
 use crate::board::{Board, CastlingRights, Side, Square};
 use crate::fen::FenError;

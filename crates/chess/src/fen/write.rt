@@ -1,12 +1,12 @@
 //! The text of a position in Forsyth-Edwards notation (PGN 16.1).
 ghost use Rattle.std.specs.Prelude.{◌≡◌, Option, List, ◌+◌, ◌≤◌, ◌<◌, ◌++◌, ◌∷◌, decimal, if◌then◌else◌};
 ghost use Rattle.arrayvec.specs.ArrayString.{array_string_len};
-ghost use Rattle.chess.specs.Squares.{Place, IsOnBoard};
-ghost use Rattle.chess.specs.Placements.{Placement};
-ghost use Rattle.chess.specs.Sets.{is_in};
-ghost use Rattle.chess.specs.BitWords.{number_of_side, number_of_kind};
-ghost use Rattle.chess.specs.Fen.{IsFen, side_text, rights_letters, or_dash, en_passant_text, joined};
-ghost use Rattle.chess.specs.FenTextWords.{digit_of, spelled_from, rank_text, rank_texts, letter_if, letter_on, letter_at, AreLetters, AreLettersBelow};
+ghost use Rattle.chess.specs.Public.Squares.{Place, IsOnBoard};
+ghost use Rattle.chess.specs.Public.Placements.{Placement};
+ghost use Rattle.chess.specs.Public.Sets.{is_in};
+ghost use Rattle.chess.specs.Private.BitWords.{number_of_side, number_of_kind};
+ghost use Rattle.chess.specs.Public.Fen.{IsFen, side_text, rights_letters, or_dash, en_passant_text, joined};
+ghost use Rattle.chess.specs.Private.FenTextWords.{digit_of, spelled_from, rank_text, rank_texts, letter_if, letter_on, letter_at, AreLetters, AreLettersBelow};
 ghost use Rattle.chess.specs.declared.board.man.Man.{Man};
 
 use crate::board::{Board, CastlingRights, Kind, Man, Side, Square, SquareSet};

@@ -1,11 +1,11 @@
 //! Moves played by their texts (PGN 8.2.3).
 ghost use Rattle.std.specs.Prelude.{◌≡◌, ◌≢◌, ◌↔◌, IfOk, OnErr, IsErrOf, Some};
-ghost use Rattle.chess.specs.Moves.{after, IsLegal};
-ghost use Rattle.chess.specs.San.{IsNamed, IsOnlyNamed, IsSan, kind_said};
-ghost use Rattle.chess.specs.SanAnswers.{IsAnswer, IsPlayed};
-ghost use Rattle.chess.specs.SanWords.{said_by, IsAsked, IsMoveSaid, IsReadSaid, IsCandidate};
-ghost use Rattle.chess.specs.Sets.{HoldsExactly};
-ghost use Rattle.chess.specs.Squares.{Place};
+ghost use Rattle.chess.specs.Public.Moves.{after, IsLegal};
+ghost use Rattle.chess.specs.Public.San.{IsNamed, IsOnlyNamed, IsSan, kind_said};
+ghost use Rattle.chess.specs.Private.SanAnswers.{IsAnswer, IsPlayed};
+ghost use Rattle.chess.specs.Private.SanWords.{said_by, IsAsked, IsMoveSaid, IsReadSaid, IsCandidate};
+ghost use Rattle.chess.specs.Public.Sets.{HoldsExactly};
+ghost use Rattle.chess.specs.Public.Squares.{Place};
 ghost use Rattle.chess.specs.declared.board.man.Kind.TheVariants.{Pawn};
 ghost use Rattle.chess.specs.declared.moves.Move.{Move};
 ghost use Rattle.chess.specs.declared.move_text.SanError.{SanError};

@@ -1,9 +1,9 @@
 //! Moves named by their texts (PGN 8.2.3).
 ghost use Rattle.std.specs.Prelude.{◌≡◌, ◌≢◌, ◌↔◌, IfOk, IsErrOf, MatchOption};
-ghost use Rattle.chess.specs.San.{IsNamed, IsOnlyNamed, kind_said};
-ghost use Rattle.chess.specs.SanWords.{castling_on, said_by, move_from, CanGoSaid, IsNext, HasNone, IsCastlingOn, IsMoveSaid, IsCandidate};
-ghost use Rattle.chess.specs.Sets.{HoldsExactly};
-ghost use Rattle.chess.specs.SanAnswers.{IsAnswer};
+ghost use Rattle.chess.specs.Public.San.{IsNamed, IsOnlyNamed, kind_said};
+ghost use Rattle.chess.specs.Private.SanWords.{castling_on, said_by, move_from, CanGoSaid, IsNext, HasNone, IsCastlingOn, IsMoveSaid, IsCandidate};
+ghost use Rattle.chess.specs.Public.Sets.{HoldsExactly};
+ghost use Rattle.chess.specs.Private.SanAnswers.{IsAnswer};
 ghost use Rattle.chess.specs.declared.moves.Move.{Move};
 ghost use Rattle.chess.specs.declared.move_text.SanError.{SanError};
 

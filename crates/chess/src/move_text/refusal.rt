@@ -1,8 +1,8 @@
 //! Why a text names no legal move, and the moves that it names, square by square (PGN 8.2.3).
-ghost use Rattle.chess.specs.San.{IsNamed};
-ghost use Rattle.chess.specs.Refusals.{IsRefusal, IsFrom};
-ghost use Rattle.chess.specs.SanWords.{said_by, IsCastlingOn, IsMoveSaid};
-ghost use Rattle.chess.specs.RefusalWords.{IsCastlingRefusal, IsSaidRefusal, IsFitting};
+ghost use Rattle.chess.specs.Public.San.{IsNamed};
+ghost use Rattle.chess.specs.Public.Refusals.{IsRefusal, IsFrom};
+ghost use Rattle.chess.specs.Private.SanWords.{said_by, IsCastlingOn, IsMoveSaid};
+ghost use Rattle.chess.specs.Private.RefusalWords.{IsCastlingRefusal, IsSaidRefusal, IsFitting};
 ghost use Rattle.chess.specs.declared.moves.Move.{Move};
 
 use crate::board::{Board, Kind, Square, Wing};

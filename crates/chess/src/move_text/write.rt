@@ -1,15 +1,15 @@
 //! The text of a move in standard algebraic notation (PGN 8.2.3).
 ghost use Rattle.std.specs.Prelude.{◌≡◌, ◌≢◌, ◌↔◌, ◌+◌, ◌≤◌, ◌<◌, ◌++◌, None, Some, IsTrue, true};
 ghost use Rattle.arrayvec.specs.ArrayString.{array_string_len};
-ghost use Rattle.chess.specs.Placements.{man_at};
-ghost use Rattle.chess.specs.Positions.{State};
+ghost use Rattle.chess.specs.Public.Placements.{man_at};
+ghost use Rattle.chess.specs.Public.Positions.{State};
 ghost use Rattle.chess.specs.declared.board.man.Kind.TheVariants.{Pawn};
 ghost use Rattle.chess.specs.declared.moves.Move.{Move};
-ghost use Rattle.chess.specs.Moves.{IsLegal, after};
-ghost use Rattle.chess.specs.San.{IsSan, IsOnlyNamed, IsRival, HasRival, IsDisambiguation, IsPieceText, IsBody, IsCheckMark, castling_text, is_capture, capture_text, pawn_text, promotion_text};
-ghost use Rattle.chess.specs.Sets.{HoldsExactly};
-ghost use Rattle.chess.specs.MoveWords.{HasEach};
-ghost use Rattle.chess.specs.SanTextWords.{Appends, AreOf, HasSquare};
+ghost use Rattle.chess.specs.Public.Moves.{IsLegal, after};
+ghost use Rattle.chess.specs.Public.San.{IsSan, IsOnlyNamed, IsRival, HasRival, IsDisambiguation, IsPieceText, IsBody, IsCheckMark, castling_text, is_capture, capture_text, pawn_text, promotion_text};
+ghost use Rattle.chess.specs.Public.Sets.{HoldsExactly};
+ghost use Rattle.chess.specs.Private.MoveWords.{HasEach};
+ghost use Rattle.chess.specs.Private.SanTextWords.{Appends, AreOf, HasSquare};
 
 use crate::board::{Board, Kind, Man, Square, SquareSet, Wing};
 use crate::letters::{kind_letter, push_byte, push_square};

@@ -1,5 +1,5 @@
 //! What is written of a move that is played by its text: nothing, or its standard text.
-ghost use Rattle.chess.specs.Positions.{State};
+ghost use Rattle.chess.specs.Public.Positions.{State};
 ghost use Rattle.chess.specs.declared.moves.Move.{Move};
 
 use crate::board::{Board, Man};
@@ -11,9 +11,9 @@ use arrayvec::ArrayString;
 /// What is written of the move that a text names, while it is played.
 pub(crate) trait MoveWriter<B: Board> {
     ghost use Rattle.std.specs.Prelude.{◌≡◌, ◌≢◌, None, Some};
-    ghost use Rattle.chess.specs.Moves.{IsLegal, after};
-    ghost use Rattle.chess.specs.Placements.{man_at};
-    ghost use Rattle.chess.specs.San.{HasRival, is_capture};
+    ghost use Rattle.chess.specs.Public.Moves.{IsLegal, after};
+    ghost use Rattle.chess.specs.Public.Placements.{man_at};
+    ghost use Rattle.chess.specs.Public.San.{HasRival, is_capture};
     ghost use Rattle.chess.specs.declared.board.man.Kind.TheVariants.{Pawn};
 
     // Holds where all is written that is to be written of the move in the position.
@@ -49,7 +49,7 @@ impl<B: Board> MoveWriter<B> for Unwritten {
 
 /// Writes the standard text.
 impl<B: Board> MoveWriter<B> for ArrayString<8> {
-    ghost use Rattle.chess.specs.San.{IsSan};
+    ghost use Rattle.chess.specs.Public.San.{IsSan};
 
     ghost has = { λ text P m. IsSan P m text.bytes };
 

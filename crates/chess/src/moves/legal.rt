@@ -1,10 +1,10 @@
 //! Legal moves (Laws 3.9.2, 3.8.2.2), the squares that they reach, and whether there is one.
 ghost use Rattle.std.specs.Prelude.{◌≡◌, ◌≤◌, ◌↔◌, IsTrue, Some, None};
-ghost use Rattle.chess.specs.Attacks.{IsForward, IsNear, IsAttackedFrom};
-ghost use Rattle.chess.specs.Positions.{IsCheck, IsOnlyKing};
-ghost use Rattle.chess.specs.Moves.{IsSingleStep, Promotes, IsBarred, IsUnbarred, men_after, IsPseudoLegal, IsLegal, CanGo, HasMove};
-ghost use Rattle.chess.specs.MoveWords.{IsMover, CanGoPlainly, CanPromote, CanCastle, CanLeave, CanMove, HasEach, IsPawnGoal, IsCastlingGoal};
-ghost use Rattle.chess.specs.Sets.{HoldsExactly};
+ghost use Rattle.chess.specs.Public.Attacks.{IsForward, IsNear, IsAttackedFrom};
+ghost use Rattle.chess.specs.Public.Positions.{IsCheck, IsOnlyKing};
+ghost use Rattle.chess.specs.Public.Moves.{IsSingleStep, Promotes, IsBarred, IsUnbarred, men_after, IsPseudoLegal, IsLegal, CanGo, HasMove};
+ghost use Rattle.chess.specs.Private.MoveWords.{IsMover, CanGoPlainly, CanPromote, CanCastle, CanLeave, CanMove, HasEach, IsPawnGoal, IsCastlingGoal};
+ghost use Rattle.chess.specs.Public.Sets.{HoldsExactly};
 
 use crate::board::{Board, Kind, Man, Side, Square, SquareSet, Wing, squares_near};
 use crate::moves::Move;

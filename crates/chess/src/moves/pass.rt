@@ -1,7 +1,7 @@
 //! The position after a pass.
 ghost use Rattle.std.specs.Prelude.{◌≡◌, MatchOption};
-ghost use Rattle.chess.specs.Passes.{passed};
-ghost use Rattle.chess.specs.Positions.{IsCheck};
+ghost use Rattle.chess.specs.Public.Passes.{passed};
+ghost use Rattle.chess.specs.Public.Positions.{IsCheck};
 
 use crate::board::Board;
 use crate::moves::play::one_more;

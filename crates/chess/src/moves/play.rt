@@ -1,11 +1,11 @@
 //! The position after a move (Laws 3.7, 3.8; PGN 16.1.3.3 to 16.1.3.6).
 ghost use Rattle.std.specs.Prelude.{◌≡◌, ◌↔◌, ◌⊎◌, IsTrue, None, Some, if◌then◌else◌};
-ghost use Rattle.chess.specs.Squares.{same_square};
-ghost use Rattle.chess.specs.Positions.{IsSound, IsOnlyKing, IsCheck, king_from, rook_from};
-ghost use Rattle.chess.specs.Moves.{is_pawn, is_en_passant, taken, arriving, men_after, keeps_right, rights_after, en_passant_after, one_more, halfmove_clock_after, fullmove_number_after, after, IsPseudoLegal, IsLegal};
-ghost use Rattle.chess.specs.Placements.{man_at, opposite};
-ghost use Rattle.chess.specs.San.{is_capture};
-ghost use Rattle.chess.specs.Codes.{IsFollowed};
+ghost use Rattle.chess.specs.Public.Squares.{same_square};
+ghost use Rattle.chess.specs.Public.Positions.{IsSound, IsOnlyKing, IsCheck, king_from, rook_from};
+ghost use Rattle.chess.specs.Public.Moves.{is_pawn, is_en_passant, taken, arriving, men_after, keeps_right, rights_after, en_passant_after, one_more, halfmove_clock_after, fullmove_number_after, after, IsPseudoLegal, IsLegal};
+ghost use Rattle.chess.specs.Public.Placements.{man_at, opposite};
+ghost use Rattle.chess.specs.Public.San.{is_capture};
+ghost use Rattle.chess.specs.Private.Codes.{IsFollowed};
 ghost use Rattle.chess.specs.declared.board.man.Side.TheVariants.{White, Black};
 
 use crate::board::{Board, CastlingRights, Kind, Man, Side, Square, Wing};

@@ -1,8 +1,8 @@
 //! Pseudo-legal moves: how the men go, whether or not the own king is then attacked.
 ghost use Rattle.std.specs.Prelude.{◌↔◌, IsTrue};
-ghost use Rattle.chess.specs.Attacks.{Reaches};
-ghost use Rattle.chess.specs.Moves.{IsSingleStep, IsDoubleStep, IsPawnCapture, IsPawnMove, IsPromotion, Promotes, Castles, IsKingMove, Goes, IsPseudoLegal};
-ghost use Rattle.chess.specs.MoveWords.{IsMover, IsOpen, IsPlainMove, IsSquareAhead};
+ghost use Rattle.chess.specs.Public.Attacks.{Reaches};
+ghost use Rattle.chess.specs.Public.Moves.{IsSingleStep, IsDoubleStep, IsPawnCapture, IsPawnMove, IsPromotion, Promotes, Castles, IsKingMove, Goes, IsPseudoLegal};
+ghost use Rattle.chess.specs.Private.MoveWords.{IsMover, IsOpen, IsPlainMove, IsSquareAhead};
 
 use crate::board::{Board, Direction, Kind, Man, Side, Square, SquareSet, Wing};
 use crate::moves::Move;

@@ -1,10 +1,10 @@
 //! Conditions on the material.
 ghost use Rattle.std.specs.Prelude.{◌≡◌, ◌≢◌, ◌↔◌, ◌≤◌, ◌<◌, [], ℕ, List, length, IsTrue, MatchOption, Option};
-ghost use Rattle.chess.specs.Fen.{has_byte};
-ghost use Rattle.chess.specs.Letters.{kind_letter};
+ghost use Rattle.chess.specs.Public.Fen.{has_byte};
+ghost use Rattle.chess.specs.Public.Letters.{kind_letter};
 ghost use Rattle.chess.specs.declared.board.man.Kind.{Kind};
-ghost use Rattle.pgn_criteria.specs.Lines.{SpellsClaim, SpellsLimits};
-ghost use Rattle.pgn_criteria.specs.Reading.{AreEntries, digit_limit, first_limit, limit_after};
+ghost use Rattle.pgn_criteria.specs.Public.Lines.{SpellsClaim, SpellsLimits};
+ghost use Rattle.pgn_criteria.specs.Private.Reading.{AreEntries, digit_limit, first_limit, limit_after};
 ghost use Rattle.pgn_criteria.specs.declared.material.Limits.{Limits};
 ghost use Rattle.pgn_criteria.specs.declared.condition.Claim.TheVariants.{Material};
 

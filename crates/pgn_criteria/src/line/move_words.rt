@@ -1,7 +1,7 @@
 //! Conditions on the first moves.
 ghost use Rattle.std.specs.Prelude.{◌≡◌, ◌↔◌, ◌||◌, ◌==◌, ℕ, List, IsTrue, MatchOption};
 ghost use Rattle.std.specs.List.{list_all};
-ghost use Rattle.pgn_criteria.specs.Lines.{SpellsClaim, is_move_byte, IsMoveWord, IsMoveLike, AreMoveWords};
+ghost use Rattle.pgn_criteria.specs.Public.Lines.{SpellsClaim, is_move_byte, IsMoveWord, IsMoveLike, AreMoveWords};
 ghost use Rattle.pgn_criteria.specs.declared.condition.Claim.TheVariants.{Moves, Next, Played};
 
 use crate::words::{after_blanks, after_key, split_word};

@@ -1,8 +1,8 @@
 //! Conditions on numbers of plies.
 ghost use Rattle.std.specs.Prelude.{◌≡◌, ◌≤◌, ℕ, length, nat_le, IsTrue, MatchOption};
 ghost use Rattle.std.specs.List.{list_all};
-ghost use Rattle.chess.specs.Fen.{is_digit, number_from};
-ghost use Rattle.pgn_criteria.specs.Lines.{SpellsClaim, SpellsCompared, SpellsCount, comparison_text};
+ghost use Rattle.chess.specs.Public.Fen.{is_digit, number_from};
+ghost use Rattle.pgn_criteria.specs.Public.Lines.{SpellsClaim, SpellsCompared, SpellsCount, comparison_text};
 ghost use Rattle.pgn_criteria.specs.declared.compare.Comparison.{Comparison};
 ghost use Rattle.pgn_criteria.specs.declared.condition.Claim.TheVariants.{Plies, For, Count};
 

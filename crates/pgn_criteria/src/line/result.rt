@@ -1,7 +1,7 @@
 //! Conditions on the result.
 ghost use Rattle.std.specs.Prelude.{◌↔◌, ℕ, List, IsTrue, MatchOption};
-ghost use Rattle.pgn_text.specs.GameTexts.{IsResult};
-ghost use Rattle.pgn_criteria.specs.Lines.{SpellsClaim};
+ghost use Rattle.pgn_text.specs.Public.GameTexts.{IsResult};
+ghost use Rattle.pgn_criteria.specs.Public.Lines.{SpellsClaim};
 ghost use Rattle.pgn_criteria.specs.declared.condition.Claim.TheVariants.{Result};
 
 use crate::words::after_key;

@@ -1,11 +1,11 @@
 //! Conditions on a tag.
 ghost use Rattle.std.specs.Prelude.{◌≡◌, ◌≢◌, ◌↔◌, ◌∷◌, ◌++◌, [], ℕ, List, IsTrue, MatchOption};
 ghost use Rattle.std.specs.List.{list_all};
-ghost use Rattle.chess.specs.Fen.{parted_at};
-ghost use Rattle.pgn_text.specs.Bytes.{is_name_byte};
-ghost use Rattle.pgn_text.specs.Strings.{IsContents};
-ghost use Rattle.pgn_criteria.specs.Lines.{SpellsClaim, IsName, AreNames, CanBeCompared, relation_text};
-ghost use Rattle.pgn_criteria.specs.Stages.{claim_seen};
+ghost use Rattle.chess.specs.Public.Fen.{parted_at};
+ghost use Rattle.pgn_text.specs.Public.Bytes.{is_name_byte};
+ghost use Rattle.pgn_text.specs.Public.Strings.{IsContents};
+ghost use Rattle.pgn_criteria.specs.Public.Lines.{SpellsClaim, IsName, AreNames, CanBeCompared, relation_text};
+ghost use Rattle.pgn_criteria.specs.Private.Stages.{claim_seen};
 ghost use Rattle.pgn_criteria.specs.declared.compare.Relation.{Relation};
 ghost use Rattle.pgn_criteria.specs.declared.condition.Claim.TheVariants.{Tag};
 

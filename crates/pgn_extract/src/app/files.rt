@@ -2,10 +2,10 @@
 ghost use Rattle.std.specs.Prelude.{◌≡◌, ◌≢◌, ◌↔◌, ◌⊎◌, ◌≤◌, ◌^◌, ◌||◌, ℕ, List, [], false, true, is_none, IfErr, IfOk, IfSome, OnOk, IsErrOf};
 ghost use Rattle.std.specs.List.{list_any};
 ghost use Rattle.std.specs.IoError.{error_kind};
-ghost use Rattle.pgn_text.specs.Limits.{largest_offset};
-ghost use Rattle.pgn_extract.specs.RunParts.{WritesPath};
-ghost use Rattle.pgn_extract.specs.Runs.{Adds, passage};
-ghost use Rattle.pgn_extract.specs.Several.{AtPath, Unknown, AreKnown, IsOpened, IsRefused, NamesUnopened, WritesPaths, WritesRead, is_no_file, order_at, order_of, paths_of};
+ghost use Rattle.pgn_text.specs.Public.Limits.{largest_offset};
+ghost use Rattle.pgn_extract.specs.Private.RunParts.{WritesPath};
+ghost use Rattle.pgn_extract.specs.Public.Runs.{Adds, passage};
+ghost use Rattle.pgn_extract.specs.Public.Several.{AtPath, Unknown, AreKnown, IsOpened, IsRefused, NamesUnopened, WritesPaths, WritesRead, is_no_file, order_at, order_of, paths_of};
 
 use crate::app::endings::put_summary;
 use crate::engine::run_skipping;

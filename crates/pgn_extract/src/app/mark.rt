@@ -1,6 +1,6 @@
 //! The mark of a game, `N@O`: its number and the offset in the file of its first byte.
 ghost use Rattle.std.specs.Prelude.{◌≤◌, ◌^◌, IfSome};
-ghost use Rattle.pgn_text.specs.Limits.{largest_offset};
+ghost use Rattle.pgn_text.specs.Public.Limits.{largest_offset};
 
 use memchr::memchr;
 use pgn_text::LARGEST_OFFSET;

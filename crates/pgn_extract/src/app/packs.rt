@@ -1,8 +1,8 @@
 //! The packs of the command line, searched one after another.
 ghost use Rattle.std.specs.Prelude.{◌≡◌, false, true, IfSome, OnOk};
-ghost use Rattle.pgn_extract.specs.Aims.{aim_of};
-ghost use Rattle.pgn_extract.specs.Listing.{is_plain};
-ghost use Rattle.pgn_extract.specs.Searching.{IndexesWhatWasPacked, ListsWhatWasPacked};
+ghost use Rattle.pgn_extract.specs.Public.Aims.{aim_of};
+ghost use Rattle.pgn_extract.specs.Public.Listing.{is_plain};
+ghost use Rattle.pgn_extract.specs.Public.Searching.{IndexesWhatWasPacked, ListsWhatWasPacked};
 
 use crate::app::endings::{flush_rest, line_of, report_bytes, report_line};
 use crate::app::files::{Files, Total, put_unopened};

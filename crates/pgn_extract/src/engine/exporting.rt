@@ -1,17 +1,17 @@
 //! Which games are exported, and how.
 ghost use Rattle.std.specs.Prelude.{◌≡◌, ◌↔◌, ◌++◌, ℕ, List, MatchResult, IfErr, IfSome, OnOk, IsTrue, option_map};
-ghost use Rattle.pgn_text.specs.GameTexts.{GameText, tag_in};
-ghost use Rattle.pgn_game.specs.Exports.{lines_with};
-ghost use Rattle.pgn_game.specs.Faults.{IsFault};
-ghost use Rattle.pgn_game.specs.GameLines.{IsGameLine};
-ghost use Rattle.pgn_game.specs.Replays.{IsSoundGame, Replay, fault_of};
-ghost use Rattle.pgn_game.specs.Starts.{fen_tag};
+ghost use Rattle.pgn_text.specs.Public.GameTexts.{GameText, tag_in};
+ghost use Rattle.pgn_game.specs.Public.Exports.{lines_with};
+ghost use Rattle.pgn_game.specs.Public.Faults.{IsFault};
+ghost use Rattle.pgn_game.specs.Public.GameLines.{IsGameLine};
+ghost use Rattle.pgn_game.specs.Public.Replays.{IsSoundGame, Replay, fault_of};
+ghost use Rattle.pgn_game.specs.Public.Starts.{fen_tag};
 ghost use Rattle.pgn_game.specs.declared.replays.replayer.Lines.TheVariants.{Main};
-ghost use Rattle.pgn_extract.specs.Aims.{aim_of};
-ghost use Rattle.pgn_extract.specs.Blockwise.{AddsText, IsGameSelected, LeavesText, PutsText, TakesAll};
-ghost use Rattle.pgn_extract.specs.Exports.{HasEntry, as_it_stands, faulty_text, line_with, written_lines};
-ghost use Rattle.pgn_extract.specs.Finding.{IsChosen, StopsAtFault};
-ghost use Rattle.pgn_criteria.specs.Meeting.{heading_of};
+ghost use Rattle.pgn_extract.specs.Public.Aims.{aim_of};
+ghost use Rattle.pgn_extract.specs.Private.Blockwise.{AddsText, IsGameSelected, LeavesText, PutsText, TakesAll};
+ghost use Rattle.pgn_extract.specs.Public.Exports.{HasEntry, as_it_stands, faulty_text, line_with, written_lines};
+ghost use Rattle.pgn_extract.specs.Private.Finding.{IsChosen, StopsAtFault};
+ghost use Rattle.pgn_criteria.specs.Public.Meeting.{heading_of};
 ghost use Rattle.pgn_extract.specs.declared.settings.Form.TheVariants.{AsItStands, Line, Record};
 
 use crate::entries::GameContext;

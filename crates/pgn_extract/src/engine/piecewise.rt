@@ -1,10 +1,10 @@
 //! The pieces of one block, reported in turn: what is gathered is written once it is large, and at the block's end.
 ghost use Rattle.std.specs.Prelude.{◌≡◌, ◌⊎◌, ℕ, ◌^◌, ◌≤◌, false, List, length, IfOk, IfErr, OnOk, OnErr};
-ghost use Rattle.pgn_text.specs.Limits.{block_limit, largest_offset};
-ghost use Rattle.pgn_text.specs.Windows.{Shows};
-ghost use Rattle.pgn_extract.specs.Blockwise.{IsShown};
-ghost use Rattle.pgn_extract.specs.RunParts.{AddsFront, BeginsPieces, GathersPieces, PassesOn, WriteFaultsAre, WritesPieces};
-ghost use Rattle.pgn_extract.specs.Runs.{Adds, job_at, passage};
+ghost use Rattle.pgn_text.specs.Public.Limits.{block_limit, largest_offset};
+ghost use Rattle.pgn_text.specs.Public.Windows.{Shows};
+ghost use Rattle.pgn_extract.specs.Private.Blockwise.{IsShown};
+ghost use Rattle.pgn_extract.specs.Private.RunParts.{AddsFront, BeginsPieces, GathersPieces, PassesOn, WriteFaultsAre, WritesPieces};
+ghost use Rattle.pgn_extract.specs.Public.Runs.{Adds, job_at, passage};
 ghost use Rattle.pgn_extract.specs.declared.settings.Mode.TheVariants.{Index};
 
 use crate::engine::report::{BlockContext, Report, add_mark, report_too_long};

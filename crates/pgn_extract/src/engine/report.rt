@@ -1,17 +1,17 @@
 //! What is reported of the pieces of one block, piece by piece.
 ghost use Rattle.std.specs.Prelude.{◌≡◌, ℕ, List, None, Some, true, MatchResult, IfSome, ◌+◌, ◌^◌, ◌<◌, ◌≤◌, [], ◌∷◌, length, codes, OnOk};
-ghost use Rattle.pgn_text.specs.Left.{piece_place};
-ghost use Rattle.pgn_text.specs.LeftMarks.{mark_place};
-ghost use Rattle.pgn_extract.specs.Aims.{aim_of};
-ghost use Rattle.pgn_extract.specs.Blockwise.{Reports, AddsVerdict, AddsGame, AddsListed, AddsExported, AddsPiece, IsBlockVerdict, IsMarkVerdict, too_long_piece};
-ghost use Rattle.pgn_extract.specs.Finding.{AddsEntries, StopsAtFault};
-ghost use Rattle.pgn_extract.specs.Index.{fault_text};
-ghost use Rattle.pgn_extract.specs.Listing.{is_plain};
-ghost use Rattle.pgn_extract.specs.GameReports.{cause_text};
-ghost use Rattle.pgn_extract.specs.Notes.{IsNote};
-ghost use Rattle.pgn_extract.specs.Verdicts.{Verdict, FaultyGame};
-ghost use Rattle.pgn_game.specs.Faults.{Fault};
-ghost use Rattle.pgn_game.specs.Replays.{fault_of};
+ghost use Rattle.pgn_text.specs.Public.Left.{piece_place};
+ghost use Rattle.pgn_text.specs.Public.LeftMarks.{mark_place};
+ghost use Rattle.pgn_extract.specs.Public.Aims.{aim_of};
+ghost use Rattle.pgn_extract.specs.Private.Blockwise.{Reports, AddsVerdict, AddsGame, AddsListed, AddsExported, AddsPiece, IsBlockVerdict, IsMarkVerdict, too_long_piece};
+ghost use Rattle.pgn_extract.specs.Private.Finding.{AddsEntries, StopsAtFault};
+ghost use Rattle.pgn_extract.specs.Public.Index.{fault_text};
+ghost use Rattle.pgn_extract.specs.Public.Listing.{is_plain};
+ghost use Rattle.pgn_extract.specs.Public.GameReports.{cause_text};
+ghost use Rattle.pgn_extract.specs.Public.Notes.{IsNote};
+ghost use Rattle.pgn_extract.specs.Public.Verdicts.{Verdict, FaultyGame};
+ghost use Rattle.pgn_game.specs.Public.Faults.{Fault};
+ghost use Rattle.pgn_game.specs.Public.Replays.{fault_of};
 
 use crate::engine::exporting::{push_faulty, put_selected, written_lines};
 use crate::entries::listing::push_plies;

@@ -1,6 +1,6 @@
 //! The bytes before the run's begin.
 ghost use Rattle.std.specs.Prelude.{◌≡◌, ◌↔◌, ◌^◌, ◌≤◌, false, true, IsErrOf, IfOk, IfErr};
-ghost use Rattle.pgn_extract.specs.Blockwise.{Drops, DropsSome};
+ghost use Rattle.pgn_extract.specs.Private.Blockwise.{Drops, DropsSome};
 
 use crate::output::outcome::RunError;
 use pgn_text::{Skip, Tally};

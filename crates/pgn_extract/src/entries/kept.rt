@@ -1,13 +1,13 @@
 //! The entries of a game whose criteria speak of its moves at each ply: its main line is replayed and kept, and then looked through.
 ghost use Rattle.std.specs.Prelude.{◌≡◌, ◌≤◌, ◌<◌, ◌∷◌, ◌++◌, [], List, ℕ, MatchResult, IfOk, IfSome, Some, OnOk, length, decimal};
-ghost use Rattle.pgn_text.specs.GameTexts.{tag_in};
-ghost use Rattle.pgn_game.specs.Faults.{IsFault};
-ghost use Rattle.pgn_game.specs.Replays.{IsReplay, fault_of};
-ghost use Rattle.pgn_game.specs.Starts.{fen_tag};
+ghost use Rattle.pgn_text.specs.Public.GameTexts.{tag_in};
+ghost use Rattle.pgn_game.specs.Public.Faults.{IsFault};
+ghost use Rattle.pgn_game.specs.Public.Replays.{IsReplay, fault_of};
+ghost use Rattle.pgn_game.specs.Public.Starts.{fen_tag};
 ghost use Rattle.pgn_game.specs.declared.replays.replayer.Lines.TheVariants.{Main};
-ghost use Rattle.pgn_extract.specs.Aims.{aim_of};
-ghost use Rattle.pgn_extract.specs.Finding.{named_mark, AddsEntries, StopsAtFault, IsChosen, IsOfSomeGame, GoesOnAt};
-ghost use Rattle.pgn_extract.specs.Listing.{IsNextField, AreFields};
+ghost use Rattle.pgn_extract.specs.Public.Aims.{aim_of};
+ghost use Rattle.pgn_extract.specs.Private.Finding.{named_mark, AddsEntries, StopsAtFault, IsChosen, IsOfSomeGame, GoesOnAt};
+ghost use Rattle.pgn_extract.specs.Public.Listing.{IsNextField, AreFields};
 
 use crate::entries::showing::push_fen;
 use crate::entries::{GameContext, GameMark};

@@ -1,8 +1,8 @@
 //! Which plies are listed where no criteria are given.
 ghost use Rattle.std.specs.Prelude.{◌≡◌, ◌↔◌, ℕ, ◌^◌, ◌<◌, ◌≤◌, None, true, OnOk};
-ghost use Rattle.pgn_extract.specs.Aims.{aim_of};
-ghost use Rattle.pgn_extract.specs.Blockwise.{IsPlainEntry, AddsPlies, AddsLines};
-ghost use Rattle.pgn_extract.specs.Listing.{is_plain};
+ghost use Rattle.pgn_extract.specs.Public.Aims.{aim_of};
+ghost use Rattle.pgn_extract.specs.Private.Blockwise.{IsPlainEntry, AddsPlies, AddsLines};
+ghost use Rattle.pgn_extract.specs.Public.Listing.{is_plain};
 
 use crate::entries::GameContext;
 use crate::entries::ten_lines::push_range;

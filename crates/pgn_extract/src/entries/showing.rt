@@ -1,9 +1,9 @@
 //! The entries of a game whose lines show more than the ply, found while its main line is played.
 ghost use Rattle.std.specs.Prelude.{◌≡◌, ◌↔◌, ◌∷◌, ◌++◌, [], List, ℕ, MatchResult, IfErr, IfSome, IsTrue, OnOk, false, length, decimal};
-ghost use Rattle.pgn_criteria.specs.Meeting.{Heading, SomeHold};
-ghost use Rattle.pgn_game.specs.Replays.{Replay, fault_of};
-ghost use Rattle.pgn_extract.specs.Aims.{aim_of};
-ghost use Rattle.pgn_extract.specs.Finding.{named_mark, AsksFor, AddsEntries, StopsAtFault, StopsInLine, GoesOn, asked_of, ShowsPosition, ShowsNext, ShowsHere};
+ghost use Rattle.pgn_criteria.specs.Public.Meeting.{Heading, SomeHold};
+ghost use Rattle.pgn_game.specs.Public.Replays.{Replay, fault_of};
+ghost use Rattle.pgn_extract.specs.Public.Aims.{aim_of};
+ghost use Rattle.pgn_extract.specs.Private.Finding.{named_mark, AsksFor, AddsEntries, StopsAtFault, StopsInLine, GoesOn, asked_of, ShowsPosition, ShowsNext, ShowsHere};
 
 use crate::entries::kept::push_kept;
 use crate::entries::{GameContext, GameMark};

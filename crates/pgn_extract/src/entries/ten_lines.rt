@@ -1,6 +1,6 @@
 //! The lines of plies in a row: those of ten that have all digits but the last in common are written at once.
 ghost use Rattle.std.specs.Prelude.{◌≡◌, ◌+◌, ◌-◌, ◌*◌, ◌^◌, ◌<◌, ◌≤◌, ◌++◌, OnOk};
-ghost use Rattle.pgn_extract.specs.Blockwise.{lines_from};
+ghost use Rattle.pgn_extract.specs.Private.Blockwise.{lines_from};
 
 use crate::output::texts::{MARK_ROOM, count_up, push_entry};
 use std::alloc::{AllocError, Global};

@@ -1,8 +1,8 @@
 //! The notes after the lines of games that cannot be replayed: at which word, and why.
 ghost use Rattle.std.specs.Prelude.{◌≡◌, ℕ, List, ◌+◌, ◌^◌, ◌<◌, ◌≤◌, ◌++◌, [], ◌∷◌, length, true, OnOk};
-ghost use Rattle.pgn_text.specs.Bytes.{is_not_line_feed};
-ghost use Rattle.pgn_extract.specs.Notes.{IsNote, indented};
-ghost use Rattle.pgn_extract.specs.MoveNotes.{KeepsLine};
+ghost use Rattle.pgn_text.specs.Public.Bytes.{is_not_line_feed};
+ghost use Rattle.pgn_extract.specs.Public.Notes.{IsNote, indented};
+ghost use Rattle.pgn_extract.specs.Private.MoveNotes.{KeepsLine};
 
 use crate::explain::notes::{Origin, Spot, push_spot};
 use chess::{Refusal, san};

@@ -1,9 +1,9 @@
 //! The notes after the lines of faulty games, which say where a game is faulty, and why.
 ghost use Rattle.std.specs.Prelude.{◌≡◌, ℕ, List, ◌+◌, ◌^◌, ◌<◌, ◌≤◌, ◌==◌, [], ◌∷◌, ◌++◌, length, take, drop, codes, decimal, OnOk};
-ghost use Rattle.pgn_text.specs.Limits.{block_limit};
-ghost use Rattle.pgn_extract.specs.MoveNotes.{KeepsLine};
-ghost use Rattle.pgn_extract.specs.Notes.{indented};
-ghost use Rattle.pgn_extract.specs.NoteTexts.{line_feeds as line_feeds_of, column_after, position_text, place_text, begin_text, hex_digit as hex_digit_of, byte_text, stopper_text, context_text, hints, too_long_text, IsStopNote, IsWithinBlock};
+ghost use Rattle.pgn_text.specs.Public.Limits.{block_limit};
+ghost use Rattle.pgn_extract.specs.Private.MoveNotes.{KeepsLine};
+ghost use Rattle.pgn_extract.specs.Public.Notes.{indented};
+ghost use Rattle.pgn_extract.specs.Private.NoteTexts.{line_feeds as line_feeds_of, column_after, position_text, place_text, begin_text, hex_digit as hex_digit_of, byte_text, stopper_text, context_text, hints, too_long_text, IsStopNote, IsWithinBlock};
 
 use crate::settings::Settings;
 use itoa::Buffer;

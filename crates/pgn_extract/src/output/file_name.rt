@@ -1,6 +1,6 @@
 //! The name of a file, as lines show it.
 ghost use Rattle.std.specs.Prelude.{◌≡◌, ℕ, List, map, IfOk};
-ghost use Rattle.pgn_extract.specs.Index.{shown_byte};
+ghost use Rattle.pgn_extract.specs.Public.Index.{shown_byte};
 
 use std::alloc::{AllocError, Global};
 use std::marker::Model;

@@ -1,6 +1,6 @@
 //! How a run ends.
 ghost use Rattle.std.specs.Prelude.{◌≡◌};
-ghost use Rattle.pgn_extract.specs.Blockwise.{run_error_of};
+ghost use Rattle.pgn_extract.specs.Private.Blockwise.{run_error_of};
 ghost use Rattle.pgn_extract.specs.declared.output.outcome.RunError.TheVariants.{OutOfMemory};
 
 use pgn_text::ReadError;

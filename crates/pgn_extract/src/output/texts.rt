@@ -1,10 +1,10 @@
 //! What a run writes, byte by byte: marks, the lines of entries, and the lines of faulty games.
 ghost use Rattle.std.specs.Prelude.{◌≡◌, ◌+◌, ◌<◌, Some, [], ◌∷◌, ◌++◌, codes, decimal, OnOk};
-ghost use Rattle.pgn_game.specs.Faults.{Fault};
-ghost use Rattle.pgn_game.specs.Replays.{fault_of};
-ghost use Rattle.pgn_extract.specs.Finding.{named_mark};
-ghost use Rattle.pgn_extract.specs.Index.{mark, titled, mark_line, fault_text};
-ghost use Rattle.pgn_extract.specs.GameReports.{cause_text};
+ghost use Rattle.pgn_game.specs.Public.Faults.{Fault};
+ghost use Rattle.pgn_game.specs.Public.Replays.{fault_of};
+ghost use Rattle.pgn_extract.specs.Private.Finding.{named_mark};
+ghost use Rattle.pgn_extract.specs.Public.Index.{mark, titled, mark_line, fault_text};
+ghost use Rattle.pgn_extract.specs.Public.GameReports.{cause_text};
 
 use crate::output::file_name::FileName;
 use itoa::Buffer;

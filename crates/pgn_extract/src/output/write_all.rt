@@ -1,7 +1,7 @@
 //! Bytes written through a tally.
 ghost use Rattle.std.specs.Prelude.{◌≡◌, ◌↔◌, false, true, IsErrOf, IfErr, OnOk, OnErr};
 ghost use Rattle.std.specs.Io.KnownBytes.{Appends, Keeps};
-ghost use Rattle.pgn_extract.specs.Outcomes.{AppendsFront};
+ghost use Rattle.pgn_extract.specs.Public.Outcomes.{AppendsFront};
 
 use crate::output::outcome::RunError;
 use pgn_text::Tally;

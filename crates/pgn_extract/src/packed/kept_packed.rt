@@ -1,13 +1,13 @@
 //! The entries of a packed game whose criteria speak of its moves or of several plies: its line is replayed and kept, and then looked through.
 ghost use Rattle.std.specs.Prelude.{◌≡◌, true, Some, OnOk, IfOk, IfErr};
-ghost use Rattle.pgn_text.specs.GameTexts.{tag_in};
-ghost use Rattle.pgn_game.specs.Starts.{fen_tag};
-ghost use Rattle.pgn_game.specs.PackReading.{IsRawOfGame};
-ghost use Rattle.pgn_extract.specs.Aims.{aim_of};
-ghost use Rattle.pgn_extract.specs.Finding.{named_mark};
-ghost use Rattle.pgn_extract.specs.KeptPacked.{IsStartOf, IsKeptOf};
-ghost use Rattle.pgn_extract.specs.Listing.{is_plain};
-ghost use Rattle.pgn_extract.specs.Packed.{EachOfRecord, HasNoText, ListsRecord};
+ghost use Rattle.pgn_text.specs.Public.GameTexts.{tag_in};
+ghost use Rattle.pgn_game.specs.Public.Starts.{fen_tag};
+ghost use Rattle.pgn_game.specs.Public.PackReading.{IsRawOfGame};
+ghost use Rattle.pgn_extract.specs.Public.Aims.{aim_of};
+ghost use Rattle.pgn_extract.specs.Private.Finding.{named_mark};
+ghost use Rattle.pgn_extract.specs.Private.KeptPacked.{IsStartOf, IsKeptOf};
+ghost use Rattle.pgn_extract.specs.Public.Listing.{is_plain};
+ghost use Rattle.pgn_extract.specs.Private.Packed.{EachOfRecord, HasNoText, ListsRecord};
 
 use crate::output::texts::MARK_ROOM;
 use crate::packed::record_lines::RecordLines;

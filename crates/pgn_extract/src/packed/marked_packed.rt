@@ -1,11 +1,11 @@
 //! The entries of a packed game whose criteria speak of no men and of no moves: the marks of its plies tell them, and no man is moved.
 ghost use Rattle.std.specs.Prelude.{◌≡◌, true, OnOk};
-ghost use Rattle.pgn_criteria.specs.Meeting.{heading_of};
-ghost use Rattle.pgn_extract.specs.Aims.{aim_of};
-ghost use Rattle.pgn_extract.specs.Finding.{named_mark};
-ghost use Rattle.pgn_extract.specs.Listing.{is_plain};
-ghost use Rattle.pgn_extract.specs.MarkedPacked.{StartsWith, AreMetWith};
-ghost use Rattle.pgn_extract.specs.Packed.{EachOfRecord, ListsRecord};
+ghost use Rattle.pgn_criteria.specs.Public.Meeting.{heading_of};
+ghost use Rattle.pgn_extract.specs.Public.Aims.{aim_of};
+ghost use Rattle.pgn_extract.specs.Private.Finding.{named_mark};
+ghost use Rattle.pgn_extract.specs.Public.Listing.{is_plain};
+ghost use Rattle.pgn_extract.specs.Private.MarkedPacked.{StartsWith, AreMetWith};
+ghost use Rattle.pgn_extract.specs.Private.Packed.{EachOfRecord, ListsRecord};
 
 use crate::packed::record_lines::RecordLines;
 use chess::Side;

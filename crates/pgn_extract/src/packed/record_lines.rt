@@ -1,10 +1,10 @@
 //! The lines of the entries of one packed game.
 ghost use Rattle.std.specs.Prelude.{◌≡◌, true, IfOk};
-ghost use Rattle.pgn_game.specs.Replays.{Replay};
-ghost use Rattle.pgn_extract.specs.Aims.{aim_of};
-ghost use Rattle.pgn_extract.specs.Finding.{named_mark, GoesOnAt};
-ghost use Rattle.pgn_extract.specs.Listing.{is_plain};
-ghost use Rattle.pgn_extract.specs.Packed.{record_aim, Grows};
+ghost use Rattle.pgn_game.specs.Public.Replays.{Replay};
+ghost use Rattle.pgn_extract.specs.Public.Aims.{aim_of};
+ghost use Rattle.pgn_extract.specs.Private.Finding.{named_mark, GoesOnAt};
+ghost use Rattle.pgn_extract.specs.Public.Listing.{is_plain};
+ghost use Rattle.pgn_extract.specs.Private.Packed.{record_aim, Grows};
 
 use crate::output::texts::push_entry;
 use crate::settings::Settings;

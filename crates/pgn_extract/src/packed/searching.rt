@@ -1,11 +1,11 @@
 //! The search of a pack: its records are read one after another, and the lines of each are written.
 ghost use Rattle.std.specs.Prelude.{◌≡◌, ◌↔◌, ◌⊎◌, ℕ, ◌+◌, ◌≤◌, false, true, List, [], IfOk, IfErr, OnOk, IsErrOf};
 ghost use Rattle.std.specs.Io.KnownBytes.{Appends};
-ghost use Rattle.pgn_extract.specs.Aims.{aim_of};
-ghost use Rattle.pgn_extract.specs.Listing.{is_plain};
-ghost use Rattle.pgn_extract.specs.Outcomes.{AppendsFront};
-ghost use Rattle.pgn_extract.specs.Searching.{IsSearch};
-ghost use Rattle.pgn_extract.specs.SearchSteps.{PutsRest, PutsSome, search_error_of};
+ghost use Rattle.pgn_extract.specs.Public.Aims.{aim_of};
+ghost use Rattle.pgn_extract.specs.Public.Listing.{is_plain};
+ghost use Rattle.pgn_extract.specs.Public.Outcomes.{AppendsFront};
+ghost use Rattle.pgn_extract.specs.Public.Searching.{IsSearch};
+ghost use Rattle.pgn_extract.specs.Private.SearchSteps.{PutsRest, PutsSome, search_error_of};
 
 use crate::output::outcome::RunError;
 use crate::output::write_all::{finish, write_all};

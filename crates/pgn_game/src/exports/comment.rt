@@ -1,9 +1,9 @@
 //! Comments as tokens.
 ghost use Rattle.std.specs.Prelude.{◌≡◌, ◌+◌, ◌++◌, ◌∷◌, ◌<◌, ◌≤◌, ℕ, List, [], length, map, OnOk, IfSome, IsTrue, true};
-ghost use Rattle.pgn_text.specs.Bytes.{is_white};
-ghost use Rattle.pgn_game.specs.Comments.{words_in, unbraced, later_word, closed, comment_tokens};
-ghost use Rattle.pgn_game.specs.CommentWords.{word_front, after_front, after_white, found_words, closing, IsBare, IsFoundBare, IsAfterBare, IsAfterKept, IsSpaced};
-ghost use Rattle.pgn_game.specs.Pens.{HasPut};
+ghost use Rattle.pgn_text.specs.Public.Bytes.{is_white};
+ghost use Rattle.pgn_game.specs.Public.Comments.{words_in, unbraced, later_word, closed, comment_tokens};
+ghost use Rattle.pgn_game.specs.Private.CommentWords.{word_front, after_front, after_white, found_words, closing, IsBare, IsFoundBare, IsAfterBare, IsAfterKept, IsSpaced};
+ghost use Rattle.pgn_game.specs.Private.Pens.{HasPut};
 
 use crate::exports::pen::Pen;
 use std::alloc::AllocError;

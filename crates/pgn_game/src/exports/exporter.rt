@@ -1,10 +1,10 @@
 //! A game written in the export format.
 ghost use Rattle.std.specs.Prelude.{◌≡◌, ◌++◌, ◌∷◌, ℕ, List, [], IfErr, IfSome, None, OnErr, OnOk};
-ghost use Rattle.pgn_text.specs.GameTexts.{tag_in};
-ghost use Rattle.pgn_game.specs.Exports.{IsReplayFor, IsExport, lines_with};
-ghost use Rattle.pgn_game.specs.Faults.{HasLineFault, IsFault};
-ghost use Rattle.pgn_game.specs.Replays.{IsSoundGame, fault_of};
-ghost use Rattle.pgn_game.specs.Starts.{IsStart, fen_tag};
+ghost use Rattle.pgn_text.specs.Public.GameTexts.{tag_in};
+ghost use Rattle.pgn_game.specs.Public.Exports.{IsReplayFor, IsExport, lines_with};
+ghost use Rattle.pgn_game.specs.Public.Faults.{HasLineFault, IsFault};
+ghost use Rattle.pgn_game.specs.Public.Replays.{IsSoundGame, fault_of};
+ghost use Rattle.pgn_game.specs.Public.Starts.{IsStart, fen_tag};
 
 use crate::exports::movetext::put_movetext;
 use crate::exports::style::Style;

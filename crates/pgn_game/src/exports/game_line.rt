@@ -1,14 +1,14 @@
 //! The main line of a game on one line: the position that it starts from, and its moves.
 ghost use Rattle.std.specs.Prelude.{◌≡◌, ◌<◌, ◌≤◌, ◌+◌, ◌++◌, ◌∷◌, ℕ, List, Option, [], map, IfErr, IfSome, OnOk};
-ghost use Rattle.pgn_text.specs.Elements.{item_of};
-ghost use Rattle.pgn_text.specs.GameTexts.{tag_in};
-ghost use Rattle.pgn_game.specs.Faults.{IsFault, IsMoveFault, IsRefusedWord};
-ghost use Rattle.pgn_game.specs.GameLines.{IsGameLine, IsStartText, promotion_letter, uci_text, unspaced};
-ghost use Rattle.pgn_game.specs.LineTexts.{AreWritten, PutsElement, PutsMove};
-ghost use Rattle.pgn_game.specs.MainLines.{main_words};
-ghost use Rattle.pgn_game.specs.Replays.{fault_of};
-ghost use Rattle.pgn_game.specs.Starts.{IsStart, fen_tag};
-ghost use Rattle.pgn_game.specs.Walks.{IsStuck};
+ghost use Rattle.pgn_text.specs.Public.Elements.{item_of};
+ghost use Rattle.pgn_text.specs.Public.GameTexts.{tag_in};
+ghost use Rattle.pgn_game.specs.Public.Faults.{IsFault, IsMoveFault, IsRefusedWord};
+ghost use Rattle.pgn_game.specs.Public.GameLines.{IsGameLine, IsStartText, promotion_letter, uci_text, unspaced};
+ghost use Rattle.pgn_game.specs.Private.LineTexts.{AreWritten, PutsElement, PutsMove};
+ghost use Rattle.pgn_game.specs.Public.MainLines.{main_words};
+ghost use Rattle.pgn_game.specs.Public.Replays.{fault_of};
+ghost use Rattle.pgn_game.specs.Public.Starts.{IsStart, fen_tag};
+ghost use Rattle.pgn_game.specs.Private.Walks.{IsStuck};
 ghost use Rattle.pgn_game.specs.declared.exports.notation.Notation.TheVariants.{San, Uci};
 ghost use Rattle.pgn_game.specs.declared.replays.replayer.Lines.TheVariants.{Main};
 

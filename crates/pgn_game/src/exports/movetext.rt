@@ -1,11 +1,11 @@
 //! The movetext of a game, written at each step of a walk over its lines.
 ghost use Rattle.std.specs.Prelude.{◌≡◌, ◌++◌, ◌∷◌, ℕ, List, [], codes, decimal, false, map, true, IfErr, IfSome, OnOk};
-ghost use Rattle.pgn_text.specs.Elements.{item_of};
-ghost use Rattle.pgn_game.specs.Exports.{AreMovetextTokens, lines_with, number_tokens};
-ghost use Rattle.pgn_game.specs.Faults.{HasLineFault};
-ghost use Rattle.pgn_game.specs.MovetextWalks.{Puts, WritesStep};
-ghost use Rattle.pgn_game.specs.Replays.{fault_of};
-ghost use Rattle.pgn_game.specs.TextLines.{IsLaid};
+ghost use Rattle.pgn_text.specs.Public.Elements.{item_of};
+ghost use Rattle.pgn_game.specs.Public.Exports.{AreMovetextTokens, lines_with, number_tokens};
+ghost use Rattle.pgn_game.specs.Public.Faults.{HasLineFault};
+ghost use Rattle.pgn_game.specs.Private.MovetextWalks.{Puts, WritesStep};
+ghost use Rattle.pgn_game.specs.Public.Replays.{fault_of};
+ghost use Rattle.pgn_game.specs.Public.TextLines.{IsLaid};
 
 use crate::exports::comment::put_comment;
 use crate::exports::pen::Pen;

@@ -1,6 +1,6 @@
 //! Tokens in lines.
 ghost use Rattle.std.specs.Prelude.{◌≡◌, ◌+◌, ◌≤◌, ◌++◌, ◌∷◌, ℕ, List, [], length, false, true, OnOk, IsTrue};
-ghost use Rattle.pgn_game.specs.Pens.{HasPut, after_tokens};
+ghost use Rattle.pgn_game.specs.Private.Pens.{HasPut, after_tokens};
 
 use std::alloc::AllocError;
 

@@ -1,10 +1,10 @@
 //! The tags of a game that is written, one a line.
 ghost use Rattle.std.specs.Prelude.{◌≡◌, ◌++◌, ℕ, List, OnOk, IfSome, option_map, map, bytes_eq, codes, ◌||◌, filter, is_some};
 ghost use Rattle.std.specs.List.{list_any};
-ghost use Rattle.pgn_text.specs.GameTexts.{tag_in, tag_names};
-ghost use Rattle.pgn_text.specs.Strings.{IsContents};
-ghost use Rattle.pgn_game.specs.Starts.{fen_tag};
-ghost use Rattle.pgn_game.specs.TagLines.{roster, missing_text as missing_text_of, escaped, IsValueText, IsTagText, IsLineOf, AreLinesOf, is_beside as is_name_beside, AreTagLines};
+ghost use Rattle.pgn_text.specs.Public.GameTexts.{tag_in, tag_names};
+ghost use Rattle.pgn_text.specs.Public.Strings.{IsContents};
+ghost use Rattle.pgn_game.specs.Public.Starts.{fen_tag};
+ghost use Rattle.pgn_game.specs.Public.TagLines.{roster, missing_text as missing_text_of, escaped, IsValueText, IsTagText, IsLineOf, AreLinesOf, is_beside as is_name_beside, AreTagLines};
 
 use crate::exports::style::Style;
 use pgn_text::{RawGame, value};

@@ -1,10 +1,10 @@
 //! Tokens of a movetext: numbers of moves, glyphs and turns.
 ghost use Rattle.std.specs.Prelude.{◌≡◌, ◌+◌, ◌++◌, ◌∷◌, ℕ, List, [], decimal, IfSome, MatchResult, OnOk};
-ghost use Rattle.pgn_game.specs.AllLines.{IsTurn, after_turn};
-ghost use Rattle.pgn_game.specs.Exports.{number_tokens, IsTurnText};
-ghost use Rattle.pgn_game.specs.Faults.{IsRefusedTurn};
-ghost use Rattle.pgn_game.specs.Pens.{HasPut};
-ghost use Rattle.pgn_game.specs.Replays.{fault_of};
+ghost use Rattle.pgn_game.specs.Public.AllLines.{IsTurn, after_turn};
+ghost use Rattle.pgn_game.specs.Public.Exports.{number_tokens, IsTurnText};
+ghost use Rattle.pgn_game.specs.Public.Faults.{IsRefusedTurn};
+ghost use Rattle.pgn_game.specs.Private.Pens.{HasPut};
+ghost use Rattle.pgn_game.specs.Public.Replays.{fault_of};
 
 use crate::exports::pen::Pen;
 use crate::replays::walk::play_turn;

@@ -1,7 +1,7 @@
 //! The fields of a record, each in front of bytes.
 ghost use Rattle.std.specs.Prelude.{◌≡◌, option_map};
 ghost use Rattle.std.specs.Int.{w32, w64};
-ghost use Rattle.pgn_game.specs.PackReading.{Gives, number_at, text_at, name_at, tag_at, after_tag, after_tags};
+ghost use Rattle.pgn_game.specs.Public.PackReading.{Gives, number_at, text_at, name_at, tag_at, after_tag, after_tags};
 
 use crate::pack::error::RecordError;
 
@@ -32,7 +32,7 @@ pub(crate) fn u64_at(bytes: &[u8]) -> Result<(u64, &[u8]), RecordError>
 }
 
 /// A length and so many bytes: these, and what stands after them.
-#[tactic(auto, unfolding(crate::specs::PackReading::text_at))]
+#[tactic(auto, unfolding(crate::specs::Public::PackReading::text_at))]
 fn text_at(bytes: &[u8]) -> Result<(&[u8], &[u8]), RecordError>
     ensures { Gives (λ x. (x.0.now, x.1.now)) result (text_at bytes.now) }
 {

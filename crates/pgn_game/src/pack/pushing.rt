@@ -1,10 +1,10 @@
 //! The record of a game as it stands in a text.
 ghost use Rattle.std.specs.Prelude.{◌≡◌, ◌++◌, ℕ, List, IfErr, IfSome, OnErr, OnOk};
-ghost use Rattle.pgn_text.specs.GameTexts.{tag_in};
-ghost use Rattle.pgn_game.specs.Faults.{IsFault};
-ghost use Rattle.pgn_game.specs.PackedGames.{FitsRecord, IsRecordOf, name_of};
-ghost use Rattle.pgn_game.specs.Replays.{fault_of};
-ghost use Rattle.pgn_game.specs.Starts.{fen_tag};
+ghost use Rattle.pgn_text.specs.Public.GameTexts.{tag_in};
+ghost use Rattle.pgn_game.specs.Public.Faults.{IsFault};
+ghost use Rattle.pgn_game.specs.Public.PackedGames.{FitsRecord, IsRecordOf, name_of};
+ghost use Rattle.pgn_game.specs.Public.Replays.{fault_of};
+ghost use Rattle.pgn_game.specs.Public.Starts.{fen_tag};
 ghost use Rattle.pgn_game.specs.declared.turns.fault.GameFault.TheVariants.{OutOfMemory};
 ghost use Rattle.pgn_game.specs.declared.replays.replayer.Lines.TheVariants.{Main};
 

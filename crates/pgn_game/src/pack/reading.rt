@@ -1,8 +1,8 @@
 //! A record read from the front of bytes.
 ghost use Rattle.std.specs.Prelude.{◌≡◌, ◌++◌, ◌/◌, ◌%◌, ◌==◌, List, ℕ, IfOk, Ok, option_map};
-ghost use Rattle.pgn_text.specs.GameTexts.{tag_in};
-ghost use Rattle.pgn_game.specs.PackedGames.{PackedGame, FitsRecord, numbered_result, record_bytes};
-ghost use Rattle.pgn_game.specs.PackReading.{Gives, raw_of, body_at, size_at, record_at};
+ghost use Rattle.pgn_text.specs.Public.GameTexts.{tag_in};
+ghost use Rattle.pgn_game.specs.Public.PackedGames.{PackedGame, FitsRecord, numbered_result, record_bytes};
+ghost use Rattle.pgn_game.specs.Public.PackReading.{Gives, raw_of, body_at, size_at, record_at};
 
 use crate::pack::error::RecordError;
 use crate::pack::fields::{after_tags, name_at, tag_at, u32_at, u64_at};
@@ -25,7 +25,7 @@ pub struct RawRecord<'a> {
 
 impl<'a> Model for RawRecord<'a> {
     ghost use Rattle.std.specs.Prelude.{option_map};
-    ghost use Rattle.pgn_game.specs.PackReading.{RawRecord};
+    ghost use Rattle.pgn_game.specs.Public.PackReading.{RawRecord};
 
     ghost Value = { RawRecord };
 
@@ -113,7 +113,7 @@ impl<'a> RawRecord<'a> {
 }
 
 /// The record whose bytes after its size are these.
-#[tactic(auto, unfolding(crate::specs::PackReading::body_at))]
+#[tactic(auto, unfolding(crate::specs::Public::PackReading::body_at))]
 fn read_body(bytes: &[u8]) -> Result<RawRecord<'_>, RecordError>
     ensures { Gives (λ x. x) result (body_at bytes.now) }
 {
@@ -147,7 +147,7 @@ fn read_size(bytes: &[u8]) -> Result<(u32, &[u8]), RecordError>
 }
 
 /// The record in front, and what stands after it.
-#[tactic(auto, unfolding(crate::specs::PackReading::record_at))]
+#[tactic(auto, unfolding(crate::specs::Public::PackReading::record_at))]
 fn read_record(bytes: &[u8]) -> Result<(RawRecord<'_>, &[u8]), RecordError>
     ensures { Gives (λ x. (x.0, x.1.now)) result (record_at bytes.now) }
 {

@@ -1,12 +1,12 @@
 //! The records of a pack, one after another, as a reader gives them.
 ghost use Rattle.std.specs.Prelude.{◌≡◌, ◌≢◌, ◌↔◌, ◌⊎◌, ℕ, ◌+◌, ◌^◌, ◌<◌, ◌≤◌, true, false, List, [], ◌++◌, length, take, drop, IfOk, IfErr, IsErrOf, MatchOption, MatchResult};
 ghost use Rattle.std.specs.Io.KnownBytes.{Consumes};
-ghost use Rattle.pgn_text.specs.Limits.{largest_offset};
-ghost use Rattle.pgn_text.specs.Tallies.{AppendsRead};
-ghost use Rattle.pgn_game.specs.PackedGames.{PackedGame, FitsRecord, record_bytes};
-ghost use Rattle.pgn_game.specs.PackReading.{raw_of};
-ghost use Rattle.pgn_game.specs.PackStreams.{IsRecord, StepGives, fresh_window, HasNoRecord};
-ghost use Rattle.pgn_game.specs.PackSteps.{HoldsWhole, IsWhole, IsPart};
+ghost use Rattle.pgn_text.specs.Public.Limits.{largest_offset};
+ghost use Rattle.pgn_text.specs.Public.Tallies.{AppendsRead};
+ghost use Rattle.pgn_game.specs.Public.PackedGames.{PackedGame, FitsRecord, record_bytes};
+ghost use Rattle.pgn_game.specs.Public.PackReading.{raw_of};
+ghost use Rattle.pgn_game.specs.Public.PackStreams.{IsRecord, StepGives, fresh_window, HasNoRecord};
+ghost use Rattle.pgn_game.specs.Private.PackSteps.{HoldsWhole, IsWhole, IsPart};
 
 use crate::pack::fields::u32_at;
 use crate::pack::reading::{LARGEST_BODY, RawRecord, read};
@@ -167,8 +167,8 @@ pub struct Records {
 
 impl Model for Records {
     ghost use Rattle.std.specs.Prelude.{take, drop};
-    ghost use Rattle.pgn_game.specs.PackSteps.{EndsWithin};
-    ghost use Rattle.pgn_game.specs.PackStreams.{Window};
+    ghost use Rattle.pgn_game.specs.Private.PackSteps.{EndsWithin};
+    ghost use Rattle.pgn_game.specs.Public.PackStreams.{Window};
 
     ghost Value = { Window };
 

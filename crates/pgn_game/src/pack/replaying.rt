@@ -1,9 +1,9 @@
 //! A line replayed from the codes of its plies.
 ghost use Rattle.std.specs.Prelude.{◌≡◌, ◌<◌, ◌∷◌, ◌++◌, [], List, length, IfOk, MatchResult, OnOk};
 ghost use Rattle.chess.specs.declared.moves.Move.{Move};
-ghost use Rattle.pgn_game.specs.CodeLines.{IsCodedLine, IsCodedReplay};
-ghost use Rattle.pgn_game.specs.CodeWords.{promoted, told_move};
-ghost use Rattle.pgn_game.specs.PlyCodes.{code_of, numbered_man, numbered_castle};
+ghost use Rattle.pgn_game.specs.Public.CodeLines.{IsCodedLine, IsCodedReplay};
+ghost use Rattle.pgn_game.specs.Private.CodeWords.{promoted, told_move};
+ghost use Rattle.pgn_game.specs.Public.PlyCodes.{code_of, numbered_man, numbered_castle};
 
 use crate::pack::error::CodesError;
 use crate::pack::ply::is_pawn;

@@ -2,11 +2,11 @@
 ghost use Rattle.std.specs.Prelude.{◌≡◌, ◌↔◌, ◌<◌, ◌≤◌, ◌+◌, ◌^◌, ◌++◌, ℕ, List, length, min, option_map, OnOk, OnErr, IsErrOf};
 ghost use Rattle.std.specs.List.{flat_map};
 ghost use Rattle.std.specs.Int.{w32, to_be_bytes};
-ghost use Rattle.pgn_text.specs.GameTexts.{tag_in};
-ghost use Rattle.pgn_game.specs.Starts.{fen_tag};
-ghost use Rattle.pgn_game.specs.Replays.{IsSomeReplay};
-ghost use Rattle.pgn_game.specs.PackedGames.{PackedGame, FitsRecord, IsPacked, with_length, name_bytes, tag_bytes, tags_size, body_size, record_bytes, largest_body, name_size, named_number, result_number, name_of};
-ghost use Rattle.pgn_game.specs.PackWords.{IsLinePlayed, AreMarksAfter, PutsFront, PutsHead, PutsPly, PutsPlies};
+ghost use Rattle.pgn_text.specs.Public.GameTexts.{tag_in};
+ghost use Rattle.pgn_game.specs.Public.Starts.{fen_tag};
+ghost use Rattle.pgn_game.specs.Public.Replays.{IsSomeReplay};
+ghost use Rattle.pgn_game.specs.Public.PackedGames.{PackedGame, FitsRecord, IsPacked, with_length, name_bytes, tag_bytes, tags_size, body_size, record_bytes, largest_body, name_size, named_number, result_number, name_of};
+ghost use Rattle.pgn_game.specs.Private.PackWords.{IsLinePlayed, AreMarksAfter, PutsFront, PutsHead, PutsPly, PutsPlies};
 
 use crate::pack::error::PackError;
 use crate::pack::origin::GameOrigin;

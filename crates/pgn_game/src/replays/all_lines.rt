@@ -1,13 +1,13 @@
 //! All lines, played and kept.
 ghost use Rattle.std.specs.Prelude.{◌≡◌, ℕ, ◌+◌, ◌++◌, List, [], ◌∷◌, length, map, MatchResult, IfOk, IfSome, OnOk};
-ghost use Rattle.chess.specs.Positions.{State};
-ghost use Rattle.pgn_text.specs.Elements.{item_of};
-ghost use Rattle.pgn_text.specs.GameTexts.{IsPaired};
-ghost use Rattle.pgn_game.specs.AllLines.{IsTurn, after_turn, ArePlayed};
-ghost use Rattle.pgn_game.specs.Faults.{HaveFault};
-ghost use Rattle.pgn_game.specs.MainLines.{main_words, IsMainLine};
-ghost use Rattle.pgn_game.specs.Replays.{fault_of};
-ghost use Rattle.pgn_game.specs.Steps.{Keeps, KeepsStep};
+ghost use Rattle.chess.specs.Public.Positions.{State};
+ghost use Rattle.pgn_text.specs.Public.Elements.{item_of};
+ghost use Rattle.pgn_text.specs.Public.GameTexts.{IsPaired};
+ghost use Rattle.pgn_game.specs.Public.AllLines.{IsTurn, after_turn, ArePlayed};
+ghost use Rattle.pgn_game.specs.Public.Faults.{HaveFault};
+ghost use Rattle.pgn_game.specs.Public.MainLines.{main_words, IsMainLine};
+ghost use Rattle.pgn_game.specs.Public.Replays.{fault_of};
+ghost use Rattle.pgn_game.specs.Private.Steps.{Keeps, KeepsStep};
 
 use crate::replays::line_stack::LineStack;
 use crate::replays::walk::{Level, Visitor, play_turn, walk};

@@ -1,7 +1,7 @@
 //! A line of a game and those around it.
 ghost use Rattle.std.specs.Prelude.{◌≡◌, ◌∷◌, [], OnOk};
-ghost use Rattle.pgn_game.specs.LineWalks.{is_inside};
-ghost use Rattle.pgn_game.specs.Steps.{IsBack, around};
+ghost use Rattle.pgn_game.specs.Private.LineWalks.{is_inside};
+ghost use Rattle.pgn_game.specs.Private.Steps.{IsBack, around};
 
 use std::alloc::{AllocError, Global};
 use std::mem;

@@ -1,13 +1,13 @@
 //! The main line, played element by element.
 ghost use Rattle.std.specs.Prelude.{◌≡◌, ◌+◌, ◌<◌, ◌≤◌, ◌^◌, ◌++◌, ℕ, List, [], ◌∷◌, length, map, MatchOption, MatchResult, IfErr, IfOk, IfSome, OnOk};
-ghost use Rattle.chess.specs.Positions.{State};
-ghost use Rattle.pgn_text.specs.Elements.{item_of};
-ghost use Rattle.pgn_text.specs.Games.{Item};
-ghost use Rattle.pgn_game.specs.MainLines.{main_words, IsMainLine};
-ghost use Rattle.pgn_game.specs.Faults.{IsMoveFault};
-ghost use Rattle.pgn_game.specs.Openings.{IsBeginning};
-ghost use Rattle.pgn_game.specs.Replays.{fault_of, HasPlies};
-ghost use Rattle.pgn_game.specs.Walks.{HasStepped, IsStuck, KeepsLine, HasLinePlies};
+ghost use Rattle.chess.specs.Public.Positions.{State};
+ghost use Rattle.pgn_text.specs.Public.Elements.{item_of};
+ghost use Rattle.pgn_text.specs.Public.Games.{Item};
+ghost use Rattle.pgn_game.specs.Public.MainLines.{main_words, IsMainLine};
+ghost use Rattle.pgn_game.specs.Public.Faults.{IsMoveFault};
+ghost use Rattle.pgn_game.specs.Public.Openings.{IsBeginning};
+ghost use Rattle.pgn_game.specs.Public.Replays.{fault_of, HasPlies};
+ghost use Rattle.pgn_game.specs.Private.Walks.{HasStepped, IsStuck, KeepsLine, HasLinePlies};
 
 use crate::turns::fault::GameFault;
 use crate::turns::naming::play_named;

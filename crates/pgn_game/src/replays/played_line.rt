@@ -1,10 +1,10 @@
 //! The main line of a game, played ply by ply.
 ghost use Rattle.std.specs.Prelude.{◌≡◌, ◌++◌, ℕ, List, MatchResult, IfErr, IfSome, OnOk};
-ghost use Rattle.pgn_text.specs.GameTexts.{tag_in};
-ghost use Rattle.pgn_game.specs.Starts.{fen_tag};
-ghost use Rattle.pgn_game.specs.Faults.{IsFault, IsMoveFault};
-ghost use Rattle.pgn_game.specs.PlayedLines.{IsBegun, HasAdvanced, IsNextText};
-ghost use Rattle.pgn_game.specs.Replays.{fault_of};
+ghost use Rattle.pgn_text.specs.Public.GameTexts.{tag_in};
+ghost use Rattle.pgn_game.specs.Public.Starts.{fen_tag};
+ghost use Rattle.pgn_game.specs.Public.Faults.{IsFault, IsMoveFault};
+ghost use Rattle.pgn_game.specs.Public.PlayedLines.{IsBegun, HasAdvanced, IsNextText};
+ghost use Rattle.pgn_game.specs.Public.Replays.{fault_of};
 ghost use Rattle.pgn_game.specs.declared.replays.replayer.Lines.TheVariants.{Main};
 
 use crate::replays::main_line::{MainWalk, next_word};
@@ -27,10 +27,10 @@ pub struct MainLine<'g, 'a> {
 
 impl<'g, 'a> Model for MainLine<'g, 'a> {
     ghost use Rattle.std.specs.Prelude.{◌+◌, ◌<◌, ◌^◌, length, map};
-    ghost use Rattle.pgn_text.specs.Elements.{item_of};
-    ghost use Rattle.pgn_game.specs.Codes.{coded_played_line};
-    ghost use Rattle.pgn_game.specs.MainLines.{main_words};
-    ghost use Rattle.pgn_game.specs.PlayedLines.{PlayedLine};
+    ghost use Rattle.pgn_text.specs.Public.Elements.{item_of};
+    ghost use Rattle.pgn_game.specs.Private.Codes.{coded_played_line};
+    ghost use Rattle.pgn_game.specs.Public.MainLines.{main_words};
+    ghost use Rattle.pgn_game.specs.Public.PlayedLines.{PlayedLine};
 
     ghost Value = { PlayedLine };
 

@@ -1,12 +1,12 @@
 //! Replay of a game.
 ghost use Rattle.std.specs.Prelude.{MatchResult, IfSome, IsTrue, map};
-ghost use Rattle.pgn_text.specs.Elements.{item_of};
-ghost use Rattle.pgn_text.specs.GameTexts.{tag_in};
-ghost use Rattle.pgn_game.specs.Starts.{fen_tag};
-ghost use Rattle.pgn_game.specs.Faults.{IsFault};
-ghost use Rattle.pgn_game.specs.LineWalks.{IsFlat};
-ghost use Rattle.pgn_game.specs.Openings.{IsOpening};
-ghost use Rattle.pgn_game.specs.Replays.{IsReplay, IsSoundGame, HasPlies, fault_of};
+ghost use Rattle.pgn_text.specs.Public.Elements.{item_of};
+ghost use Rattle.pgn_text.specs.Public.GameTexts.{tag_in};
+ghost use Rattle.pgn_game.specs.Public.Starts.{fen_tag};
+ghost use Rattle.pgn_game.specs.Public.Faults.{IsFault};
+ghost use Rattle.pgn_game.specs.Private.LineWalks.{IsFlat};
+ghost use Rattle.pgn_game.specs.Public.Openings.{IsOpening};
+ghost use Rattle.pgn_game.specs.Public.Replays.{IsReplay, IsSoundGame, HasPlies, fault_of};
 ghost use Rattle.pgn_game.specs.declared.replays.replayer.Lines.TheVariants.{All, Main};
 
 use crate::replays::all_lines::play_all_lines;

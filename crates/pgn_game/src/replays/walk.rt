@@ -1,14 +1,14 @@
 //! One walk over the lines of a game, with a visitor of its steps.
 ghost use Rattle.std.specs.Prelude.{◌≡◌, Bool, ◌+◌, ◌≤◌, ◌<◌, ◌∷◌, ◌++◌, ℕ, List, [], map, MatchResult, IfErr, IfSome, OnOk};
-ghost use Rattle.pgn_text.specs.Elements.{item_of};
-ghost use Rattle.pgn_text.specs.GameTexts.{IsPaired};
-ghost use Rattle.pgn_text.specs.Games.{Item};
-ghost use Rattle.pgn_game.specs.AllLines.{ArePlayed, IsTurn, after_turn};
-ghost use Rattle.pgn_game.specs.Faults.{Fault, HaveFault, IsRefusedTurn};
-ghost use Rattle.pgn_game.specs.Replays.{fault_of};
+ghost use Rattle.pgn_text.specs.Public.Elements.{item_of};
+ghost use Rattle.pgn_text.specs.Public.GameTexts.{IsPaired};
+ghost use Rattle.pgn_text.specs.Public.Games.{Item};
+ghost use Rattle.pgn_game.specs.Public.AllLines.{ArePlayed, IsTurn, after_turn};
+ghost use Rattle.pgn_game.specs.Public.Faults.{Fault, HaveFault, IsRefusedTurn};
+ghost use Rattle.pgn_game.specs.Public.Replays.{fault_of};
 ghost use Rattle.pgn_game.specs.declared.replays.walk.Level.{Level};
-ghost use Rattle.pgn_game.specs.LineWalks.{begun, first_level, gone_on, is_inside};
-ghost use Rattle.pgn_game.specs.Steps.{Beside, IsNoMove, LeadsAt, Step, StopsAt, Turned, Visits, Walks, WalksOn, around, shown_if, shown_items, IsWithin};
+ghost use Rattle.pgn_game.specs.Private.LineWalks.{begun, first_level, gone_on, is_inside};
+ghost use Rattle.pgn_game.specs.Private.Steps.{Beside, IsNoMove, LeadsAt, Step, StopsAt, Turned, Visits, Walks, WalksOn, around, shown_if, shown_items, IsWithin};
 
 use crate::replays::line_stack::LineStack;
 use crate::turns::fault::GameFault;

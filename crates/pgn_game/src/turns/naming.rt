@@ -1,10 +1,10 @@
 //! The move that a word names.
 ghost use Rattle.std.specs.Prelude.{◌≡◌, ◌+◌, ℕ, MatchResult, IfSome};
-ghost use Rattle.chess.specs.Moves.{after};
-ghost use Rattle.chess.specs.Positions.{State};
-ghost use Rattle.chess.specs.San.{IsOnlyNamed, IsSan};
-ghost use Rattle.pgn_game.specs.Faults.{IsRefusedWord, NamesNone, NamesSeveral};
-ghost use Rattle.pgn_game.specs.Replays.{fault_of};
+ghost use Rattle.chess.specs.Public.Moves.{after};
+ghost use Rattle.chess.specs.Public.Positions.{State};
+ghost use Rattle.chess.specs.Public.San.{IsOnlyNamed, IsSan};
+ghost use Rattle.pgn_game.specs.Public.Faults.{IsRefusedWord, NamesNone, NamesSeveral};
+ghost use Rattle.pgn_game.specs.Public.Replays.{fault_of};
 ghost use Rattle.chess.specs.declared.move_text.SanError.{SanError};
 
 use crate::turns::fault::GameFault;

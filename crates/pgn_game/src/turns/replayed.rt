@@ -1,8 +1,8 @@
 //! A game that is replayed.
 ghost use Rattle.std.specs.Prelude.{◌≡◌, ◌+◌, ◌<◌, ◌≤◌, length, Some};
 ghost use Rattle.std.specs.List.{slice_get};
-ghost use Rattle.pgn_game.specs.Codes.{coded_replay};
-ghost use Rattle.pgn_game.specs.Replays.{Replay};
+ghost use Rattle.pgn_game.specs.Private.Codes.{coded_replay};
+ghost use Rattle.pgn_game.specs.Public.Replays.{Replay};
 
 use crate::turns::line_move::LineMove;
 use chess::{Bits, Move, Position};

@@ -1,9 +1,9 @@
 //! What a word says where it stands: a pass, or the move that it names.
 ghost use Rattle.std.specs.Prelude.{◌≡◌, ◌+◌, ◌&&◌, ℕ, MatchResult, IfSome};
-ghost use Rattle.chess.specs.San.{IsOnlyNamed};
-ghost use Rattle.pgn_game.specs.AllLines.{is_pass};
-ghost use Rattle.pgn_game.specs.Faults.{IsRefusedWord};
-ghost use Rattle.pgn_game.specs.Replays.{fault_of};
+ghost use Rattle.chess.specs.Public.San.{IsOnlyNamed};
+ghost use Rattle.pgn_game.specs.Public.AllLines.{is_pass};
+ghost use Rattle.pgn_game.specs.Public.Faults.{IsRefusedWord};
+ghost use Rattle.pgn_game.specs.Public.Replays.{fault_of};
 
 use crate::turns::fault::GameFault;
 use crate::turns::naming::refused;

@@ -1,11 +1,11 @@
 //! The position from which a game starts.
 ghost use Rattle.std.specs.Prelude.{◌≡◌, Some, MatchResult, IfOk, IfSome};
-ghost use Rattle.pgn_text.specs.Elements.{tags_of};
-ghost use Rattle.pgn_text.specs.GameTexts.{HoldStrings, tag_in};
-ghost use Rattle.pgn_text.specs.Strings.{IsContents};
-ghost use Rattle.pgn_game.specs.Starts.{fen_tag, IsStart, IsBadStart, IsValueOf};
-ghost use Rattle.pgn_game.specs.Faults.{BadStart};
-ghost use Rattle.pgn_game.specs.Replays.{fault_of};
+ghost use Rattle.pgn_text.specs.Public.Elements.{tags_of};
+ghost use Rattle.pgn_text.specs.Public.GameTexts.{HoldStrings, tag_in};
+ghost use Rattle.pgn_text.specs.Public.Strings.{IsContents};
+ghost use Rattle.pgn_game.specs.Public.Starts.{fen_tag, IsStart, IsBadStart, IsValueOf};
+ghost use Rattle.pgn_game.specs.Public.Faults.{BadStart};
+ghost use Rattle.pgn_game.specs.Public.Replays.{fault_of};
 
 use crate::turns::fault::GameFault;
 use crate::turns::replayed::GamePosition;

@@ -1,14 +1,14 @@
 //! The place where the bytes of a block agree with no game any more.
 
 ghost use Rattle.std.specs.Prelude.{◌≡◌, ◌+◌, ◌<◌, ◌≤◌, ◌↔◌, length, take, drop, true, IsTrue};
-ghost use Rattle.pgn_text.specs.ErrorPosition.{FrontWithin, IsReached};
-ghost use Rattle.pgn_text.specs.Bytes.{is_check_mark};
-ghost use Rattle.pgn_text.specs.Limits.{depth_limit};
-ghost use Rattle.pgn_text.specs.PartFronts.{Longest, IsPartFront, IsTagFront, IsWordFront, NoneFollows, front_length, is_glyph_front, next_in, no_byte};
-ghost use Rattle.pgn_text.specs.Parts.{standing_of};
-ghost use Rattle.pgn_text.specs.StopPlaces.{StandsWithin, tag_name_of};
-ghost use Rattle.pgn_text.specs.Stops.{IsErrorPosition};
-ghost use Rattle.pgn_text.specs.Tokens.{state_of};
+ghost use Rattle.pgn_text.specs.Private.ErrorPosition.{FrontWithin, IsReached};
+ghost use Rattle.pgn_text.specs.Public.Bytes.{is_check_mark};
+ghost use Rattle.pgn_text.specs.Public.Limits.{depth_limit};
+ghost use Rattle.pgn_text.specs.Private.PartFronts.{Longest, IsPartFront, IsTagFront, IsWordFront, NoneFollows, front_length, is_glyph_front, next_in, no_byte};
+ghost use Rattle.pgn_text.specs.Public.Parts.{standing_of};
+ghost use Rattle.pgn_text.specs.Public.StopPlaces.{StandsWithin, tag_name_of};
+ghost use Rattle.pgn_text.specs.Public.Stops.{IsErrorPosition};
+ghost use Rattle.pgn_text.specs.Private.Tokens.{state_of};
 ghost use Rattle.pgn_text.specs.declared.error.error_position.InTag.TheVariants.{BeforeName};
 
 use crate::game::progress::Progress;

@@ -1,9 +1,9 @@
 //! Where in a block an element or a tag of a game stands.
 
 ghost use Rattle.std.specs.Prelude.{◌≡◌, ◌≤◌, length, is_some};
-ghost use Rattle.pgn_text.specs.PartPlaces.{IsElementPlace, IsTagPlace};
-ghost use Rattle.pgn_text.specs.Reading.{items_of_kept, named_kept};
-ghost use Rattle.pgn_text.specs.Tokens.{token_of};
+ghost use Rattle.pgn_text.specs.Public.PartPlaces.{IsElementPlace, IsTagPlace};
+ghost use Rattle.pgn_text.specs.Private.Reading.{items_of_kept, named_kept};
+ghost use Rattle.pgn_text.specs.Private.Tokens.{token_of};
 
 use crate::lex::place::part_at;
 use crate::lex::token::Token;

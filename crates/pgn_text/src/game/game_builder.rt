@@ -2,11 +2,11 @@
 
 ghost use Rattle.std.specs.Prelude.{◌≡◌, ◌++◌, ℕ, List, [], None, IfOk, OnOk, map};
 ghost use Rattle.std.specs.Option.{option_or};
-ghost use Rattle.pgn_text.specs.Elements.{item_of};
-ghost use Rattle.pgn_text.specs.TagOrder.{AreOrdered, tag_at};
-ghost use Rattle.pgn_text.specs.Games.{single_mark as glyph_of_mark, double_mark as glyph_of_two, glyphs_of_marks};
-ghost use Rattle.pgn_text.specs.Reading.{KeptTag, items_of_kept, named_kept};
-ghost use Rattle.pgn_text.specs.Tokens.{token_of};
+ghost use Rattle.pgn_text.specs.Public.Elements.{item_of};
+ghost use Rattle.pgn_text.specs.Private.TagOrder.{AreOrdered, tag_at};
+ghost use Rattle.pgn_text.specs.Public.Games.{single_mark as glyph_of_mark, double_mark as glyph_of_two, glyphs_of_marks};
+ghost use Rattle.pgn_text.specs.Private.Reading.{KeptTag, items_of_kept, named_kept};
+ghost use Rattle.pgn_text.specs.Private.Tokens.{token_of};
 
 use crate::game::Element;
 use crate::lex::token::Token;

@@ -30,7 +30,7 @@ pub struct Games<'a> {
 
 impl<'a> Model for Games<'a> {
     ghost use Rattle.std.specs.Prelude.{◌≤◌, length};
-    ghost use Rattle.pgn_text.specs.Left.{Left};
+    ghost use Rattle.pgn_text.specs.Public.Left.{Left};
 
     ghost Value = { Left };
 
@@ -56,8 +56,8 @@ impl<'a> Games<'a> {
 impl<'a> Iterator for Games<'a> {
     ghost use Rattle.std.specs.Iterator.{at_most};
     ghost use Rattle.std.specs.Prelude.{◌-◌, length};
-    ghost use Rattle.pgn_text.specs.Left.{GivesPiece};
-    ghost use Rattle.pgn_text.specs.Limits.{depth_limit};
+    ghost use Rattle.pgn_text.specs.Public.Left.{GivesPiece};
+    ghost use Rattle.pgn_text.specs.Public.Limits.{depth_limit};
 
     type Item = Result<Piece<'a>, AllocError>;
 
@@ -110,7 +110,7 @@ pub struct Marks<'a> {
 
 impl<'a> Model for Marks<'a> {
     ghost use Rattle.std.specs.Prelude.{◌≤◌, false, length};
-    ghost use Rattle.pgn_text.specs.Left.{Left};
+    ghost use Rattle.pgn_text.specs.Public.Left.{Left};
 
     ghost Value = { Left };
 
@@ -134,8 +134,8 @@ impl<'a> Marks<'a> {
 impl<'a> Iterator for Marks<'a> {
     ghost use Rattle.std.specs.Iterator.{at_most};
     ghost use Rattle.std.specs.Prelude.{◌-◌, length};
-    ghost use Rattle.pgn_text.specs.LeftMarks.{GivesMark};
-    ghost use Rattle.pgn_text.specs.Limits.{depth_limit};
+    ghost use Rattle.pgn_text.specs.Public.LeftMarks.{GivesMark};
+    ghost use Rattle.pgn_text.specs.Public.Limits.{depth_limit};
 
     type Item = PieceStart;
 

@@ -1,8 +1,8 @@
 //! What has to be remembered of the parts of a game that were read.
 
 ghost use Rattle.std.specs.Prelude.{◌≡◌, ◌↔◌, false, true, IsTrue};
-ghost use Rattle.pgn_text.specs.Limits.{depth_limit};
-ghost use Rattle.pgn_text.specs.Reading.{KeptOpen, KeptClose, step_kept};
+ghost use Rattle.pgn_text.specs.Public.Limits.{depth_limit};
+ghost use Rattle.pgn_text.specs.Private.Reading.{KeptOpen, KeptClose, step_kept};
 
 use crate::io::limits::MAX_DEPTH;
 use crate::lex::token::Token;
@@ -19,8 +19,8 @@ pub(crate) struct Progress {
 }
 
 impl Progress {
-    ghost use Rattle.pgn_text.specs.Steps.{start as start_state, in_movetext, Steps};
-    ghost use Rattle.pgn_text.specs.Tokens.{state_of, token_of};
+    ghost use Rattle.pgn_text.specs.Private.Steps.{start as start_state, in_movetext, Steps};
+    ghost use Rattle.pgn_text.specs.Private.Tokens.{state_of, token_of};
 
     /// Before the first part.
     pub(crate) fn start() -> Self

@@ -3,13 +3,13 @@ ghost use Rattle.std.specs.Prelude.{◌≡◌, ◌≢◌, ◌↔◌, ◌⊎◌, 
 ghost use Rattle.std.specs.Borrow.{sem};
 ghost use Rattle.std.specs.Io.BufRead.{Rests};
 ghost use Rattle.std.specs.Io.KnownBytes.{IsAtEnd};
-ghost use Rattle.pgn_text.specs.Cuts.{is_cut};
-ghost use Rattle.pgn_text.specs.Held.{IsOccupiedBy};
-ghost use Rattle.pgn_text.specs.Limits.{block_limit, largest_offset, window_limit};
-ghost use Rattle.pgn_text.specs.Phases.{is_failed, is_ended, is_over};
-ghost use Rattle.pgn_text.specs.Searches.{FindsCut, FindsMore, FindsEnd, FailsFrom, GivesUp, StepGives};
-ghost use Rattle.pgn_text.specs.Tallies.{Reads};
-ghost use Rattle.pgn_text.specs.Windows.{EndsIn, HoldsTheRest, IsBlock, Gives, fresh_window};
+ghost use Rattle.pgn_text.specs.Private.Cuts.{is_cut};
+ghost use Rattle.pgn_text.specs.Private.Held.{IsOccupiedBy};
+ghost use Rattle.pgn_text.specs.Public.Limits.{block_limit, largest_offset, window_limit};
+ghost use Rattle.pgn_text.specs.Private.Phases.{is_failed, is_ended, is_over};
+ghost use Rattle.pgn_text.specs.Private.Searches.{FindsCut, FindsMore, FindsEnd, FailsFrom, GivesUp, StepGives};
+ghost use Rattle.pgn_text.specs.Public.Tallies.{Reads};
+ghost use Rattle.pgn_text.specs.Public.Windows.{EndsIn, HoldsTheRest, IsBlock, Gives, fresh_window};
 ghost use Rattle.pgn_text.specs.contracts.io.blocks.Blocks.{the_row};
 
 use crate::io::buffer::Buffer;
@@ -103,9 +103,9 @@ pub struct Blocks {
 
 impl Model for Blocks {
     ghost use Rattle.std.specs.Prelude.{take, drop};
-    ghost use Rattle.pgn_text.specs.Phases.{is_failed, is_ended, is_over};
-    ghost use Rattle.pgn_text.specs.Held.{IsOccupiedBy};
-    ghost use Rattle.pgn_text.specs.Windows.{Window};
+    ghost use Rattle.pgn_text.specs.Private.Phases.{is_failed, is_ended, is_over};
+    ghost use Rattle.pgn_text.specs.Private.Held.{IsOccupiedBy};
+    ghost use Rattle.pgn_text.specs.Public.Windows.{Window};
 
     ghost Value = { Window };
 

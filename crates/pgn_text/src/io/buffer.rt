@@ -1,6 +1,6 @@
 //! Bytes that are held, with room after them for those that a read gives.
 ghost use Rattle.std.specs.Prelude.{◌≡◌, ◌≢◌, ◌↔◌, ℕ, ◌+◌, ◌^◌, ◌<◌, ◌≤◌, true, false, List, [], ◌++◌, length, take, drop, vec_len, IfOk, IfErr, IsErrOf, OnOk};
-ghost use Rattle.pgn_text.specs.Tallies.{AppendsRead, Reads};
+ghost use Rattle.pgn_text.specs.Public.Tallies.{AppendsRead, Reads};
 
 use crate::io::blocks::ReadError;
 use crate::io::limits::WINDOW_LIMIT;

@@ -2,7 +2,7 @@
 ghost use Rattle.std.specs.Prelude.{◌≡◌, ◌≤◌, ◌||◌, Bool, true, false, IfOk, is_ok, is_err};
 ghost use Rattle.std.specs.Io.{ReadsAtMost, WritesAtMost};
 ghost use Rattle.std.specs.Io.KnownBytes.{ConsumesCount, Keeps, ReadConsumes, WriteAppends};
-ghost use Rattle.pgn_text.specs.Tallies.{Tallied, moved_by, takes_nothing};
+ghost use Rattle.pgn_text.specs.Public.Tallies.{Tallied, moved_by, takes_nothing};
 
 use crate::io::skip::Skip;
 use std::io;

@@ -1,8 +1,8 @@
 //! Classes of bytes, and the longest front of a text within one.
 
 ghost use Rattle.std.specs.Prelude.{◌≡◌, ◌≤◌, not, length, position};
-ghost use Rattle.pgn_text.specs.Bytes.{is_plain as is_plain_byte, run_of, after_run};
-ghost use Rattle.pgn_text.specs.Tokens.{flag_of, test_of, RunTo};
+ghost use Rattle.pgn_text.specs.Public.Bytes.{is_plain as is_plain_byte, run_of, after_run};
+ghost use Rattle.pgn_text.specs.Private.Tokens.{flag_of, test_of, RunTo};
 
 /// A class of bytes.
 #[derive(Clone, Copy)]

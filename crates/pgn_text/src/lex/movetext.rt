@@ -1,10 +1,10 @@
 //! Plain movetext: moves, move numbers with a period, and white space, one after the other.
 
 ghost use Rattle.std.specs.Prelude.{◌≡◌, ◌<◌, ◌≤◌, ◌+◌, true, Bool, length, get_or, MatchOption};
-ghost use Rattle.pgn_text.specs.Bytes.{is_digit, is_letter};
-ghost use Rattle.pgn_text.specs.Movetext.{PlainTo};
-ghost use Rattle.pgn_text.specs.Reading.{KeptGap};
-ghost use Rattle.pgn_text.specs.Walk.{Passes};
+ghost use Rattle.pgn_text.specs.Public.Bytes.{is_digit, is_letter};
+ghost use Rattle.pgn_text.specs.Private.Movetext.{PlainTo};
+ghost use Rattle.pgn_text.specs.Private.Reading.{KeptGap};
+ghost use Rattle.pgn_text.specs.Private.Walk.{Passes};
 
 use crate::lex::class::{ByteClass, is_in, run_end};
 

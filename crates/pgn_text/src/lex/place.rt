@@ -1,10 +1,10 @@
 //! Parts at places of a block.
 
 ghost use Rattle.std.specs.Prelude.{◌≡◌, ◌<◌, ◌≤◌, Bool, length, take, drop, get_or, MatchOption};
-ghost use Rattle.pgn_text.specs.Parts.{is_column_one as is_in_column_one, standing_of};
-ghost use Rattle.pgn_text.specs.Reading.{KeptComment, KeptDot, KeptGap, KeptNumber};
-ghost use Rattle.pgn_text.specs.Tokens.{standing_view, token_of};
-ghost use Rattle.pgn_text.specs.Walk.{KeptAt, Passes, NothingAt, GapPartAt, NoGapPartAt, LongestGapTo};
+ghost use Rattle.pgn_text.specs.Public.Parts.{is_column_one as is_in_column_one, standing_of};
+ghost use Rattle.pgn_text.specs.Private.Reading.{KeptComment, KeptDot, KeptGap, KeptNumber};
+ghost use Rattle.pgn_text.specs.Private.Tokens.{standing_view, token_of};
+ghost use Rattle.pgn_text.specs.Private.Walk.{KeptAt, Passes, NothingAt, GapPartAt, NoGapPartAt, LongestGapTo};
 
 use crate::lex::class::{ByteClass, is_in, run_end};
 use crate::lex::scan::{Found, Standing, gap_part, part};

@@ -1,8 +1,8 @@
 //! The contents of strings.
 
 ghost use Rattle.std.specs.Prelude.{◌↔◌, ◌≤◌, List, length, IsTrue};
-ghost use Rattle.pgn_text.specs.Tokens.{EndsContents};
-ghost use Rattle.pgn_text.specs.Strings.{Sign, IsContents, HasValue};
+ghost use Rattle.pgn_text.specs.Private.Tokens.{EndsContents};
+ghost use Rattle.pgn_text.specs.Public.Strings.{Sign, IsContents, HasValue};
 
 use crate::lex::class::{ByteClass, is_plain, run_end};
 use crate::lex::unquoted::Value;

@@ -1,10 +1,10 @@
 //! The part at the front of a text, one function for each kind.
 
 ghost use Rattle.std.specs.Prelude.{◌≡◌, ◌≤◌, length, drop, if◌then◌else◌, option_map, IfSome, Some, None};
-ghost use Rattle.pgn_text.specs.Bytes.{is_not_line_feed, run_of, after_run};
-ghost use Rattle.pgn_text.specs.Parts.{EscapeLine, Line, number_of};
-ghost use Rattle.pgn_text.specs.Reading.{rest_after, brace_front, mark_front, gap_front, tag_front, is_glyph, glyph_front, game_front, part_front, kept_found};
-ghost use Rattle.pgn_text.specs.Tokens.{found_of, glyph_of, now_of, standing_view};
+ghost use Rattle.pgn_text.specs.Public.Bytes.{is_not_line_feed, run_of, after_run};
+ghost use Rattle.pgn_text.specs.Public.Parts.{EscapeLine, Line, number_of};
+ghost use Rattle.pgn_text.specs.Private.Reading.{rest_after, brace_front, mark_front, gap_front, tag_front, is_glyph, glyph_front, game_front, part_front, kept_found};
+ghost use Rattle.pgn_text.specs.Private.Tokens.{found_of, glyph_of, now_of, standing_view};
 
 use crate::lex::class::{ByteClass, is_in, run, run_end};
 use crate::lex::tag::tag_at;

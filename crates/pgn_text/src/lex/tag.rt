@@ -1,8 +1,8 @@
 //! Tags at places of a block.
 
 ghost use Rattle.std.specs.Prelude.{◌≡◌, ◌+◌, ◌<◌, ◌≤◌, length, drop, option_map, IfSome, Some, None, MatchBool};
-ghost use Rattle.pgn_text.specs.Reading.{kept_found, rest_after, tag_front};
-ghost use Rattle.pgn_text.specs.Tokens.{tag_of};
+ghost use Rattle.pgn_text.specs.Private.Reading.{kept_found, rest_after, tag_front};
+ghost use Rattle.pgn_text.specs.Private.Tokens.{tag_of};
 
 use crate::lex::class::{ByteClass, run_end};
 use crate::lex::quoted::contents_end;

@@ -1,8 +1,8 @@
 //! The fields after the men of a text in Forsyth-Edwards notation (PGN 16.1.3.2 to 16.1.3.6).
 ghost use Rattle.std.specs.Prelude.{◌≡◌, ◌≢◌, ◌⊎◌, ◌↔◌, ℕ, Option, [], codes, length, IsTrue, MatchOption};
 ghost use Rattle.std.specs.List.{list_all};
-ghost use Rattle.chess.specs.Squares.{Place};
-ghost use Rattle.chess.specs.Fen.{side_text, has_byte, is_distinct, is_right_letter, GivesRights, GivesEnPassant, is_digit, number_from, IsCount, GiveCounts, fields_of};
+ghost use Rattle.chess.specs.Public.Squares.{Place};
+ghost use Rattle.chess.specs.Public.Fen.{side_text, has_byte, is_distinct, is_right_letter, GivesRights, GivesEnPassant, is_digit, number_from, IsCount, GiveCounts, fields_of};
 ghost use Rattle.chess.specs.declared.board.man.Side.{Side};
 ghost use Rattle.chess.specs.declared.board.man.CastlingRights.{CastlingRights};
 

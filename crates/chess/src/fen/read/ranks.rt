@@ -1,10 +1,10 @@
 //! The men of a text in Forsyth-Edwards notation (PGN 16.1.3.1).
 ghost use Rattle.std.specs.Prelude.{◌≡◌, ◌⊎◌, ◌<◌, ◌≤◌, ℕ, List, Option, None, length, replicate, MatchOption, IfSome};
-ghost use Rattle.chess.specs.Squares.{Place};
-ghost use Rattle.chess.specs.Placements.{Placement, man_at};
-ghost use Rattle.chess.specs.Letters.{man_letter};
-ghost use Rattle.chess.specs.Fen.{IsSquares, SpellsRank, SpellRanks, SpellsMen, parted_at, row};
-ghost use Rattle.chess.specs.FenWords.{IsRow, IsByteOf};
+ghost use Rattle.chess.specs.Public.Squares.{Place};
+ghost use Rattle.chess.specs.Public.Placements.{Placement, man_at};
+ghost use Rattle.chess.specs.Public.Letters.{man_letter};
+ghost use Rattle.chess.specs.Public.Fen.{IsSquares, SpellsRank, SpellRanks, SpellsMen, parted_at, row};
+ghost use Rattle.chess.specs.Private.FenWords.{IsRow, IsByteOf};
 ghost use Rattle.chess.specs.declared.board.man.Man.{Man};
 
 use crate::board::{Board, Man, Side, Square};

@@ -1,10 +1,10 @@
 //! What is kept of the rights and the en passant square of a text, and what may be wrong with its men.
 ghost use Rattle.std.specs.Prelude.{◌≡◌, ◌↔◌, true, Some, IsTrue, MatchOption};
-ghost use Rattle.chess.specs.Squares.{Place, IsOnBoard};
-ghost use Rattle.chess.specs.Placements.{man_at};
-ghost use Rattle.chess.specs.Positions.{has_right, IsOnlyKing, FitsEnPassant};
-ghost use Rattle.chess.specs.Fen.{AreAtHome};
-ghost use Rattle.chess.specs.FenWords.{IsEdgePawn};
+ghost use Rattle.chess.specs.Public.Squares.{Place, IsOnBoard};
+ghost use Rattle.chess.specs.Public.Placements.{man_at};
+ghost use Rattle.chess.specs.Public.Positions.{has_right, IsOnlyKing, FitsEnPassant};
+ghost use Rattle.chess.specs.Public.Fen.{AreAtHome};
+ghost use Rattle.chess.specs.Private.FenWords.{IsEdgePawn};
 ghost use Rattle.chess.specs.declared.board.man.Side.{Side};
 ghost use Rattle.chess.specs.declared.board.man.Wing.{Wing};
 

@@ -1,10 +1,10 @@
 //! The men that may make the move that a text says, whether or not their king is then attacked.
 ghost use Rattle.std.specs.Prelude.{◌≡◌, ◌≢◌, ◌↔◌, IfSome, IsTrue, MatchOption, true};
-ghost use Rattle.chess.specs.Squares.{Place, IsOnBoard};
-ghost use Rattle.chess.specs.San.{kind_said};
-ghost use Rattle.chess.specs.SanWords.{said_by, IsAsked, ChangesFile, IsCandidate};
-ghost use Rattle.chess.specs.MoveWords.{IsMover, IsStepper, IsTaker, CanStepOver};
-ghost use Rattle.chess.specs.Sets.{is_in, HoldsExactly};
+ghost use Rattle.chess.specs.Public.Squares.{Place, IsOnBoard};
+ghost use Rattle.chess.specs.Public.San.{kind_said};
+ghost use Rattle.chess.specs.Private.SanWords.{said_by, IsAsked, ChangesFile, IsCandidate};
+ghost use Rattle.chess.specs.Private.MoveWords.{IsMover, IsStepper, IsTaker, CanStepOver};
+ghost use Rattle.chess.specs.Public.Sets.{is_in, HoldsExactly};
 ghost use Rattle.chess.specs.declared.board.man.Kind.TheVariants.{Pawn};
 
 use crate::board::{Board, Kind, Man, Square, SquareSet};

@@ -1,7 +1,7 @@
 //! What a move text says, read from its end (PGN 8.2.3).
 ghost use Rattle.std.specs.Prelude.{◌≡◌, ◌↔◌, ◌⊎◌, reverse, Some, None, IfSome, MatchOption, IsTrue};
-ghost use Rattle.chess.specs.San.{IsCastlingText};
-ghost use Rattle.chess.specs.SanWords.{IsReadSaid, SaysPlainly, SaysPawnTakes, IsBeforeMarks, IsWholeLetter, IsCastlingStem, kind_given, number_given, kind_of, is_of, last_of, before_last, unmarked, before_equals, stem, after_target_rank, after_sign, after_rank, after_file};
+ghost use Rattle.chess.specs.Public.San.{IsCastlingText};
+ghost use Rattle.chess.specs.Private.SanWords.{IsReadSaid, SaysPlainly, SaysPawnTakes, IsBeforeMarks, IsWholeLetter, IsCastlingStem, kind_given, number_given, kind_of, is_of, last_of, before_last, unmarked, before_equals, stem, after_target_rank, after_sign, after_rank, after_file};
 ghost use Rattle.chess.specs.declared.board.man.Wing.{Wing};
 ghost use Rattle.chess.specs.declared.move_text.read.parse.ByteClass.TheVariants.{Digit, FileLetter, PromotionLetter};
 

@@ -1,5 +1,5 @@
 use Rattle.std.proofs.Common.{map, sym, subst}
-use Rattle.pgn_criteria.specs.Stages.{AreMirrored, seen}
+use Rattle.pgn_criteria.specs.Private.Stages.{AreMirrored, seen}
 use Rattle.pgn_criteria.proofs.alternative.mirrored_form.Goals as goal
 
 pub returns : goal.returns

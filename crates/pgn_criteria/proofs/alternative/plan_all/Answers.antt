@@ -1,6 +1,6 @@
 use Rattle.std.proofs.Common.{◌≡◌, ◌+◌, ◌∷◌, [], ℕ, List, Vec, Global, true, length, map, drop, subst, sym, ap, ◌∙◌, arith}
 use Rattle.std.proofs.Math.Seq.{drop-length}
-use Rattle.pgn_criteria.specs.Stages.{OfPattern, AllOfPatterns, seen, stage_of}
+use Rattle.pgn_criteria.specs.Private.Stages.{OfPattern, AllOfPatterns, seen, stage_of}
 use Rattle.pgn_criteria.specs.declared.meets.Stage.TheVariants.{Squares}
 use Rattle.pgn_criteria.specs.declared.condition.Condition.{Condition}
 use Rattle.pgn_criteria.proofs.MeetFacts.{alternatives_from}

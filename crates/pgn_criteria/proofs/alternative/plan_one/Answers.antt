@@ -1,5 +1,5 @@
 use Rattle.std.proofs.Common.{true, false, refl, ap}
-use Rattle.pgn_criteria.specs.Stages.{claim_seen}
+use Rattle.pgn_criteria.specs.Private.Stages.{claim_seen}
 use Rattle.pgn_criteria.specs.declared.condition.Claim.TheVariants.{Fen, Flip}
 use Rattle.pgn_criteria.proofs.PlanFacts.{planned_claim}
 use Rattle.pgn_criteria.proofs.alternative.plan_one.Goals as goal

@@ -1,8 +1,8 @@
 use Rattle.std.proofs.Common.{◌↔◌, Bool, IsTrue, drop, map}
-use Rattle.chess.specs.Placements.{Placement}
+use Rattle.chess.specs.Public.Placements.{Placement}
 use Rattle.chess.specs.declared.board.man.Side.{Side}
-use Rattle.pgn_criteria.specs.ByMarks.{has_marks}
-use Rattle.pgn_criteria.specs.Stages.{AllSaid, AreFreeOfMoves, seen}
+use Rattle.pgn_criteria.specs.Public.ByMarks.{has_marks}
+use Rattle.pgn_criteria.specs.Private.Stages.{AllSaid, AreFreeOfMoves, seen}
 use Rattle.pgn_criteria.proofs.by_marks.marks_of_all.Given as goal
 
 abbrev pub invariant-loop-condition : goal.invariant-loop-condition

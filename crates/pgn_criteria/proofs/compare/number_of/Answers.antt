@@ -1,7 +1,7 @@
 use Rattle.std.proofs.Common.{◌≡◌, ap, sym, ◌∙◌, arith}
-use Rattle.pgn_text.specs.Reading.{value_of}
+use Rattle.pgn_text.specs.Private.Reading.{value_of}
 use Rattle.pgn_text.proofs.Values.{one_value}
-use Rattle.pgn_criteria.specs.Numbers.{number_after}
+use Rattle.pgn_criteria.specs.Private.Numbers.{number_after}
 use Rattle.pgn_criteria.proofs.NumberFacts.{number_found, tenfold, digit_small}
 use Rattle.pgn_criteria.proofs.compare.number_of.Goals as goal
 

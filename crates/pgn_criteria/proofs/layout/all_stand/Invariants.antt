@@ -1,5 +1,5 @@
 use Rattle.std.proofs.Common.{◌↔◌, drop}
-use Rattle.pgn_criteria.specs.Layouts.{AllStand}
+use Rattle.pgn_criteria.specs.Private.Layouts.{AllStand}
 use Rattle.pgn_criteria.proofs.layout.all_stand.Given as goal
 
 abbrev pub invariant-loop-asked : goal.invariant-loop-asked

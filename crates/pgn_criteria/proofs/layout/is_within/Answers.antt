@@ -1,5 +1,5 @@
 use Rattle.chess.specs.declared.board.man.Man.{Man}
-use Rattle.pgn_criteria.specs.Layouts.{KindWithin}
+use Rattle.pgn_criteria.specs.Private.Layouts.{KindWithin}
 use Rattle.pgn_criteria.proofs.layout.is_within.Goals as goal
 
 pub returns : goal.returns

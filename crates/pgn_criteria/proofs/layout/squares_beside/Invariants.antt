@@ -1,7 +1,7 @@
 use Rattle.std.proofs.Common.{◌≡◌, ◌<◌, ◌⊎◌, true}
-use Rattle.chess.specs.Squares.{Place, IsOnBoard}
-use Rattle.chess.specs.Sets.{is_in}
-use Rattle.pgn_criteria.specs.Mirrors.{beside}
+use Rattle.chess.specs.Public.Squares.{Place, IsOnBoard}
+use Rattle.chess.specs.Public.Sets.{is_in}
+use Rattle.pgn_criteria.specs.Public.Mirrors.{beside}
 use Rattle.pgn_criteria.proofs.layout.squares_beside.Given as goal
 
 abbrev pub invariant-loop-rank : goal.invariant-loop-rank

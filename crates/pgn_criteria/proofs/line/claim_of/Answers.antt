@@ -1,8 +1,8 @@
 use Rattle.std.proofs.Common.{◌≢◌, ℕ, List}
 use Rattle.std.specs.Prelude.{codes, Option, Some, None, MatchOption}
 use Rattle.chess.specs.declared.board.man.Side.{Side}
-use Rattle.pgn_criteria.specs.Lines.{SpellsClaim}
-use Rattle.pgn_criteria.specs.Stages.{claim_seen}
+use Rattle.pgn_criteria.specs.Public.Lines.{SpellsClaim}
+use Rattle.pgn_criteria.specs.Private.Stages.{claim_seen}
 use Rattle.pgn_criteria.specs.declared.compare.Comparison.{Comparison}
 use Rattle.pgn_criteria.specs.declared.compare.Relation.{Relation}
 use Rattle.pgn_criteria.specs.declared.material.Limits.{Limits}

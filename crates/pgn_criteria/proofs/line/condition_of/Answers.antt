@@ -1,9 +1,9 @@
 use Rattle.std.proofs.Common.{◌≡◌, ◌≢◌, ℕ, Bool, true, false, List, IsTrue, sym, subst}
 use Rattle.std.specs.Prelude.{codes, Option, Some, None, MatchOption}
-use Rattle.pgn_criteria.specs.Lines.{SpellsTaken, SpellsTurned, SpellsCondition}
-use Rattle.pgn_criteria.specs.Mirrors.{can_be_mirrored}
-use Rattle.pgn_criteria.specs.Reading.{run_of, after_word}
-use Rattle.pgn_criteria.specs.Stages.{seen, claim_seen}
+use Rattle.pgn_criteria.specs.Public.Lines.{SpellsTaken, SpellsTurned, SpellsCondition}
+use Rattle.pgn_criteria.specs.Public.Mirrors.{can_be_mirrored}
+use Rattle.pgn_criteria.specs.Private.Reading.{run_of, after_word}
+use Rattle.pgn_criteria.specs.Private.Stages.{seen, claim_seen}
 use Rattle.pgn_criteria.specs.declared.condition.Condition.{Condition}
 use Rattle.pgn_criteria.specs.declared.condition.Claim.{Claim}
 use Rattle.pgn_criteria.proofs.ConditionFacts.{either_read, either_spelled, taken_either}

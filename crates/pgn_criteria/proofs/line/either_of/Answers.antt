@@ -1,6 +1,6 @@
 use Rattle.std.proofs.Common.{◌≡◌, ℕ, true, false, List, sym, ap, ◌∙◌}
-use Rattle.pgn_criteria.specs.Mirrors.{can_be_mirrored}
-use Rattle.pgn_criteria.specs.Stages.{claim_seen}
+use Rattle.pgn_criteria.specs.Public.Mirrors.{can_be_mirrored}
+use Rattle.pgn_criteria.specs.Private.Stages.{claim_seen}
 use Rattle.pgn_criteria.specs.declared.condition.Claim.{Claim}
 use Rattle.pgn_criteria.proofs.EitherFacts.{can_be_seen}
 use Rattle.pgn_criteria.proofs.OneMeaning.{one_taken}

@@ -1,7 +1,7 @@
 use Rattle.std.proofs.Common.{◌≡◌, ℕ, List, sym, subst}
 use Rattle.std.specs.Prelude.{codes, Option, Some, None, MatchOption}
-use Rattle.pgn_criteria.specs.Lines.{SpellsFen, SpellsClaim}
-use Rattle.pgn_criteria.specs.Reading.{run_of, after_word}
+use Rattle.pgn_criteria.specs.Public.Lines.{SpellsFen, SpellsClaim}
+use Rattle.pgn_criteria.specs.Private.Reading.{run_of, after_word}
 use Rattle.pgn_criteria.specs.declared.condition.Claim.TheVariants.{Fen, Flip}
 use Rattle.pgn_criteria.proofs.FenFacts.{flip_read, flip_spelled}
 use Rattle.pgn_criteria.proofs.line.flip_of.Goals as goal

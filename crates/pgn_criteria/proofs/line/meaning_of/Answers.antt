@@ -1,9 +1,9 @@
 use Rattle.std.proofs.Common.{rules, ◌≡◌, ◌≢◌, ℕ, List, sym, ◌∙◌, subst}
 use Rattle.std.specs.Prelude.{codes}
 use Rattle.std.specs.Cmp.Lexicographic.{same_text}
-use Rattle.pgn_criteria.specs.Lines.{IsLine, Spells, SpellsCondition}
-use Rattle.pgn_criteria.specs.Reading.{core_of}
-use Rattle.pgn_criteria.specs.Stages.{seen}
+use Rattle.pgn_criteria.specs.Public.Lines.{IsLine, Spells, SpellsCondition}
+use Rattle.pgn_criteria.specs.Private.Reading.{core_of}
+use Rattle.pgn_criteria.specs.Private.Stages.{seen}
 use Rattle.pgn_criteria.specs.declared.condition.Condition.{Condition}
 use Rattle.pgn_criteria.specs.declared.line.Meaning.{Meaning}
 use Rattle.pgn_criteria.specs.declared.line.Meaning.TheVariants.{Nothing, Or, Asks}

@@ -1,8 +1,8 @@
 use Rattle.std.proofs.Common.{◌≡◌, ◌≢◌, ℕ, Bool, true, false, List, IsTrue, refl, sym, subst}
 use Rattle.std.specs.Prelude.{codes}
-use Rattle.pgn_criteria.specs.Lines.{SpellsClaim, SpellsTaken, can_be_denied}
-use Rattle.pgn_criteria.specs.Reading.{run_of, after_word}
-use Rattle.pgn_criteria.specs.Stages.{claim_seen}
+use Rattle.pgn_criteria.specs.Public.Lines.{SpellsClaim, SpellsTaken, can_be_denied}
+use Rattle.pgn_criteria.specs.Private.Reading.{run_of, after_word}
+use Rattle.pgn_criteria.specs.Private.Stages.{claim_seen}
 use Rattle.pgn_criteria.specs.declared.condition.Claim.{Claim}
 use Rattle.pgn_criteria.proofs.ClaimFacts.{claim_not, not_read, not_spelled}
 use Rattle.pgn_criteria.proofs.line.taken_of.Goals as goal

@@ -1,10 +1,10 @@
 use Rattle.std.proofs.Common.{ℕ, List, length}
 use Rattle.std.specs.List.{AllByRecursion}
 use Rattle.chess.specs.declared.board.man.Side.{Side}
-use Rattle.pgn_game.specs.PlyCodes.{PlyCode}
-use Rattle.pgn_criteria.specs.ByMarks.{NoneMeets, IsNextMet}
-use Rattle.pgn_criteria.specs.Sieves.{codes_in}
-use Rattle.pgn_criteria.specs.Marks.{LacksMarks, Needs}
+use Rattle.pgn_game.specs.Public.PlyCodes.{PlyCode}
+use Rattle.pgn_criteria.specs.Public.ByMarks.{NoneMeets, IsNextMet}
+use Rattle.pgn_criteria.specs.Public.Sieves.{codes_in}
+use Rattle.pgn_criteria.specs.Private.Marks.{LacksMarks, Needs}
 use Rattle.pgn_criteria.proofs.marks.after_eights.Given as goal
 
 abbrev pub invariant-loop-rest : goal.invariant-loop-rest

@@ -1,4 +1,4 @@
-use Rattle.pgn_criteria.specs.Meeting.{heading_of}
+use Rattle.pgn_criteria.specs.Public.Meeting.{heading_of}
 use Rattle.pgn_criteria.proofs.StageFacts.{both_parts, first_part_fails}
 use Rattle.pgn_criteria.proofs.meets.all_hold.Goals as goal
 

@@ -1,5 +1,5 @@
 use Rattle.std.proofs.Common.{◌↔◌, drop, map}
-use Rattle.pgn_criteria.specs.Stages.{AllOfGame, AreGood, seen}
+use Rattle.pgn_criteria.specs.Private.Stages.{AllOfGame, AreGood, seen}
 use Rattle.pgn_criteria.proofs.meets.are_of_game.Given as goal
 
 abbrev pub invariant-loop-condition : goal.invariant-loop-condition

@@ -1,5 +1,5 @@
 use Rattle.std.proofs.Common.{◌↔◌, drop, map}
-use Rattle.pgn_criteria.specs.Stages.{AllOfHeading, AreGood, seen}
+use Rattle.pgn_criteria.specs.Private.Stages.{AllOfHeading, AreGood, seen}
 use Rattle.pgn_criteria.proofs.meets.are_of_heading.Given as goal
 
 abbrev pub invariant-loop-condition : goal.invariant-loop-condition

@@ -1,7 +1,7 @@
 use Rattle.std.proofs.Common.{◌≡◌, IsTrue, subst, inl, inr, arith}
 use Rattle.std.proofs.lemmas.Bool.{cases_lt}
 use Rattle.std.proofs.lemmas.Option.{slice_get_within}
-use Rattle.pgn_criteria.specs.Stages.{FitsAt}
+use Rattle.pgn_criteria.specs.Private.Stages.{FitsAt}
 use Rattle.pgn_criteria.proofs.meets.first_fit.Goals as goal
 
 pub returns-then-fits_at : goal.returns-then-fits_at

@@ -1,6 +1,6 @@
 use Rattle.std.proofs.Common.{◌≡◌, length, take, subst, sym, ap, ◌∙◌, arith}
 use Rattle.std.proofs.Math.Seq.{take-length}
-use Rattle.pgn_criteria.specs.Meeting.{heading_of, Heading, Meets, IsFirst}
+use Rattle.pgn_criteria.specs.Public.Meeting.{heading_of, Heading, Meets, IsFirst}
 use Rattle.pgn_criteria.proofs.MeetFacts.{good_from, alternatives_to}
 use Rattle.pgn_criteria.proofs.meets.first_in.Goals as goal
 

@@ -1,6 +1,6 @@
 use Rattle.std.proofs.Common.{ℕ, List, Option, Some, None}
-use Rattle.pgn_game.specs.Replays.{Replay}
-use Rattle.pgn_criteria.specs.Stages.{FitsAt, FitsAbout, IsFirstBefore, AreNoSpans}
+use Rattle.pgn_game.specs.Public.Replays.{Replay}
+use Rattle.pgn_criteria.specs.Private.Stages.{FitsAt, FitsAbout, IsFirstBefore, AreNoSpans}
 use Rattle.pgn_criteria.specs.declared.condition.Condition.{Condition}
 use Rattle.pgn_criteria.proofs.SpanFacts.{no_spans_hold}
 use Rattle.pgn_criteria.proofs.meets.first_of.Goals as goal

@@ -1,6 +1,6 @@
 use Rattle.std.proofs.Common.{◌↔◌, length}
-use Rattle.chess.specs.Fen.{parted_at}
-use Rattle.pgn_criteria.specs.Meeting.{HasOneOf}
+use Rattle.chess.specs.Public.Fen.{parted_at}
+use Rattle.pgn_criteria.specs.Public.Meeting.{HasOneOf}
 use Rattle.pgn_criteria.proofs.meets.has_one_of.Given as goal
 
 abbrev pub invariant-loop-after : goal.invariant-loop-after

@@ -1,8 +1,8 @@
 use Rattle.std.proofs.Common.{◌≡◌, ◌↔◌, ℕ, List, IsTrue, not, subst, sym}
 use Rattle.std.specs.Bool.{beq}
-use Rattle.chess.specs.Fen.{parted_at}
-use Rattle.pgn_criteria.specs.Meeting.{Heading, HasOneOf}
-use Rattle.pgn_criteria.specs.Stages.{SaysOfGame, claim_seen}
+use Rattle.chess.specs.Public.Fen.{parted_at}
+use Rattle.pgn_criteria.specs.Public.Meeting.{Heading, HasOneOf}
+use Rattle.pgn_criteria.specs.Private.Stages.{SaysOfGame, claim_seen}
 use Rattle.pgn_criteria.proofs.MeetFacts.{reports_taken}
 use Rattle.pgn_criteria.proofs.meets.is_of_game.Goals as goal
 

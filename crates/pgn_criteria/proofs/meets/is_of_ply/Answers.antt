@@ -1,7 +1,7 @@
 use Rattle.std.proofs.Common.{◌↔◌, IsTrue, List, ℕ, not, subst, sym}
 use Rattle.std.specs.Bool.{beq}
-use Rattle.pgn_criteria.specs.MoveTexts.{GoesOnBy, IsReachedBy}
-use Rattle.pgn_criteria.specs.Stages.{SaysOfPly, claim_seen}
+use Rattle.pgn_criteria.specs.Public.MoveTexts.{GoesOnBy, IsReachedBy}
+use Rattle.pgn_criteria.specs.Private.Stages.{SaysOfPly, claim_seen}
 use Rattle.pgn_criteria.proofs.MeetFacts.{reports_taken}
 use Rattle.pgn_criteria.proofs.meets.is_of_ply.Goals as goal
 

@@ -1,5 +1,5 @@
 use Rattle.std.proofs.Common.{map, sym, subst, arith}
-use Rattle.pgn_criteria.specs.Stages.{AllAskWithin, seen, claim_seen}
+use Rattle.pgn_criteria.specs.Private.Stages.{AllAskWithin, seen, claim_seen}
 use Rattle.pgn_criteria.proofs.MeetFacts.{alternatives_from}
 use Rattle.pgn_criteria.proofs.OpeningFacts.{asks_more}
 use Rattle.pgn_criteria.proofs.meets.longest_opening.Goals as goal

@@ -1,5 +1,5 @@
 use Rattle.std.proofs.Common.{◌≤◌, ℕ, drop, map}
-use Rattle.pgn_criteria.specs.Stages.{AllAskWithin, seen}
+use Rattle.pgn_criteria.specs.Private.Stages.{AllAskWithin, seen}
 use Rattle.pgn_criteria.proofs.meets.longest_opening.Given as goal
 
 abbrev pub invariant-loop-condition : goal.invariant-loop-condition

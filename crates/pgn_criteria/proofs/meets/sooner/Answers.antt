@@ -1,7 +1,7 @@
 use Rattle.std.proofs.Common.{◌∷◌, ◌+◌, [], None, Some, subst}
 use Rattle.std.specs.Option.{unwrap_or}
-use Rattle.pgn_criteria.specs.Meeting.{heading_of, Heading, Meets}
-use Rattle.pgn_criteria.specs.Stages.{IsFirstBefore}
+use Rattle.pgn_criteria.specs.Public.Meeting.{heading_of, Heading, Meets}
+use Rattle.pgn_criteria.specs.Private.Stages.{IsFirstBefore}
 use Rattle.pgn_criteria.proofs.StageFacts.{next_best, fits_first, no_first}
 use Rattle.pgn_criteria.proofs.meets.sooner.Goals as goal
 

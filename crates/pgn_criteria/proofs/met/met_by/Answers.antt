@@ -1,7 +1,7 @@
 use Rattle.std.proofs.Common.{◌≡◌, ◌++◌, ◌∷◌, [], Bool, List, length, take, drop, sym, ap, ◌∙◌, subst, arith}
 use Rattle.std.proofs.Math.Seq.{take-length}
 use Rattle.std.proofs.lemmas.List.{take_at}
-use Rattle.pgn_criteria.specs.Meeting.{Heading, AreMet}
+use Rattle.pgn_criteria.specs.Public.Meeting.{Heading, AreMet}
 use Rattle.pgn_criteria.proofs.MeetFacts.{good_from, alternatives_to}
 use Rattle.pgn_criteria.proofs.met.met_by.Goals as goal
 

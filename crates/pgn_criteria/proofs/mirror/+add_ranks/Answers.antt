@@ -1,5 +1,5 @@
 use Rattle.std.proofs.Common.{rules, ◌≡◌, ◌<◌, ◌∷◌, [], OnOk, MatchOption, length, subst}
-use Rattle.chess.specs.Fen.{parted_at}
+use Rattle.chess.specs.Public.Fen.{parted_at}
 use Rattle.pgn_criteria.proofs.MirrorTextFacts.{ranks_added}
 use Rattle.pgn_criteria.proofs.ParseFacts.{part_shorter}
 use Rattle.pgn_criteria.proofs.mirror.+add_ranks.Goals as goal

@@ -1,7 +1,7 @@
 use Rattle.std.proofs.Common.{◌≡◌, ◌+◌, ◌++◌, ◌∷◌, [], ℕ, List, Vec, Global, length, map, take, sym, ap, ◌∙◌, subst, arith}
 use Rattle.std.proofs.lemmas.List.{map-append}
 use Rattle.std.proofs.Math.Seq.{take-length}
-use Rattle.pgn_criteria.specs.Stages.{AreMirrored, seen}
+use Rattle.pgn_criteria.specs.Private.Stages.{AreMirrored, seen}
 use Rattle.pgn_criteria.specs.declared.condition.Condition.{Condition}
 use Rattle.pgn_criteria.proofs.EitherFacts.{mirrored_more}
 use Rattle.pgn_criteria.proofs.MeetFacts.{alternatives_to}

@@ -1,5 +1,5 @@
 use Rattle.std.proofs.Common.{map, take}
-use Rattle.pgn_criteria.specs.Stages.{AreMirrored, seen}
+use Rattle.pgn_criteria.specs.Private.Stages.{AreMirrored, seen}
 use Rattle.pgn_criteria.proofs.mirror.all_mirrored.Given as goal
 
 abbrev pub invariant-loop-condition : goal.invariant-loop-condition

@@ -1,8 +1,8 @@
 use Rattle.std.proofs.Common.{◌≡◌, ℕ, Bool, true, false, List, Vec, Global, refl, sym, ap, ◌∙◌, subst}
 use Rattle.std.specs.Prelude.{◌&&◌}
-use Rattle.pgn_criteria.specs.Meeting.{is_turned}
-use Rattle.pgn_criteria.specs.Mirrors.{can_be_mirrored}
-use Rattle.pgn_criteria.specs.Stages.{IsMirrorOf, seen, claim_seen}
+use Rattle.pgn_criteria.specs.Public.Meeting.{is_turned}
+use Rattle.pgn_criteria.specs.Public.Mirrors.{can_be_mirrored}
+use Rattle.pgn_criteria.specs.Private.Stages.{IsMirrorOf, seen, claim_seen}
 use Rattle.pgn_criteria.specs.declared.condition.Condition.{Condition}
 use Rattle.pgn_criteria.proofs.EitherFacts.{can_be_seen}
 use Rattle.pgn_criteria.proofs.mirror.mirrored.Goals as goal

@@ -1,5 +1,5 @@
 use Rattle.std.proofs.Common.{ℕ, List, sym, subst}
-use Rattle.pgn_criteria.specs.Stages.{IsMirrorOf, claim_seen}
+use Rattle.pgn_criteria.specs.Private.Stages.{IsMirrorOf, claim_seen}
 use Rattle.pgn_criteria.specs.declared.condition.Claim.TheVariants.{Flip, Material}
 use Rattle.pgn_criteria.proofs.EitherFacts.{FitsMirror, flip_mirror, material_mirror}
 use Rattle.pgn_criteria.proofs.mirror.mirrored_claim.Goals as goal

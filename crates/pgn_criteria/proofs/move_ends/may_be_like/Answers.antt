@@ -1,4 +1,4 @@
-use Rattle.pgn_criteria.specs.MoveTexts.{without_marks}
+use Rattle.pgn_criteria.specs.Public.MoveTexts.{without_marks}
 use Rattle.pgn_criteria.proofs.EndFacts.{word_begins, word_ends}
 use Rattle.pgn_criteria.proofs.move_ends.may_be_like.Goals as goal
 

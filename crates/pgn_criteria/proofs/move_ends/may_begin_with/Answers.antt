@@ -1,6 +1,6 @@
 use Rattle.std.proofs.Common.{◌≡◌, ◌⊎◌, None, sym, ◌∙◌, subst, inl, inr, arith}
 use Rattle.std.proofs.lemmas.Bool.Decides.{nat_tests}
-use Rattle.chess.specs.Letters.{file_letter}
+use Rattle.chess.specs.Public.Letters.{file_letter}
 use Rattle.chess.specs.declared.board.man.Kind.TheVariants.{Pawn}
 use Rattle.pgn_criteria.proofs.EndFacts.{Begins, begins_text, no_wing}
 use Rattle.pgn_criteria.proofs.move_ends.may_begin_with.Goals as goal

@@ -1,6 +1,6 @@
 use Rattle.std.proofs.Common.{◌≡◌, ◌⊎◌, None, sym, ◌∙◌, subst, inl, inr, arith}
 use Rattle.std.proofs.lemmas.Bool.Decides.{nat_tests}
-use Rattle.chess.specs.Letters.{kind_letter, rank_digit}
+use Rattle.chess.specs.Public.Letters.{kind_letter, rank_digit}
 use Rattle.pgn_criteria.proofs.EndFacts.{Ends, ends_text, no_wing}
 use Rattle.pgn_criteria.proofs.move_ends.may_end_with.Goals as goal
 

@@ -1,5 +1,5 @@
 use Rattle.std.proofs.Common.{◌↔◌, ◌∙◌, IsTrue, subst}
-use Rattle.pgn_criteria.specs.MoveTexts.{without_marks, IsLike}
+use Rattle.pgn_criteria.specs.Public.MoveTexts.{without_marks, IsLike}
 use Rattle.pgn_criteria.proofs.MoveFacts.{by_like}
 use Rattle.pgn_criteria.proofs.EndFacts.{not_gone_on}
 use Rattle.pgn_criteria.proofs.moves.goes_on_by.Goals as goal

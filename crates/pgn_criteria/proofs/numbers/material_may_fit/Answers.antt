@@ -1,8 +1,8 @@
 use Rattle.std.proofs.Common.{◌⊎◌, inl, inr, subst}
-use Rattle.pgn_criteria.specs.Marks.{SaysOfNumbers}
-use Rattle.pgn_criteria.specs.Materials.{FitsMaterial}
-use Rattle.pgn_criteria.specs.Stages.{claim_seen}
-use Rattle.pgn_criteria.specs.Sieves.{codes_in}
+use Rattle.pgn_criteria.specs.Private.Marks.{SaysOfNumbers}
+use Rattle.pgn_criteria.specs.Public.Materials.{FitsMaterial}
+use Rattle.pgn_criteria.specs.Private.Stages.{claim_seen}
+use Rattle.pgn_criteria.specs.Public.Sieves.{codes_in}
 use Rattle.pgn_criteria.proofs.StandFacts.{nowhere_of, nowhere_either}
 use Rattle.pgn_criteria.proofs.numbers.material_may_fit.Goals as goal
 

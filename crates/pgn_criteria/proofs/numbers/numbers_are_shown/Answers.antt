@@ -1,7 +1,7 @@
 use Rattle.std.proofs.Common.{◌+◌, drop, map}
-use Rattle.pgn_criteria.specs.Sieves.{codes_in}
-use Rattle.pgn_criteria.specs.Marks.{SaysOfNumbers}
-use Rattle.pgn_criteria.specs.Stages.{claim_seen, seen}
+use Rattle.pgn_criteria.specs.Public.Sieves.{codes_in}
+use Rattle.pgn_criteria.specs.Private.Marks.{SaysOfNumbers}
+use Rattle.pgn_criteria.specs.Private.Stages.{claim_seen, seen}
 use Rattle.pgn_criteria.proofs.MarkFacts.{one_material, placed_of}
 use Rattle.pgn_criteria.proofs.MeetFacts.{alternatives_from}
 use Rattle.pgn_criteria.proofs.numbers.numbers_are_shown.Goals as goal

@@ -1,7 +1,7 @@
 use Rattle.std.proofs.Common.{◌≡◌, ◌∷◌, ◌++◌, [], ℕ, List, map, ap, ◌∙◌, Vec, Global}
-use Rattle.pgn_criteria.specs.Lines.{alternatives_of}
-use Rattle.pgn_criteria.specs.Reading.{with_open}
-use Rattle.pgn_criteria.specs.Stages.{seen}
+use Rattle.pgn_criteria.specs.Public.Lines.{alternatives_of}
+use Rattle.pgn_criteria.specs.Private.Reading.{with_open}
+use Rattle.pgn_criteria.specs.Private.Stages.{seen}
 use Rattle.pgn_criteria.specs.declared.condition.Condition.{Condition}
 use Rattle.pgn_criteria.specs.declared.line.Meaning.{Meaning}
 use Rattle.pgn_criteria.specs.declared.line.Meaning.TheVariants.{Or}

@@ -1,6 +1,6 @@
 use Rattle.std.proofs.Common.{◌≡◌, ◌∷◌, ◌++◌, [], ℕ, List, map, sym, ap, ◌∙◌, subst, Vec, Global}
-use Rattle.pgn_criteria.specs.Lines.{SpellsCriteria}
-use Rattle.pgn_criteria.specs.Stages.{seen}
+use Rattle.pgn_criteria.specs.Public.Lines.{SpellsCriteria}
+use Rattle.pgn_criteria.specs.Private.Stages.{seen}
 use Rattle.pgn_criteria.specs.declared.condition.Condition.{Condition}
 use Rattle.pgn_criteria.proofs.ParseFacts.{IsBuilt, built_start, built_next, built_more, built_end, first_part, rest_shorter}
 use Rattle.pgn_criteria.proofs.parse.build.Goals as goal

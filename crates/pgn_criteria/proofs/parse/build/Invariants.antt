@@ -1,5 +1,5 @@
 use Rattle.std.proofs.Common.{length, map}
-use Rattle.pgn_criteria.specs.Stages.{seen}
+use Rattle.pgn_criteria.specs.Private.Stages.{seen}
 use Rattle.pgn_criteria.proofs.ParseFacts.{IsBuilt}
 use Rattle.pgn_criteria.proofs.parse.build.Given as goal
 

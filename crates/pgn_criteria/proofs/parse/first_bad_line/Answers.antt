@@ -1,4 +1,4 @@
-use Rattle.pgn_criteria.specs.Reading.{meaning_seen}
+use Rattle.pgn_criteria.specs.Private.Reading.{meaning_seen}
 use Rattle.pgn_criteria.proofs.ParseFacts.{up_start, up_more, up_bad, up_end, first_part, rest_shorter}
 use Rattle.pgn_criteria.proofs.parse.first_bad_line.Goals as goal
 

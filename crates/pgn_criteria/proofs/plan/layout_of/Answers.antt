@@ -1,6 +1,6 @@
 use Rattle.std.proofs.Common.{subst}
-use Rattle.pgn_criteria.specs.Layouts.{Lays}
-use Rattle.pgn_criteria.specs.Patterns.{FitsPattern}
+use Rattle.pgn_criteria.specs.Private.Layouts.{Lays}
+use Rattle.pgn_criteria.specs.Public.Patterns.{FitsPattern}
 use Rattle.pgn_criteria.proofs.PlanFacts.{laid_whole}
 use Rattle.pgn_criteria.proofs.plan.layout_of.Goals as goal
 

@@ -1,6 +1,6 @@
 use Rattle.std.proofs.Common.{◌≡◌, ◌+◌, ◌∷◌, drop, inl, inr, sym, subst}
-use Rattle.pgn_criteria.specs.Layouts.{Laid}
-use Rattle.pgn_criteria.specs.Planning.{AllEither}
+use Rattle.pgn_criteria.specs.Private.Layouts.{Laid}
+use Rattle.pgn_criteria.specs.Private.Planning.{AllEither}
 use Rattle.pgn_criteria.proofs.MeetFacts.{alternatives_from}
 use Rattle.pgn_criteria.proofs.plan.sieve_of_ways.Goals as goal
 

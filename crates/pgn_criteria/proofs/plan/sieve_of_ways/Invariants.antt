@@ -1,6 +1,6 @@
 use Rattle.std.proofs.Common.{drop}
-use Rattle.chess.specs.Placements.{Placement}
-use Rattle.pgn_criteria.specs.Planning.{AllEither}
+use Rattle.chess.specs.Public.Placements.{Placement}
+use Rattle.pgn_criteria.specs.Private.Planning.{AllEither}
 use Rattle.pgn_criteria.proofs.plan.sieve_of_ways.Given as goal
 
 abbrev pub invariant-loop-ways : goal.invariant-loop-ways

@@ -1,5 +1,5 @@
 use Rattle.std.proofs.Common.{◌↔◌, ◌<◌, ◌^◌, ℕ}
-use Rattle.pgn_criteria.specs.Items.{Has, IsAfter}
+use Rattle.pgn_criteria.specs.Private.Items.{Has, IsAfter}
 use Rattle.pgn_criteria.proofs.rank.advance.Given as goal
 
 abbrev pub invariant-loop-place : goal.invariant-loop-place

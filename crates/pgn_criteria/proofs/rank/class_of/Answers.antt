@@ -1,6 +1,6 @@
 use Rattle.std.proofs.Common.{◌∷◌, ◌++◌, [], sym, subst}
-use Rattle.pgn_criteria.specs.Patterns.{AreMen}
-use Rattle.pgn_criteria.specs.Items.{Reads}
+use Rattle.pgn_criteria.specs.Public.Patterns.{AreMen}
+use Rattle.pgn_criteria.specs.Private.Items.{Reads}
 use Rattle.pgn_criteria.specs.declared.rank.SquareTest.TheVariants.{Among, Other}
 use Rattle.pgn_criteria.specs.declared.rank.Item.TheVariants.{Run}
 use Rattle.pgn_criteria.proofs.SetFacts.{among_read, other_read, no_set, same_after}

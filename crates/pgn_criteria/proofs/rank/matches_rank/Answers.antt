@@ -1,8 +1,8 @@
 use Rattle.std.proofs.Common.{◌≡◌, ◌≢◌, [], length, true, false, sym, ap, ◌∙◌, arith}
 use Rattle.std.specs.Prelude.{◌==◌}
 use Rattle.chess.proofs.RestFacts.{no_length}
-use Rattle.pgn_criteria.specs.Patterns.{CanBeSplit}
-use Rattle.pgn_criteria.specs.Items.{items_of}
+use Rattle.pgn_criteria.specs.Public.Patterns.{CanBeSplit}
+use Rattle.pgn_criteria.specs.Private.Items.{items_of}
 use Rattle.pgn_criteria.proofs.PlaceFacts.{at_start, item_kept, no_item_fails, none_fails, whole_reached}
 use Rattle.pgn_criteria.proofs.rank.matches_rank.Goals as goal
 

@@ -1,7 +1,7 @@
 use Rattle.std.proofs.Common.{◌-◌, length, take, drop, sym, ◌∙◌, subst}
 use Rattle.std.specs.Prelude.{slice_index_or}
 use Rattle.chess.proofs.RestFacts.{first_and_rest}
-use Rattle.pgn_criteria.specs.Items.{HasNoItem, IsNextItem}
+use Rattle.pgn_criteria.specs.Private.Items.{HasNoItem, IsNextItem}
 use Rattle.pgn_criteria.proofs.SetFacts.{byte_next, byte_fails}
 use Rattle.pgn_criteria.proofs.rank.next_item.Goals as goal
 

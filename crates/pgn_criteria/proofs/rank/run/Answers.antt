@@ -1,5 +1,5 @@
 use Rattle.std.proofs.Common.{◌+◌, ◌-◌, ◌≡◌, arith, subst}
-use Rattle.pgn_criteria.specs.Items.{Goes}
+use Rattle.pgn_criteria.specs.Private.Items.{Goes}
 use Rattle.pgn_criteria.specs.declared.rank.Item.TheVariants.{Run}
 use Rattle.pgn_criteria.proofs.PlaceFacts.{run_more, run_none}
 use Rattle.pgn_criteria.proofs.rank.run.Goals as goal

@@ -1,5 +1,5 @@
 use Rattle.std.proofs.Common.{◌↔◌, ◌-◌, ◌<◌, ◌^◌, ℕ, List}
-use Rattle.pgn_criteria.specs.Items.{Goes}
+use Rattle.pgn_criteria.specs.Private.Items.{Goes}
 use Rattle.pgn_criteria.specs.declared.rank.Item.TheVariants.{Run}
 use Rattle.pgn_criteria.proofs.rank.run.Given as goal
 

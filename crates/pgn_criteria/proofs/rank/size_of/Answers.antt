@@ -2,8 +2,8 @@ use Rattle.std.proofs.Common.{◌≡◌, ◌+◌, [], List, Option, length, sym,
 use Rattle.std.proofs.lemmas.Bool.{eqb-true}
 use Rattle.std.proofs.lemmas.List.{nil_from_length}
 use Rattle.chess.specs.declared.board.man.Man.{Man}
-use Rattle.pgn_criteria.specs.Patterns.{CanBeSplit}
-use Rattle.pgn_criteria.specs.Items.{items_of}
+use Rattle.pgn_criteria.specs.Public.Patterns.{CanBeSplit}
+use Rattle.pgn_criteria.specs.Private.Items.{items_of}
 use Rattle.pgn_criteria.proofs.NeedFacts.{count_taken, size_more}
 use Rattle.pgn_criteria.proofs.rank.size_of.Goals as goal
 

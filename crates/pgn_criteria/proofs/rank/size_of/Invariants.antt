@@ -1,7 +1,7 @@
 use Rattle.std.proofs.Common.{◌≡◌, ◌≤◌, ◌+◌, ℕ, List, Option, length}
 use Rattle.chess.specs.declared.board.man.Man.{Man}
-use Rattle.pgn_criteria.specs.Patterns.{CanBeSplit}
-use Rattle.pgn_criteria.specs.Items.{items_of}
+use Rattle.pgn_criteria.specs.Public.Patterns.{CanBeSplit}
+use Rattle.pgn_criteria.specs.Private.Items.{items_of}
 use Rattle.pgn_criteria.proofs.rank.size_of.Given as goal
 
 abbrev pub invariant-loop-rest : goal.invariant-loop-rest

@@ -1,5 +1,5 @@
 use Rattle.std.proofs.Common.{subst, sym, ◌↔◌}
-use Rattle.pgn_criteria.specs.Items.{Goes, Ends}
+use Rattle.pgn_criteria.specs.Private.Items.{Goes, Ends}
 use Rattle.pgn_criteria.proofs.PlaceFacts.{many}
 use Rattle.pgn_criteria.proofs.rank.step.Goals as goal
 

@@ -1,9 +1,9 @@
 use Rattle.std.proofs.Common.{◌≡◌, ◌↔◌, ◌++◌, ◌∷◌, ◌+◌, ℕ, length, drop, map, subst, sym, ap, ◌∙◌, arith}
 use Rattle.std.proofs.lemmas.List.{append-nil, map-append}
 use Rattle.std.proofs.Math.Seq.{drop-length}
-use Rattle.chess.specs.Positions.{State}
-use Rattle.pgn_criteria.specs.Meeting.{heading_of, Heading, SomeHold}
-use Rattle.pgn_criteria.specs.Stages.{on_positions}
+use Rattle.chess.specs.Public.Positions.{State}
+use Rattle.pgn_criteria.specs.Public.Meeting.{heading_of, Heading, SomeHold}
+use Rattle.pgn_criteria.specs.Private.Stages.{on_positions}
 use Rattle.pgn_criteria.proofs.MeetFacts.{good_from, within_from, alternatives_from}
 use Rattle.pgn_criteria.proofs.OpeningFacts.{none_of_none}
 use Rattle.pgn_criteria.proofs.StageFacts.{kept_one, dropped_one}

@@ -1,7 +1,7 @@
 use Rattle.std.proofs.Common.{sym, subst}
 use Rattle.std.specs.Prelude.{Option, IfSome, option_map}
-use Rattle.chess.specs.Placements.{Placement}
-use Rattle.pgn_criteria.specs.Tracks.{FitsSieve, LaidEither}
+use Rattle.chess.specs.Public.Placements.{Placement}
+use Rattle.pgn_criteria.specs.Private.Tracks.{FitsSieve, LaidEither}
 use Rattle.pgn_criteria.specs.declared.sieve.Sieve.{Sieve}
 use Rattle.pgn_criteria.proofs.sieve.sieve_of.Goals as goal
 use Rattle.pgn_criteria.proofs.sieve.sieve_of.Goals.{then-is_tighter+then-not-is_met, else-is_tighter}

@@ -1,6 +1,6 @@
 use Rattle.std.specs.Prelude.{IfSome, option_map}
-use Rattle.chess.specs.Placements.{Placement}
-use Rattle.pgn_criteria.specs.Tracks.{FitsSieve, LaidEither}
+use Rattle.chess.specs.Public.Placements.{Placement}
+use Rattle.pgn_criteria.specs.Private.Tracks.{FitsSieve, LaidEither}
 use Rattle.pgn_criteria.proofs.sieve.sieve_of.Given as goal
 
 abbrev pub invariant-loop-number : goal.invariant-loop-number

@@ -1,5 +1,5 @@
 use Rattle.std.proofs.Common.{◌↔◌, ◌⊎◌, ◌<◌, false, get_or, length, IsTrue, sym, ◌∙◌, inl, inr, arith}
-use Rattle.pgn_criteria.specs.Stages.{FitsAt, FitsAbout}
+use Rattle.pgn_criteria.specs.Private.Stages.{FitsAt, FitsAbout}
 use Rattle.pgn_criteria.proofs.SpanFacts.{reports_about, run_known, done_more, left_more}
 use Rattle.pgn_criteria.proofs.spans.add_plies.Goals as goal
 use Rattle.pgn_criteria.proofs.spans.add_plies.Goals.{then-met-ply, else-met-ply}

@@ -1,6 +1,6 @@
 use Rattle.std.proofs.Common.{◌≡◌, ◌+◌, ◌-◌, ◌≤◌, if◌then◌else◌, ℕ, Bool, true, false, subst, sym, arith}
 use Rattle.std.proofs.lemmas.Option.{slice_get_within}
-use Rattle.pgn_criteria.specs.Stages.{FitsAt}
+use Rattle.pgn_criteria.specs.Private.Stages.{FitsAt}
 use Rattle.pgn_criteria.proofs.SpanFacts.{AreFrom, none_from, counted_before, from_first}
 use Rattle.pgn_criteria.proofs.spans.count_fitting.Goals as goal
 

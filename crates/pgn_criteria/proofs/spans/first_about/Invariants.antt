@@ -1,6 +1,6 @@
 use Rattle.std.proofs.Common.{◌≤◌, ◌<◌, ◌-◌, ℕ}
 use Rattle.std.specs.Prelude.{IfSome}
-use Rattle.pgn_criteria.specs.Stages.{FitsAt, FitsAbout, IsRun}
+use Rattle.pgn_criteria.specs.Private.Stages.{FitsAt, FitsAbout, IsRun}
 use Rattle.pgn_criteria.proofs.spans.first_about.Given as goal
 
 abbrev pub invariant-loop-plies : goal.invariant-loop-plies

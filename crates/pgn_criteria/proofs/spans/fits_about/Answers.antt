@@ -1,5 +1,5 @@
 use Rattle.pgn_criteria.proofs.SpanFacts.{reports_about, no_spans_hold}
-use Rattle.pgn_criteria.specs.Stages.{FitsAt}
+use Rattle.pgn_criteria.specs.Private.Stages.{FitsAt}
 use Rattle.pgn_criteria.proofs.spans.fits_about.Goals as goal
 
 pub returns-then-is_free_of_spans : goal.returns-then-is_free_of_spans

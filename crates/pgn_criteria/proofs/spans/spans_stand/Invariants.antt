@@ -1,5 +1,5 @@
 use Rattle.std.proofs.Common.{◌↔◌, drop, map}
-use Rattle.pgn_criteria.specs.Stages.{SpansStand, seen}
+use Rattle.pgn_criteria.specs.Private.Stages.{SpansStand, seen}
 use Rattle.pgn_criteria.proofs.spans.spans_stand.Given as goal
 
 abbrev pub invariant-loop-condition : goal.invariant-loop-condition

@@ -1,13 +1,13 @@
 use Rattle.std.proofs.Common.{◌≡◌, ◌↔◌, ◌<◌, ◌+◌, ◌*◌, ◌/◌, ◌%◌, true, false, None, sym, subst, arith}
-use Rattle.chess.specs.Squares.{Place, square_at}
-use Rattle.chess.specs.Placements.{with_man}
-use Rattle.chess.specs.Moves.{with_rook}
-use Rattle.chess.specs.Sets.{IsSquaresOf}
+use Rattle.chess.specs.Public.Squares.{Place, square_at}
+use Rattle.chess.specs.Public.Placements.{with_man}
+use Rattle.chess.specs.Public.Moves.{with_rook}
+use Rattle.chess.specs.Public.Sets.{IsSquaresOf}
 use Rattle.chess.specs.declared.board.man.Wing.{Wing}
 use Rattle.std.specs.Prelude.{Option, Some}
-use Rattle.pgn_game.specs.PlyCodes.{numbered_man}
+use Rattle.pgn_game.specs.Public.PlyCodes.{numbered_man}
 use Rattle.pgn_game.proofs.PlyCodeFacts.{code_fits}
-use Rattle.pgn_criteria.specs.Tracks.{IsPut}
+use Rattle.pgn_criteria.specs.Private.Tracks.{IsPut}
 use Rattle.pgn_criteria.proofs.TrackFacts.{goes, is_taken, is_his_number, no_castle}
 use Rattle.pgn_criteria.proofs.track.follow.Goals as goal
 

@@ -1,15 +1,15 @@
 use Rattle.std.proofs.Common.{◌≡◌, ◌↔◌, ◌%◌, true, false, None, ap, subst, ◌∙◌, arith}
-use Rattle.chess.specs.Squares.{Place, square_at}
-use Rattle.chess.specs.Placements.{Placement, with_man}
-use Rattle.chess.specs.SetFacts.{on_board-square_at}
-use Rattle.chess.specs.Positions.{rook_of, rook_from, rook_to}
-use Rattle.chess.specs.Moves.{with_rook}
-use Rattle.chess.specs.Sets.{IsSquaresOf}
+use Rattle.chess.specs.Public.Squares.{Place, square_at}
+use Rattle.chess.specs.Public.Placements.{Placement, with_man}
+use Rattle.chess.specs.Private.SetFacts.{on_board-square_at}
+use Rattle.chess.specs.Public.Positions.{rook_of, rook_from, rook_to}
+use Rattle.chess.specs.Public.Moves.{with_rook}
+use Rattle.chess.specs.Public.Sets.{IsSquaresOf}
 use Rattle.chess.specs.declared.board.man.Man.{Man}
 use Rattle.chess.specs.declared.board.man.Wing.{Wing}
 use Rattle.std.specs.Prelude.{Option, Some}
-use Rattle.pgn_game.specs.PlyCodes.{numbered_man}
-use Rattle.pgn_criteria.specs.Tracks.{IsPut}
+use Rattle.pgn_game.specs.Public.PlyCodes.{numbered_man}
+use Rattle.pgn_criteria.specs.Private.Tracks.{IsPut}
 use Rattle.pgn_criteria.proofs.TrackFacts.{goes, castles}
 use Rattle.pgn_criteria.proofs.track.follow_castling.Goals as goal
 

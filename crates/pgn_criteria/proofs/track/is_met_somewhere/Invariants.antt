@@ -1,6 +1,6 @@
 use Rattle.std.proofs.Common.{length}
-use Rattle.chess.specs.Placements.{Placement}
-use Rattle.chess.specs.Sets.{IsSquaresOf}
+use Rattle.chess.specs.Public.Placements.{Placement}
+use Rattle.chess.specs.Public.Sets.{IsSquaresOf}
 use Rattle.pgn_criteria.proofs.StandFacts.{IsFollowed}
 use Rattle.pgn_criteria.proofs.track.is_met_somewhere.Given as goal
 

@@ -1,12 +1,12 @@
 use Rattle.std.proofs.Common.{◌<◌, ◌+◌, ◌*◌, ◌/◌, ◌%◌, true, false, None, sym, subst, arith}
 use Rattle.std.specs.Prelude.{Option, Some}
-use Rattle.chess.specs.Squares.{Place, square_at}
-use Rattle.chess.specs.Placements.{with_man}
-use Rattle.chess.specs.Moves.{with_rook}
+use Rattle.chess.specs.Public.Squares.{Place, square_at}
+use Rattle.chess.specs.Public.Placements.{with_man}
+use Rattle.chess.specs.Public.Moves.{with_rook}
 use Rattle.chess.specs.declared.board.man.Wing.{Wing}
-use Rattle.pgn_game.specs.PlyCodes.{numbered_man}
+use Rattle.pgn_game.specs.Public.PlyCodes.{numbered_man}
 use Rattle.pgn_game.proofs.PlyCodeFacts.{code_fits}
-use Rattle.pgn_criteria.specs.Tracks.{AreTaken, IsPut}
+use Rattle.pgn_criteria.specs.Private.Tracks.{AreTaken, IsPut}
 use Rattle.pgn_criteria.proofs.TrackFacts.{comes_from, leaves, no_castle}
 use Rattle.pgn_criteria.proofs.track.settle.Goals as goal
 

@@ -1,12 +1,12 @@
 use Rattle.std.proofs.Common.{true, false, ap, subst, ◌∙◌}
 use Rattle.std.specs.Prelude.{Option}
-use Rattle.chess.specs.Squares.{Place}
-use Rattle.chess.specs.Positions.{rook_from, rook_to}
-use Rattle.chess.specs.Moves.{with_rook}
+use Rattle.chess.specs.Public.Squares.{Place}
+use Rattle.chess.specs.Public.Positions.{rook_from, rook_to}
+use Rattle.chess.specs.Public.Moves.{with_rook}
 use Rattle.chess.specs.declared.board.man.Man.{Man}
 use Rattle.chess.specs.declared.board.man.Wing.{Wing}
-use Rattle.pgn_game.specs.PlyCodes.{numbered_man}
-use Rattle.pgn_criteria.specs.Tracks.{AreTaken, IsPut}
+use Rattle.pgn_game.specs.Public.PlyCodes.{numbered_man}
+use Rattle.pgn_criteria.specs.Private.Tracks.{AreTaken, IsPut}
 use Rattle.pgn_criteria.proofs.TrackFacts.{rook_settles}
 use Rattle.pgn_criteria.proofs.track.settle_rook.Goals as goal
 

@@ -1,5 +1,5 @@
 use Rattle.std.proofs.Common.{◌≡◌, length}
-use Rattle.pgn_criteria.specs.Reading.{after_blanks}
+use Rattle.pgn_criteria.specs.Private.Reading.{after_blanks}
 use Rattle.pgn_criteria.proofs.words.after_blanks.Given as goal
 
 abbrev pub invariant-loop-rest : goal.invariant-loop-rest

@@ -1,7 +1,7 @@
 use Rattle.std.proofs.Common.{◌∙◌, ap, false, refl}
 use Rattle.pgn_extract.proofs.TwoFiles.{all_known, grown, two_written}
-use Rattle.pgn_extract.specs.Runs.{job_of}
-use Rattle.pgn_extract.specs.Several.{Order}
+use Rattle.pgn_extract.specs.Public.Runs.{job_of}
+use Rattle.pgn_extract.specs.Public.Several.{Order}
 use Rattle.pgn_extract.proofs.memory.report_files.Goals as goal
 
 pub returns-in-Ok : goal.returns-in-Ok

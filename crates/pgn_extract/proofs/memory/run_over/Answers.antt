@@ -1,7 +1,7 @@
 use Rattle.std.proofs.Common.{◌≡◌, [], ◌++◌, drop, refl, ap, subst, ◌∙◌}
-use Rattle.pgn_text.specs.Limits.{block_limit, depth_limit}
-use Rattle.pgn_text.specs.Marks.{AreMarkedPieces}
-use Rattle.pgn_extract.specs.Listing.{listing}
+use Rattle.pgn_text.specs.Public.Limits.{block_limit, depth_limit}
+use Rattle.pgn_text.specs.Public.Marks.{AreMarkedPieces}
+use Rattle.pgn_extract.specs.Public.Listing.{listing}
 use Rattle.pgn_extract.proofs.memory.run_over.Goals as goal
 
 pub returns-in-Ok-clause-lists : goal.returns-in-Ok-clause-lists

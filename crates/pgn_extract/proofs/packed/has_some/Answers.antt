@@ -1,7 +1,7 @@
 use Rattle.std.proofs.Common.{◌≡◌, ℕ, false, List, Option, Some, None, sym, ap, subst, ◌∙◌}
 use Rattle.std.specs.Prelude.{◌==◌, ◌/◌, ◌%◌, is_some, MatchOption}
-use Rattle.pgn_criteria.specs.ByMarks.{has_marks, NoneMeets, IsNextMet}
-use Rattle.pgn_criteria.specs.Sieves.{codes_in}
+use Rattle.pgn_criteria.specs.Public.ByMarks.{has_marks, NoneMeets, IsNextMet}
+use Rattle.pgn_criteria.specs.Public.Sieves.{codes_in}
 use Rattle.pgn_extract.proofs.packed.has_some.Goals as goal
 
 -- what is so where nothing is found

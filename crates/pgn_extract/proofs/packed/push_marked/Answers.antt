@@ -1,6 +1,6 @@
 use Rattle.std.proofs.Common.{[], refl, sym, append-nil}
-use Rattle.pgn_extract.specs.Aims.{aim_of}
-use Rattle.pgn_extract.specs.Packed.{record_aim}
+use Rattle.pgn_extract.specs.Public.Aims.{aim_of}
+use Rattle.pgn_extract.specs.Private.Packed.{record_aim}
 use Rattle.pgn_extract.proofs.MarkedFacts.{pass_whole}
 use Rattle.pgn_extract.proofs.packed.push_marked.Goals as goal
 

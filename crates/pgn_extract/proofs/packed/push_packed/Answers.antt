@@ -1,6 +1,6 @@
 use Rattle.std.proofs.Common.{Result, Ok, Err}
 use Rattle.std.specs.Prelude.{OnOk, IfErr}
-use Rattle.pgn_extract.specs.Aims.{aim_of}
+use Rattle.pgn_extract.specs.Public.Aims.{aim_of}
 use Rattle.pgn_extract.proofs.PackedFacts.{puts_record, leaves_record}
 use Rattle.pgn_extract.proofs.packed.push_packed.Goals as goal
 

@@ -1,11 +1,11 @@
 use Rattle.std.proofs.Common.{◌≡◌, ◌+◌, ◌/◌, ◌++◌, ℕ, List, [], None, length, sym, ap, ◌∙◌}
 use Rattle.std.specs.Prelude.{replicate}
 use Rattle.std.proofs.lemmas.List.{length-replicate}
-use Rattle.chess.specs.Start.{initial}
-use Rattle.pgn_game.specs.Replays.{Replay}
-use Rattle.pgn_criteria.specs.Meeting.{heading_of, Heading}
-use Rattle.pgn_extract.specs.Finding.{named_mark}
-use Rattle.pgn_extract.specs.Listing.{listing}
+use Rattle.chess.specs.Public.Start.{initial}
+use Rattle.pgn_game.specs.Public.Replays.{Replay}
+use Rattle.pgn_criteria.specs.Public.Meeting.{heading_of, Heading}
+use Rattle.pgn_extract.specs.Private.Finding.{named_mark}
+use Rattle.pgn_extract.specs.Public.Listing.{listing}
 use Rattle.pgn_extract.proofs.PackedFacts.{plies_counted}
 use Rattle.pgn_extract.proofs.packed.push_plain.Goals as goal
 

@@ -1,11 +1,11 @@
 use Rattle.std.proofs.Common.{◌↔◌, ℕ, List, Option, refl, sym, subst}
 use Rattle.std.specs.Prelude.{IsTrue}
-use Rattle.pgn_criteria.specs.Sieves.{MeetsSeen, NowhereSeen, codes_in}
-use Rattle.pgn_criteria.specs.ByMarks.{has_marks}
-use Rattle.pgn_criteria.specs.Meeting.{heading_of}
+use Rattle.pgn_criteria.specs.Public.Sieves.{MeetsSeen, NowhereSeen, codes_in}
+use Rattle.pgn_criteria.specs.Public.ByMarks.{has_marks}
+use Rattle.pgn_criteria.specs.Public.Meeting.{heading_of}
 use Rattle.pgn_criteria.specs.declared.condition.Condition.{Condition}
 use Rattle.pgn_criteria.proofs.MeetFacts.{meets_at}
-use Rattle.pgn_extract.specs.Aims.{aim_of, IsMet}
+use Rattle.pgn_extract.specs.Public.Aims.{aim_of, IsMet}
 use Rattle.pgn_extract.proofs.Picks.{same_met}
 use Rattle.pgn_extract.proofs.Sifted.{lists_nothing}
 use Rattle.pgn_extract.proofs.packed.push_walked.Goals as goal

@@ -1,7 +1,7 @@
 use Rattle.std.proofs.Common.{◌≡◌, ◌+◌, ◌∙◌, map, length, sym, subst, arith}
 use Rattle.std.proofs.lemmas.List.{length-map}
-use Rattle.pgn_text.specs.Elements.{item_of}
-use Rattle.pgn_game.specs.RefusalWalks.{IsCounted, IsSearched}
+use Rattle.pgn_text.specs.Public.Elements.{item_of}
+use Rattle.pgn_game.specs.Private.RefusalWalks.{IsCounted, IsSearched}
 use Rattle.pgn_game.proofs.RefusalSearch.{element_at, search_begins, search_on, search_past, search_ends, search_finds_none}
 use Rattle.pgn_game.proofs.explain.first_refused.Goals as goal
 use Rattle.pgn_game.proofs.explain.first_refused.Goals.{then-is_played+in_ok-refused+in_default, else-is_played}

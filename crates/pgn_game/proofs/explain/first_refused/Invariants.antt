@@ -1,6 +1,6 @@
 use Rattle.std.proofs.Common.{map}
-use Rattle.pgn_text.specs.Elements.{item_of}
-use Rattle.pgn_game.specs.RefusalWalks.{IsSearched}
+use Rattle.pgn_text.specs.Public.Elements.{item_of}
+use Rattle.pgn_game.specs.Private.RefusalWalks.{IsSearched}
 use Rattle.pgn_game.proofs.explain.first_refused.Given as goal
 
 abbrev pub invariant-loop-index : goal.invariant-loop-index

@@ -1,12 +1,12 @@
 use Rattle.std.proofs.Common.{◌∷◌, refl, sym, ap, subst, ◌∙◌}
 use Rattle.std.specs.Prelude.{IfSome}
 use Rattle.std.proofs.lemmas.Bool.{false≢true}
-use Rattle.pgn_text.specs.Elements.{item_of}
-use Rattle.pgn_game.specs.Faults.{IsRefusedTurn}
-use Rattle.pgn_game.specs.LineWalks.{is_inside}
-use Rattle.pgn_game.specs.Steps.{StopsAt, around}
-use Rattle.pgn_game.specs.Refusals.{IsWhy}
-use Rattle.pgn_game.specs.Replays.{fault_of}
+use Rattle.pgn_text.specs.Public.Elements.{item_of}
+use Rattle.pgn_game.specs.Public.Faults.{IsRefusedTurn}
+use Rattle.pgn_game.specs.Private.LineWalks.{is_inside}
+use Rattle.pgn_game.specs.Private.Steps.{StopsAt, around}
+use Rattle.pgn_game.specs.Public.Refusals.{IsWhy}
+use Rattle.pgn_game.specs.Public.Replays.{fault_of}
 use Rattle.pgn_game.proofs.RefusalSearch.{refused_here}
 use Rattle.pgn_game.proofs.explain.go_on.Goals as goal
 

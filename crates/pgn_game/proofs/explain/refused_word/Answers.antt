@@ -1,6 +1,6 @@
 use Rattle.std.proofs.Common.{subst}
-use Rattle.pgn_text.specs.GameTexts.{tag_in}
-use Rattle.pgn_game.specs.Starts.{fen_tag, IsStart}
+use Rattle.pgn_text.specs.Public.GameTexts.{tag_in}
+use Rattle.pgn_game.specs.Public.Starts.{fen_tag, IsStart}
 use Rattle.pgn_game.proofs.RefusalSearch.{IsFoundFrom, found_at}
 use Rattle.pgn_game.proofs.explain.refused_word.Goals as goal
 

@@ -1,13 +1,13 @@
 use Rattle.std.proofs.Common.{◌≡◌, ℕ, List, map, take, drop, sym, ap, subst, ◌∙◌, refl}
 use Rattle.std.specs.List.{list_all}
 use Rattle.std.specs.Prelude.{Some, IsTrue}
-use Rattle.pgn_text.specs.Bytes.{is_name_byte}
-use Rattle.pgn_text.specs.GameBuilders.{IsBuilderOf}
-use Rattle.pgn_text.specs.Elements.{item_of, tags_of}
-use Rattle.pgn_text.specs.GameTexts.{IsPaired, IsResult, tag_in}
-use Rattle.pgn_text.specs.Strings.{IsContents}
-use Rattle.pgn_text.specs.Walk.{GameRead}
-use Rattle.pgn_text.specs.Limits.{depth_limit}
+use Rattle.pgn_text.specs.Public.Bytes.{is_name_byte}
+use Rattle.pgn_text.specs.Private.GameBuilders.{IsBuilderOf}
+use Rattle.pgn_text.specs.Public.Elements.{item_of, tags_of}
+use Rattle.pgn_text.specs.Public.GameTexts.{IsPaired, IsResult, tag_in}
+use Rattle.pgn_text.specs.Public.Strings.{IsContents}
+use Rattle.pgn_text.specs.Private.Walk.{GameRead}
+use Rattle.pgn_text.specs.Public.Limits.{depth_limit}
 use Rattle.pgn_text.proofs.LastResult.{game_result}
 use Rattle.pgn_text.proofs.Pairing.{tags_ascend}
 use Rattle.pgn_text.proofs.ShownGame.{bytes_of_game}

@@ -1,7 +1,7 @@
 use Rattle.std.proofs.Common.{inl, refl}
-use Rattle.pgn_text.specs.Limits.{depth_limit}
-use Rattle.pgn_text.specs.Reading.{KeptGlyph, glyph_front}
-use Rattle.pgn_text.specs.Tokens.{state_of}
+use Rattle.pgn_text.specs.Public.Limits.{depth_limit}
+use Rattle.pgn_text.specs.Private.Reading.{KeptGlyph, glyph_front}
+use Rattle.pgn_text.specs.Private.Tokens.{state_of}
 use Rattle.pgn_text.proofs.PartsAt.{kept_after, none_further}
 use Rattle.pgn_text.proofs.ReadingLemmas.{readings_of}
 use Rattle.pgn_text.proofs.game.read_glyph.Goals as goal

@@ -1,9 +1,9 @@
 use Rattle.std.proofs.Common.{Some, refl, sym, ap, ◌∙◌}
 use Rattle.pgn_text.proofs.PartsAt.{kept_letters, kept_marks, kept_white, kept_dot, kept_open, kept_close}
-use Rattle.pgn_text.specs.Limits.{depth_limit}
-use Rattle.pgn_text.specs.Reading.{KeptMove, KeptNumber}
-use Rattle.pgn_text.specs.Steps.{State}
-use Rattle.pgn_text.specs.Tokens.{state_of}
+use Rattle.pgn_text.specs.Public.Limits.{depth_limit}
+use Rattle.pgn_text.specs.Private.Reading.{KeptMove, KeptNumber}
+use Rattle.pgn_text.specs.Private.Steps.{State}
+use Rattle.pgn_text.specs.Private.Tokens.{state_of}
 use Rattle.pgn_text.proofs.ReadingLemmas.{reading_of}
 use Rattle.pgn_text.proofs.game.read_part.Goals as goal
 

@@ -1,6 +1,6 @@
 use Rattle.std.proofs.Common.{◌-◌, length}
-use Rattle.pgn_text.specs.Tokens.{state_of}
-use Rattle.pgn_text.specs.Limits.{depth_limit}
+use Rattle.pgn_text.specs.Private.Tokens.{state_of}
+use Rattle.pgn_text.specs.Public.Limits.{depth_limit}
 use Rattle.pgn_text.proofs.ReadLemmas.{KeptUpTo}
 use Rattle.pgn_text.proofs.game.read_parts.Given as goal
 

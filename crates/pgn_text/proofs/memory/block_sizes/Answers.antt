@@ -1,5 +1,5 @@
 -- Each call gives the next block of the text, and the end comes after the last.
-use Rattle.pgn_text.specs.Limits.{block_limit}
+use Rattle.pgn_text.specs.Public.Limits.{block_limit}
 use Rattle.pgn_text.proofs.BlockSizes.{fewer_left, one_sized, all_sized}
 use Rattle.pgn_text.proofs.memory.block_sizes.Goals as goal
 

@@ -1,5 +1,5 @@
 -- The first call gives the first mark.
-use Rattle.pgn_text.specs.Limits.{depth_limit}
+use Rattle.pgn_text.specs.Public.Limits.{depth_limit}
 use Rattle.pgn_text.proofs.FirstCalls.{first_mark_of}
 use Rattle.pgn_text.proofs.memory.first_mark.Goals as goal
 

@@ -1,4 +1,4 @@
-use Rattle.chess.specs.Sets.{size_of}
+use Rattle.chess.specs.Public.Sets.{size_of}
 use Rattle.chess.proofs.AttackerFacts.{IsSearched}
 use Rattle.chess.proofs.board.attack_tables.attackers_of.Given as goal
 

@@ -1,6 +1,6 @@
 use Rattle.std.proofs.Common.{sym, subst}
-use Rattle.chess.specs.BitWords.{IsWordOf}
-use Rattle.chess.specs.PseudoAttacks.{StandsBetween}
+use Rattle.chess.specs.Private.BitWords.{IsWordOf}
+use Rattle.chess.specs.Private.PseudoAttacks.{StandsBetween}
 use Rattle.chess.proofs.BetweenTable.{between_word, between_is}
 use Rattle.chess.proofs.board.attack_tables.between.Goals as goal
 

@@ -1,8 +1,8 @@
 use Rattle.std.proofs.Common.{◌≡◌, true}
-use Rattle.chess.specs.Squares.{index_of}
-use Rattle.chess.specs.Sets.{size_of}
-use Rattle.chess.specs.SetWords.{has_bit}
-use Rattle.chess.specs.MoveWords.{IsLeft}
+use Rattle.chess.specs.Public.Squares.{index_of}
+use Rattle.chess.specs.Public.Sets.{size_of}
+use Rattle.chess.specs.Private.SetWords.{has_bit}
+use Rattle.chess.specs.Private.MoveWords.{IsLeft}
 use Rattle.chess.proofs.AttackerFacts.{IsOpenFrom}
 use Rattle.chess.proofs.board.attack_tables.has_unblocked.Given as goal
 

@@ -1,7 +1,7 @@
 use Rattle.std.proofs.Common.{◌∙◌, ap, sym, arith, Some}
-use Rattle.chess.specs.Squares.{index_of}
-use Rattle.chess.specs.SetFacts.{index_of-below, false_of}
-use Rattle.chess.specs.BitWords.{word_at}
+use Rattle.chess.specs.Public.Squares.{index_of}
+use Rattle.chess.specs.Private.SetFacts.{index_of-below, false_of}
+use Rattle.chess.specs.Private.BitWords.{word_at}
 use Rattle.chess.proofs.FillFacts.{common_none, common_some}
 use Rattle.std.proofs.lemmas.Bool.{true_from_ne_false}
 use Rattle.chess.proofs.BitFacts.{has_man, no_man, man_at-words}

@@ -1,5 +1,5 @@
 use Rattle.std.proofs.Common.{◌≡◌, ◌<◌, ℕ, bit_and}
-use Rattle.chess.specs.BitWords.{word_at}
+use Rattle.chess.specs.Private.BitWords.{word_at}
 use Rattle.chess.proofs.board.bits.man_on.Given as goal
 
 abbrev pub invariant-loop-row : goal.invariant-loop-row

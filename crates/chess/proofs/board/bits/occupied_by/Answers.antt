@@ -1,4 +1,4 @@
-use Rattle.chess.specs.BitWords.{words_men}
+use Rattle.chess.specs.Private.BitWords.{words_men}
 use Rattle.chess.proofs.OccupiedFacts.{word_of_occupied}
 use Rattle.chess.proofs.board.bits.occupied_by.Goals as goal
 

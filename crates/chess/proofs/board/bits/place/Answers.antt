@@ -1,8 +1,8 @@
 use Rattle.chess.proofs.board.bits.place.Goals as goal
 use Rattle.std.proofs.Common.{◌∙◌, ap, sym, subst, ℕ, Some, None}
-use Rattle.chess.specs.Squares.{index_of}
-use Rattle.chess.specs.Placements.{with_man}
-use Rattle.chess.specs.BitWords.{words_men, IsCleared}
+use Rattle.chess.specs.Public.Squares.{index_of}
+use Rattle.chess.specs.Public.Placements.{with_man}
+use Rattle.chess.specs.Private.BitWords.{words_men, IsCleared}
 use Rattle.chess.proofs.BitFacts.{put_none, put_some, put_apart, put_men}
 
 pub returns-in_default-clause-apart : goal.returns-in_default-clause-apart

@@ -1,7 +1,7 @@
 use Rattle.std.proofs.Common.{◌∙◌, ap, sym, subst, bit_or, Some, None}
-use Rattle.chess.specs.Squares.{index_of}
-use Rattle.chess.specs.Placements.{with_man}
-use Rattle.chess.specs.BitWords.{words_men, IsCleared}
+use Rattle.chess.specs.Public.Squares.{index_of}
+use Rattle.chess.specs.Public.Placements.{with_man}
+use Rattle.chess.specs.Private.BitWords.{words_men, IsCleared}
 use Rattle.chess.proofs.BitFacts.{put_none, put_some}
 use Rattle.chess.proofs.MovePieceFacts.{without, cleared_last, moved_apart, moved_men}
 use Rattle.chess.proofs.board.bits.replace.Goals as goal

@@ -1,6 +1,6 @@
 use Rattle.std.proofs.Common.{subst, sym, ℕ, ◌^◌, slice_set, bit_or}
-use Rattle.chess.specs.Squares.{index_of}
-use Rattle.chess.specs.BitWords.{IsBitSet, word_at, row_of}
+use Rattle.chess.specs.Public.Squares.{index_of}
+use Rattle.chess.specs.Private.BitWords.{IsBitSet, word_at, row_of}
 use Rattle.chess.proofs.BitFacts.{set_one}
 use Rattle.chess.proofs.board.bits.set.Goals as goal
 

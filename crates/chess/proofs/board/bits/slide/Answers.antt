@@ -1,6 +1,6 @@
 use Rattle.std.proofs.Common.{subst, sym, ℕ, ◌^◌, slice_set, bit_or, bit_xor}
-use Rattle.chess.specs.Squares.{index_of}
-use Rattle.chess.specs.BitWords.{IsSlid, word_at, row_of}
+use Rattle.chess.specs.Public.Squares.{index_of}
+use Rattle.chess.specs.Private.BitWords.{IsSlid, word_at, row_of}
 use Rattle.chess.proofs.SlideFacts.{slide_one}
 use Rattle.chess.proofs.board.bits.slide.Goals as goal
 

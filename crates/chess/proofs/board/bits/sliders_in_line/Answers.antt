@@ -1,6 +1,6 @@
 use Rattle.std.proofs.Common.{bit_and}
-use Rattle.chess.specs.BitWords.{IsRunner, words_men}
-use Rattle.chess.specs.PseudoAttacks.{IsPseudoAttack}
+use Rattle.chess.specs.Private.BitWords.{IsRunner, words_men}
+use Rattle.chess.specs.Private.PseudoAttacks.{IsPseudoAttack}
 use Rattle.chess.proofs.AttackerFacts.{runners_seen}
 use Rattle.chess.proofs.LeftFacts.{runners_left}
 use Rattle.chess.proofs.board.bits.sliders_in_line.Goals as goal

@@ -1,4 +1,4 @@
-use Rattle.chess.specs.BitWords.{IsMan, words_men}
+use Rattle.chess.specs.Private.BitWords.{IsMan, words_men}
 use Rattle.chess.specs.declared.board.man.Kind.TheVariants.{Queen}
 use Rattle.chess.proofs.FillFacts.{either_word}
 use Rattle.chess.proofs.board.bits.squares_of_runners.Goals as goal

@@ -1,5 +1,5 @@
 use Rattle.std.proofs.Common.{subst, sym, ℕ}
-use Rattle.chess.specs.BitWords.{IsWordOf, IsMan, words_men, word_at}
+use Rattle.chess.specs.Private.BitWords.{IsWordOf, IsMan, words_men, word_at}
 use Rattle.chess.proofs.BitFacts.{word_of_man}
 use Rattle.chess.proofs.board.bits.squares_with.Goals as goal
 

@@ -1,5 +1,5 @@
 use Rattle.std.proofs.Common.{◌<◌, ◌^◌, rules}
-use Rattle.chess.specs.BitWords.{words_men}
+use Rattle.chess.specs.Private.BitWords.{words_men}
 use Rattle.chess.proofs.BitFacts.{word_of_empty}
 use Rattle.chess.proofs.board.bits.unoccupied.Goals as goal
 

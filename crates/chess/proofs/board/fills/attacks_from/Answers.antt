@@ -1,6 +1,6 @@
 use Rattle.std.proofs.Common.{bit_or, sym, subst}
-use Rattle.chess.specs.Attacks.{Reaches}
-use Rattle.chess.specs.BitWords.{IsWordOf}
+use Rattle.chess.specs.Public.Attacks.{Reaches}
+use Rattle.chess.specs.Private.BitWords.{IsWordOf}
 use Rattle.chess.specs.declared.board.man.Kind.{Kind}
 use Rattle.chess.proofs.FillFacts.{queen_joined}
 use Rattle.chess.proofs.board.fills.attacks_from.Goals as goal

@@ -1,5 +1,5 @@
-use Rattle.chess.specs.Placements.{Placement, IsEmpty}
-use Rattle.chess.specs.BitWords.{IsWordOf}
+use Rattle.chess.specs.Public.Placements.{Placement, IsEmpty}
+use Rattle.chess.specs.Private.BitWords.{IsWordOf}
 use Rattle.chess.proofs.FillFacts.{IsFilled}
 use Rattle.chess.proofs.board.fills.fill.Given as goal
 

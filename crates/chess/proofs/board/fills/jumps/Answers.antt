@@ -1,5 +1,5 @@
 use Rattle.std.proofs.Common.{◌≡◌, ◌∙◌, bit_or}
-use Rattle.chess.specs.BitWords.{two_steps_word, beside_word, upright_word}
+use Rattle.chess.specs.Private.BitWords.{two_steps_word, beside_word, upright_word}
 use Rattle.chess.specs.declared.board.direction.Direction.TheVariants.{North, South, East, West}
 use Rattle.chess.proofs.LeaperFacts.{jumps_of}
 use Rattle.chess.proofs.board.fills.jumps.Goals as goal

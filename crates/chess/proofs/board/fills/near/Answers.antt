@@ -1,5 +1,5 @@
 use Rattle.std.proofs.Common.{ap, ◌∙◌, bit_or, bit_xor}
-use Rattle.chess.specs.BitWords.{upright_word}
+use Rattle.chess.specs.Private.BitWords.{upright_word}
 use Rattle.chess.proofs.LeaperFacts.{near_of}
 use Rattle.chess.proofs.board.fills.near.Goals as goal
 

@@ -1,5 +1,5 @@
 use Rattle.std.proofs.Common.{ap, ◌∙◌}
-use Rattle.chess.specs.BitWords.{step_word, beside_word}
+use Rattle.chess.specs.Private.BitWords.{step_word, beside_word}
 use Rattle.chess.proofs.LeaperFacts.{pawn_hits_of}
 use Rattle.chess.proofs.board.fills.pawn_hits.Goals as goal
 

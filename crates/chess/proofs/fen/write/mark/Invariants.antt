@@ -1,4 +1,4 @@
-use Rattle.chess.specs.Sets.{size_of}
+use Rattle.chess.specs.Public.Sets.{size_of}
 use Rattle.chess.proofs.MarkFacts.{IsMarked}
 use Rattle.chess.proofs.fen.write.mark.Given as goal
 

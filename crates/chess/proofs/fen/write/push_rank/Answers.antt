@@ -1,6 +1,6 @@
 use Rattle.std.proofs.Common.{◌≡◌, ◌+◌, ◌≤◌, ◌<◌, ◌++◌, get_or, length, refl, sym, ap, subst, ◌∙◌, arith}
-use Rattle.chess.specs.Placements.{Placement, man_at}
-use Rattle.chess.specs.FenTextWords.{rank_text, AreLetters}
+use Rattle.chess.specs.Public.Placements.{Placement, man_at}
+use Rattle.chess.specs.Private.FenTextWords.{rank_text, AreLetters}
 use Rattle.chess.proofs.FenTextFacts.{begun_length, whole_length, square_is_written, rank_is_whole, length-rank_text}
 use Rattle.chess.proofs.MarkFacts.{letter_ascii}
 use Rattle.chess.proofs.fen.write.push_rank.Goals as goal

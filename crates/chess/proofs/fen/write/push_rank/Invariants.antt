@@ -1,6 +1,6 @@
 use Rattle.std.proofs.Common.{◌≡◌, ◌+◌, ◌-◌, ◌≤◌, ◌++◌}
-use Rattle.chess.specs.Placements.{Placement}
-use Rattle.chess.specs.FenTextWords.{spelled_from, squares_from, rank_text, AreLetters}
+use Rattle.chess.specs.Public.Placements.{Placement}
+use Rattle.chess.specs.Private.FenTextWords.{spelled_from, squares_from, rank_text, AreLetters}
 use Rattle.chess.proofs.fen.write.push_rank.Given as goal
 
 abbrev pub invariant-loop-file : goal.invariant-loop-file

@@ -1,6 +1,6 @@
 use Rattle.std.proofs.Common.{◌≡◌, ◌+◌, ◌-◌, ◌++◌, ◌∷◌, [], length, ap, arith, length-append, ◌∙◌}
-use Rattle.chess.specs.Fen.{joined}
-use Rattle.chess.specs.FenTextWords.{rank_texts, rank_text, each_after}
+use Rattle.chess.specs.Public.Fen.{joined}
+use Rattle.chess.specs.Private.FenTextWords.{rank_texts, rank_text, each_after}
 use Rattle.chess.proofs.FenTextFacts.{one_more_rank, no_more_ranks, first_is_written, rank_is_written, all_is_written}
 use Rattle.chess.proofs.fen.write.push_ranks.Goals as goal
 

@@ -1,9 +1,9 @@
 use Rattle.std.proofs.Common.{◌≡◌, ap, sym, subst, refl, Option, None, Some, Ok, Err}
-use Rattle.chess.specs.Squares.{Place}
-use Rattle.chess.specs.Moves.{IsPseudoLegal, IsLegal}
-use Rattle.chess.specs.SetWords.{IsTakenFirst}
-use Rattle.chess.specs.San.{HasRival, kind_said}
-use Rattle.chess.specs.SanWords.{said_by, move_from, IsMoveSaid}
+use Rattle.chess.specs.Public.Squares.{Place}
+use Rattle.chess.specs.Public.Moves.{IsPseudoLegal, IsLegal}
+use Rattle.chess.specs.Private.SetWords.{IsTakenFirst}
+use Rattle.chess.specs.Public.San.{HasRival, kind_said}
+use Rattle.chess.specs.Private.SanWords.{said_by, move_from, IsMoveSaid}
 use Rattle.chess.specs.declared.board.man.Kind.TheVariants.{Pawn}
 use Rattle.chess.specs.declared.moves.Move.{Move}
 use Rattle.chess.specs.declared.move_text.SanError.TheVariants.{None as NoMove}

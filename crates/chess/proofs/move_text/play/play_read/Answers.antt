@@ -1,5 +1,5 @@
 use Rattle.std.proofs.Common.{ap, refl, subst, option_map, Option, None}
-use Rattle.chess.specs.SanWords.{said_by, IsReadSaid}
+use Rattle.chess.specs.Private.SanWords.{said_by, IsReadSaid}
 use Rattle.chess.specs.declared.move_text.read.parse.ParsedSan.{ParsedSan}
 use Rattle.chess.proofs.CastlingTextFacts.{no_castling}
 use Rattle.chess.proofs.NamedFacts.{named_none, said_answer}

@@ -1,4 +1,4 @@
-use Rattle.chess.specs.San.{IsNamed}
+use Rattle.chess.specs.Public.San.{IsNamed}
 use Rattle.chess.proofs.NamedFacts.{answer_only, answer_none, answer_several, played_after, played_not}
 use Rattle.chess.proofs.move_text.play.play_word.Goals as goal
 

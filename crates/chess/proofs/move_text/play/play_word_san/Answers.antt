@@ -1,4 +1,4 @@
-use Rattle.chess.specs.San.{IsNamed}
+use Rattle.chess.specs.Public.San.{IsNamed}
 use Rattle.chess.proofs.NamedFacts.{answer_none, answer_several}
 use Rattle.chess.proofs.move_text.play.play_word_san.Goals as goal
 

@@ -1,5 +1,5 @@
 use Rattle.std.proofs.Common.{◌≡◌, sym, subst}
-use Rattle.chess.specs.SanWords.{said_by, IsMoveSaid}
+use Rattle.chess.specs.Private.SanWords.{said_by, IsMoveSaid}
 use Rattle.chess.specs.declared.moves.Move.{Move}
 use Rattle.chess.proofs.NamedFacts.{said_only, said_none, said_several, none_given, some_given}
 use Rattle.chess.proofs.move_text.read.moved_among.Goals as goal

@@ -1,4 +1,4 @@
-use Rattle.chess.specs.San.{IsNamed}
+use Rattle.chess.specs.Public.San.{IsNamed}
 use Rattle.chess.proofs.NamedFacts.{answer_only, answer_none, answer_several}
 use Rattle.chess.proofs.move_text.read.resolve.Goals as goal
 

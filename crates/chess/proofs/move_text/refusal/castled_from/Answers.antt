@@ -1,9 +1,9 @@
 use Rattle.std.proofs.Common.{ap, sym, subst, ◌∙◌}
 use Rattle.std.specs.Prelude.{Some}
-use Rattle.chess.specs.Positions.{king_from}
-use Rattle.chess.specs.Moves.{IsLegal}
-use Rattle.chess.specs.SanWords.{castling_on, IsCastlingOn}
-use Rattle.chess.specs.Refusals.{IsFrom}
+use Rattle.chess.specs.Public.Positions.{king_from}
+use Rattle.chess.specs.Public.Moves.{IsLegal}
+use Rattle.chess.specs.Private.SanWords.{castling_on, IsCastlingOn}
+use Rattle.chess.specs.Public.Refusals.{IsFrom}
 use Rattle.chess.specs.declared.moves.Move.{Move}
 use Rattle.chess.proofs.NamedFacts.{castling_only}
 use Rattle.chess.proofs.PlaceFacts.{true_not_false}

@@ -1,9 +1,9 @@
 use Rattle.std.proofs.Common.{◌≡◌, true, ◌∙◌, sym, subst}
 use Rattle.std.specs.Prelude.{Some}
-use Rattle.chess.specs.Moves.{IsLegal}
-use Rattle.chess.specs.SanWords.{said_by, CanGoSaid, IsMoveSaid}
-use Rattle.chess.specs.Sets.{is_in}
-use Rattle.chess.specs.Refusals.{IsFrom}
+use Rattle.chess.specs.Public.Moves.{IsLegal}
+use Rattle.chess.specs.Private.SanWords.{said_by, CanGoSaid, IsMoveSaid}
+use Rattle.chess.specs.Public.Sets.{is_in}
+use Rattle.chess.specs.Public.Refusals.{IsFrom}
 use Rattle.chess.specs.declared.moves.Move.{Move}
 use Rattle.chess.proofs.NamedFacts.{said_candidate, said_legal, said_on}
 use Rattle.chess.proofs.PlaceFacts.{true_not_false}

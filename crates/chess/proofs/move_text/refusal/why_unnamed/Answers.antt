@@ -1,5 +1,5 @@
 use Rattle.std.proofs.Common.{ap, option_map}
-use Rattle.chess.specs.SanWords.{said_by}
+use Rattle.chess.specs.Private.SanWords.{said_by}
 use Rattle.chess.proofs.RefusalFacts.{castling_refused, nothing_said, said_refused}
 use Rattle.chess.proofs.move_text.refusal.why_unnamed.Goals as goal
 

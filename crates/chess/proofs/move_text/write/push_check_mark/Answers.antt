@@ -1,6 +1,6 @@
 use Rattle.std.proofs.Common.{sym, [], ◌∷◌}
 use Rattle.std.proofs.lemmas.List.{append-nil}
-use Rattle.chess.specs.San.IsCheckMark.{mate, check, quiet}
+use Rattle.chess.specs.Public.San.IsCheckMark.{mate, check, quiet}
 use Rattle.chess.proofs.PlaceFacts.{true_not_false}
 use Rattle.chess.proofs.move_text.write.push_check_mark.Goals as goal
 

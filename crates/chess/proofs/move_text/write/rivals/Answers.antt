@@ -1,7 +1,7 @@
 use Rattle.std.proofs.Common.{subst, Option}
-use Rattle.chess.specs.Squares.{Place}
-use Rattle.chess.specs.SetWords.{IsTakenFirst}
-use Rattle.chess.specs.San.{IsRival}
+use Rattle.chess.specs.Public.Squares.{Place}
+use Rattle.chess.specs.Private.SetWords.{IsTakenFirst}
+use Rattle.chess.specs.Public.San.{IsRival}
 use Rattle.chess.proofs.LoopFacts.{fewer, sifted_none}
 use Rattle.chess.proofs.SanTextFacts.{rivals_start, rivals_more}
 use Rattle.chess.proofs.move_text.write.rivals.Goals as goal

@@ -1,5 +1,5 @@
-use Rattle.chess.specs.Sets.{size_of}
-use Rattle.chess.specs.SanTextWords.{AreRivalsSifted}
+use Rattle.chess.specs.Public.Sets.{size_of}
+use Rattle.chess.specs.Private.SanTextWords.{AreRivalsSifted}
 use Rattle.chess.proofs.move_text.write.rivals.Given as goal
 
 abbrev pub invariant-loop-from : goal.invariant-loop-from

@@ -1,6 +1,6 @@
 use Rattle.std.proofs.Common.{◌≡◌, ◌+◌, arith, sym, subst, Option, Some, None, MatchOption}
-use Rattle.chess.specs.Squares.{Place, IsOnBoard, IsAhead}
-use Rattle.chess.specs.MoveWords.{IsSquareAhead}
+use Rattle.chess.specs.Public.Squares.{Place, IsOnBoard, IsAhead}
+use Rattle.chess.specs.Private.MoveWords.{IsSquareAhead}
 use Rattle.chess.specs.declared.board.direction.Direction.TheVariants.{North, South}
 use Rattle.chess.specs.declared.board.man.Side.TheVariants.{White, Black}
 use Rattle.chess.proofs.moves.pseudo_legal.square_ahead.Goals as goal

@@ -1,7 +1,7 @@
 use Rattle.std.proofs.Common.{◌≡◌, ◌∙◌, ap, sym, subst}
-use Rattle.chess.specs.Positions.{State}
-use Rattle.chess.specs.Codes.{IsKept}
-use Rattle.chess.specs.Moves.{after, men_after, rights_after}
+use Rattle.chess.specs.Public.Positions.{State}
+use Rattle.chess.specs.Private.Codes.{IsKept}
+use Rattle.chess.specs.Public.Moves.{after, men_after, rights_after}
 use Rattle.chess.specs.declared.board.man.CastlingRights.{CastlingRights}
 use Rattle.chess.specs.declared.board.man.Side.TheVariants.{White, Black}
 use Rattle.chess.proofs.KingFacts.{king_follows}

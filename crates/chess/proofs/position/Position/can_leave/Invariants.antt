@@ -1,6 +1,6 @@
-use Rattle.chess.specs.Sets.{size_of}
-use Rattle.chess.specs.Moves.{CanGo}
-use Rattle.chess.specs.MoveWords.{IsLeft}
+use Rattle.chess.specs.Public.Sets.{size_of}
+use Rattle.chess.specs.Public.Moves.{CanGo}
+use Rattle.chess.specs.Private.MoveWords.{IsLeft}
 use Rattle.chess.proofs.position.Position.can_leave.Given as goal
 
 abbrev pub invariant-loop-to : goal.invariant-loop-to

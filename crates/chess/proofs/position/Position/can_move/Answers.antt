@@ -1,7 +1,7 @@
 use Rattle.std.proofs.Common.{◌≡◌, subst, true, false, Option, Some, refl}
-use Rattle.chess.specs.Squares.{Place}
-use Rattle.chess.specs.SetWords.{IsTakenFirst}
-use Rattle.chess.specs.MoveWords.{IsMover, CanLeave}
+use Rattle.chess.specs.Public.Squares.{Place}
+use Rattle.chess.specs.Private.SetWords.{IsTakenFirst}
+use Rattle.chess.specs.Private.MoveWords.{IsMover, CanLeave}
 use Rattle.chess.proofs.PlaceFacts.{true_not_false}
 use Rattle.chess.proofs.LoopFacts.{fewer, left_more, left_none}
 use Rattle.chess.proofs.position.Position.can_move.Goals as goal

@@ -1,5 +1,5 @@
-use Rattle.chess.specs.Sets.{size_of}
-use Rattle.chess.specs.MoveWords.{IsLeft, IsMover, CanLeave}
+use Rattle.chess.specs.Public.Sets.{size_of}
+use Rattle.chess.specs.Private.MoveWords.{IsLeft, IsMover, CanLeave}
 use Rattle.chess.proofs.position.Position.can_move.Given as goal
 
 abbrev pub invariant-loop-from : goal.invariant-loop-from

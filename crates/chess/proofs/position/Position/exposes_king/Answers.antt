@@ -1,6 +1,6 @@
 use Rattle.std.proofs.Common.{◌≡◌, ap, subst}
-use Rattle.chess.specs.Positions.{State, IsOnlyKing}
-use Rattle.chess.specs.Moves.{men_after}
+use Rattle.chess.specs.Public.Positions.{State, IsOnlyKing}
+use Rattle.chess.specs.Public.Moves.{men_after}
 use Rattle.chess.proofs.CheckFacts.{check_after}
 use Rattle.chess.proofs.position.Position.exposes_king.Goals as goal
 

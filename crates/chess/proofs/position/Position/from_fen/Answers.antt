@@ -1,5 +1,5 @@
-use Rattle.chess.specs.Placements.{opposite}
-use Rattle.chess.specs.Positions.{State, IsOnlyKing}
+use Rattle.chess.specs.Public.Placements.{opposite}
+use Rattle.chess.specs.Public.Positions.{State, IsOnlyKing}
 use Rattle.chess.specs.declared.board.man.Side.TheVariants.{White, Black}
 use Rattle.chess.proofs.FenFacts.{HasKings, right_kings, wrong_pawns, right_pawns, enemy_white, enemy_black, wrong_check, right_check, spelled_kept}
 use Rattle.chess.proofs.position.Position.from_fen.Goals as goal

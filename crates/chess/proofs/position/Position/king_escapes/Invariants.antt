@@ -1,6 +1,6 @@
-use Rattle.chess.specs.Attacks.{IsNear}
-use Rattle.chess.specs.Sets.{size_of}
-use Rattle.chess.specs.MoveWords.{IsLeft}
+use Rattle.chess.specs.Public.Attacks.{IsNear}
+use Rattle.chess.specs.Public.Sets.{size_of}
+use Rattle.chess.specs.Private.MoveWords.{IsLeft}
 use Rattle.chess.proofs.position.Position.king_escapes.Given as goal
 
 abbrev pub invariant-loop-to : goal.invariant-loop-to

@@ -1,6 +1,6 @@
 use Rattle.std.proofs.Common.{subst, Option}
-use Rattle.chess.specs.Squares.{Place}
-use Rattle.chess.specs.MoveWords.{IsSquareAhead}
+use Rattle.chess.specs.Public.Squares.{Place}
+use Rattle.chess.specs.Private.MoveWords.{IsSquareAhead}
 use Rattle.chess.proofs.WayFacts.{no_goal}
 use Rattle.chess.proofs.position.Position.pawn_candidates.Goals as goal
 

@@ -1,9 +1,9 @@
 use Rattle.std.proofs.Common.{◌≡◌, subst, Option, Some, None}
-use Rattle.chess.specs.Squares.{Place}
-use Rattle.chess.specs.Placements.{man_at}
-use Rattle.chess.specs.Moves.{Promotes}
-use Rattle.chess.specs.MoveWords.{IsMover}
-use Rattle.chess.specs.SetWords.{IsTakenFirst}
+use Rattle.chess.specs.Public.Squares.{Place}
+use Rattle.chess.specs.Public.Placements.{man_at}
+use Rattle.chess.specs.Public.Moves.{Promotes}
+use Rattle.chess.specs.Private.MoveWords.{IsMover}
+use Rattle.chess.specs.Private.SetWords.{IsTakenFirst}
 use Rattle.chess.specs.declared.board.man.Side.{Side}
 use Rattle.chess.specs.declared.board.man.Kind.TheVariants.{Pawn}
 use Rattle.chess.proofs.LoopFacts.{fewer, left_start, left_more}

@@ -1,5 +1,5 @@
-use Rattle.chess.specs.Sets.{size_of}
-use Rattle.chess.specs.MoveWords.{IsMover, IsLeft}
+use Rattle.chess.specs.Public.Sets.{size_of}
+use Rattle.chess.specs.Private.MoveWords.{IsMover, IsLeft}
 use Rattle.chess.specs.declared.board.man.Kind.TheVariants.{Pawn}
 use Rattle.chess.proofs.position.Position.pawn_steps.Given as goal
 

@@ -1,9 +1,9 @@
 use Rattle.std.proofs.Common.{sym, subst}
-use Rattle.chess.specs.Squares.{Place}
-use Rattle.chess.specs.Placements.{Placement}
-use Rattle.chess.specs.Positions.{State, IsSound, king_from}
-use Rattle.chess.specs.Codes.{IsKept}
-use Rattle.chess.specs.Start.{initial}
+use Rattle.chess.specs.Public.Squares.{Place}
+use Rattle.chess.specs.Public.Placements.{Placement}
+use Rattle.chess.specs.Public.Positions.{State, IsSound, king_from}
+use Rattle.chess.specs.Private.Codes.{IsKept}
+use Rattle.chess.specs.Public.Start.{initial}
 use Rattle.chess.specs.declared.board.man.Side.TheVariants.{White}
 use Rattle.chess.proofs.StartFacts.{initial_kept}
 use Rattle.chess.proofs.position.Position.start.Goals as goal

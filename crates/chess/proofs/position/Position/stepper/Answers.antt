@@ -1,6 +1,6 @@
 use Rattle.std.proofs.Common.{ap, subst, ◌∙◌, Some}
-use Rattle.chess.specs.Placements.{opposite, IsEmpty}
-use Rattle.chess.specs.MoveWords.{IsMover, CanStepOver, IsSquareAhead}
+use Rattle.chess.specs.Public.Placements.{opposite, IsEmpty}
+use Rattle.chess.specs.Private.MoveWords.{IsMover, CanStepOver, IsSquareAhead}
 use Rattle.chess.specs.declared.board.man.Kind.TheVariants.{Pawn}
 use Rattle.chess.proofs.PlaceFacts.{true_not_false}
 use Rattle.chess.proofs.StepperFacts.{rear_of, no_step_taken, no_step_edge, steps_once, only_once, no_second, only_two, steps_twice}

@@ -1,4 +1,4 @@
-use Rattle.chess.specs.MoveWords.{IsStepper}
+use Rattle.chess.specs.Private.MoveWords.{IsStepper}
 use Rattle.chess.proofs.StepperFacts.{one_holds}
 use Rattle.chess.proofs.CandidateFacts.{none_hold}
 use Rattle.chess.proofs.position.Position.steppers.Goals as goal

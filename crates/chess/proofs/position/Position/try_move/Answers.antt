@@ -1,5 +1,5 @@
 use Rattle.std.proofs.Common.{sym, subst, Option}
-use Rattle.chess.specs.Moves.{IsUnbarred}
+use Rattle.chess.specs.Public.Moves.{IsUnbarred}
 use Rattle.chess.specs.declared.board.man.Wing.{Wing}
 use Rattle.chess.proofs.PlaceFacts.{true_not_false}
 use Rattle.chess.proofs.position.Position.try_move.Goals as goal

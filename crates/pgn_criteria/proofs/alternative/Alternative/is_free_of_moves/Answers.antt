@@ -1,6 +1,6 @@
 use Rattle.std.proofs.Common.{◌↔◌, ℕ, List, map, IsTrue, ap, ◌∙◌, subst, Vec, Global}
 use Rattle.pgn_criteria.specs.declared.condition.Condition.{Condition}
-use Rattle.pgn_criteria.specs.Stages.{AreFreeOfMoves, seen}
+use Rattle.pgn_criteria.specs.Private.Stages.{AreFreeOfMoves, seen}
 use Rattle.pgn_criteria.proofs.alternative.Alternative.is_free_of_moves.Goals as goal
 
 abbrev view : List (Condition (Vec ℕ Global)) → List (Condition (List ℕ))

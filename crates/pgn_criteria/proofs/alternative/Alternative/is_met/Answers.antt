@@ -1,5 +1,5 @@
 use Rattle.std.proofs.Common.{◌↔◌, IsTrue, MatchOption, subst}
-use Rattle.pgn_criteria.specs.Stages.{AllSaid, AreFixed, AreMirrored}
+use Rattle.pgn_criteria.specs.Private.Stages.{AllSaid, AreFixed, AreMirrored}
 use Rattle.pgn_criteria.proofs.EitherFacts.{met_plain, met_fixed, met_mirror}
 use Rattle.pgn_criteria.proofs.alternative.Alternative.is_met.Goals as goal
 

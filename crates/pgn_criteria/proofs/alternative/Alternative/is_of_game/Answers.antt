@@ -1,7 +1,7 @@
 use Rattle.std.proofs.Common.{◌↔◌, ℕ, List, map, IsTrue, ap, ◌∙◌, subst, Vec, Global}
 use Rattle.pgn_criteria.specs.declared.condition.Condition.{Condition}
-use Rattle.pgn_criteria.specs.Meeting.{Heading}
-use Rattle.pgn_criteria.specs.Stages.{AllOfGame, seen}
+use Rattle.pgn_criteria.specs.Public.Meeting.{Heading}
+use Rattle.pgn_criteria.specs.Private.Stages.{AllOfGame, seen}
 use Rattle.pgn_criteria.proofs.alternative.Alternative.is_of_game.Goals as goal
 
 abbrev view : List (Condition (Vec ℕ Global)) → List (Condition (List ℕ))

@@ -1,9 +1,9 @@
 use Rattle.std.proofs.Common.{ℕ, List, MatchOption, IsTrue, subst}
 use Rattle.std.specs.Prelude.{IfSome}
-use Rattle.chess.specs.Placements.{Placement}
-use Rattle.pgn_criteria.specs.Marks.{AreMarksOf}
+use Rattle.chess.specs.Public.Placements.{Placement}
+use Rattle.pgn_criteria.specs.Private.Marks.{AreMarksOf}
 use Rattle.pgn_criteria.specs.declared.condition.Condition.{Condition}
-use Rattle.pgn_criteria.specs.Stages.{AllSaid, AreFixed, AreFreeOfMoves, AreMirrored}
+use Rattle.pgn_criteria.specs.Private.Stages.{AllSaid, AreFixed, AreFreeOfMoves, AreMirrored}
 use Rattle.pgn_criteria.proofs.ByMarkFacts.{fixed_marks}
 use Rattle.pgn_criteria.proofs.alternative.Alternative.marks.Goals as goal
 

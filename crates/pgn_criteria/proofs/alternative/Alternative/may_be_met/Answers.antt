@@ -1,8 +1,8 @@
 use Rattle.std.proofs.Common.{MatchOption, subst}
-use Rattle.pgn_criteria.specs.Sieves.{NowhereSeen, codes_in}
-use Rattle.pgn_criteria.specs.Marks.{FitsSeen}
-use Rattle.pgn_criteria.specs.Stages.{AllOfPatterns, AreFixed, AreMirrored}
-use Rattle.pgn_criteria.specs.Tracks.{FitsPlaced, Nowhere}
+use Rattle.pgn_criteria.specs.Public.Sieves.{NowhereSeen, codes_in}
+use Rattle.pgn_criteria.specs.Private.Marks.{FitsSeen}
+use Rattle.pgn_criteria.specs.Private.Stages.{AllOfPatterns, AreFixed, AreMirrored}
+use Rattle.pgn_criteria.specs.Private.Tracks.{FitsPlaced, Nowhere}
 use Rattle.pgn_criteria.proofs.MarkFacts.{placed_seen}
 use Rattle.pgn_criteria.proofs.PlacedFacts.{fixed_patterns, nowhere_mirrored}
 use Rattle.pgn_criteria.proofs.StandFacts.{nowhere_of}

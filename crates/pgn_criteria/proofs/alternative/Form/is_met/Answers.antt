@@ -1,5 +1,5 @@
 use Rattle.std.proofs.Common.{◌∙◌, subst, sym}
-use Rattle.pgn_criteria.specs.Stages.{AllOfPatterns}
+use Rattle.pgn_criteria.specs.Private.Stages.{AllOfPatterns}
 use Rattle.pgn_criteria.proofs.SeenFacts.{stages_parted, patterns_said}
 use Rattle.pgn_criteria.proofs.alternative.Form.is_met.Goals as goal
 use Rattle.pgn_criteria.proofs.alternative.Form.is_met.Goals.{then-is_met, else-is_met}

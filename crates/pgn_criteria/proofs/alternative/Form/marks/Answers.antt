@@ -1,9 +1,9 @@
 use Rattle.std.proofs.Common.{ℕ, List, map, IsTrue, subst, Vec, Global}
 use Rattle.std.specs.Prelude.{IfSome}
-use Rattle.chess.specs.Placements.{Placement}
-use Rattle.pgn_criteria.specs.Marks.{AreMarksOf}
+use Rattle.chess.specs.Public.Placements.{Placement}
+use Rattle.pgn_criteria.specs.Private.Marks.{AreMarksOf}
 use Rattle.pgn_criteria.specs.declared.condition.Condition.{Condition}
-use Rattle.pgn_criteria.specs.Stages.{AllSaid, AreFreeOfMoves, seen}
+use Rattle.pgn_criteria.specs.Private.Stages.{AllSaid, AreFreeOfMoves, seen}
 use Rattle.pgn_criteria.proofs.alternative.Form.marks.Goals as goal
 
 abbrev view : List (Condition (Vec ℕ Global)) → List (Condition (List ℕ))

@@ -1,8 +1,8 @@
 use Rattle.std.proofs.Common.{sym, subst}
 use Rattle.std.specs.Prelude.{IfSome}
-use Rattle.pgn_criteria.specs.Stages.{AllOfPatterns}
-use Rattle.pgn_criteria.specs.Sieves.{codes_in}
-use Rattle.pgn_criteria.specs.Tracks.{FitsSieve, Sifts}
+use Rattle.pgn_criteria.specs.Private.Stages.{AllOfPatterns}
+use Rattle.pgn_criteria.specs.Public.Sieves.{codes_in}
+use Rattle.pgn_criteria.specs.Private.Tracks.{FitsSieve, Sifts}
 use Rattle.pgn_criteria.proofs.StandFacts.{nowhere_of}
 use Rattle.pgn_criteria.proofs.alternative.Form.may_be_met.Goals as goal
 

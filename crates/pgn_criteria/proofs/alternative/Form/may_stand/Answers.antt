@@ -1,7 +1,7 @@
 use Rattle.std.proofs.Common.{sym, subst}
 use Rattle.std.specs.Prelude.{IfSome}
-use Rattle.pgn_criteria.specs.Stages.{AllOfPatterns}
-use Rattle.pgn_criteria.specs.Tracks.{Sifts}
+use Rattle.pgn_criteria.specs.Private.Stages.{AllOfPatterns}
+use Rattle.pgn_criteria.specs.Private.Tracks.{Sifts}
 use Rattle.pgn_criteria.proofs.alternative.Form.may_stand.Goals as goal
 
 pub returns-in-Some : goal.returns-in-Some

@@ -1,7 +1,7 @@
 use Rattle.std.proofs.Common.{ℕ, List, Vec, Global, map, subst}
-use Rattle.pgn_criteria.specs.Sieves.{NowhereSeen, codes_in}
-use Rattle.pgn_criteria.specs.Marks.{FitsSeen}
-use Rattle.pgn_criteria.specs.Stages.{seen}
+use Rattle.pgn_criteria.specs.Public.Sieves.{NowhereSeen, codes_in}
+use Rattle.pgn_criteria.specs.Private.Marks.{FitsSeen}
+use Rattle.pgn_criteria.specs.Private.Stages.{seen}
 use Rattle.pgn_criteria.specs.declared.condition.Condition.{Condition}
 use Rattle.pgn_criteria.proofs.alternative.Form.needs_are_shown.Goals as goal
 

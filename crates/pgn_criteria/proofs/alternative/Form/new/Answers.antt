@@ -1,6 +1,6 @@
 use Rattle.std.proofs.Common.{List, ℕ, Vec, Global, map}
-use Rattle.pgn_criteria.specs.Planning.{Plans}
-use Rattle.pgn_criteria.specs.Stages.{AllOfPatterns, seen}
+use Rattle.pgn_criteria.specs.Private.Planning.{Plans}
+use Rattle.pgn_criteria.specs.Private.Stages.{AllOfPatterns, seen}
 use Rattle.pgn_criteria.specs.declared.condition.Condition.{Condition}
 use Rattle.pgn_criteria.proofs.alternative.Form.new.Goals as goal
 

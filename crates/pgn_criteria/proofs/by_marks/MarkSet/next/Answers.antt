@@ -1,7 +1,7 @@
 use Rattle.std.proofs.Common.{◌≡◌, ◌∙◌, arith, refl, sym, subst}
 use Rattle.std.proofs.lemmas.Bool.Decides.{nat_tests}
-use Rattle.pgn_criteria.specs.ByMarks.{NoneMeets}
-use Rattle.pgn_criteria.specs.Sieves.{codes_in}
+use Rattle.pgn_criteria.specs.Public.ByMarks.{NoneMeets}
+use Rattle.pgn_criteria.specs.Public.Sieves.{codes_in}
 use Rattle.pgn_criteria.proofs.ByMarkFacts.{none_on, next_on, next_here, none_end, none_of_none}
 use Rattle.pgn_criteria.proofs.StandFacts.{rest_is}
 use Rattle.pgn_criteria.proofs.by_marks.MarkSet.next.Goals as goal

@@ -1,8 +1,8 @@
 use Rattle.std.proofs.Common.{List, length}
 use Rattle.chess.specs.declared.board.man.Side.{Side}
-use Rattle.pgn_game.specs.PlyCodes.{PlyCode}
-use Rattle.pgn_criteria.specs.ByMarks.{NoneMeets, IsNextMet}
-use Rattle.pgn_criteria.specs.Sieves.{codes_in}
+use Rattle.pgn_game.specs.Public.PlyCodes.{PlyCode}
+use Rattle.pgn_criteria.specs.Public.ByMarks.{NoneMeets, IsNextMet}
+use Rattle.pgn_criteria.specs.Public.Sieves.{codes_in}
 use Rattle.pgn_criteria.proofs.by_marks.MarkSet.next.Given as goal
 
 abbrev pub invariant-loop-rest : goal.invariant-loop-rest

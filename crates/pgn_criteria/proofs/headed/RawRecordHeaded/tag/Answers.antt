@@ -1,5 +1,5 @@
 use Rattle.std.proofs.Common.{◌≡◌, ℕ, List, Some, None, sym, subst, ◌∙◌}
-use Rattle.pgn_text.specs.Strings.{IsContents}
+use Rattle.pgn_text.specs.Public.Strings.{IsContents}
 use Rattle.pgn_criteria.proofs.RecordHeadings.{named_there}
 use Rattle.pgn_criteria.proofs.headed.RawRecordHeaded.tag.Goals as goal
 

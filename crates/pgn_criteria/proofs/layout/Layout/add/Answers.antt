@@ -1,8 +1,8 @@
 use Rattle.std.proofs.Common.{true, refl, sym, subst}
 use Rattle.std.specs.Prelude.{OnOk}
-use Rattle.chess.specs.Placements.{man_at}
-use Rattle.pgn_criteria.specs.Items.{IsOf}
-use Rattle.pgn_criteria.specs.Layouts.{Lays}
+use Rattle.chess.specs.Public.Placements.{man_at}
+use Rattle.pgn_criteria.specs.Private.Items.{IsOf}
+use Rattle.pgn_criteria.specs.Private.Layouts.{Lays}
 use Rattle.pgn_criteria.specs.declared.rank.SquareTest.{SquareTest}
 use Rattle.pgn_criteria.proofs.LayoutFacts.{lays_asked}
 use Rattle.pgn_criteria.proofs.layout.Layout.add.Goals as goal

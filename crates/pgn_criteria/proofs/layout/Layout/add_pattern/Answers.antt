@@ -1,8 +1,8 @@
 use Rattle.std.proofs.Common.{◌≡◌, ◌+◌, ◌-◌, ◌==◌, true, refl, arith}
 use Rattle.std.proofs.lemmas.Bool.{eqb-true}
-use Rattle.chess.specs.Fen.{row, parted_at}
-use Rattle.pgn_criteria.specs.Patterns.{CanBeSplit, FitRanks, FitsPattern}
-use Rattle.pgn_criteria.specs.Items.{items_of}
+use Rattle.chess.specs.Public.Fen.{row, parted_at}
+use Rattle.pgn_criteria.specs.Public.Patterns.{CanBeSplit, FitRanks, FitsPattern}
+use Rattle.pgn_criteria.specs.Private.Items.{items_of}
 use Rattle.pgn_criteria.proofs.LayoutFacts.{lays_step, lays_end}
 use Rattle.pgn_criteria.proofs.PatternFacts.{next_rank, last_rank}
 use Rattle.pgn_criteria.proofs.layout.Layout.add_pattern.Goals as goal

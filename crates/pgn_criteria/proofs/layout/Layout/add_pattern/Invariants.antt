@@ -1,7 +1,7 @@
 use Rattle.std.proofs.Common.{◌-◌}
-use Rattle.chess.specs.Fen.{parted_at}
-use Rattle.pgn_criteria.specs.Layouts.{Lays}
-use Rattle.pgn_criteria.specs.Patterns.{FitsPattern, FitRanks}
+use Rattle.chess.specs.Public.Fen.{parted_at}
+use Rattle.pgn_criteria.specs.Private.Layouts.{Lays}
+use Rattle.pgn_criteria.specs.Public.Patterns.{FitsPattern, FitRanks}
 use Rattle.pgn_criteria.proofs.layout.Layout.add_pattern.Given as goal
 
 abbrev pub invariant-loop-step : goal.invariant-loop-step

@@ -1,8 +1,8 @@
 use Rattle.std.proofs.Common.{◌↔◌, ◌+◌, true, refl, sym, subst, arith}
-use Rattle.chess.specs.Squares.{Place}
-use Rattle.chess.specs.Placements.{man_at}
-use Rattle.pgn_criteria.specs.Items.{IsOf}
-use Rattle.pgn_criteria.specs.Layouts.{EachFrom, Lays}
+use Rattle.chess.specs.Public.Squares.{Place}
+use Rattle.chess.specs.Public.Placements.{man_at}
+use Rattle.pgn_criteria.specs.Private.Items.{IsOf}
+use Rattle.pgn_criteria.specs.Private.Layouts.{EachFrom, Lays}
 use Rattle.pgn_criteria.specs.declared.layout.Layout.{Layout}
 use Rattle.pgn_criteria.proofs.LayoutFacts.{lays_step, lays_end, each_step}
 use Rattle.pgn_criteria.proofs.layout.Layout.add_run.Goals as goal

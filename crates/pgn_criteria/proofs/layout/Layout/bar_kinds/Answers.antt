@@ -1,9 +1,9 @@
 use Rattle.std.proofs.Common.{◌≡◌, IsTrue, Some}
-use Rattle.chess.specs.Placements.{Placement, man_at}
+use Rattle.chess.specs.Public.Placements.{Placement, man_at}
 use Rattle.chess.specs.declared.board.man.Kind.{Kind}
 use Rattle.chess.specs.declared.board.man.Kind.TheVariants.{King, Queen, Rook, Bishop, Knight, Pawn}
-use Rattle.pgn_criteria.specs.Items.{has_kind}
-use Rattle.pgn_criteria.specs.Layouts.{NoneOf}
+use Rattle.pgn_criteria.specs.Private.Items.{has_kind}
+use Rattle.pgn_criteria.specs.Private.Layouts.{NoneOf}
 use Rattle.pgn_criteria.proofs.LayoutFacts.{lays_both, lays_like, each_kind}
 use Rattle.pgn_criteria.proofs.layout.Layout.bar_kinds.Goals as goal
 

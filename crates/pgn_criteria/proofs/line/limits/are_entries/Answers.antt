@@ -1,7 +1,7 @@
 use Rattle.std.proofs.Common.{◌≡◌, ◌-◌, true, false, length, take, drop, sym, ap, ◌∙◌, subst}
 use Rattle.std.specs.Prelude.{slice_index_or}
-use Rattle.chess.specs.Fen.{has_byte}
-use Rattle.pgn_criteria.specs.Reading.{AreEntries, first_limit}
+use Rattle.chess.specs.Public.Fen.{has_byte}
+use Rattle.pgn_criteria.specs.Private.Reading.{AreEntries, first_limit}
 use Rattle.chess.proofs.RestFacts.{first_and_rest}
 use Rattle.pgn_criteria.proofs.LimitFacts.{entries_read, entries_spelled}
 use Rattle.pgn_criteria.proofs.line.limits.are_entries.Goals as goal

@@ -1,6 +1,6 @@
 use Rattle.std.proofs.Common.{◌≡◌, ℕ, List, ◌∙◌, sym, ap, subst}
-use Rattle.pgn_criteria.specs.Reading.{run_of, after_word}
-use Rattle.pgn_criteria.specs.Lines.{SpellsLimits}
+use Rattle.pgn_criteria.specs.Private.Reading.{run_of, after_word}
+use Rattle.pgn_criteria.specs.Public.Lines.{SpellsLimits}
 use Rattle.pgn_criteria.proofs.MaterialFacts.{material_read, material_spelled}
 use Rattle.pgn_criteria.proofs.line.limits.material_of.Goals as goal
 

@@ -2,8 +2,8 @@ use Rattle.std.proofs.Common.{◌≡◌, ◌≢◌, ◌<◌, ℕ, Bool, true, fa
 use Rattle.std.specs.Prelude.{◌↔◌, ◌==◌}
 use Rattle.std.proofs.lemmas.Bool.{eqb-true}
 use Rattle.std.proofs.lemmas.List.{nil_from_length}
-use Rattle.pgn_criteria.specs.Lines.{AreMoveWords, IsMoveWord}
-use Rattle.pgn_criteria.specs.Reading.{run_of, after_run, after_blanks, after_word}
+use Rattle.pgn_criteria.specs.Public.Lines.{AreMoveWords, IsMoveWord}
+use Rattle.pgn_criteria.specs.Private.Reading.{run_of, after_run, after_blanks, after_word}
 use Rattle.pgn_criteria.proofs.MoveWordFacts.{words_read, words_left, last_word, first_word, words_shorter}
 use Rattle.pgn_criteria.proofs.line.move_words.are_move_words.Goals as goal
 

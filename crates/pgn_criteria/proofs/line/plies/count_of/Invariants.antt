@@ -1,5 +1,5 @@
 use Rattle.std.proofs.Common.{length}
-use Rattle.pgn_criteria.specs.Numbers.{IsCounted}
+use Rattle.pgn_criteria.specs.Private.Numbers.{IsCounted}
 use Rattle.pgn_criteria.proofs.line.plies.count_of.Given as goal
 
 abbrev pub invariant-loop-rest : goal.invariant-loop-rest

@@ -1,5 +1,5 @@
 use Rattle.std.proofs.Common.{◌∙◌, sym, subst, arith}
-use Rattle.pgn_criteria.specs.Lines.{SpellsCount}
+use Rattle.pgn_criteria.specs.Public.Lines.{SpellsCount}
 use Rattle.pgn_criteria.proofs.PliesFacts.{for_read, for_spelled}
 use Rattle.pgn_criteria.proofs.line.plies.for_of.Goals as goal
 

@@ -1,6 +1,6 @@
 use Rattle.std.proofs.Common.{◌↔◌, length}
-use Rattle.chess.specs.Fen.{parted_at}
-use Rattle.pgn_criteria.specs.Lines.{AreNames}
+use Rattle.chess.specs.Public.Fen.{parted_at}
+use Rattle.pgn_criteria.specs.Public.Lines.{AreNames}
 use Rattle.pgn_criteria.proofs.line.tag.are_names.Given as goal
 
 abbrev pub invariant-loop-after : goal.invariant-loop-after

@@ -1,7 +1,7 @@
 use Rattle.std.proofs.Common.{◌≡◌, sym, ap, ◌∙◌, subst}
-use Rattle.chess.specs.Fen.{parted_at}
-use Rattle.pgn_criteria.specs.Lines.{AreNames, relation_text}
-use Rattle.pgn_criteria.specs.Reading.{run_of, after_word}
+use Rattle.chess.specs.Public.Fen.{parted_at}
+use Rattle.pgn_criteria.specs.Public.Lines.{AreNames, relation_text}
+use Rattle.pgn_criteria.specs.Private.Reading.{run_of, after_word}
 use Rattle.pgn_criteria.proofs.TagFacts.{tag_read, tag_spelled, quoted, read_fits}
 use Rattle.pgn_criteria.proofs.line.tag.tag_of.Goals as goal
 

@@ -1,10 +1,10 @@
 use Rattle.std.proofs.Common.{◌↔◌, ◌⊎◌, ℕ, Bool, IsTrue, drop}
-use Rattle.chess.specs.Positions.{State}
-use Rattle.pgn_game.specs.PlyCodes.{AreMarks}
-use Rattle.pgn_game.specs.Replays.{Replay}
-use Rattle.pgn_criteria.specs.ByMarks.{has_marks}
-use Rattle.pgn_criteria.specs.Meeting.{SomeHold}
-use Rattle.pgn_criteria.specs.Stages.{AllGood}
+use Rattle.chess.specs.Public.Positions.{State}
+use Rattle.pgn_game.specs.Public.PlyCodes.{AreMarks}
+use Rattle.pgn_game.specs.Public.Replays.{Replay}
+use Rattle.pgn_criteria.specs.Public.ByMarks.{has_marks}
+use Rattle.pgn_criteria.specs.Public.Meeting.{SomeHold}
+use Rattle.pgn_criteria.specs.Private.Stages.{AllGood}
 use Rattle.pgn_criteria.proofs.meets.Criteria.marks_of_heading.Given as goal
 
 abbrev pub invariant-loop-alternative : goal.invariant-loop-alternative

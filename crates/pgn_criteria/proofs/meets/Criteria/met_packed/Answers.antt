@@ -1,11 +1,11 @@
 use Rattle.std.proofs.Common.{◌≡◌, ◌∙◌, ℕ, List, Some, Result, Ok, Err, refl, sym, ap, subst}
 use Rattle.std.specs.List.{slice_get}
 use Rattle.std.specs.Prelude.{IfOk}
-use Rattle.chess.specs.Positions.{State}
+use Rattle.chess.specs.Public.Positions.{State}
 use Rattle.pgn_game.proofs.CodeLineFacts.{legal_along}
-use Rattle.pgn_criteria.specs.Meeting.{Heading, heading_of, AreMet}
-use Rattle.pgn_criteria.specs.Records.{heading_of_raw}
-use Rattle.pgn_criteria.specs.Stages.{AllGood}
+use Rattle.pgn_criteria.specs.Public.Meeting.{Heading, heading_of, AreMet}
+use Rattle.pgn_criteria.specs.Private.Records.{heading_of_raw}
+use Rattle.pgn_criteria.specs.Private.Stages.{AllGood}
 use Rattle.pgn_criteria.specs.declared.condition.Condition.{Condition}
 use Rattle.pgn_criteria.proofs.RecordHeadings.{raw_heading, text_heading}
 use Rattle.pgn_criteria.proofs.meets.Criteria.met_packed.Goals as goal

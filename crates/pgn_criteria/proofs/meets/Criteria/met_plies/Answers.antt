@@ -1,9 +1,9 @@
 use Rattle.std.proofs.Common.{◌∙◌, ℕ, List, refl, sym, subst}
 use Rattle.std.specs.Prelude.{IfOk}
-use Rattle.pgn_game.specs.Starts.{fen_tag}
-use Rattle.pgn_text.specs.GameTexts.{tag_in}
-use Rattle.pgn_criteria.specs.Meeting.{heading_of, AreMet}
-use Rattle.pgn_criteria.specs.Stages.{AllGood}
+use Rattle.pgn_game.specs.Public.Starts.{fen_tag}
+use Rattle.pgn_text.specs.Public.GameTexts.{tag_in}
+use Rattle.pgn_criteria.specs.Public.Meeting.{heading_of, AreMet}
+use Rattle.pgn_criteria.specs.Private.Stages.{AllGood}
 use Rattle.pgn_criteria.specs.declared.condition.Condition.{Condition}
 use Rattle.pgn_criteria.proofs.MeetFacts.{legal_moves}
 use Rattle.pgn_criteria.proofs.meets.Criteria.met_plies.Goals as goal

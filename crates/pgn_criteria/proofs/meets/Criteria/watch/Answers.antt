@@ -1,11 +1,11 @@
 use Rattle.std.proofs.Common.{◌↔◌, ◌∙◌, ℕ, sym, subst, arith}
 use Rattle.std.specs.Prelude.{IfSome}
-use Rattle.pgn_text.specs.GameTexts.{tag_in}
-use Rattle.pgn_game.specs.Replays.{Replay}
-use Rattle.pgn_game.specs.Starts.{fen_tag}
+use Rattle.pgn_text.specs.Public.GameTexts.{tag_in}
+use Rattle.pgn_game.specs.Public.Replays.{Replay}
+use Rattle.pgn_game.specs.Public.Starts.{fen_tag}
 use Rattle.pgn_game.proofs.Openings.{opening_legal}
-use Rattle.pgn_criteria.specs.Meeting.{heading_of, SomeHold, Meets}
-use Rattle.pgn_criteria.specs.Stages.{EachAsksWithin, AllWithin}
+use Rattle.pgn_criteria.specs.Public.Meeting.{heading_of, SomeHold, Meets}
+use Rattle.pgn_criteria.specs.Private.Stages.{EachAsksWithin, AllWithin}
 use Rattle.pgn_criteria.proofs.OpeningFacts.{opening_fits, within_hold_there}
 use Rattle.pgn_criteria.proofs.StageFacts.{same_plies}
 use Rattle.pgn_criteria.proofs.meets.Criteria.watch.Goals as goal

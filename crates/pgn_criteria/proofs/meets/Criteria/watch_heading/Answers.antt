@@ -1,10 +1,10 @@
 use Rattle.std.proofs.Common.{◌≡◌, ◌↔◌, ◌++◌, ◌∷◌, ◌+◌, ℕ, length, drop, map, subst, sym, ap, ◌∙◌, arith}
 use Rattle.std.proofs.lemmas.List.{append-nil, map-append}
 use Rattle.std.proofs.Math.Seq.{drop-length}
-use Rattle.chess.specs.Positions.{State}
-use Rattle.pgn_game.specs.Replays.{Replay}
-use Rattle.pgn_criteria.specs.Meeting.{Heading, SomeHold}
-use Rattle.pgn_criteria.specs.Stages.{on_positions}
+use Rattle.chess.specs.Public.Positions.{State}
+use Rattle.pgn_game.specs.Public.Replays.{Replay}
+use Rattle.pgn_criteria.specs.Public.Meeting.{Heading, SomeHold}
+use Rattle.pgn_criteria.specs.Private.Stages.{on_positions}
 use Rattle.pgn_criteria.proofs.MeetFacts.{good_from, alternatives_from}
 use Rattle.pgn_criteria.proofs.StageFacts.{all_of_heading, not_of_heading, kept_one, dropped_one, same_plies, all_free_within}
 use Rattle.pgn_criteria.proofs.meets.Criteria.watch_heading.Goals as goal

@@ -1,8 +1,8 @@
 use Rattle.std.proofs.Common.{◌↔◌, ◌++◌, ℕ, drop, map}
-use Rattle.chess.specs.Positions.{State}
-use Rattle.pgn_game.specs.Replays.{Replay}
-use Rattle.pgn_criteria.specs.Meeting.{SomeHold}
-use Rattle.pgn_criteria.specs.Stages.{AllGood, on_positions}
+use Rattle.chess.specs.Public.Positions.{State}
+use Rattle.pgn_game.specs.Public.Replays.{Replay}
+use Rattle.pgn_criteria.specs.Public.Meeting.{SomeHold}
+use Rattle.pgn_criteria.specs.Private.Stages.{AllGood, on_positions}
 use Rattle.pgn_criteria.proofs.meets.Criteria.watch_heading.Given as goal
 
 abbrev pub invariant-loop-alternative : goal.invariant-loop-alternative

@@ -1,7 +1,7 @@
 use Rattle.std.proofs.Common.{◌≡◌, ◌↔◌, ◌∙◌, Option, Some, None, Result, Ok, Err, sym, ap, subst}
 use Rattle.std.specs.Prelude.{IfOk, IfSome}
-use Rattle.pgn_criteria.specs.Meeting.{Heading, heading_of, Meets}
-use Rattle.pgn_criteria.specs.Records.{heading_of_raw}
+use Rattle.pgn_criteria.specs.Public.Meeting.{Heading, heading_of, Meets}
+use Rattle.pgn_criteria.specs.Private.Records.{heading_of_raw}
 use Rattle.pgn_criteria.proofs.RecordHeadings.{raw_heading, text_heading}
 use Rattle.pgn_criteria.proofs.meets.Criteria.watch_packed.Goals as goal
 

@@ -1,8 +1,8 @@
 use Rattle.std.proofs.Common.{◌↔◌, refl, sym, subst}
 use Rattle.std.specs.Prelude.{IfSome}
-use Rattle.chess.specs.Placements.{Placement}
-use Rattle.pgn_criteria.specs.Layouts.{Laid}
-use Rattle.pgn_criteria.specs.Patterns.{FitsPattern}
+use Rattle.chess.specs.Public.Placements.{Placement}
+use Rattle.pgn_criteria.specs.Private.Layouts.{Laid}
+use Rattle.pgn_criteria.specs.Public.Patterns.{FitsPattern}
 use Rattle.pgn_criteria.proofs.PlanFacts.{denied, plans_denied}
 use Rattle.pgn_criteria.proofs.plan.Plan.add_denied.Goals as goal
 

@@ -1,9 +1,9 @@
 use Rattle.std.proofs.Common.{◌↔◌, refl, subst}
 use Rattle.std.specs.Prelude.{IfSome}
-use Rattle.chess.specs.Placements.{Placement}
-use Rattle.pgn_criteria.specs.Layouts.{Laid}
-use Rattle.pgn_criteria.specs.Patterns.{FitsPattern}
-use Rattle.pgn_criteria.specs.Mirrors.{FitsEitherWay}
+use Rattle.chess.specs.Public.Placements.{Placement}
+use Rattle.pgn_criteria.specs.Private.Layouts.{Laid}
+use Rattle.pgn_criteria.specs.Public.Patterns.{FitsPattern}
+use Rattle.pgn_criteria.specs.Public.Mirrors.{FitsEitherWay}
 use Rattle.pgn_criteria.specs.declared.plan.Plan.{Plan}
 use Rattle.pgn_criteria.proofs.LayoutFacts.{lays_both, lays_like}
 use Rattle.pgn_criteria.proofs.PlanFacts.{neither_way, plans_denied}

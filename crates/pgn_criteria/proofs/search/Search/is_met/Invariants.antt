@@ -1,9 +1,9 @@
 use Rattle.std.proofs.Common.{◌↔◌, ℕ, drop, map}
-use Rattle.chess.specs.Positions.{State}
-use Rattle.pgn_game.specs.Replays.{Replay}
-use Rattle.pgn_criteria.specs.Meeting.{Heading, SomeHold}
-use Rattle.pgn_criteria.specs.Stages.{on_positions}
-use Rattle.pgn_criteria.specs.Walks.{IsSeenOf}
+use Rattle.chess.specs.Public.Positions.{State}
+use Rattle.pgn_game.specs.Public.Replays.{Replay}
+use Rattle.pgn_criteria.specs.Public.Meeting.{Heading, SomeHold}
+use Rattle.pgn_criteria.specs.Private.Stages.{on_positions}
+use Rattle.pgn_criteria.specs.Public.Walks.{IsSeenOf}
 use Rattle.pgn_criteria.proofs.search.Search.is_met.Given as goal
 
 abbrev pub invariant-loop-alternative : goal.invariant-loop-alternative

@@ -1,7 +1,7 @@
 use Rattle.std.proofs.Common.{inl, inr, subst}
 use Rattle.std.specs.Prelude.{MatchOption}
-use Rattle.pgn_criteria.specs.Sieves.{codes_in}
-use Rattle.pgn_criteria.specs.Tracks.{FitsSieve, StaysAt, StaysOn}
+use Rattle.pgn_criteria.specs.Public.Sieves.{codes_in}
+use Rattle.pgn_criteria.specs.Private.Tracks.{FitsSieve, StaysAt, StaysOn}
 use Rattle.pgn_criteria.proofs.StandFacts.{nowhere_of}
 use Rattle.pgn_criteria.proofs.sieve.Sieve.lets_through.Goals as goal
 

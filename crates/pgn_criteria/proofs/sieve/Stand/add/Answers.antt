@@ -1,7 +1,7 @@
 use Rattle.std.proofs.Common.{◌≡◌, Some, refl, subst}
-use Rattle.chess.specs.Squares.{Place}
-use Rattle.chess.specs.Placements.{man_at}
-use Rattle.pgn_criteria.specs.Items.{IsOf}
+use Rattle.chess.specs.Public.Squares.{Place}
+use Rattle.chess.specs.Public.Placements.{man_at}
+use Rattle.pgn_criteria.specs.Private.Items.{IsOf}
 use Rattle.pgn_criteria.specs.declared.sieve.Stand.{Stand}
 use Rattle.pgn_criteria.proofs.SieveFacts.{bars}
 use Rattle.pgn_criteria.proofs.sieve.Stand.add.Goals as goal

@@ -1,5 +1,5 @@
 use Rattle.std.proofs.Common.{◌≡◌, ◌+◌, ◌∷◌, drop, subst}
-use Rattle.pgn_criteria.specs.Layouts.{AllStand}
+use Rattle.pgn_criteria.specs.Private.Layouts.{AllStand}
 use Rattle.pgn_criteria.proofs.MeetFacts.{alternatives_from}
 use Rattle.pgn_criteria.proofs.sieve.Stand.add_all.Goals as goal
 

@@ -1,7 +1,7 @@
 use Rattle.std.proofs.Common.{drop}
-use Rattle.chess.specs.Placements.{Placement}
-use Rattle.pgn_criteria.specs.Layouts.{AllStand}
-use Rattle.pgn_criteria.specs.Tracks.{StaysOn}
+use Rattle.chess.specs.Public.Placements.{Placement}
+use Rattle.pgn_criteria.specs.Private.Layouts.{AllStand}
+use Rattle.pgn_criteria.specs.Private.Tracks.{StaysOn}
 use Rattle.pgn_criteria.proofs.sieve.Stand.add_all.Given as goal
 
 abbrev pub invariant-loop-asked : goal.invariant-loop-asked

@@ -1,7 +1,7 @@
 use Rattle.std.proofs.Common.{sym, ap, subst, ◌∙◌}
-use Rattle.chess.specs.SetFacts.{is_in-empty}
-use Rattle.chess.specs.Sets.{Places, is_in}
-use Rattle.pgn_criteria.specs.Layouts.{AllStand}
+use Rattle.chess.specs.Private.SetFacts.{is_in-empty}
+use Rattle.chess.specs.Public.Sets.{Places, is_in}
+use Rattle.pgn_criteria.specs.Private.Layouts.{AllStand}
 use Rattle.pgn_criteria.specs.declared.sieve.Stand.{Stand}
 use Rattle.pgn_criteria.proofs.SieveFacts.{begins}
 use Rattle.pgn_criteria.proofs.sieve.Stand.new.Goals as goal

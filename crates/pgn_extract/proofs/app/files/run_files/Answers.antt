@@ -1,7 +1,7 @@
 use Rattle.std.proofs.Common.{◌++◌, ◌<◌, ◌∙◌, ℕ, Bor, List, [], arith, length, rules}
 use Rattle.pgn_extract.proofs.SeveralFacts.{known_there, unopened_there, written_there}
 use Rattle.pgn_extract.proofs.Writing.{appends_join}
-use Rattle.pgn_extract.specs.Several.{order_at}
+use Rattle.pgn_extract.specs.Public.Several.{order_at}
 use Rattle.pgn_extract.proofs.app.files.run_files.Goals as goal
 
 pub loop-path-preserved : goal.loop-path-preserved

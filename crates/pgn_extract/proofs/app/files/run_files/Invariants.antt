@@ -1,8 +1,8 @@
 use Rattle.std.proofs.Common.{◌≡◌, ◌≤◌, ◌^◌, ℕ, List, take, false}
 use Rattle.std.specs.List.{list_any}
-use Rattle.pgn_text.specs.Limits.{largest_offset}
-use Rattle.pgn_extract.specs.Runs.{passage}
-use Rattle.pgn_extract.specs.Several.{AreKnown, WritesPaths, is_no_file, order_at, paths_of}
+use Rattle.pgn_text.specs.Public.Limits.{largest_offset}
+use Rattle.pgn_extract.specs.Public.Runs.{passage}
+use Rattle.pgn_extract.specs.Public.Several.{AreKnown, WritesPaths, is_no_file, order_at, paths_of}
 use Rattle.pgn_extract.proofs.app.files.run_files.Given as goal
 
 abbrev pub invariant-loop-path : goal.invariant-loop-path

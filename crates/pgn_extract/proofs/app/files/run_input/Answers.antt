@@ -1,6 +1,6 @@
 use Rattle.std.proofs.Common.{ap, ◌∙◌}
 use Rattle.pgn_extract.proofs.SeveralFacts.{read_to_end}
-use Rattle.pgn_extract.specs.Several.{order_of}
+use Rattle.pgn_extract.specs.Public.Several.{order_of}
 use Rattle.pgn_extract.proofs.app.files.run_input.Goals as goal
 
 pub returns-clause-read : goal.returns-clause-read

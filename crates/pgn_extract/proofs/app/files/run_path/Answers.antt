@@ -2,7 +2,7 @@ use Rattle.std.proofs.Common.{[]}
 use Rattle.std.specs.IoError.{error_kind}
 use Rattle.pgn_extract.proofs.SeveralFacts.{unopened_path}
 use Rattle.pgn_extract.proofs.Writing.{appends_none}
-use Rattle.pgn_extract.specs.Several.{order_at}
+use Rattle.pgn_extract.specs.Public.Several.{order_at}
 use Rattle.pgn_extract.proofs.app.files.run_path.Goals as goal
 
 pub returns-in-Ok-put_unopened-clause-written : goal.returns-in-Ok-put_unopened-clause-written

@@ -1,5 +1,5 @@
 use Rattle.std.proofs.lemmas.Option.{IfSome_then}
-use Rattle.pgn_game.specs.Replays.{fault_of}
+use Rattle.pgn_game.specs.Public.Replays.{fault_of}
 use Rattle.pgn_game.specs.declared.replays.replayer.Lines.TheVariants.{All}
 use Rattle.pgn_extract.proofs.Sought.{main_fault}
 use Rattle.pgn_extract.proofs.engine.exporting.first_fault.Goals as goal

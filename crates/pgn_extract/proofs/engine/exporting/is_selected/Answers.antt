@@ -1,9 +1,9 @@
 use Rattle.std.proofs.Common.{◌↔◌, false, IsTrue, sym, subst}
 use Rattle.std.proofs.lemmas.Bool.{false≢true}
 use Rattle.std.specs.Prelude.{not}
-use Rattle.pgn_extract.specs.Aims.{aim_of}
-use Rattle.pgn_extract.specs.Exports.{HasEntry, IsSelected}
-use Rattle.pgn_criteria.specs.Meeting.{heading_of}
+use Rattle.pgn_extract.specs.Public.Aims.{aim_of}
+use Rattle.pgn_extract.specs.Public.Exports.{HasEntry, IsSelected}
+use Rattle.pgn_criteria.specs.Public.Meeting.{heading_of}
 use Rattle.pgn_extract.proofs.Exported.{turned}
 use Rattle.pgn_extract.proofs.engine.exporting.is_selected.Goals as goal
 

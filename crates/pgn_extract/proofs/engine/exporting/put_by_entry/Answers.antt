@@ -1,12 +1,12 @@
 use Rattle.std.proofs.Common.{refl}
 use Rattle.std.proofs.lemmas.Option.{IfSome_then}
-use Rattle.pgn_text.specs.GameTexts.{tag_in}
-use Rattle.pgn_game.specs.Faults.{Fault, IsFault}
-use Rattle.pgn_game.specs.Replays.{fault_of}
-use Rattle.pgn_game.specs.Starts.{fen_tag}
-use Rattle.pgn_extract.specs.Aims.{aim_of}
-use Rattle.pgn_extract.specs.Blockwise.{LeavesText}
-use Rattle.pgn_extract.specs.Exports.{written_lines}
+use Rattle.pgn_text.specs.Public.GameTexts.{tag_in}
+use Rattle.pgn_game.specs.Public.Faults.{Fault, IsFault}
+use Rattle.pgn_game.specs.Public.Replays.{fault_of}
+use Rattle.pgn_game.specs.Public.Starts.{fen_tag}
+use Rattle.pgn_extract.specs.Public.Aims.{aim_of}
+use Rattle.pgn_extract.specs.Private.Blockwise.{LeavesText}
+use Rattle.pgn_extract.specs.Public.Exports.{written_lines}
 use Rattle.pgn_extract.proofs.engine.exporting.put_by_entry.Goals as goal
 
 pub returns-in-Err : goal.returns-in-Err

@@ -3,13 +3,13 @@ use Rattle.std.proofs.lemmas.Bool.{false≢true}
 use Rattle.std.proofs.lemmas.List.{append-nil}
 use Rattle.std.proofs.lemmas.Option.{IfSome_then}
 use Rattle.std.proofs.lemmas.Result.{MatchResult-weaker}
-use Rattle.pgn_text.specs.GameTexts.{tag_in}
-use Rattle.pgn_game.specs.Faults.{Fault, IsFault}
-use Rattle.pgn_game.specs.Replays.{fault_of}
-use Rattle.pgn_game.specs.Starts.{fen_tag}
-use Rattle.pgn_extract.specs.Aims.{aim_of}
-use Rattle.pgn_extract.specs.Blockwise.{LeavesText}
-use Rattle.pgn_extract.specs.Exports.{as_it_stands, written_lines}
+use Rattle.pgn_text.specs.Public.GameTexts.{tag_in}
+use Rattle.pgn_game.specs.Public.Faults.{Fault, IsFault}
+use Rattle.pgn_game.specs.Public.Replays.{fault_of}
+use Rattle.pgn_game.specs.Public.Starts.{fen_tag}
+use Rattle.pgn_extract.specs.Public.Aims.{aim_of}
+use Rattle.pgn_extract.specs.Private.Blockwise.{LeavesText}
+use Rattle.pgn_extract.specs.Public.Exports.{as_it_stands, written_lines}
 use Rattle.pgn_extract.proofs.TextPut.{game_put}
 use Rattle.pgn_extract.proofs.engine.exporting.put_chosen.Goals as goal
 

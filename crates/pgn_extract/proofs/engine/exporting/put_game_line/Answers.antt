@@ -1,11 +1,11 @@
 use Rattle.std.proofs.Common.{◌≡◌, take, length, ap, ◌∙◌, arith}
 use Rattle.std.proofs.Math.Seq.{take-append_seam}
 use Rattle.std.proofs.lemmas.Option.{IfSome_then}
-use Rattle.pgn_game.specs.Faults.{Fault}
-use Rattle.pgn_game.specs.Replays.{fault_of}
-use Rattle.pgn_extract.specs.Aims.{aim_of}
-use Rattle.pgn_extract.specs.Blockwise.{LeavesText}
-use Rattle.pgn_extract.specs.Finding.{StopsAtFault}
+use Rattle.pgn_game.specs.Public.Faults.{Fault}
+use Rattle.pgn_game.specs.Public.Replays.{fault_of}
+use Rattle.pgn_extract.specs.Public.Aims.{aim_of}
+use Rattle.pgn_extract.specs.Private.Blockwise.{LeavesText}
+use Rattle.pgn_extract.specs.Private.Finding.{StopsAtFault}
 use Rattle.pgn_extract.proofs.TextPut.{line_put, line_lines}
 use Rattle.pgn_extract.proofs.engine.exporting.put_game_line.Goals as goal
 

@@ -1,8 +1,8 @@
 use Rattle.std.proofs.Common.{subst}
 use Rattle.std.proofs.lemmas.Option.{IfSome_then}
-use Rattle.pgn_game.specs.PackedGames.{IsRecordOf}
-use Rattle.pgn_game.specs.Replays.{fault_of}
-use Rattle.pgn_extract.specs.Aims.{aim_of}
+use Rattle.pgn_game.specs.Public.PackedGames.{IsRecordOf}
+use Rattle.pgn_game.specs.Public.Replays.{fault_of}
+use Rattle.pgn_extract.specs.Public.Aims.{aim_of}
 use Rattle.pgn_extract.proofs.AllTaken.{put_or_left}
 use Rattle.pgn_extract.proofs.TextPut.{record_put, record_lines}
 use Rattle.pgn_extract.proofs.engine.exporting.put_game_record.Goals as goal

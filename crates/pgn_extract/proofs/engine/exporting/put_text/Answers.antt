@@ -1,7 +1,7 @@
 use Rattle.std.proofs.lemmas.Option.{IfSome_then}
 use Rattle.std.proofs.lemmas.Result.{MatchResult-weaker}
-use Rattle.pgn_game.specs.Replays.{fault_of}
-use Rattle.pgn_extract.specs.Aims.{aim_of}
+use Rattle.pgn_game.specs.Public.Replays.{fault_of}
+use Rattle.pgn_extract.specs.Public.Aims.{aim_of}
 use Rattle.pgn_extract.proofs.AllTaken.{put_or_left}
 use Rattle.pgn_extract.proofs.TextPut.{export_put, game_put, style_lines}
 use Rattle.pgn_extract.proofs.engine.exporting.put_text.Goals as goal

@@ -1,6 +1,6 @@
 use Rattle.std.proofs.Common.{◌∙◌, refl}
 use Rattle.std.proofs.lemmas.Result.{err_from_is_err_and}
-use Rattle.pgn_extract.specs.Aims.{aim_of}
+use Rattle.pgn_extract.specs.Public.Aims.{aim_of}
 use Rattle.pgn_extract.proofs.BlockWritten.{front_none, written_soundly}
 use Rattle.pgn_extract.proofs.Indexed.{indexed_none, indexed_more, indexed_passed, indexed_begun, indexed_all}
 use Rattle.pgn_extract.proofs.engine.piecewise.report_marks.Goals as goal

@@ -1,11 +1,11 @@
 use Rattle.std.proofs.Common.{[], ◌∷◌, ◌++◌, refl, sym, ap, ◌∙◌, codes}
 use Rattle.std.proofs.lemmas.List.{append-nil}
 use Rattle.std.proofs.lemmas.Result.{on_ok_weaker}
-use Rattle.pgn_text.specs.Limits.{block_limit}
-use Rattle.pgn_extract.specs.Aims.{aim_of}
-use Rattle.pgn_extract.specs.Index.{fault_text}
-use Rattle.pgn_extract.specs.Notes.{indented}
-use Rattle.pgn_extract.specs.NoteTexts.{too_long_text}
+use Rattle.pgn_text.specs.Public.Limits.{block_limit}
+use Rattle.pgn_extract.specs.Public.Aims.{aim_of}
+use Rattle.pgn_extract.specs.Public.Index.{fault_text}
+use Rattle.pgn_extract.specs.Public.Notes.{indented}
+use Rattle.pgn_extract.specs.Private.NoteTexts.{too_long_text}
 use Rattle.pgn_extract.proofs.NoteLines.{empty_note, too_long_note}
 use Rattle.pgn_extract.proofs.VerdictFacts.{reports_too_long}
 use Rattle.pgn_extract.proofs.engine.report.report_too_long.Goals as goal

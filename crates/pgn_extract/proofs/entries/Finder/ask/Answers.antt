@@ -1,9 +1,9 @@
 use Rattle.std.proofs.Common.{◌≡◌, ◌↔◌, ℕ, ◌∷◌, ◌++◌, [], length, decimal, IsTrue, sym, ap, subst, ◌∙◌, arith}
-use Rattle.pgn_game.specs.Replays.{Replay}
-use Rattle.pgn_criteria.specs.Meeting.{Heading, SomeHold}
+use Rattle.pgn_game.specs.Public.Replays.{Replay}
+use Rattle.pgn_criteria.specs.Public.Meeting.{Heading, SomeHold}
 use Rattle.pgn_criteria.proofs.WalkFacts.{seen_itself}
-use Rattle.pgn_extract.specs.Aims.{aim_of}
-use Rattle.pgn_extract.specs.Finding.{named_mark}
+use Rattle.pgn_extract.specs.Public.Aims.{aim_of}
+use Rattle.pgn_extract.specs.Private.Finding.{named_mark}
 use Rattle.pgn_extract.proofs.FieldTexts.{no_fields}
 use Rattle.pgn_extract.proofs.Found.{leaves_shut, leaves_past, leaves_unwanted, keeps_one, is_wanted, not_wanted}
 use Rattle.pgn_extract.proofs.entries.Finder.ask.Goals as goal

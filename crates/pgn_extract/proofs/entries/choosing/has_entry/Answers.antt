@@ -1,4 +1,4 @@
-use Rattle.pgn_extract.specs.Aims.{aim_of}
+use Rattle.pgn_extract.specs.Public.Aims.{aim_of}
 use Rattle.pgn_extract.proofs.Picks.{asks_given}
 use Rattle.pgn_extract.proofs.Sought.{within_entry}
 use Rattle.pgn_extract.proofs.entries.choosing.has_entry.Goals as goal

@@ -1,8 +1,8 @@
 use Rattle.std.proofs.Common.{◌↔◌, IsTrue, sym, subst}
 use Rattle.pgn_game.specs.declared.replays.replayer.Lines.TheVariants.{Main}
-use Rattle.pgn_criteria.specs.Meeting.{heading_of}
-use Rattle.pgn_extract.specs.Aims.{aim_of}
-use Rattle.pgn_extract.specs.Exports.{HasEntry}
+use Rattle.pgn_criteria.specs.Public.Meeting.{heading_of}
+use Rattle.pgn_extract.specs.Public.Aims.{aim_of}
+use Rattle.pgn_extract.specs.Public.Exports.{HasEntry}
 use Rattle.pgn_extract.proofs.KeptFacts.{first_entry}
 use Rattle.pgn_extract.proofs.entries.kept.has_kept.Goals as goal
 

@@ -1,9 +1,9 @@
 use Rattle.std.proofs.Common.{◌≡◌, ◌∷◌, ◌++◌, [], refl, sym, ap, subst, append_assoc, ◌∙◌, arith}
 use Rattle.std.specs.Prelude.{codes}
-use Rattle.pgn_text.specs.GameTexts.{tag_in}
-use Rattle.pgn_game.specs.Starts.{fen_tag}
+use Rattle.pgn_text.specs.Public.GameTexts.{tag_in}
+use Rattle.pgn_game.specs.Public.Starts.{fen_tag}
 use Rattle.pgn_criteria.proofs.MeetFacts.{legal_moves}
-use Rattle.pgn_extract.specs.Listing.{IsNextField}
+use Rattle.pgn_extract.specs.Public.Listing.{IsNextField}
 use Rattle.pgn_extract.proofs.KeptFacts.{next_played, none_played}
 use Rattle.pgn_extract.proofs.entries.kept.push_played.Goals as goal
 

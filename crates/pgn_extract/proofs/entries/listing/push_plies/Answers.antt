@@ -1,6 +1,6 @@
 use Rattle.std.proofs.Common.{◌≡◌, ◌++◌, Result, Ok, Err, ap, ◌∙◌}
 use Rattle.std.specs.Prelude.{OnOk}
-use Rattle.pgn_extract.specs.Finding.{named_mark}
+use Rattle.pgn_extract.specs.Private.Finding.{named_mark}
 use Rattle.pgn_extract.proofs.entries.listing.push_plies.Goals as goal
 
 so_at_ok : {X E A B : Type 0} (r : Result X E) → (A → B) → OnOk r A → OnOk r B

@@ -1,5 +1,5 @@
 use Rattle.std.proofs.Common.{◌∷◌, ◌++◌, [], decimal, refl, ap, subst, ◌∙◌}
-use Rattle.pgn_extract.specs.Finding.{ShowsPosition}
+use Rattle.pgn_extract.specs.Private.Finding.{ShowsPosition}
 use Rattle.pgn_extract.proofs.FieldTexts.{whole_line}
 use Rattle.pgn_extract.proofs.entries.showing.push_entry_line.Goals as goal
 

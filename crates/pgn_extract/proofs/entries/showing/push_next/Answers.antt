@@ -1,6 +1,6 @@
 use Rattle.std.proofs.Common.{◌∷◌, ◌++◌, [], refl, sym, ap, subst, append_assoc, ◌∙◌}
 use Rattle.std.proofs.lemmas.Result.{on_ok_weaker}
-use Rattle.pgn_extract.specs.Finding.{ShowsNext}
+use Rattle.pgn_extract.specs.Private.Finding.{ShowsNext}
 use Rattle.pgn_extract.proofs.entries.showing.push_next.Goals as goal
 
 pub returns-clause-shown : goal.returns-clause-shown

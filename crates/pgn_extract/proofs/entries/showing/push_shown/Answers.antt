@@ -1,6 +1,6 @@
 use Rattle.std.proofs.Common.{sym, subst}
-use Rattle.pgn_extract.specs.Aims.{aim_of}
-use Rattle.pgn_extract.specs.Finding.{AsksFor, asked_of}
+use Rattle.pgn_extract.specs.Public.Aims.{aim_of}
+use Rattle.pgn_extract.specs.Private.Finding.{AsksFor, asked_of}
 use Rattle.pgn_extract.proofs.Picks.{asks_given, none_given}
 use Rattle.pgn_extract.proofs.entries.showing.push_shown.Goals as goal
 use Rattle.pgn_extract.proofs.entries.showing.push_shown.Goals.{in-Some+in_ok-search-in-Some+in-Some-2, in-None}

@@ -1,6 +1,6 @@
 use Rattle.std.proofs.Common.{sym, subst, arith}
 use Rattle.std.proofs.lemmas.List.Elements.{Contains-get_or}
-use Rattle.chess.specs.Moves.{IsLegal}
+use Rattle.chess.specs.Public.Moves.{IsLegal}
 use Rattle.pgn_extract.proofs.explain.move_notes.push_names.Goals as goal
 
 pub san-text-requires : goal.san-text-requires

@@ -1,4 +1,4 @@
-use Rattle.pgn_extract.specs.MoveNotes.{KeepsLine}
+use Rattle.pgn_extract.specs.Private.MoveNotes.{KeepsLine}
 use Rattle.pgn_extract.proofs.explain.move_notes.push_shown.Given as goal
 
 abbrev pub invariant-loop-byte : goal.invariant-loop-byte

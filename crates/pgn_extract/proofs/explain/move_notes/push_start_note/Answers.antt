@@ -1,6 +1,6 @@
 use Rattle.std.proofs.Common.{◌∷◌, [], refl, sym, subst}
 use Rattle.std.proofs.lemmas.Result.{on_ok_weaker}
-use Rattle.pgn_extract.specs.Notes.{indented}
+use Rattle.pgn_extract.specs.Public.Notes.{indented}
 use Rattle.pgn_extract.proofs.NoteLines.{IsLine, line_note}
 use Rattle.pgn_extract.proofs.explain.move_notes.push_start_note.Goals as goal
 

@@ -1,5 +1,5 @@
 use Rattle.std.proofs.Common.{◌≡◌, ◌+◌, ◌≤◌, take}
-use Rattle.pgn_extract.specs.NoteTexts.{column_after}
+use Rattle.pgn_extract.specs.Private.NoteTexts.{column_after}
 use Rattle.pgn_extract.proofs.explain.notes.column.Given as goal
 
 abbrev pub invariant-loop-byte : goal.invariant-loop-byte

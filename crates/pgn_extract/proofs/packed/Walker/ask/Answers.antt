@@ -1,7 +1,7 @@
 use Rattle.std.proofs.Common.{◌≡◌, ◌∷◌, ◌++◌, [], length, decimal, sym, ap, append-nil, ◌∙◌, arith}
-use Rattle.pgn_extract.specs.Aims.{aim_of}
-use Rattle.pgn_extract.specs.Finding.{named_mark}
-use Rattle.pgn_extract.specs.Packed.{record_aim}
+use Rattle.pgn_extract.specs.Public.Aims.{aim_of}
+use Rattle.pgn_extract.specs.Private.Finding.{named_mark}
+use Rattle.pgn_extract.specs.Private.Packed.{record_aim}
 use Rattle.pgn_extract.proofs.FieldTexts.{no_fields}
 use Rattle.pgn_extract.proofs.Found.{leaves_shut, leaves_past, leaves_unwanted, keeps_one, is_wanted, not_wanted}
 use Rattle.pgn_extract.proofs.packed.Walker.ask.Goals as goal

@@ -2,8 +2,8 @@ use Rattle.std.proofs.Common.{◌≡◌, ◌+◌, ◌*◌, ◌++◌, ℕ, Bool, 
 use Rattle.std.specs.Prelude.{◌==◌}
 use Rattle.std.specs.List.{flat_map}
 use Rattle.std.proofs.lemmas.Bool.Decides.{nat_tests}
-use Rattle.pgn_game.specs.PackReading.{RawRecord}
-use Rattle.pgn_game.specs.PlyCodes.{PlyCode, code_bytes, code_of}
+use Rattle.pgn_game.specs.Public.PackReading.{RawRecord}
+use Rattle.pgn_game.specs.Public.PlyCodes.{PlyCode, code_bytes, code_of}
 use Rattle.pgn_game.proofs.RecordFacts.{plies_size}
 use Rattle.pgn_game.proofs.CodeLineFacts.{code_there}
 use Rattle.pgn_extract.proofs.PackedFacts.{walked_none, walked_on, walked_all, walked_enough}

@@ -1,5 +1,5 @@
-use Rattle.pgn_extract.specs.Aims.{aim_of}
-use Rattle.pgn_extract.specs.Packed.{EachOfRecord, record_aim, Grows}
+use Rattle.pgn_extract.specs.Public.Aims.{aim_of}
+use Rattle.pgn_extract.specs.Private.Packed.{EachOfRecord, record_aim, Grows}
 use Rattle.pgn_extract.proofs.PackedFacts.{IsWalkedTo}
 use Rattle.pgn_extract.proofs.packed.Walker.walk.Given as goal
 

@@ -1,9 +1,9 @@
 use Rattle.std.proofs.Common.{◌≡◌, ℕ, List, Option, Some, sym, subst}
 use Rattle.std.specs.Prelude.{IfSome}
-use Rattle.chess.specs.Positions.{State}
-use Rattle.pgn_text.specs.GameTexts.{tag_in}
-use Rattle.pgn_game.specs.Faults.{Fault, BadStart}
-use Rattle.pgn_game.specs.Starts.{fen_tag, IsStart, IsBadStart}
+use Rattle.chess.specs.Public.Positions.{State}
+use Rattle.pgn_text.specs.Public.GameTexts.{tag_in}
+use Rattle.pgn_game.specs.Public.Faults.{Fault, BadStart}
+use Rattle.pgn_game.specs.Public.Starts.{fen_tag, IsStart, IsBadStart}
 use Rattle.pgn_game.proofs.OneReplay.{start_or_bad}
 use Rattle.pgn_extract.proofs.packed.kept_packed.replay_given.Goals as goal
 

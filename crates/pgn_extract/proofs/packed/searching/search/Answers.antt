@@ -1,7 +1,7 @@
 use Rattle.std.proofs.Common.{◌∙◌, ◌+◌, ◌≤◌, arith, sym}
 use Rattle.std.proofs.lemmas.Bool.{false_from_ne_true}
 use Rattle.std.proofs.lemmas.Result.{err_from_is_err_and}
-use Rattle.pgn_text.specs.Limits.{largest_offset}
+use Rattle.pgn_text.specs.Public.Limits.{largest_offset}
 use Rattle.pgn_extract.specs.declared.packed.searching.SearchError.TheVariants.{Write, OutOfMemory, BadPack}
 use Rattle.pgn_extract.proofs.SearchFacts.{searched_none, searched_more, searched_put, few_records, ends_well, stops_within, stops_here, stops_at_game, stops_at_step, stopped, stopped_after}
 use Rattle.pgn_extract.proofs.packed.searching.search.Goals as goal

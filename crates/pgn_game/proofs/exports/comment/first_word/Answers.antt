@@ -2,8 +2,8 @@ use Rattle.std.proofs.Common.{◌≡◌, ◌<◌, ◌∷◌, [], List, ℕ, true
 use Rattle.std.specs.Prelude.{◌==◌}
 use Rattle.std.proofs.lemmas.Bool.{eqb-true}
 use Rattle.std.proofs.lemmas.List.{nil_from_length}
-use Rattle.pgn_game.specs.Comments.{words_in}
-use Rattle.pgn_game.specs.CommentWords.{word_front}
+use Rattle.pgn_game.specs.Public.Comments.{words_in}
+use Rattle.pgn_game.specs.Private.CommentWords.{word_front}
 use Rattle.pgn_game.proofs.CommentFacts.{no_word, some_word}
 use Rattle.pgn_game.proofs.exports.comment.first_word.Goals as goal
 

@@ -1,5 +1,5 @@
 use Rattle.std.proofs.Common.{length}
-use Rattle.pgn_game.specs.CommentWords.{IsSpaced, IsSpacedAfter}
+use Rattle.pgn_game.specs.Private.CommentWords.{IsSpaced, IsSpacedAfter}
 use Rattle.pgn_game.proofs.exports.comment.is_spaced.Given as goal
 
 abbrev pub invariant-loop-rest : goal.invariant-loop-rest

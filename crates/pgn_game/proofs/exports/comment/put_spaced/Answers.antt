@@ -1,6 +1,6 @@
 use Rattle.std.proofs.Common.{◌≡◌, ◌+◌, ◌≤◌, ◌++◌, ◌∷◌, [], length, ap, sym, ◌∙◌, subst, arith, append_assoc, length-append}
-use Rattle.pgn_game.specs.Comments.{comment_tokens}
-use Rattle.pgn_game.specs.Pens.{HasPut}
+use Rattle.pgn_game.specs.Public.Comments.{comment_tokens}
+use Rattle.pgn_game.specs.Private.Pens.{HasPut}
 use Rattle.pgn_game.proofs.PenFacts.{put_at_once}
 use Rattle.pgn_game.proofs.exports.comment.put_spaced.Goals as goal
 

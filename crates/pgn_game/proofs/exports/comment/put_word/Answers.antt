@@ -1,8 +1,8 @@
 use Rattle.std.proofs.Common.{◌≡◌, ◌++◌, ◌∷◌, length, ap, sym, ◌∙◌, subst, arith, length-append}
 use Rattle.std.proofs.lemmas.List.{append-nil, append_assoc, length-map}
-use Rattle.pgn_game.specs.Comments.{unbraced}
-use Rattle.pgn_game.specs.CommentWords.{closing}
-use Rattle.pgn_game.specs.Pens.{after_tokens}
+use Rattle.pgn_game.specs.Public.Comments.{unbraced}
+use Rattle.pgn_game.specs.Private.CommentWords.{closing}
+use Rattle.pgn_game.specs.Private.Pens.{after_tokens}
 use Rattle.pgn_game.proofs.exports.comment.put_word.Goals as goal
 
 pub returns-else-is_last-clause-text : goal.returns-else-is_last-clause-text

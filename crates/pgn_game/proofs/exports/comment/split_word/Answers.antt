@@ -1,7 +1,7 @@
 use Rattle.std.proofs.Common.{◌≡◌, ◌-◌, length, take, sym, ap, ◌∙◌, arith}
 use Rattle.std.proofs.Math.Seq.{take-append_seam}
 use Rattle.std.proofs.lemmas.Bool.{eqb-true}
-use Rattle.pgn_game.specs.CommentWords.{word_front, after_front}
+use Rattle.pgn_game.specs.Private.CommentWords.{word_front, after_front}
 use Rattle.pgn_game.proofs.CommentFacts.{front_whole, front_length, bare_word}
 use Rattle.pgn_game.proofs.exports.comment.split_word.Goals as goal
 

@@ -2,11 +2,11 @@ use Rattle.std.proofs.Common.{inl, inr, subst}
 use Rattle.std.specs.Prelude.{IfSome}
 use Rattle.std.proofs.lemmas.Option.{IfSome_then}
 use Rattle.std.proofs.lemmas.Result.{on_ok_weaker, err_from_is_err_and, IfErr-weaker}
-use Rattle.pgn_text.specs.GameTexts.{tag_in}
-use Rattle.pgn_game.specs.Exports.{lines_with}
-use Rattle.pgn_game.specs.Faults.{HasLineFault, IsFault}
-use Rattle.pgn_game.specs.Replays.{fault_of}
-use Rattle.pgn_game.specs.Starts.{fen_tag, IsStart, IsBadStart}
+use Rattle.pgn_text.specs.Public.GameTexts.{tag_in}
+use Rattle.pgn_game.specs.Public.Exports.{lines_with}
+use Rattle.pgn_game.specs.Public.Faults.{HasLineFault, IsFault}
+use Rattle.pgn_game.specs.Public.Replays.{fault_of}
+use Rattle.pgn_game.specs.Public.Starts.{fen_tag, IsStart, IsBadStart}
 use Rattle.pgn_game.proofs.MovetextLines.{written_sound}
 use Rattle.pgn_game.proofs.exports.exporter.export_played.Goals as goal
 

@@ -1,7 +1,7 @@
 use Rattle.std.proofs.Common.{sym, subst}
 use Rattle.std.proofs.lemmas.Result.{on_ok_weaker}
-use Rattle.pgn_text.specs.Elements.{item_of}
-use Rattle.pgn_game.specs.LineTexts.{PutsElement}
+use Rattle.pgn_text.specs.Public.Elements.{item_of}
+use Rattle.pgn_game.specs.Private.LineTexts.{PutsElement}
 use Rattle.pgn_game.proofs.GameLineFacts.{puts_move}
 use Rattle.pgn_game.proofs.exports.game_line.push_element.Goals as goal
 

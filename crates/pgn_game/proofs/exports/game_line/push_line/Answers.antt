@@ -2,15 +2,15 @@ use Rattle.std.proofs.Common.{List, ◌++◌, map, refl, ap, ◌∙◌, subst, i
 use Rattle.std.specs.Prelude.{IfSome}
 use Rattle.std.proofs.lemmas.Option.{IfSome_then}
 use Rattle.std.proofs.lemmas.Result.{on_ok_weaker, IfErr-weaker}
-use Rattle.pgn_text.specs.Elements.{item_of}
-use Rattle.pgn_text.specs.GameTexts.{tag_in}
-use Rattle.pgn_text.specs.Games.{Item}
-use Rattle.pgn_game.specs.Faults.{IsFault, IsMoveFault}
-use Rattle.pgn_game.specs.GameLines.{IsGameLine}
-use Rattle.pgn_game.specs.LineTexts.{AreWritten}
-use Rattle.pgn_game.specs.MainLines.{main_words}
-use Rattle.pgn_game.specs.Replays.{fault_of}
-use Rattle.pgn_game.specs.Starts.{fen_tag, IsStart}
+use Rattle.pgn_text.specs.Public.Elements.{item_of}
+use Rattle.pgn_text.specs.Public.GameTexts.{tag_in}
+use Rattle.pgn_text.specs.Public.Games.{Item}
+use Rattle.pgn_game.specs.Public.Faults.{IsFault, IsMoveFault}
+use Rattle.pgn_game.specs.Public.GameLines.{IsGameLine}
+use Rattle.pgn_game.specs.Private.LineTexts.{AreWritten}
+use Rattle.pgn_game.specs.Public.MainLines.{main_words}
+use Rattle.pgn_game.specs.Public.Replays.{fault_of}
+use Rattle.pgn_game.specs.Public.Starts.{fen_tag, IsStart}
 use Rattle.pgn_game.specs.declared.replays.replayer.Lines.TheVariants.{Main}
 use Rattle.pgn_game.proofs.GameLineFacts.{written_line}
 use Rattle.pgn_game.proofs.exports.game_line.push_line.Goals as goal

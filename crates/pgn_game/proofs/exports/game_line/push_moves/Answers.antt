@@ -1,9 +1,9 @@
 use Rattle.std.proofs.Common.{◌+◌, drop, map, subst, arith}
 use Rattle.std.proofs.lemmas.Option.{IfSome_then}
 use Rattle.std.proofs.lemmas.Result.{err_from_is_err_and}
-use Rattle.pgn_text.specs.Elements.{item_of}
-use Rattle.pgn_game.specs.LineTexts.{HasPutSome}
-use Rattle.pgn_game.specs.MainLines.{main_words}
+use Rattle.pgn_text.specs.Public.Elements.{item_of}
+use Rattle.pgn_game.specs.Private.LineTexts.{HasPutSome}
+use Rattle.pgn_game.specs.Public.MainLines.{main_words}
 use Rattle.pgn_game.proofs.GameLineFacts.{put_begins, put_more, put_ends}
 use Rattle.pgn_game.proofs.WalkFacts.{items_step, items_end}
 use Rattle.pgn_game.proofs.exports.game_line.push_moves.Goals as goal

@@ -1,9 +1,9 @@
 use Rattle.std.proofs.Common.{ℕ, ◌∷◌, ◌++◌, [], true, false, Vec, Global, refl, ap, ◌∙◌, subst}
 use Rattle.std.proofs.lemmas.Option.{IfSome_then}
 use Rattle.std.proofs.lemmas.Result.{err_from_is_err_and}
-use Rattle.pgn_game.specs.LineWalks.{Stops}
-use Rattle.pgn_game.specs.Pens.{HasPut, after_tokens}
-use Rattle.pgn_game.specs.Steps.{StopsAt, WalksOn, shown_items}
+use Rattle.pgn_game.specs.Private.LineWalks.{Stops}
+use Rattle.pgn_game.specs.Private.Pens.{HasPut, after_tokens}
+use Rattle.pgn_game.specs.Private.Steps.{StopsAt, WalksOn, shown_items}
 use Rattle.pgn_game.specs.declared.exports.movetext.MovetextWriter.{MovetextWriter}
 use Rattle.pgn_game.proofs.PenFacts.{put_both}
 use Rattle.pgn_game.proofs.MovetextFacts.{grown_twice, laid_first, pen_writes}

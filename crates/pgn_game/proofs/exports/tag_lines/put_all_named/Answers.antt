@@ -1,6 +1,6 @@
 use Rattle.std.proofs.Common.{◌++◌, arith, sym, subst}
 use Rattle.std.proofs.lemmas.Grind.{common_steps}
-use Rattle.pgn_game.specs.TagLines.{AreLinesOf}
+use Rattle.pgn_game.specs.Public.TagLines.{AreLinesOf}
 use Rattle.pgn_game.proofs.TagLineFacts.{lines_push, names_more}
 use Rattle.pgn_game.proofs.exports.tag_lines.put_all_named.Goals as goal
 

@@ -1,6 +1,6 @@
 use Rattle.std.proofs.Common.{◌≡◌, ◌++◌, ℕ, List, take}
 use Rattle.std.specs.Prelude.{map}
-use Rattle.pgn_game.specs.TagLines.{AreLinesOf}
+use Rattle.pgn_game.specs.Public.TagLines.{AreLinesOf}
 use Rattle.pgn_game.proofs.exports.tag_lines.put_all_named.Given as goal
 
 abbrev pub invariant-loop-name : goal.invariant-loop-name

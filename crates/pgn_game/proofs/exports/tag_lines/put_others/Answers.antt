@@ -7,10 +7,10 @@ use Rattle.std.specs.Ordering.{nat_cmp}
 use Rattle.std.proofs.lemmas.Grind.{common_steps}
 use Rattle.std.proofs.lemmas.Map.Iter.{iter_end}
 use Rattle.std.proofs.lemmas.Map.Views.{All-turn}
-use Rattle.pgn_text.specs.Elements.{tag_of}
-use Rattle.pgn_text.specs.GameTexts.{tag_in, tag_names}
-use Rattle.pgn_game.specs.Starts.{fen_tag}
-use Rattle.pgn_game.specs.TagLines.{IsLineOf, AreLinesOf, is_beside}
+use Rattle.pgn_text.specs.Public.Elements.{tag_of}
+use Rattle.pgn_text.specs.Public.GameTexts.{tag_in, tag_names}
+use Rattle.pgn_game.specs.Public.Starts.{fen_tag}
+use Rattle.pgn_game.specs.Public.TagLines.{IsLineOf, AreLinesOf, is_beside}
 use Rattle.pgn_game.proofs.Tags.{tag_found_in, tag_there}
 use Rattle.pgn_game.proofs.TagLineFacts.{lines_push, shown_names, passed_more}
 use Rattle.pgn_game.proofs.exports.tag_lines.put_others.Goals as goal

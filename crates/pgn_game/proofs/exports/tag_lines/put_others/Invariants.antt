@@ -1,9 +1,9 @@
 use Rattle.std.proofs.Common.{◌≡◌, ◌++◌, ℕ, List, map}
 use Rattle.std.specs.Prelude.{filter}
 use Rattle.std.specs.Map.Iter.{deref_pair}
-use Rattle.pgn_text.specs.Elements.{tag_of}
-use Rattle.pgn_text.specs.GameTexts.{tag_names}
-use Rattle.pgn_game.specs.TagLines.{AreLinesOf, is_beside}
+use Rattle.pgn_text.specs.Public.Elements.{tag_of}
+use Rattle.pgn_text.specs.Public.GameTexts.{tag_names}
+use Rattle.pgn_game.specs.Public.TagLines.{AreLinesOf, is_beside}
 use Rattle.pgn_game.proofs.exports.tag_lines.put_others.Given as goal
 
 abbrev pub invariant-loop-name : goal.invariant-loop-name

@@ -1,6 +1,6 @@
 use Rattle.std.proofs.Common.{arith, refl, subst, option_map}
 use Rattle.std.proofs.lemmas.Grind.{common_steps}
-use Rattle.pgn_game.specs.TagLines.{IsTagText, tag_line}
+use Rattle.pgn_game.specs.Public.TagLines.{IsTagText, tag_line}
 use Rattle.pgn_game.proofs.exports.tag_lines.put_tag.Goals as goal
 
 pub returns-clause-line : goal.returns-clause-line

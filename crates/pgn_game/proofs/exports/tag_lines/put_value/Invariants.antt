@@ -1,5 +1,5 @@
 use Rattle.std.proofs.Common.{◌≡◌, ◌++◌, flat_map}
-use Rattle.pgn_game.specs.TagLines.{escaped}
+use Rattle.pgn_game.specs.Public.TagLines.{escaped}
 use Rattle.pgn_game.proofs.exports.tag_lines.put_value.Given as goal
 
 abbrev pub invariant-loop-byte : goal.invariant-loop-byte

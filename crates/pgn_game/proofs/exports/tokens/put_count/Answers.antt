@@ -1,7 +1,7 @@
 use Rattle.std.proofs.Common.{◌∷◌, ◌++◌, List, ℕ, [], OnOk, sym, subst}
 use Rattle.std.proofs.lemmas.Fmt.{decimal_digit}
 use Rattle.itoa.proofs.Decimal.{decimal_two}
-use Rattle.pgn_game.specs.Pens.{HasPut}
+use Rattle.pgn_game.specs.Private.Pens.{HasPut}
 use Rattle.pgn_game.proofs.exports.tokens.put_count.Goals as goal
 
 pub returns-then-number-lt10-clause-text : goal.returns-then-number-lt10-clause-text

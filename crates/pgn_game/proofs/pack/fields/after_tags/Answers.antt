@@ -1,5 +1,5 @@
 use Rattle.std.proofs.lemmas.Result.{err_from_is_err_and}
-use Rattle.pgn_game.specs.PackReading.{after_tags}
+use Rattle.pgn_game.specs.Public.PackReading.{after_tags}
 use Rattle.pgn_game.proofs.RecordFields.{goes_on, ends, is_done}
 use Rattle.pgn_game.proofs.pack.fields.after_tags.Goals as goal
 

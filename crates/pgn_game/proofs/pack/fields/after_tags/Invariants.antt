@@ -1,5 +1,5 @@
 use Rattle.std.proofs.Common.{◌≡◌, ◌-◌}
-use Rattle.pgn_game.specs.PackReading.{after_tags}
+use Rattle.pgn_game.specs.Public.PackReading.{after_tags}
 use Rattle.pgn_game.proofs.pack.fields.after_tags.Given as goal
 
 abbrev pub invariant-loop : goal.invariant-loop

@@ -1,5 +1,5 @@
 use Rattle.std.proofs.Common.{◌+◌, ◌*◌, ◌/◌, ◌%◌, [], ◌∷◌, refl}
-use Rattle.pgn_game.specs.PlyCodes.{PlyCode, IsCode}
+use Rattle.pgn_game.specs.Public.PlyCodes.{PlyCode, IsCode}
 use Rattle.pgn_game.proofs.pack.ply.coded_move.Goals as goal
 
 pub returns : goal.returns

@@ -1,4 +1,4 @@
-use Rattle.pgn_game.specs.CodeWords.{HasReplayed}
+use Rattle.pgn_game.specs.Private.CodeWords.{HasReplayed}
 use Rattle.pgn_game.proofs.pack.replaying.replay_codes.Given as goal
 
 abbrev pub invariant-loop-ply : goal.invariant-loop-ply

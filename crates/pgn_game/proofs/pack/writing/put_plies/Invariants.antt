@@ -1,4 +1,4 @@
-use Rattle.pgn_game.specs.PackWords.{HasPutPlies}
+use Rattle.pgn_game.specs.Private.PackWords.{HasPutPlies}
 use Rattle.pgn_game.proofs.pack.writing.put_plies.Given as goal
 
 abbrev pub invariant-loop-plies : goal.invariant-loop-plies

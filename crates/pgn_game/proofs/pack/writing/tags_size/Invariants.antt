@@ -1,5 +1,5 @@
 use Rattle.std.proofs.Common.{◌≡◌, min}
-use Rattle.pgn_game.specs.PackedGames.{tags_size}
+use Rattle.pgn_game.specs.Public.PackedGames.{tags_size}
 use Rattle.pgn_game.proofs.RecordWriting.{shown_tags}
 use Rattle.pgn_game.proofs.pack.writing.tags_size.Given as goal
 

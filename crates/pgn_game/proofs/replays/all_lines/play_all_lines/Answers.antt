@@ -1,10 +1,10 @@
 use Rattle.std.proofs.Common.{[], ◌∙◌, map, sym, subst}
 use Rattle.std.proofs.lemmas.Option.{IfSome_then}
 use Rattle.std.proofs.lemmas.Result.{err_from_is_err_and}
-use Rattle.pgn_text.specs.Elements.{item_of}
-use Rattle.pgn_game.specs.AllLines.{ArePlayed}
-use Rattle.pgn_game.specs.LineWalks.{Stops}
-use Rattle.pgn_game.specs.MainLines.{main_words, IsMainLine}
+use Rattle.pgn_text.specs.Public.Elements.{item_of}
+use Rattle.pgn_game.specs.Public.AllLines.{ArePlayed}
+use Rattle.pgn_game.specs.Private.LineWalks.{Stops}
+use Rattle.pgn_game.specs.Public.MainLines.{main_words, IsMainLine}
 use Rattle.pgn_game.proofs.KeptSteps.{kept_all}
 use Rattle.pgn_game.proofs.OneReplay.{line_length}
 use Rattle.pgn_game.proofs.RunFacts.{runs_played, stops_faulty}

@@ -1,6 +1,6 @@
 use Rattle.std.proofs.Common.{◌≡◌, ◌+◌, ◌<◌, ◌-◌, ◌^◌, drop, length, map}
-use Rattle.pgn_text.specs.Elements.{item_of}
-use Rattle.pgn_game.specs.MainLines.{main_words}
+use Rattle.pgn_text.specs.Public.Elements.{item_of}
+use Rattle.pgn_game.specs.Public.MainLines.{main_words}
 use Rattle.pgn_game.proofs.replays.main_line.next_word.Given as goal
 
 abbrev pub invariant-loop-element : goal.invariant-loop-element

@@ -1,7 +1,7 @@
 use Rattle.std.proofs.Common.{◌≤◌, drop, map}
-use Rattle.pgn_text.specs.Elements.{item_of}
-use Rattle.pgn_game.specs.MainLines.{main_words}
-use Rattle.pgn_game.specs.Walks.{KeepsLine}
+use Rattle.pgn_text.specs.Public.Elements.{item_of}
+use Rattle.pgn_game.specs.Public.MainLines.{main_words}
+use Rattle.pgn_game.specs.Private.Walks.{KeepsLine}
 use Rattle.pgn_game.proofs.replays.main_line.play_main_line.Given as goal
 
 abbrev pub invariant-loop-element : goal.invariant-loop-element

@@ -1,8 +1,8 @@
 use Rattle.std.proofs.Common.{◌+◌, ◌∷◌, [], drop, inl, inr, refl, map, sym, subst, ap, ◌∙◌, arith}
 use Rattle.std.proofs.lemmas.Result.{err_from_is_err_and}
-use Rattle.pgn_text.specs.Elements.{item_of}
-use Rattle.pgn_game.specs.MainLines.{main_words}
-use Rattle.pgn_game.specs.Walks.{HasWalked, KeepsLine}
+use Rattle.pgn_text.specs.Public.Elements.{item_of}
+use Rattle.pgn_game.specs.Public.MainLines.{main_words}
+use Rattle.pgn_game.specs.Private.Walks.{HasWalked, KeepsLine}
 use Rattle.pgn_game.proofs.OneReplay.{line_length}
 use Rattle.pgn_game.proofs.WalkFacts.{walk_begins, stuck_at, items_step, items_end}
 use Rattle.pgn_game.proofs.replays.main_line.play_opening.Goals as goal

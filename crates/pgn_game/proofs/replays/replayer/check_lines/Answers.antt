@@ -2,13 +2,13 @@ use Rattle.std.proofs.Common.{List, [], MatchResult, refl, subst, sym, inr}
 use Rattle.std.specs.Prelude.{IfSome}
 use Rattle.std.proofs.lemmas.Option.{IfSome_then}
 use Rattle.std.proofs.lemmas.Result.{MatchResult-weaker, err_from_is_err_and}
-use Rattle.pgn_text.specs.GameTexts.{tag_in}
-use Rattle.pgn_text.specs.Games.{Item}
-use Rattle.pgn_game.specs.MainLines.{main_words, IsMainLine}
-use Rattle.pgn_game.specs.AllLines.{ArePlayed}
-use Rattle.pgn_game.specs.Starts.{fen_tag, IsStart}
-use Rattle.pgn_game.specs.Faults.{IsFault, IsMoveFault, HaveFault}
-use Rattle.pgn_game.specs.Replays.{IsSoundGame, fault_of}
+use Rattle.pgn_text.specs.Public.GameTexts.{tag_in}
+use Rattle.pgn_text.specs.Public.Games.{Item}
+use Rattle.pgn_game.specs.Public.MainLines.{main_words, IsMainLine}
+use Rattle.pgn_game.specs.Public.AllLines.{ArePlayed}
+use Rattle.pgn_game.specs.Public.Starts.{fen_tag, IsStart}
+use Rattle.pgn_game.specs.Public.Faults.{IsFault, IsMoveFault, HaveFault}
+use Rattle.pgn_game.specs.Public.Replays.{IsSoundGame, fault_of}
 use Rattle.pgn_game.proofs.AnAnswer.{played_sound}
 use Rattle.pgn_game.proofs.replays.replayer.check_lines.Goals as goal
 

@@ -2,12 +2,12 @@ use Rattle.std.proofs.Common.{sym, subst, inr}
 use Rattle.std.specs.Prelude.{MatchResult, IfSome}
 use Rattle.std.proofs.lemmas.Option.{IfSome_then}
 use Rattle.std.proofs.lemmas.Result.{MatchResult-weaker}
-use Rattle.pgn_text.specs.GameTexts.{tag_in}
-use Rattle.pgn_game.specs.MainLines.{main_words, IsMainLine}
-use Rattle.pgn_game.specs.AllLines.{ArePlayed}
-use Rattle.pgn_game.specs.Starts.{fen_tag, IsStart}
-use Rattle.pgn_game.specs.Faults.{IsMoveFault, HaveFault, IsFault}
-use Rattle.pgn_game.specs.Replays.{IsReplay, fault_of}
+use Rattle.pgn_text.specs.Public.GameTexts.{tag_in}
+use Rattle.pgn_game.specs.Public.MainLines.{main_words, IsMainLine}
+use Rattle.pgn_game.specs.Public.AllLines.{ArePlayed}
+use Rattle.pgn_game.specs.Public.Starts.{fen_tag, IsStart}
+use Rattle.pgn_game.specs.Public.Faults.{IsMoveFault, HaveFault, IsFault}
+use Rattle.pgn_game.specs.Public.Replays.{IsReplay, fault_of}
 use Rattle.pgn_game.proofs.replays.replayer.replay.Goals as goal
 
 pub returns-in-Main : goal.returns-in-Main

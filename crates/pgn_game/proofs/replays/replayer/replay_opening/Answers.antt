@@ -1,12 +1,12 @@
 use Rattle.std.proofs.Common.{subst, inr}
 use Rattle.std.proofs.lemmas.Option.{IfSome_then}
 use Rattle.std.proofs.lemmas.Result.{MatchResult-weaker}
-use Rattle.pgn_text.specs.GameTexts.{tag_in}
-use Rattle.pgn_game.specs.MainLines.{main_words}
-use Rattle.pgn_game.specs.Openings.{IsBeginning}
-use Rattle.pgn_game.specs.Starts.{fen_tag, IsStart}
-use Rattle.pgn_game.specs.Faults.{IsMoveFault}
-use Rattle.pgn_game.specs.Replays.{fault_of}
+use Rattle.pgn_text.specs.Public.GameTexts.{tag_in}
+use Rattle.pgn_game.specs.Public.MainLines.{main_words}
+use Rattle.pgn_game.specs.Public.Openings.{IsBeginning}
+use Rattle.pgn_game.specs.Public.Starts.{fen_tag, IsStart}
+use Rattle.pgn_game.specs.Public.Faults.{IsMoveFault}
+use Rattle.pgn_game.specs.Public.Replays.{fault_of}
 use Rattle.pgn_game.proofs.replays.replayer.replay_opening.Goals as goal
 
 pub returns : goal.returns

@@ -1,5 +1,5 @@
 use Rattle.std.proofs.Common.{sym, subst}
-use Rattle.pgn_game.specs.Steps.{IsWithin}
+use Rattle.pgn_game.specs.Private.Steps.{IsWithin}
 use Rattle.pgn_game.proofs.StepFacts.{on_ok_so, within_back, within_begun}
 use Rattle.pgn_game.proofs.replays.walk.beside.Goals as goal
 use Rattle.pgn_game.proofs.replays.walk.beside.Goals.{in-Open+in_ok-open-in-Open, in-Close, in_default}

@@ -1,10 +1,10 @@
 use Rattle.std.proofs.Common.{[], map, ◌∙◌, subst}
 use Rattle.std.proofs.lemmas.Option.{IfSome_then}
 use Rattle.std.proofs.lemmas.Result.{MatchResult-weaker}
-use Rattle.pgn_text.specs.Elements.{item_of}
-use Rattle.pgn_game.specs.LineWalks.{Stops, first_level}
-use Rattle.pgn_game.specs.Replays.{fault_of}
-use Rattle.pgn_game.specs.Steps.{Walks}
+use Rattle.pgn_text.specs.Public.Elements.{item_of}
+use Rattle.pgn_game.specs.Private.LineWalks.{Stops, first_level}
+use Rattle.pgn_game.specs.Public.Replays.{fault_of}
+use Rattle.pgn_game.specs.Private.Steps.{Walks}
 use Rattle.pgn_game.proofs.RunFacts.{runs_played, stops_faulty}
 use Rattle.pgn_game.proofs.StepFacts.{turns_of, walks_run}
 use Rattle.pgn_game.proofs.replays.walk.check_all_lines.Goals as goal

@@ -1,8 +1,8 @@
 use Rattle.std.proofs.Common.{◌+◌, ◌≤◌, ◌∷◌, ◌++◌, [], drop, map, refl, sym, ap, ◌∙◌, subst, append-nil, append_assoc, arith}
 use Rattle.std.proofs.lemmas.Option.{IfSome_then}
 use Rattle.std.proofs.lemmas.Result.{err_from_is_err_and}
-use Rattle.pgn_text.specs.Elements.{item_of}
-use Rattle.pgn_game.specs.Steps.{AreWithin, StopsAt, WalksOn, around, shown_items}
+use Rattle.pgn_text.specs.Public.Elements.{item_of}
+use Rattle.pgn_game.specs.Private.Steps.{AreWithin, StopsAt, WalksOn, around, shown_items}
 use Rattle.pgn_game.proofs.StepFacts.{none_shown, visits_one_more, within_more}
 use Rattle.pgn_game.proofs.WalkFacts.{items_step, items_end}
 use Rattle.pgn_game.proofs.replays.walk.walk.Goals as goal

@@ -1,7 +1,7 @@
 use Rattle.std.proofs.Common.{◌≡◌, ◌≤◌, ℕ, List, ◌++◌, drop, map}
-use Rattle.pgn_text.specs.Elements.{item_of}
-use Rattle.pgn_game.specs.Faults.{Fault}
-use Rattle.pgn_game.specs.Steps.{Step, Visits, WalksOn, StopsAt, IsWithin, shown_items}
+use Rattle.pgn_text.specs.Public.Elements.{item_of}
+use Rattle.pgn_game.specs.Public.Faults.{Fault}
+use Rattle.pgn_game.specs.Private.Steps.{Step, Visits, WalksOn, StopsAt, IsWithin, shown_items}
 use Rattle.pgn_game.proofs.replays.walk.walk.Given as goal
 
 abbrev pub invariant-loop-element : goal.invariant-loop-element

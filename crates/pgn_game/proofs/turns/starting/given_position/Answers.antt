@@ -1,5 +1,5 @@
 use Rattle.std.proofs.Common.{refl, subst}
-use Rattle.chess.specs.Fen.{IsRefused}
+use Rattle.chess.specs.Public.Fen.{IsRefused}
 use Rattle.pgn_game.proofs.turns.starting.given_position.Goals as goal
 
 pub returns : goal.returns

@@ -1,8 +1,8 @@
 use Rattle.std.proofs.Common.{◌≡◌, sym, subst}
 use Rattle.std.specs.Prelude.{Some, None, IfSome, MatchResult}
-use Rattle.pgn_game.specs.Starts.{fen_tag, IsStart, IsBadStart}
-use Rattle.pgn_game.specs.Faults.{BadStart}
-use Rattle.pgn_game.specs.Replays.{fault_of}
+use Rattle.pgn_game.specs.Public.Starts.{fen_tag, IsStart, IsBadStart}
+use Rattle.pgn_game.specs.Public.Faults.{BadStart}
+use Rattle.pgn_game.specs.Public.Replays.{fault_of}
 use Rattle.pgn_game.proofs.Tags.{tag_found}
 use Rattle.pgn_game.proofs.turns.starting.starting_position.Goals as goal
 

@@ -1,6 +1,6 @@
 use Rattle.std.proofs.Common.{length, ◌-◌, ◌≡◌, ◌+◌, ◌≤◌, [], drop}
-use Rattle.pgn_text.specs.Bytes.{is_check_mark}
-use Rattle.pgn_text.specs.PartFronts.{front_length}
+use Rattle.pgn_text.specs.Public.Bytes.{is_check_mark}
+use Rattle.pgn_text.specs.Private.PartFronts.{front_length}
 use Rattle.pgn_text.proofs.error.error_position.castling_stop.Given as goal
 
 abbrev pub invariant-loop-count : goal.invariant-loop-count

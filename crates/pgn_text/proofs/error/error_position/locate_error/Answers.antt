@@ -1,8 +1,8 @@
 use Rattle.std.proofs.Common.{◌≡◌, ◌+◌, ◌-◌, ◌≤◌, take, drop, length, length-drop, subst, arith}
-use Rattle.pgn_text.specs.Limits.{depth_limit}
-use Rattle.pgn_text.specs.PartFronts.{IsPartFront}
-use Rattle.pgn_text.specs.Parts.{standing_of}
-use Rattle.pgn_text.specs.Tokens.{state_of}
+use Rattle.pgn_text.specs.Public.Limits.{depth_limit}
+use Rattle.pgn_text.specs.Private.PartFronts.{IsPartFront}
+use Rattle.pgn_text.specs.Public.Parts.{standing_of}
+use Rattle.pgn_text.specs.Private.Tokens.{state_of}
 use Rattle.pgn_text.proofs.StopContexts.{stands_within}
 use Rattle.pgn_text.proofs.StopWalk.{walk_stops}
 use Rattle.pgn_text.proofs.error.error_position.locate_error.Goals as goal

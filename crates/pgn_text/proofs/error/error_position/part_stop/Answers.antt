@@ -1,12 +1,12 @@
 use Rattle.std.proofs.Common.{◌≡◌, ◌≢◌, ℕ, suc, ◌+◌, ◌-◌, ◌≤◌, false, List, [], ◌∷◌, length, take, drop, refl, sym, ap, subst, ◌∙◌, inl, inr, arith, IsTrue, ◌<◌}
 use Rattle.std.proofs.lemmas.Bool.{ne_eqb}
 use Rattle.std.proofs.lemmas.List.{take_rest, length-take-le}
-use Rattle.pgn_text.specs.Bytes.{is_empty}
-use Rattle.pgn_text.specs.Limits.{depth_limit}
-use Rattle.pgn_text.specs.PartFronts.{Longest, IsPartFront, IsFrontOf, IsWordFront, NoneFollows, front_length, no_byte}
-use Rattle.pgn_text.specs.Parts.{Standing, standing_of}
-use Rattle.pgn_text.specs.Steps.{State}
-use Rattle.pgn_text.specs.Tokens.{state_of}
+use Rattle.pgn_text.specs.Public.Bytes.{is_empty}
+use Rattle.pgn_text.specs.Public.Limits.{depth_limit}
+use Rattle.pgn_text.specs.Private.PartFronts.{Longest, IsPartFront, IsFrontOf, IsWordFront, NoneFollows, front_length, no_byte}
+use Rattle.pgn_text.specs.Public.Parts.{Standing, standing_of}
+use Rattle.pgn_text.specs.Private.Steps.{State}
+use Rattle.pgn_text.specs.Private.Tokens.{state_of}
 use Rattle.pgn_text.proofs.Furthest.{as_far}
 use Rattle.pgn_text.proofs.InPart.{open_tag, stray_glyph}
 use Rattle.pgn_text.proofs.Stuck.{stuck_brace, stuck_bracket, stuck_word, stuck_mark, stuck_other, stuck_end}

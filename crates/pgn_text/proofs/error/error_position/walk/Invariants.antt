@@ -1,7 +1,7 @@
 use Rattle.std.proofs.Common.{◌-◌, length}
-use Rattle.pgn_text.specs.ErrorPosition.{WalkedTo}
-use Rattle.pgn_text.specs.Limits.{depth_limit}
-use Rattle.pgn_text.specs.Tokens.{state_of}
+use Rattle.pgn_text.specs.Private.ErrorPosition.{WalkedTo}
+use Rattle.pgn_text.specs.Public.Limits.{depth_limit}
+use Rattle.pgn_text.specs.Private.Tokens.{state_of}
 use Rattle.pgn_text.proofs.error.error_position.walk.Given as goal
 
 abbrev pub invariant-loop-token : goal.invariant-loop-token

@@ -1,6 +1,6 @@
 use Rattle.std.proofs.Common.{length, sym, ap, ◌∙◌}
-use Rattle.pgn_text.specs.Reading.{items_of_kept}
-use Rattle.pgn_text.specs.Tokens.{token_of}
+use Rattle.pgn_text.specs.Private.Reading.{items_of_kept}
+use Rattle.pgn_text.specs.Private.Tokens.{token_of}
 use Rattle.pgn_text.specs.declared.lex.token.Token.{Token}
 use Rattle.pgn_text.proofs.Located.{glyph_count}
 use Rattle.pgn_text.proofs.error.locate.element_count.Goals as goal

@@ -1,6 +1,6 @@
 use Rattle.std.proofs.Common.{◌≡◌, ◌+◌, ◌-◌, length, List}
-use Rattle.pgn_text.specs.Games.{items_of}
-use Rattle.pgn_text.specs.Parts.{Part}
+use Rattle.pgn_text.specs.Public.Games.{items_of}
+use Rattle.pgn_text.specs.Public.Parts.{Part}
 use Rattle.pgn_text.proofs.Located.{PassedTo}
 use Rattle.pgn_text.proofs.error.locate.element_place.Given as goal
 

@@ -1,5 +1,5 @@
 use Rattle.std.proofs.Common.{◌-◌, length}
-use Rattle.pgn_text.specs.Tokens.{test_of}
+use Rattle.pgn_text.specs.Private.Tokens.{test_of}
 use Rattle.pgn_text.proofs.RunsTo.{AllPass}
 use Rattle.pgn_text.proofs.lex.class.run_end.Given as goal
 

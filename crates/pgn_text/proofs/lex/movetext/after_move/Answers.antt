@@ -1,5 +1,5 @@
 use Rattle.std.proofs.Common.{◌+◌, sym, ◌∙◌, arith}
-use Rattle.pgn_text.specs.Bytes.{is_word_byte}
+use Rattle.pgn_text.specs.Public.Bytes.{is_word_byte}
 use Rattle.pgn_text.proofs.PlainParts.{plain_move, plain_short, plain_gap}
 use Rattle.pgn_text.proofs.RunsTo.{none_yet, one_more, runs_on}
 use Rattle.pgn_text.proofs.lex.movetext.after_move.Goals as goal

@@ -1,5 +1,5 @@
 use Rattle.std.proofs.Common.{◌+◌, sym, ◌∙◌, arith}
-use Rattle.pgn_text.specs.Bytes.{is_digit}
+use Rattle.pgn_text.specs.Public.Bytes.{is_digit}
 use Rattle.pgn_text.proofs.PlainParts.{plain_number, plain_gap}
 use Rattle.pgn_text.proofs.RunsTo.{none_yet, one_more}
 use Rattle.pgn_text.proofs.lex.movetext.after_number.Goals as goal

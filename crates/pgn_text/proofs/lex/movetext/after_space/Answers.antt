@@ -1,5 +1,5 @@
 use Rattle.std.proofs.Common.{ap, inr}
-use Rattle.pgn_text.specs.Bytes.{is_white}
+use Rattle.pgn_text.specs.Public.Bytes.{is_white}
 use Rattle.pgn_text.proofs.PartsAt.{kept_white}
 use Rattle.pgn_text.proofs.lex.movetext.after_space.Goals as goal
 

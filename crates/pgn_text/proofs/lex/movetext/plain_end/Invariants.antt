@@ -1,5 +1,5 @@
 use Rattle.std.proofs.Common.{◌-◌, length}
-use Rattle.pgn_text.specs.Movetext.{PlainTo}
+use Rattle.pgn_text.specs.Private.Movetext.{PlainTo}
 use Rattle.pgn_text.proofs.lex.movetext.plain_end.Given as goal
 
 abbrev pub invariant-loop-at : goal.invariant-loop-at

@@ -1,5 +1,5 @@
 use Rattle.std.proofs.Common.{◌-◌, length}
-use Rattle.pgn_text.specs.Walk.{GapTo}
+use Rattle.pgn_text.specs.Private.Walk.{GapTo}
 use Rattle.pgn_text.proofs.lex.place.gap_end.Given as goal
 
 abbrev pub invariant-loop-end : goal.invariant-loop-end

@@ -1,5 +1,5 @@
-use Rattle.chess.specs.CellFacts.{on_board-men_of}
-use Rattle.chess.specs.BitWords.{words_men, man_in}
+use Rattle.chess.specs.Private.CellFacts.{on_board-men_of}
+use Rattle.chess.specs.Private.BitWords.{words_men, man_in}
 use Rattle.chess.proofs.FileFacts.{all_bits}
 use Rattle.chess.proofs.LeftFacts.{all_left}
 use Rattle.chess.proofs.board.bits.BitsBoard.attacked.Goals as goal

@@ -1,10 +1,10 @@
 use Rattle.std.proofs.Common.{◌<◌, ◌^◌, ◌↔◌, ℕ, w64, bit_or, bit_and, sym, subst, IsTrue}
 use Rattle.std.specs.Int.{bit_not}
 use Rattle.std.proofs.lemmas.Nat.{or_lt}
-use Rattle.chess.specs.Attacks.{IsAttacked}
-use Rattle.chess.specs.CellFacts.{on_board-men_of}
-use Rattle.chess.specs.Placements.{IsEmpty}
-use Rattle.chess.specs.BitWords.{IsWordOf, AreLeft, words_men, man_in}
+use Rattle.chess.specs.Public.Attacks.{IsAttacked}
+use Rattle.chess.specs.Private.CellFacts.{on_board-men_of}
+use Rattle.chess.specs.Public.Placements.{IsEmpty}
+use Rattle.chess.specs.Private.BitWords.{IsWordOf, AreLeft, words_men, man_in}
 use Rattle.chess.specs.declared.board.man.Side.{Side}
 use Rattle.chess.proofs.LeftFacts.{moved_so, IsGone, gone_word, rest_word, left_then, men_then}
 use Rattle.chess.proofs.board.bits.BitsBoard.attacked_after.Goals as goal

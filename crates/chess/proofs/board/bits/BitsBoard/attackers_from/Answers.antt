@@ -1,4 +1,4 @@
-use Rattle.chess.specs.BitWords.{words_men}
+use Rattle.chess.specs.Private.BitWords.{words_men}
 use Rattle.chess.proofs.AttackerFacts.{among_own}
 use Rattle.chess.proofs.board.bits.BitsBoard.attackers_from.Goals as goal
 

@@ -1,4 +1,4 @@
-use Rattle.chess.specs.BitWords.{words_men}
+use Rattle.chess.specs.Private.BitWords.{words_men}
 use Rattle.chess.proofs.BitFacts.{empty_by_word}
 use Rattle.chess.proofs.board.bits.BitsBoard.is_empty.Goals as goal
 

@@ -1,7 +1,7 @@
 use Rattle.std.proofs.Common.{arith}
 use Rattle.std.proofs.lemmas.Bool.Decides.{nat_tests}
-use Rattle.chess.specs.Placements.{IsOccupiedBy}
-use Rattle.chess.specs.BitWords.{words_men}
+use Rattle.chess.specs.Public.Placements.{IsOccupiedBy}
+use Rattle.chess.specs.Private.BitWords.{words_men}
 use Rattle.chess.proofs.OccupiedFacts.{has_square}
 use Rattle.chess.proofs.board.bits.BitsBoard.is_occupied_by.Goals as goal
 

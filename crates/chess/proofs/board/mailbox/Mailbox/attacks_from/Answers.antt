@@ -1,5 +1,5 @@
-use Rattle.chess.specs.Cells.{cells_men}
-use Rattle.chess.specs.Attacks.{Reaches}
+use Rattle.chess.specs.Private.Cells.{cells_men}
+use Rattle.chess.specs.Public.Attacks.{Reaches}
 use Rattle.chess.proofs.BoardFacts.{gathered_none, gathered_step}
 use Rattle.chess.proofs.board.mailbox.Mailbox.attacks_from.Goals as goal
 

@@ -1,5 +1,5 @@
-use Rattle.chess.specs.Cells.{cells_men}
-use Rattle.chess.specs.Attacks.{Reaches}
+use Rattle.chess.specs.Private.Cells.{cells_men}
+use Rattle.chess.specs.Public.Attacks.{Reaches}
 use Rattle.chess.proofs.BoardFacts.{IsGathered}
 use Rattle.chess.proofs.board.mailbox.Mailbox.attacks_from.Given as goal
 

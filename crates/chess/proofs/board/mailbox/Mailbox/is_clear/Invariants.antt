@@ -1,6 +1,6 @@
 use Rattle.std.proofs.Common.{◌≤◌}
-use Rattle.chess.specs.Cells.{cells_men}
-use Rattle.chess.specs.Attacks.{IsClearFor}
+use Rattle.chess.specs.Private.Cells.{cells_men}
+use Rattle.chess.specs.Public.Attacks.{IsClearFor}
 use Rattle.chess.proofs.board.mailbox.Mailbox.is_clear.Given as goal
 
 abbrev pub invariant-loop-step : goal.invariant-loop-step

@@ -1,7 +1,7 @@
 use Rattle.std.proofs.Common.{◌≡◌, true, false, arith}
-use Rattle.chess.specs.SetFacts.{index_of-below}
-use Rattle.chess.specs.CellFacts.{on_board-men_of}
-use Rattle.chess.specs.Cells.{cell_of}
+use Rattle.chess.specs.Private.SetFacts.{index_of-below}
+use Rattle.chess.specs.Private.CellFacts.{on_board-men_of}
+use Rattle.chess.specs.Private.Cells.{cell_of}
 use Rattle.chess.proofs.board.mailbox.MailboxBoard.attacked.Goals as goal
 
 pub returns : goal.returns

@@ -1,5 +1,5 @@
-use Rattle.chess.specs.Cells.{cells_men}
-use Rattle.chess.specs.PseudoAttacks.{IsHitFrom}
+use Rattle.chess.specs.Private.Cells.{cells_men}
+use Rattle.chess.specs.Private.PseudoAttacks.{IsHitFrom}
 use Rattle.chess.proofs.BoardFacts.{IsNoneYet}
 use Rattle.chess.proofs.board.mailbox.MailboxBoard.attacked.Given as goal
 

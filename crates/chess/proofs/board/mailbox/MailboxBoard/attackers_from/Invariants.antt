@@ -1,5 +1,5 @@
-use Rattle.chess.specs.Cells.{cells_men}
-use Rattle.chess.specs.Sets.{IsAttacker}
+use Rattle.chess.specs.Private.Cells.{cells_men}
+use Rattle.chess.specs.Public.Sets.{IsAttacker}
 use Rattle.chess.proofs.BoardFacts.{IsGathered}
 use Rattle.chess.proofs.board.mailbox.MailboxBoard.attackers_from.Given as goal
 

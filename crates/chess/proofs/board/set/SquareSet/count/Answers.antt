@@ -1,5 +1,5 @@
 use Rattle.std.proofs.Common.{ap, ◌∙◌}
-use Rattle.chess.specs.Sets.{size_of}
+use Rattle.chess.specs.Public.Sets.{size_of}
 use Rattle.chess.proofs.SizeFacts.{ones-size}
 use Rattle.chess.proofs.board.set.SquareSet.count.Goals as goal
 

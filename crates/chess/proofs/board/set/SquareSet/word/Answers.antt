@@ -1,7 +1,7 @@
 use Rattle.std.proofs.Common.{◌∙◌, sym, ap}
-use Rattle.chess.specs.Sets.{is_in}
-use Rattle.chess.specs.SetWords.{has_bit}
-use Rattle.chess.specs.SetFacts.{is_in-places_of}
+use Rattle.chess.specs.Public.Sets.{is_in}
+use Rattle.chess.specs.Private.SetWords.{has_bit}
+use Rattle.chess.specs.Private.SetFacts.{is_in-places_of}
 use Rattle.chess.proofs.board.set.SquareSet.word.Goals as goal
 
 pub returns : goal.returns

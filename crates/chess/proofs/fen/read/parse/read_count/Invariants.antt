@@ -1,5 +1,5 @@
 use Rattle.std.proofs.Common.{length}
-use Rattle.chess.specs.FenWords.{IsCounted}
+use Rattle.chess.specs.Private.FenWords.{IsCounted}
 use Rattle.chess.proofs.fen.read.parse.read_count.Given as goal
 
 abbrev pub invariant-loop-rest : goal.invariant-loop-rest

@@ -1,4 +1,4 @@
-use Rattle.chess.specs.FenWords.{IsPutUpTo}
+use Rattle.chess.specs.Private.FenWords.{IsPutUpTo}
 use Rattle.chess.proofs.fen.read.ranks.put_row.Given as goal
 
 abbrev pub invariant-loop-index : goal.invariant-loop-index

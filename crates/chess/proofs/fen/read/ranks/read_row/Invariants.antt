@@ -1,5 +1,5 @@
 use Rattle.std.proofs.Common.{length}
-use Rattle.chess.specs.FenWords.{IsRow}
+use Rattle.chess.specs.Private.FenWords.{IsRow}
 use Rattle.chess.proofs.fen.read.ranks.read_row.Given as goal
 
 abbrev pub invariant-loop-rest : goal.invariant-loop-rest

@@ -1,5 +1,5 @@
 use Rattle.chess.proofs.BoardFacts.{IsNoneYet}
-use Rattle.chess.specs.FenWords.{IsEdgePawn}
+use Rattle.chess.specs.Private.FenWords.{IsEdgePawn}
 use Rattle.chess.proofs.fen.read.validate.has_edge_pawn.Given as goal
 
 abbrev pub invariant-loop-index : goal.invariant-loop-index

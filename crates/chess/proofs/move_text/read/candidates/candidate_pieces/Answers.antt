@@ -1,7 +1,7 @@
 use Rattle.std.proofs.Common.{◌≡◌, inl, inr, subst, sym}
-use Rattle.chess.specs.Placements.{IsOccupiedBy}
-use Rattle.chess.specs.Sets.{HoldsExactly, IsAttacker}
-use Rattle.chess.specs.SanWords.{said_by, man_said, IsCandidate}
+use Rattle.chess.specs.Public.Placements.{IsOccupiedBy}
+use Rattle.chess.specs.Public.Sets.{HoldsExactly, IsAttacker}
+use Rattle.chess.specs.Private.SanWords.{said_by, man_said, IsCandidate}
 use Rattle.chess.specs.declared.board.man.Man.{Man}
 use Rattle.chess.proofs.PlaceFacts.{true_not_false}
 use Rattle.chess.proofs.CandidateFacts.{candidate_pieces, no_piece, none_hold, promotes_some, promotes_none}

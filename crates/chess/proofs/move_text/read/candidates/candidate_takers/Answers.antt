@@ -1,6 +1,6 @@
 use Rattle.std.proofs.Common.{subst, sym}
-use Rattle.chess.specs.Moves.{Promotes}
-use Rattle.chess.specs.SanWords.{said_by, IsCandidate}
+use Rattle.chess.specs.Public.Moves.{Promotes}
+use Rattle.chess.specs.Private.SanWords.{said_by, IsCandidate}
 use Rattle.chess.proofs.PlaceFacts.{true_not_false}
 use Rattle.chess.proofs.CandidateFacts.{candidate_takers, pawn_goes, none_hold}
 use Rattle.chess.proofs.move_text.read.candidates.candidate_takers.Goals as goal

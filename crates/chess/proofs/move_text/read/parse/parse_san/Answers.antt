@@ -1,6 +1,6 @@
 use Rattle.std.proofs.Common.{◌≡◌, ◌≤◌, ◌-◌, ℕ, inl, inr, ap, sym, subst, ◌∙◌, Some, None, List, [], reverse}
-use Rattle.chess.specs.San.{Said, Spells}
-use Rattle.chess.specs.SanWords.{kind_given, number_given, last_of, before_last, after_letter}
+use Rattle.chess.specs.Public.San.{Said, Spells}
+use Rattle.chess.specs.Private.SanWords.{kind_given, number_given, last_of, before_last, after_letter}
 use Rattle.chess.specs.declared.move_text.read.parse.ByteClass.TheVariants.{KindLetter}
 use Rattle.chess.proofs.NamedFacts.{some_said}
 use Rattle.chess.proofs.SpelledParts.{file_number, rank_number, found_bytes, found_are, found_text, said_of, spelled_parts, said_bytes}

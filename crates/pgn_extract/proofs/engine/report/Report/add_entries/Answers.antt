@@ -2,8 +2,8 @@ use Rattle.std.proofs.Common.{◌≡◌, ◌++◌, [], take, length, refl, ap, �
 use Rattle.std.specs.Prelude.{IfSome}
 use Rattle.std.proofs.Math.Seq.{take-append_seam}
 use Rattle.std.proofs.lemmas.Result.{on_ok_weaker}
-use Rattle.pgn_extract.specs.Aims.{aim_of}
-use Rattle.pgn_extract.specs.Finding.{StopsAtFault}
+use Rattle.pgn_extract.specs.Public.Aims.{aim_of}
+use Rattle.pgn_extract.specs.Private.Finding.{StopsAtFault}
 use Rattle.pgn_extract.proofs.GameVerdict.{listed_replay, listed_fault}
 use Rattle.pgn_extract.proofs.engine.report.Report.add_entries.Goals as goal
 

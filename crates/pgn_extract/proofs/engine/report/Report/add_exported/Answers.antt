@@ -1,9 +1,9 @@
 use Rattle.std.proofs.Common.{◌++◌, refl, subst, ap, ◌∙◌}
 use Rattle.std.specs.Prelude.{IfSome}
 use Rattle.std.proofs.lemmas.Result.{on_ok_weaker}
-use Rattle.pgn_extract.specs.Aims.{aim_of}
-use Rattle.pgn_extract.specs.Blockwise.{LeavesText}
-use Rattle.pgn_extract.specs.Exports.{faulty_text}
+use Rattle.pgn_extract.specs.Public.Aims.{aim_of}
+use Rattle.pgn_extract.specs.Private.Blockwise.{LeavesText}
+use Rattle.pgn_extract.specs.Public.Exports.{faulty_text}
 use Rattle.pgn_extract.specs.declared.settings.Mode.TheVariants.{Export}
 use Rattle.pgn_extract.proofs.GameVerdict.{exported_replay, exported_fault}
 use Rattle.pgn_extract.proofs.engine.report.Report.add_exported.Goals as goal

@@ -1,6 +1,6 @@
 use Rattle.std.proofs.Common.{refl}
 use Rattle.std.proofs.lemmas.Result.{on_ok_weaker}
-use Rattle.pgn_extract.specs.Aims.{aim_of}
+use Rattle.pgn_extract.specs.Public.Aims.{aim_of}
 use Rattle.pgn_extract.proofs.GameVerdict.{game_indexed, game_listed, game_exported}
 use Rattle.pgn_extract.proofs.engine.report.Report.add_game.Goals as goal
 

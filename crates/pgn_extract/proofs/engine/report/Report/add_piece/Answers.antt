@@ -1,6 +1,6 @@
 use Rattle.std.proofs.Common.{◌+◌, refl, ap}
 use Rattle.std.proofs.lemmas.Result.{on_ok_weaker}
-use Rattle.pgn_extract.specs.Aims.{aim_of}
+use Rattle.pgn_extract.specs.Public.Aims.{aim_of}
 use Rattle.pgn_extract.proofs.GameVerdict.{piece_game, piece_unreadable}
 use Rattle.pgn_extract.proofs.engine.report.Report.add_piece.Goals as goal
 

@@ -1,15 +1,15 @@
 use Rattle.std.proofs.Common.{◌+◌, refl, ap, ◌∙◌, subst}
 use Rattle.std.specs.Prelude.{IfSome}
 use Rattle.std.proofs.lemmas.Result.{on_ok_weaker}
-use Rattle.pgn_text.specs.GameTexts.{tag_in}
-use Rattle.pgn_game.specs.Faults.{IsFault}
-use Rattle.pgn_game.specs.MainLines.{main_words}
+use Rattle.pgn_text.specs.Public.GameTexts.{tag_in}
+use Rattle.pgn_game.specs.Public.Faults.{IsFault}
+use Rattle.pgn_game.specs.Public.MainLines.{main_words}
 use Rattle.pgn_game.specs.declared.replays.replayer.Lines.TheVariants.{Main}
-use Rattle.pgn_game.specs.Starts.{fen_tag}
+use Rattle.pgn_game.specs.Public.Starts.{fen_tag}
 use Rattle.pgn_game.proofs.OneReplay.{line_length}
-use Rattle.pgn_extract.specs.Aims.{aim_of}
+use Rattle.pgn_extract.specs.Public.Aims.{aim_of}
 use Rattle.pgn_extract.proofs.GameVerdict.{listed_replay, listed_fault}
-use Rattle.pgn_criteria.specs.Meeting.{heading_of}
+use Rattle.pgn_criteria.specs.Public.Meeting.{heading_of}
 use Rattle.pgn_extract.proofs.engine.report.Report.add_plies.Goals as goal
 
 pub returns-in-Ok : goal.returns-in-Ok

@@ -1,9 +1,9 @@
 use Rattle.std.proofs.Common.{◌+◌, drop, [], ◌++◌, refl, sym, ap, ◌∙◌, append_assoc, codes, arith}
 use Rattle.std.proofs.lemmas.List.{append-nil}
 use Rattle.std.proofs.lemmas.Result.{on_ok_weaker}
-use Rattle.pgn_extract.specs.Exports.{faulty_text}
-use Rattle.pgn_extract.specs.Index.{fault_text}
-use Rattle.pgn_extract.specs.Verdicts.{FaultyGame}
+use Rattle.pgn_extract.specs.Public.Exports.{faulty_text}
+use Rattle.pgn_extract.specs.Public.Index.{fault_text}
+use Rattle.pgn_extract.specs.Public.Verdicts.{FaultyGame}
 use Rattle.pgn_extract.specs.declared.explain.notes.Origin.{Origin}
 use Rattle.pgn_extract.proofs.NoteLines.{no_note, stop_note, names_stop}
 use Rattle.pgn_extract.proofs.RestOfBlock.{rest_taken}

@@ -1,7 +1,7 @@
 use Rattle.std.proofs.Common.{◌∷◌, ◌++◌, [], Some, sym, subst, ◌∙◌}
 use Rattle.std.proofs.lemmas.Bool.{false≢true}
-use Rattle.pgn_extract.specs.Aims.{aim_of}
-use Rattle.pgn_extract.specs.Finding.{IsFirstWanted}
+use Rattle.pgn_extract.specs.Public.Aims.{aim_of}
+use Rattle.pgn_extract.specs.Private.Finding.{IsFirstWanted}
 use Rattle.pgn_extract.proofs.Sought.{sought_before, sought_here, sought_on}
 use Rattle.pgn_extract.proofs.entries.choosing.Seeker.go_on.Goals as goal
 

@@ -1,10 +1,10 @@
 use Rattle.std.proofs.Common.{◌≡◌, ◌↔◌, ℕ, length, IsTrue, sym, ap, subst, ◌∙◌, arith}
 use Rattle.std.specs.List.{slice_get}
-use Rattle.pgn_game.specs.Replays.{Replay}
-use Rattle.pgn_criteria.specs.Meeting.{heading_of, Heading, SomeHold}
+use Rattle.pgn_game.specs.Public.Replays.{Replay}
+use Rattle.pgn_criteria.specs.Public.Meeting.{heading_of, Heading, SomeHold}
 use Rattle.pgn_criteria.proofs.MeetFacts.{meets_at}
 use Rattle.pgn_criteria.proofs.WalkFacts.{seen_itself}
-use Rattle.pgn_extract.specs.Aims.{aim_of}
+use Rattle.pgn_extract.specs.Public.Aims.{aim_of}
 use Rattle.pgn_extract.proofs.Found.{at_seam, seam_within, is_wanted}
 use Rattle.pgn_extract.proofs.entries.choosing.Seeker.is_wanted.Goals as goal
 

@@ -1,16 +1,16 @@
 use Rattle.std.proofs.Common.{◌↔◌, IsTrue, [], ◌∷◌, ◌++◌, sym, subst, inr}
 use Rattle.std.proofs.lemmas.Option.{IfSome_then}
 use Rattle.std.proofs.lemmas.Result.{err_from_is_err_and}
-use Rattle.pgn_text.specs.GameTexts.{tag_in}
-use Rattle.pgn_game.specs.Faults.{Fault, IsFault, IsMoveFault}
-use Rattle.pgn_game.specs.Starts.{fen_tag}
+use Rattle.pgn_text.specs.Public.GameTexts.{tag_in}
+use Rattle.pgn_game.specs.Public.Faults.{Fault, IsFault, IsMoveFault}
+use Rattle.pgn_game.specs.Public.Starts.{fen_tag}
 use Rattle.pgn_game.specs.declared.replays.replayer.Lines.TheVariants.{Main}
-use Rattle.pgn_game.specs.PlayedLines.{PlaysWord, HasEnded, HasAdvanced}
-use Rattle.pgn_game.specs.Replays.{Replay}
-use Rattle.pgn_extract.specs.Aims.{aim_of}
-use Rattle.pgn_extract.specs.Exports.{HasEntry}
-use Rattle.pgn_extract.specs.Finding.{IsFirstWanted}
-use Rattle.pgn_criteria.specs.Meeting.{heading_of}
+use Rattle.pgn_game.specs.Public.PlayedLines.{PlaysWord, HasEnded, HasAdvanced}
+use Rattle.pgn_game.specs.Public.Replays.{Replay}
+use Rattle.pgn_extract.specs.Public.Aims.{aim_of}
+use Rattle.pgn_extract.specs.Public.Exports.{HasEntry}
+use Rattle.pgn_extract.specs.Private.Finding.{IsFirstWanted}
+use Rattle.pgn_criteria.specs.Public.Meeting.{heading_of}
 use Rattle.pgn_extract.proofs.Found.{played_none, played_on, played_all}
 use Rattle.pgn_extract.proofs.Sought.{sought_none, sought_all, one_main}
 use Rattle.pgn_extract.proofs.entries.choosing.Seeker.play.Goals as goal

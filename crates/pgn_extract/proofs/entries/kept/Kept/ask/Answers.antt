@@ -1,6 +1,6 @@
 use Rattle.std.proofs.Common.{◌∷◌, ◌++◌, [], decimal, sym, ap, ◌∙◌, arith}
-use Rattle.pgn_extract.specs.Aims.{aim_of}
-use Rattle.pgn_extract.specs.Finding.{named_mark}
+use Rattle.pgn_extract.specs.Public.Aims.{aim_of}
+use Rattle.pgn_extract.specs.Private.Finding.{named_mark}
 use Rattle.pgn_extract.proofs.Found.{leaves_shut, leaves_past, leaves_unwanted, keeps_one}
 use Rattle.pgn_extract.proofs.KeptFacts.{wanted_there, unwanted_there, shown_there}
 use Rattle.pgn_extract.proofs.entries.kept.Kept.ask.Goals as goal

@@ -1,12 +1,12 @@
 use Rattle.std.proofs.Common.{◌≡◌, ◌↔◌, ◌+◌, ℕ, List, Option, Some, length, IsTrue, sym, ap, ◌∙◌, subst, arith}
 use Rattle.std.proofs.lemmas.Option.{slice_get-get_or}
 use Rattle.std.specs.List.{slice_get}
-use Rattle.pgn_game.specs.MainLines.{main_words}
+use Rattle.pgn_game.specs.Public.MainLines.{main_words}
 use Rattle.pgn_game.specs.declared.replays.replayer.Lines.TheVariants.{Main}
 use Rattle.pgn_game.proofs.OneReplay.{line_length}
-use Rattle.pgn_criteria.specs.Meeting.{heading_of}
+use Rattle.pgn_criteria.specs.Public.Meeting.{heading_of}
 use Rattle.pgn_criteria.specs.declared.condition.Condition.{Condition}
-use Rattle.pgn_extract.specs.Aims.{aim_of, IsMet}
+use Rattle.pgn_extract.specs.Public.Aims.{aim_of, IsMet}
 use Rattle.pgn_extract.proofs.Found.{finds_all}
 use Rattle.pgn_extract.proofs.KeptFacts.{looked_none, looks_on, looks_whole}
 use Rattle.pgn_extract.proofs.entries.kept.Kept.push_entries.Goals as goal

@@ -1,5 +1,5 @@
 use Rattle.std.proofs.Common.{◌≤◌, ◌-◌, length}
-use Rattle.pgn_extract.specs.Aims.{aim_of}
+use Rattle.pgn_extract.specs.Public.Aims.{aim_of}
 use Rattle.pgn_extract.proofs.KeptFacts.{IsLookedThrough}
 use Rattle.pgn_extract.proofs.entries.kept.Kept.push_entries.Given as goal
 

@@ -1,8 +1,8 @@
 use Rattle.std.proofs.Common.{◌≡◌, ◌↔◌, ℕ, ◌∷◌, ◌++◌, [], length, decimal, IsTrue, sym, ap, subst, ◌∙◌, arith}
-use Rattle.pgn_game.specs.Replays.{Replay}
-use Rattle.pgn_criteria.specs.Meeting.{Heading, SomeHold}
-use Rattle.pgn_extract.specs.Aims.{aim_of}
-use Rattle.pgn_extract.specs.Finding.{named_mark, asked_of}
+use Rattle.pgn_game.specs.Public.Replays.{Replay}
+use Rattle.pgn_criteria.specs.Public.Meeting.{Heading, SomeHold}
+use Rattle.pgn_extract.specs.Public.Aims.{aim_of}
+use Rattle.pgn_extract.specs.Private.Finding.{named_mark, asked_of}
 use Rattle.pgn_extract.proofs.Found.{leaves_shut, leaves_past, leaves_unwanted, keeps_one, shows_there, is_wanted, not_wanted}
 use Rattle.pgn_extract.proofs.entries.showing.Shower.ask.Goals as goal
 use Rattle.pgn_extract.proofs.entries.showing.Shower.ask.Goals.{then-not-is_open-via-then-not-is_open, then-not-is_open-via-else-not-is_open+then-ply-self, then-ply-self-2-via-then-ply-self-2, then-ply-self-2-via-else-ply-self-2+then-not-is_met}

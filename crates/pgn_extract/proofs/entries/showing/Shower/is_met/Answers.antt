@@ -1,8 +1,8 @@
 use Rattle.std.proofs.Common.{◌↔◌, ℕ, List, Option, IsTrue, sym, subst}
-use Rattle.pgn_criteria.specs.Meeting.{SomeHold}
+use Rattle.pgn_criteria.specs.Public.Meeting.{SomeHold}
 use Rattle.pgn_criteria.specs.declared.condition.Condition.{Condition}
 use Rattle.pgn_criteria.proofs.WalkFacts.{seen_itself}
-use Rattle.pgn_extract.specs.Finding.{asked_of}
+use Rattle.pgn_extract.specs.Private.Finding.{asked_of}
 use Rattle.pgn_extract.proofs.entries.showing.Shower.is_met.Goals as goal
 
 pub returns-in-Some : goal.returns-in-Some

@@ -2,12 +2,12 @@ use Rattle.std.proofs.Common.{[], ◌∷◌, ◌++◌, refl, sym, append-nil, su
 use Rattle.std.proofs.lemmas.Option.{IfSome_then}
 use Rattle.std.proofs.lemmas.Result.{err_from_is_err_and}
 use Rattle.pgn_game.specs.declared.replays.replayer.Lines.TheVariants.{Main}
-use Rattle.pgn_game.specs.Faults.{Fault, IsMoveFault}
-use Rattle.pgn_game.specs.Replays.{Replay}
-use Rattle.pgn_game.specs.PlayedLines.{PlaysWord, HasEnded, HasAdvanced}
-use Rattle.pgn_extract.specs.Aims.{aim_of}
-use Rattle.pgn_extract.specs.Finding.{asked_of, StopsAtFault}
-use Rattle.pgn_extract.specs.Listing.{listing}
+use Rattle.pgn_game.specs.Public.Faults.{Fault, IsMoveFault}
+use Rattle.pgn_game.specs.Public.Replays.{Replay}
+use Rattle.pgn_game.specs.Public.PlayedLines.{PlaysWord, HasEnded, HasAdvanced}
+use Rattle.pgn_extract.specs.Public.Aims.{aim_of}
+use Rattle.pgn_extract.specs.Private.Finding.{asked_of, StopsAtFault}
+use Rattle.pgn_extract.specs.Public.Listing.{listing}
 use Rattle.pgn_extract.proofs.Found.{played_none, played_on, played_all, finds_none, finds_all, stops_at}
 use Rattle.pgn_extract.proofs.entries.showing.Shower.play.Goals as goal
 

@@ -1,15 +1,15 @@
 use Rattle.std.proofs.Common.{◌≡◌, ◌↔◌, ◌++◌, ℕ, List, [], Option, Some, IsTrue, sym, ap, ◌∙◌, subst, append-nil, append_assoc, arith}
 use Rattle.std.proofs.lemmas.Option.{slice_get-get_or}
 use Rattle.std.specs.List.{slice_get}
-use Rattle.pgn_text.specs.GameTexts.{tag_in}
-use Rattle.pgn_game.specs.Replays.{Replay, IsReplay}
-use Rattle.pgn_game.specs.Starts.{fen_tag}
+use Rattle.pgn_text.specs.Public.GameTexts.{tag_in}
+use Rattle.pgn_game.specs.Public.Replays.{Replay, IsReplay}
+use Rattle.pgn_game.specs.Public.Starts.{fen_tag}
 use Rattle.pgn_game.specs.declared.replays.replayer.Lines.TheVariants.{Main}
-use Rattle.pgn_criteria.specs.Meeting.{heading_of}
+use Rattle.pgn_criteria.specs.Public.Meeting.{heading_of}
 use Rattle.pgn_criteria.specs.declared.condition.Condition.{Condition}
-use Rattle.pgn_extract.specs.Aims.{aim_of, IsMet}
-use Rattle.pgn_extract.specs.GameReports.{AreListed}
-use Rattle.pgn_extract.specs.Packed.{record_aim}
+use Rattle.pgn_extract.specs.Public.Aims.{aim_of, IsMet}
+use Rattle.pgn_extract.specs.Public.GameReports.{AreListed}
+use Rattle.pgn_extract.specs.Private.Packed.{record_aim}
 use Rattle.pgn_extract.proofs.Found.{finds_all}
 use Rattle.pgn_extract.proofs.KeptFacts.{looked_none, looks_on, looks_whole}
 use Rattle.pgn_extract.proofs.packed.record_lines.RecordLines.push_kept.Goals as goal

@@ -1,6 +1,6 @@
 use Rattle.std.proofs.Common.{◌≤◌, ◌-◌, length}
-use Rattle.pgn_extract.specs.Aims.{aim_of}
-use Rattle.pgn_extract.specs.Packed.{EachOfRecord, record_aim, Grows}
+use Rattle.pgn_extract.specs.Public.Aims.{aim_of}
+use Rattle.pgn_extract.specs.Private.Packed.{EachOfRecord, record_aim, Grows}
 use Rattle.pgn_extract.proofs.KeptFacts.{IsLookedThrough}
 use Rattle.pgn_extract.proofs.packed.record_lines.RecordLines.push_kept.Given as goal
 

@@ -1,9 +1,9 @@
 use Rattle.std.proofs.Common.{◌≡◌, ◌-◌, ◌++◌, ℕ, List, length, true, sym, ap, subst, append_assoc, ◌∙◌, arith}
 use Rattle.std.specs.Prelude.{◌==◌, ◌/◌, ◌%◌}
-use Rattle.pgn_criteria.specs.ByMarks.{has_marks}
-use Rattle.pgn_criteria.specs.Sieves.{codes_in}
-use Rattle.pgn_extract.specs.Aims.{aim_of}
-use Rattle.pgn_extract.specs.Packed.{record_aim}
+use Rattle.pgn_criteria.specs.Public.ByMarks.{has_marks}
+use Rattle.pgn_criteria.specs.Public.Sieves.{codes_in}
+use Rattle.pgn_extract.specs.Public.Aims.{aim_of}
+use Rattle.pgn_extract.specs.Private.Packed.{record_aim}
 use Rattle.pgn_extract.proofs.MarkedFacts.{IsMarkedTo, size_of, codes_count, next_shorter, marked_first, marked_on, pass_to, pass_all, marked_enough}
 use Rattle.pgn_extract.proofs.packed.record_lines.RecordLines.push_marked.Goals as goal
 

@@ -1,7 +1,7 @@
 use Rattle.std.proofs.Common.{◌≤◌, length}
-use Rattle.pgn_criteria.specs.Sieves.{codes_in}
-use Rattle.pgn_extract.specs.Aims.{aim_of}
-use Rattle.pgn_extract.specs.Packed.{EachOfRecord, record_aim, Grows}
+use Rattle.pgn_criteria.specs.Public.Sieves.{codes_in}
+use Rattle.pgn_extract.specs.Public.Aims.{aim_of}
+use Rattle.pgn_extract.specs.Private.Packed.{EachOfRecord, record_aim, Grows}
 use Rattle.pgn_extract.proofs.MarkedFacts.{IsMarkedTo}
 use Rattle.pgn_extract.proofs.packed.record_lines.RecordLines.push_marked.Given as goal
 

@@ -1,5 +1,5 @@
 use Rattle.std.proofs.Common.{arith, ap, ◌∙◌}
-use Rattle.pgn_game.specs.PackStreams.{Window}
+use Rattle.pgn_game.specs.Public.PackStreams.{Window}
 use Rattle.pgn_game.proofs.PackStreamFacts.{whole_held, bad_step, long_step}
 use Rattle.pgn_game.proofs.pack.records.Records.step.Goals as goal
 

@@ -1,5 +1,5 @@
 use Rattle.std.proofs.Common.{refl, sym, subst}
-use Rattle.pgn_game.specs.Walks.{KeepsLine}
+use Rattle.pgn_game.specs.Private.Walks.{KeepsLine}
 use Rattle.pgn_game.proofs.WalkFacts.{keeps_move, keeps_on}
 use Rattle.pgn_game.proofs.replays.main_line.LineKeeper.step.Goals as goal
 use Rattle.pgn_game.proofs.replays.main_line.LineKeeper.step.Goals.{in-Some+in_ok-keep, in_default}

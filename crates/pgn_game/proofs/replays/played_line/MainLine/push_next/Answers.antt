@@ -2,9 +2,9 @@ use Rattle.std.proofs.Common.{refl, sym, subst, inl}
 use Rattle.std.specs.Prelude.{IfSome}
 use Rattle.std.proofs.lemmas.Option.{IfSome_then}
 use Rattle.std.proofs.lemmas.Result.{err_from_is_err_and}
-use Rattle.pgn_game.specs.Faults.{IsMoveFault}
-use Rattle.pgn_game.specs.PlayedLines.{PlayedLine}
-use Rattle.pgn_game.specs.Replays.{fault_of}
+use Rattle.pgn_game.specs.Public.Faults.{IsMoveFault}
+use Rattle.pgn_game.specs.Public.PlayedLines.{PlayedLine}
+use Rattle.pgn_game.specs.Public.Replays.{fault_of}
 use Rattle.pgn_game.proofs.replays.played_line.MainLine.push_next.Goals as goal
 
 pub returns-in_err-m-clause-fault : goal.returns-in_err-m-clause-fault

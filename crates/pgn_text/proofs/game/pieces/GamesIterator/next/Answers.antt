@@ -1,4 +1,4 @@
-use Rattle.pgn_text.specs.Limits.{depth_limit}
+use Rattle.pgn_text.specs.Public.Limits.{depth_limit}
 use Rattle.pgn_text.proofs.Gives.{gives_game, gives_unreadable, gives_error}
 use Rattle.pgn_text.proofs.game.pieces.GamesIterator.next.Goals as goal
 

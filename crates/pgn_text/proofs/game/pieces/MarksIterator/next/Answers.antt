@@ -1,4 +1,4 @@
-use Rattle.pgn_text.specs.Limits.{depth_limit}
+use Rattle.pgn_text.specs.Public.Limits.{depth_limit}
 use Rattle.pgn_text.proofs.GivesMarks.{marks_game, marks_unreadable}
 use Rattle.pgn_text.proofs.game.pieces.MarksIterator.next.Goals as goal
 

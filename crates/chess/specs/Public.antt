@@ -1,0 +1,14 @@
+-- What a reader must believe: the Laws of Chess, FEN and SAN. In the order in which they are best read.
+pub mod Squares
+pub mod Placements
+pub mod Attacks
+pub mod Positions
+pub mod Start
+pub mod Moves
+pub mod Passes
+pub mod Letters
+pub mod San
+pub mod Refusals
+pub mod Fen
+pub mod Sets
+pub mod Laws

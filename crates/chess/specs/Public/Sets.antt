@@ -1,0 +1,38 @@
+-- Sets of squares.
+use Rattle.std.specs.Prelude.{◌≡◌, ◌↔◌, ℕ, Bool, true, Some}
+use Rattle.std.specs.FinSet.{FinSet, empty, contains, len}
+use Rattle.chess.specs.Public.Squares.{Place, IsOnBoard, place_cmp}
+use Rattle.chess.specs.Public.Placements.{Placement, man_at}
+use Rattle.chess.specs.Public.Attacks.{IsAttackedFrom, Reaches}
+use Rattle.chess.specs.declared.board.man.Man.{Man}
+
+-- a set of squares
+abbrev pub Places : Type 0
+Places = FinSet place_cmp
+
+abbrev pub no_places : Places
+no_places = empty
+
+-- the square is in the set
+abbrev pub is_in : Places → Place → Bool
+is_in set s = contains set s
+
+-- the set is that of the squares of the board which have the fact
+abbrev pub HoldsExactly : (Place → Type 0) → Places → Type 0
+HoldsExactly fact set = (s : Place) → (is_in set s ≡ true) ↔ (IsOnBoard s × fact s)
+
+-- the squares that the man on s attacks; the empty set where there is none
+abbrev pub IsReachOf : Placement → Place → Places → Type 0
+IsReachOf p s set = HoldsExactly (IsAttackedFrom p s) set
+
+-- the squares on which that man stands
+abbrev pub IsSquaresOf : Placement → Man → Places → Type 0
+IsSquaresOf p man set = HoldsExactly (λ s. man_at p s ≡ Some man) set
+
+-- that man stands on s, one of the squares, and attacks the target
+abbrev pub IsAttacker : Placement → Man → Place → Places → Place → Type 0
+IsAttacker p man target among s = (is_in among s ≡ true) × (man_at p s ≡ Some man) × Reaches p man.side man.kind s target
+
+-- how many squares a set has
+abbrev pub size_of : Places → ℕ
+size_of set = len set

@@ -1,0 +1,14 @@
+-- What proofs alone speak of: how the code goes about it.
+pub mod Items
+pub mod Counting
+pub mod Layouts
+pub mod Planning
+pub mod Numbers
+pub mod Stages
+pub mod Reading
+pub mod Tracks
+pub mod Marks
+pub mod Turning
+pub mod MoveEnds
+pub mod Records
+pub mod SightCodes

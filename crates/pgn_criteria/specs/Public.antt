@@ -1,0 +1,13 @@
+-- What is to be believed: what lines spell, and which positions meet them.
+pub mod Words
+pub mod Lines
+pub mod Patterns
+pub mod Materials
+pub mod MoveTexts
+pub mod Comparing
+pub mod Mirrors
+pub mod Meeting
+pub mod Walks
+pub mod Sieves
+pub mod ByMarks
+pub mod Laws

@@ -1,0 +1,81 @@
+-- The lines of a packed game: in the mode of the index its mark, else those of the entries of the text that it was packed from.
+use Rattle.std.specs.Prelude.{◌≡◌, ◌++◌, ◌∷◌, ℕ, Bool, List, [], length, Some, ◌==◌, ◌/◌, ◌%◌}
+use Rattle.std.specs.List.{slice_get}
+use Rattle.chess.specs.Public.Positions.{State}
+use Rattle.chess.specs.Public.Start.{initial}
+use Rattle.pgn_text.specs.Public.GameTexts.{GameText, IsGameText, tag_in}
+use Rattle.pgn_game.specs.Public.PackReading.{RawRecord, raw_of}
+use Rattle.pgn_game.specs.Public.PackedGames.{PackedGame, FitsRecord, IsPacked}
+use Rattle.pgn_game.specs.Public.Replays.{Replay, IsReplay}
+use Rattle.pgn_game.specs.Public.Starts.{fen_tag}
+use Rattle.pgn_game.specs.declared.replays.replayer.Lines.TheVariants.{Main}
+use Rattle.pgn_criteria.specs.Public.Meeting.{heading_of}
+use Rattle.pgn_criteria.specs.Public.Walks.{Sight, IsSightOf}
+use Rattle.pgn_criteria.specs.declared.condition.Condition.{Condition}
+use Rattle.pgn_extract.specs.Public.Aims.{Aim}
+use Rattle.pgn_extract.specs.Private.Finding.{AsksFor, Finds}
+use Rattle.pgn_extract.specs.Public.GameReports.{AreListed}
+use Rattle.pgn_extract.specs.Public.Listing.{Entry, listing}
+use Rattle.pgn_extract.specs.Public.Searching.{AreRecordLines, IsOfNoGame}
+
+-- the lines of a record are added to the text, of whatever packed game it is
+abbrev pub PutsRecord : Aim → RawRecord → List ℕ → List ℕ → Type 0
+PutsRecord aim raw old new =
+    (own : List ℕ) × (new ≡ old ++ own) × ((packed : PackedGame) → FitsRecord packed → raw_of packed ≡ raw → AreRecordLines aim.mode aim packed own)
+
+-- no game has the record, and the text stays as it was
+abbrev pub LeavesRecord : RawRecord → List ℕ → List ℕ → Type 0
+LeavesRecord raw old new = (new ≡ old) × ((packed : PackedGame) → FitsRecord packed → raw_of packed ≡ raw → IsOfNoGame packed)
+
+-- Private words: how far the lines of a record are added.
+
+-- the record is that of the game with this replay
+pub record IsOfRecord (raw : RawRecord) (game : GameText) (replay : Replay) (packed : PackedGame) : Type 0 where
+  pub fits : FitsRecord packed
+  pub shows : raw_of packed ≡ raw
+  pub text : IsGameText game
+  pub is_replay : IsReplay Main (tag_in fen_tag game.tags) game.elements replay
+  pub kept : IsPacked packed.name packed.number packed.offset game replay packed
+
+-- so it is of each game that has the record
+abbrev pub EachOfRecord : RawRecord → (GameText → Replay → PackedGame → Type 0) → Type 0
+EachOfRecord raw So = (game : GameText) (replay : Replay) (packed : PackedGame) → IsOfRecord raw game replay packed → So game replay packed
+
+-- no game has the record
+abbrev pub HasNoText : RawRecord → Type 0
+HasNoText raw = EachOfRecord raw (λ game replay packed. ⊥)
+
+-- the aim, with the name that the record has
+abbrev pub record_aim : Aim → RawRecord → Aim
+record_aim aim raw = record aim { name = raw.name }
+
+-- the text grew at its end
+abbrev pub Grows : List ℕ → List ℕ → Type 0
+Grows old new = (own : List ℕ) × (new ≡ old ++ own)
+
+-- the marks that are seen are those of the record's start
+pub record HasItsMarks (raw : RawRecord) (sight : Sight) : Type 0 where
+  pub check : sight.check ≡ (raw.head % 2 == 1)
+  pub stuck : sight.stuck ≡ (raw.head / 2 % 2 == 1)
+
+-- the initial position is seen, with these marks
+pub record ShowsInitial (raw : RawRecord) (sight : Sight) : Type 0 where
+  pub men : sight.men ≡ initial.men
+  pub turn : sight.turn ≡ initial.turn
+  pub marks : HasItsMarks raw sight
+
+-- the position is seen from which each game that has the record starts
+abbrev pub StartsThere : RawRecord → Sight → Type 0
+StartsThere raw sight = EachOfRecord raw (λ game replay packed. (P : State) × (slice_get replay.positions 0 ≡ Some P) × IsSightOf P sight)
+
+-- at the position that is seen no entry is left out
+abbrev pub GoesOnSeen : Aim → ℕ → ℕ → List (List (Condition (List ℕ))) → Sight → ℕ → List ℕ → List ℕ → Bool → Bool → Type 0
+GoesOnSeen aim number offset asked sight ply old new on still =
+    (game : GameText) → AsksFor aim game asked → (before : List State) (P : State) → length before ≡ ply → IsSightOf P sight
+    → (text : List ℕ) → Finds aim number offset game before text old on → Finds aim number offset game (before ++ P ∷ []) text new still
+
+-- the lines of the entries of each game that has the record are added
+abbrev pub ListsRecord : Aim → RawRecord → List ℕ → List ℕ → Type 0
+ListsRecord aim raw old new =
+    Grows old new × EachOfRecord raw (λ game replay packed.
+    (entries : List Entry) × AreListed aim raw.number raw.offset (heading_of game) replay entries × (new ≡ old ++ listing raw.name entries))

@@ -1,0 +1,110 @@
+-- The export of a text: of its games whose lines can be replayed, those that have an entry, each in the standard's form for export. Or those that
+-- have none, or its faulty pieces; or each game as it stands, on a line of its own, or as the record of a pack.
+use Rattle.std.specs.Prelude.{◌≡◌, ℕ, ◌+◌, ◌<◌, List, [], ◌∷◌, ◌++◌, length, codes, Option}
+use Rattle.pgn_text.specs.Public.GameTexts.{GameText, IsGameText, ShowsGame}
+use Rattle.pgn_text.specs.Public.Games.{items_of, first_tag}
+use Rattle.pgn_text.specs.Public.Marks.{PieceKind, ReadableGame, UnreadableRest, TooLongBlock, MarkedPiece}
+use Rattle.pgn_text.specs.Public.Parts.{Part, spelled}
+use Rattle.pgn_game.specs.Public.Exports.{IsExport, lines_with}
+use Rattle.pgn_game.specs.Public.Faults.{Fault}
+use Rattle.pgn_game.specs.Public.GameLines.{IsGameLine}
+use Rattle.pgn_game.specs.Public.PackedGames.{IsRecordOf}
+use Rattle.pgn_game.specs.Public.Replays.{Replay}
+use Rattle.pgn_game.specs.Public.Starts.{fen_tag}
+use Rattle.pgn_game.specs.declared.exports.notation.Notation.{Notation}
+use Rattle.pgn_game.specs.declared.replays.replayer.Lines.{Lines}
+use Rattle.pgn_game.specs.declared.replays.replayer.Lines.TheVariants.{Main}
+use Rattle.pgn_game.specs.declared.exports.style.Style.{Style}
+use Rattle.pgn_criteria.specs.Public.Meeting.{Heading}
+use Rattle.pgn_extract.specs.Public.Aims.{Aim, IsEntry}
+use Rattle.pgn_extract.specs.Public.Index.{mark, titled}
+use Rattle.pgn_extract.specs.Public.Listing.{heading_in}
+use Rattle.pgn_extract.specs.Public.GameReports.{IsReplayOf, IsFaultOf}
+use Rattle.pgn_extract.specs.declared.settings.Form.{Form}
+use Rattle.pgn_extract.specs.declared.settings.Form.TheVariants.{Standard, AsItStands, Line, Record}
+use Rattle.pgn_extract.specs.declared.settings.Mode.{Mode}
+use Rattle.pgn_extract.specs.declared.settings.Mode.TheVariants as modes
+use Rattle.pgn_extract.specs.declared.settings.Select.{Select}
+use Rattle.pgn_extract.specs.declared.settings.Select.TheVariants.{Matching, Others, Faulty}
+
+-- the lines of a game that must be sound in a form: all that are written
+abbrev pub lines_in : Form → Style → Lines
+lines_in Standard style = lines_with style.variations
+lines_in AsItStands style = lines_with style.variations
+lines_in (Line notation) style = Main
+lines_in Record style = Main
+
+abbrev pub written_lines : Aim → Lines
+written_lines aim = lines_in aim.form aim.style
+
+-- some ply of the main line is listed
+abbrev pub HasEntry : Aim → Heading → Replay → Type 0
+HasEntry aim tags replay = (ply : ℕ) × (ply < length replay.positions) × IsEntry aim tags replay ply
+
+-- the text is the export of the game that these parts make
+abbrev pub IsExportOf : Style → List Part → List ℕ → Type 0
+IsExportOf style parts text = (game : GameText) × IsGameText game × ShowsGame game game.at parts × IsExport style game text
+
+-- bytes of a text as they stand there, and two line feeds
+abbrev pub as_it_stands : List ℕ → List ℕ
+as_it_stands bytes = bytes ++ 10 ∷ 10 ∷ []
+
+-- a sound game is selected: by its having an entry, or by its having none; and none is where the faulty ones are
+abbrev pub IsSelected : Select → Type 0 → Type 0
+IsSelected Matching entry = entry
+IsSelected Others entry = entry → ⊥
+IsSelected Faulty entry = ⊥
+
+-- a game on a line of its own: its mark, after the name of its file where lines have one, its start and its moves
+abbrev pub line_with : Option (List ℕ) → ℕ → ℕ → List ℕ → List ℕ
+line_with name number offset own = (titled (codes ":") name ++ mark number offset) ++ 32 ∷ own ++ 10 ∷ []
+
+abbrev pub IsGameLineOf : Notation → Aim → ℕ → ℕ → List Part → List ℕ → Type 0
+IsGameLineOf notation aim number offset parts text =
+    (own : List ℕ) × IsGameLine notation (first_tag fen_tag parts) (items_of parts) own × (text ≡ line_with aim.name number offset own)
+
+-- the text is the record of the game that these parts make, under the name of its file where lines have one
+abbrev pub IsGameRecordOf : Aim → ℕ → ℕ → List Part → List ℕ → Type 0
+IsGameRecordOf aim number offset parts text =
+    (game : GameText) × IsGameText game × ShowsGame game game.at parts × IsRecordOf aim.name number offset game text
+
+-- the text of a game that is selected: its export, or the game as it stands, or its line, or its record
+abbrev pub IsTextOf : Form → Aim → ℕ → ℕ → List Part → List ℕ → Type 0
+IsTextOf Standard aim number offset parts text = IsExportOf aim.style parts text
+IsTextOf AsItStands aim number offset parts text = text ≡ as_it_stands (spelled parts)
+IsTextOf (Line notation) aim number offset parts text = IsGameLineOf notation aim number offset parts text
+IsTextOf Record aim number offset parts text = IsGameRecordOf aim number offset parts text
+
+-- what is written of a sound game: its text where it is selected, once however many entries it has, and else nothing
+pub data IsWritten (aim : Aim) (number offset : ℕ) (parts : List Part) (replay : Replay) (text : List ℕ) : Type 0 where
+  selected : IsSelected aim.select (HasEntry aim (heading_in parts) replay) → IsTextOf aim.form aim number offset parts text
+      → IsWritten aim number offset parts replay text
+  unselected : (IsSelected aim.select (HasEntry aim (heading_in parts) replay) → ⊥) → text ≡ [] → IsWritten aim number offset parts replay text
+
+-- what a mode writes of faulty bytes: where the export selects them, the bytes as they stand, and else nothing
+abbrev pub faulty_text : Mode → Select → List ℕ → List ℕ
+faulty_text modes.Index select bytes = []
+faulty_text modes.List select bytes = []
+faulty_text modes.Export Matching bytes = []
+faulty_text modes.Export Others bytes = []
+faulty_text modes.Export Faulty bytes = as_it_stands bytes
+
+-- what is written of a game, sound or faulty
+pub data IsGameExport (aim : Aim) (number offset : ℕ) (parts : List Part) (text : List ℕ) : Type 0 where
+  sound : (replay : Replay) → IsReplayOf (written_lines aim) parts replay → IsWritten aim number offset parts replay text
+      → IsGameExport aim number offset parts text
+  faulty : (fault : Fault) → IsFaultOf (written_lines aim) parts fault → text ≡ faulty_text modes.Export aim.select (spelled parts)
+      → IsGameExport aim number offset parts text
+
+-- what is written of a piece: nothing of a block over the limit, whose bytes are not kept
+abbrev pub IsPieceExport : Aim → ℕ → ℕ → PieceKind → List ℕ → Type 0
+IsPieceExport aim number offset (ReadableGame parts) text = IsGameExport aim number offset parts text
+IsPieceExport aim number offset (UnreadableRest bytes) text = text ≡ faulty_text modes.Export aim.select bytes
+IsPieceExport aim number offset TooLongBlock text = text ≡ []
+
+-- what is written of pieces in a row that are numbered from a number on: that of the first, and then that of the others
+abbrev pub AreExports : Aim → ℕ → List MarkedPiece → List ℕ → Type 0
+AreExports aim number [] text = text ≡ []
+AreExports aim number (piece ∷ more) text =
+    (own : List ℕ) × (rest : List ℕ) × (text ≡ own ++ rest) × IsPieceExport aim number piece.offset piece.kind own
+    × AreExports aim (number + 1) more rest

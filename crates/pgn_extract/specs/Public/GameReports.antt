@@ -1,0 +1,44 @@
+-- What is reported of a game that can be read: the entries that it lists where it is sound, and else its first fault.
+use Rattle.std.specs.Prelude.{ℕ, ◌+◌, List, [], ◌∷◌, ◌++◌, codes, decimal}
+use Rattle.chess.specs.Public.Positions.{State}
+use Rattle.pgn_text.specs.Public.Games.{items_of, first_tag}
+use Rattle.pgn_text.specs.Public.Parts.{Part}
+use Rattle.pgn_game.specs.Public.Faults.{Fault, BadStart, IllegalMove, AmbiguousMove, IsFault}
+use Rattle.pgn_game.specs.Public.Replays.{Replay, IsReplay}
+use Rattle.pgn_game.specs.declared.replays.replayer.Lines.{Lines}
+use Rattle.pgn_game.specs.Public.Starts.{fen_tag}
+use Rattle.pgn_criteria.specs.Public.Meeting.{Heading}
+use Rattle.pgn_extract.specs.Public.Aims.{Aim, IsEntry}
+use Rattle.pgn_extract.specs.Public.Listing.{Entry, AreFields}
+
+-- the game of these parts is sound in these lines, and this is their replay
+abbrev pub IsReplayOf : Lines → List Part → Replay → Type 0
+IsReplayOf lines parts replay = IsReplay lines (first_tag fen_tag parts) (items_of parts) replay
+
+-- the game of these parts is faulty in these lines, and this is their first fault
+abbrev pub IsFaultOf : Lines → List Part → Fault → Type 0
+IsFaultOf lines parts fault = IsFault lines (first_tag fen_tag parts) (items_of parts) fault
+
+-- why a game is faulty, in the words of its line
+abbrev pub cause_text : Fault → List ℕ
+cause_text BadStart = codes "bad position"
+cause_text (IllegalMove word ply) = codes "illegal move " ++ word ++ codes " at ply " ++ decimal ply
+cause_text (AmbiguousMove word ply) = codes "ambiguous move " ++ word ++ codes " at ply " ++ decimal ply
+
+-- the plies of positions in a row, of which the first stands at the ply
+abbrev pub plies_of : ℕ → List State → List ℕ
+plies_of ply [] = []
+plies_of ply (position ∷ more) = ply ∷ plies_of (ply + 1) more
+
+-- of a game with this mark these are the entries at those of the plies that have the fact, in their order, each with what is shown of its ply
+pub data AreChosen (number offset : ℕ) (P : ℕ → Type 0) (S : ℕ → List ℕ → Type 0) : List ℕ → List Entry → Type 0 where
+  none : AreChosen number offset P S [] []
+  keep : (ply : ℕ) (shown all : List ℕ) (chosen : List Entry) → P ply → S ply shown → AreChosen number offset P S all chosen
+      → AreChosen number offset P S (ply ∷ all) (record { number = number; offset = offset; ply = ply; shown = shown } ∷ chosen)
+  leave : (ply : ℕ) (all : List ℕ) (chosen : List Entry) → (P ply → ⊥) → AreChosen number offset P S all chosen
+      → AreChosen number offset P S (ply ∷ all) chosen
+
+-- the entries that a sound game with these tags lists, of its positions from ply 0 on
+abbrev pub AreListed : Aim → ℕ → ℕ → Heading → Replay → List Entry → Type 0
+AreListed aim number offset tags replay entries =
+    AreChosen number offset (IsEntry aim tags replay) (AreFields aim.fields replay) (plies_of 0 replay.positions) entries

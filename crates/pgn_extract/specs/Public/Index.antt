@@ -1,0 +1,38 @@
+-- Marks, the index of a text, and the lines that report faulty games.
+use Rattle.std.specs.Prelude.{ℕ, ◌+◌, List, [], ◌∷◌, ◌++◌, Option, Some, None, codes, decimal, nat_lt, ◌==◌, ◌||◌, if◌then◌else◌}
+use Rattle.pgn_text.specs.Public.Marks.{ReadableGame, UnreadableRest, TooLongBlock, MarkedPiece}
+
+-- a mark, `N@O`: the number of a piece and the offset of its first byte, both in decimal
+abbrev pub mark : ℕ → ℕ → List ℕ
+mark number offset = decimal number ++ 64 ∷ decimal offset
+
+-- a byte of the name of a file, as lines show it: a question mark for a control byte
+abbrev pub shown_byte : ℕ → ℕ
+shown_byte byte = if nat_lt byte 32 || byte == 127 then 63 else byte
+
+-- the name of a file and what parts it from the text after it, and nothing where lines have no name
+abbrev pub titled : List ℕ → Option (List ℕ) → List ℕ
+titled gap None = []
+titled gap (Some name) = name ++ gap
+
+-- what reports a faulty game on a line of its own: the name of its file where lines have one, its mark and the cause
+abbrev pub fault_text : Option (List ℕ) → ℕ → ℕ → List ℕ → List ℕ
+fault_text name number offset cause =
+    codes "pgn-extract: " ++ titled (codes ": ") name ++ codes "game " ++ mark number offset ++ codes ": " ++ cause ++ 10 ∷ []
+
+-- the line of a game in the index: its mark, after the name of its file where lines have one
+abbrev pub mark_line : Option (List ℕ) → ℕ → ℕ → List ℕ
+mark_line name number offset = (titled (codes ":") name ++ mark number offset) ++ 10 ∷ []
+
+-- the line of the index for a piece: only a readable game has one
+abbrev pub index_line : Option (List ℕ) → ℕ → MarkedPiece → List ℕ
+index_line name number piece = elim piece.kind [
+  | ReadableGame parts ↦ mark_line name number piece.offset
+  | UnreadableRest bytes ↦ []
+  | TooLongBlock ↦ []
+]
+
+-- the index of pieces that are numbered from a number on
+abbrev pub index : Option (List ℕ) → ℕ → List MarkedPiece → List ℕ
+index name number [] = []
+index name number (piece ∷ more) = index_line name number piece ++ index name (number + 1) more

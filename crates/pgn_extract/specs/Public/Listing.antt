@@ -1,0 +1,97 @@
+-- The listing of a text: the plies of its sound games whose position is looked for, each by the mark of its game.
+use Rattle.std.specs.Prelude.{◌≡◌, ◌↔◌, ◌⊎◌, ℕ, ◌+◌, ◌<◌, nat_le, List, [], ◌∷◌, ◌++◌, length, Option, Some, MatchOption, Bool, true, false, not, ◌&&◌, codes, decimal}
+use Rattle.std.specs.List.{Contains, filter, slice_get}
+use Rattle.chess.specs.Public.Fen.{IsFen}
+use Rattle.chess.specs.Public.Positions.{State}
+use Rattle.chess.specs.Public.San.{IsSan}
+use Rattle.chess.specs.declared.moves.Move.{Move}
+use Rattle.pgn_text.specs.Public.Games.{items_of, first_tag, result_of}
+use Rattle.pgn_text.specs.Public.Marks.{ReadableGame, MarkedPiece}
+use Rattle.pgn_text.specs.Public.Parts.{Part}
+use Rattle.pgn_game.specs.Public.Replays.{Replay, IsMainReplay}
+use Rattle.pgn_game.specs.Public.Starts.{fen_tag}
+use Rattle.pgn_criteria.specs.Public.Meeting.{Heading}
+use Rattle.pgn_extract.specs.Public.Aims.{Aim, IsEntry}
+use Rattle.pgn_extract.specs.Public.Index.{mark, titled}
+use Rattle.pgn_extract.specs.declared.settings.Fields.{Fields}
+
+-- an entry: a game, by its number and the offset of its first byte, a ply of its main line, and what its line shows after the ply
+pub record Entry : Type 0 where
+  pub number : ℕ
+  pub offset : ℕ
+  pub ply : ℕ
+  pub shown : List ℕ
+
+-- its line, `N@O P` and what it shows, after the name of its file where lines have one
+abbrev pub entry_line : Option (List ℕ) → Entry → List ℕ
+entry_line name entry = (titled (codes ":") name ++ mark entry.number entry.offset) ++ 32 ∷ decimal entry.ply ++ (entry.shown ++ 10 ∷ [])
+
+-- the lines of entries
+abbrev pub listing : Option (List ℕ) → List Entry → List ℕ
+listing name [] = []
+listing name (entry ∷ more) = entry_line name entry ++ listing name more
+
+-- what is shown of the position after so many plies of a main line, where its text is asked for: a blank, and its text in FEN
+abbrev pub IsFenField : Bool → Replay → ℕ → List ℕ → Type 0
+IsFenField false replay ply shown = shown ≡ []
+IsFenField true replay ply shown =
+    (position : State) × (text : List ℕ) × (slice_get replay.positions ply ≡ Some position) × IsFen position text × (shown ≡ 32 ∷ text)
+
+-- the text of the move that is played after so many plies of a main line: its standard text, and `-` where none is played
+abbrev pub IsNextMove : List State → List Move → ℕ → List ℕ → Type 0
+IsNextMove positions played ply text =
+    MatchOption (slice_get played ply) (text ≡ codes "-") (λ m. (position : State) × (slice_get positions ply ≡ Some position) × IsSan position m text)
+
+-- what is shown of that move where it is asked for: a blank, and its text
+abbrev pub IsNextField : Bool → Replay → ℕ → List ℕ → Type 0
+IsNextField false replay ply shown = shown ≡ []
+IsNextField true replay ply shown = (text : List ℕ) × IsNextMove replay.positions replay.played ply text × (shown ≡ 32 ∷ text)
+
+-- neither is asked for, so that the line ends after the ply
+abbrev pub is_plain : Fields → Bool
+is_plain fields = not fields.fen && not fields.next
+
+-- what a line shows after a ply of a main line: the position there, and then the move
+abbrev pub AreFields : Fields → Replay → ℕ → List ℕ → Type 0
+AreFields fields replay ply shown =
+    (fen : List ℕ) × (next : List ℕ) × IsFenField fields.fen replay ply fen × IsNextField fields.next replay ply next × (shown ≡ fen ++ next)
+
+-- the heading of the game that parts make: for a name, the contents of the first tag with it; and the result that they end with
+abbrev pub heading_in : List Part → Heading
+heading_in parts = record { named = λ name. first_tag name parts; result = result_of parts }
+
+-- the main line of the game that these parts make is sound, and this is its replay
+abbrev pub IsMainReplayOf : List Part → Replay → Type 0
+IsMainReplayOf parts replay = IsMainReplay (first_tag fen_tag parts) (items_of parts) replay
+
+-- the entry names a sound game, by its place among the pieces and the offset of its first byte, and a ply of its main line that is listed,
+-- and shows what is asked for of the ply
+pub record IsPlyOfGame (aim : Aim) (number : ℕ) (pieces : List MarkedPiece) (entry : Entry) : Type 0 where
+  pub place : ℕ
+  pub parts : List Part
+  pub replay : Replay
+  pub game : slice_get pieces place ≡ Some (record { offset = entry.offset; kind = ReadableGame parts })
+  pub numbered : entry.number ≡ number + place
+  pub is_replay : IsMainReplayOf parts replay
+  pub within : entry.ply < length replay.positions
+  pub listed : IsEntry aim (heading_in parts) replay entry.ply
+  pub shows : AreFields aim.fields replay entry.ply entry.shown
+
+-- the first entry is of an earlier game, or of the same and at a lower ply
+abbrev pub IsEarlier : Entry → Entry → Type 0
+IsEarlier first second = (first.number < second.number) ⊎ ((first.number ≡ second.number) × (first.ply < second.ply))
+
+-- each entry is earlier than all after it, so none is there twice
+abbrev pub Ascend : List Entry → Type 0
+Ascend [] = Unit {0}
+Ascend (entry ∷ more) = ((later : Entry) → Contains more later → IsEarlier entry later) × Ascend more
+
+-- the entries of pieces that are numbered from a number on: exactly the plies of the sound games among them that are listed, each once, in
+-- the order of the games and their plies
+pub record AreEntries (aim : Aim) (number : ℕ) (pieces : List MarkedPiece) (entries : List Entry) : Type 0 where
+  pub exact : (entry : Entry) → (Contains entries entry ↔ IsPlyOfGame aim number pieces entry)
+  pub ascend : Ascend entries
+
+-- of entries, those of the games whose number is at least `least`
+abbrev pub entries_at_least : ℕ → List Entry → List Entry
+entries_at_least least entries = filter (λ entry. nat_le least entry.number) entries

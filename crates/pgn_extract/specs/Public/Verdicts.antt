@@ -1,0 +1,111 @@
+-- What a run reports of the pieces of a text, in each of its modes.
+use Rattle.std.specs.Prelude.{◌≡◌, ℕ, ◌+◌, Bool, true, false, List, [], ◌∷◌, ◌++◌, map, codes}
+use Rattle.pgn_text.specs.Public.Marks.{PieceKind, ReadableGame, UnreadableRest, TooLongBlock, MarkedPiece}
+use Rattle.pgn_text.specs.Public.Parts.{Part, spelled}
+use Rattle.pgn_game.specs.Public.Faults.{Fault}
+use Rattle.pgn_game.specs.Public.Replays.{Replay}
+use Rattle.pgn_game.specs.declared.replays.replayer.Lines.TheVariants.{Main}
+use Rattle.pgn_extract.specs.Public.Index.{fault_text, mark_line}
+use Rattle.pgn_extract.specs.Public.Listing.{Entry, listing, heading_in}
+use Rattle.pgn_extract.specs.Public.GameReports.{AreListed, IsReplayOf, IsFaultOf, cause_text}
+use Rattle.pgn_extract.specs.Public.Aims.{Aim}
+use Rattle.pgn_extract.specs.Public.Exports.{written_lines, IsWritten, faulty_text}
+use Rattle.pgn_extract.specs.Public.Notes.{IsNote, NamesStop}
+use Rattle.pgn_extract.specs.declared.settings.Mode.{Mode}
+use Rattle.pgn_extract.specs.declared.settings.Mode.TheVariants as modes
+
+-- the verdict on a piece, which is what is reported of it
+pub data Verdict : Type 0 where
+  -- it is sound in the mode: these bytes go to the output
+  SoundGame : List ℕ → Verdict
+  -- it is faulty in the mode: these bytes go to the output, this line to standard error, and this note after it
+  FaultyGame : List ℕ → List ℕ → List ℕ → Verdict
+
+-- what goes to the output
+abbrev pub output_of : Verdict → List ℕ
+output_of (SoundGame text) = text
+output_of (FaultyGame text line note) = text
+
+-- what goes to standard error
+abbrev pub fault_line_of : Verdict → List ℕ
+fault_line_of (SoundGame text) = []
+fault_line_of (FaultyGame text line note) = line ++ note
+
+-- the piece is faulty
+abbrev pub is_faulty : Verdict → Bool
+is_faulty (SoundGame text) = false
+is_faulty (FaultyGame text line note) = true
+
+-- the verdict but for its note
+abbrev pub without_note : Verdict → Verdict
+without_note (SoundGame text) = SoundGame text
+without_note (FaultyGame text line note) = FaultyGame text line []
+
+-- what goes to the output of pieces in a row
+abbrev pub output_text : List Verdict → List ℕ
+output_text [] = []
+output_text (verdict ∷ more) = output_of verdict ++ output_text more
+
+-- what goes to standard error of them
+abbrev pub fault_lines : List Verdict → List ℕ
+fault_lines [] = []
+fault_lines (verdict ∷ more) = fault_line_of verdict ++ fault_lines more
+
+-- the game is reported in the listing: where it is sound, by the lines of the entries that it lists, else by the line of its fault
+abbrev pub IsListed : Aim → Verdict → ℕ → ℕ → List Part → Type 0
+IsListed aim (SoundGame text) number offset parts =
+    (replay : Replay) × (entries : List Entry) × IsReplayOf Main parts replay × AreListed aim number offset (heading_in parts) replay entries × (text ≡ listing aim.name entries)
+IsListed aim (FaultyGame text line note) number offset parts =
+    (fault : Fault) × IsFaultOf Main parts fault × (line ≡ fault_text aim.name number offset (cause_text fault)) × IsNote aim.explain note × (text ≡ [])
+
+-- the game is reported in the export: where it is sound in the lines that are written, by what is written of it, else by the line of its fault,
+-- and by its bytes where the faulty ones are selected
+abbrev pub IsExported : Aim → Verdict → ℕ → ℕ → List Part → Type 0
+IsExported aim (SoundGame text) number offset parts =
+    (replay : Replay) × IsReplayOf (written_lines aim) parts replay × IsWritten aim number offset parts replay text
+IsExported aim (FaultyGame text line note) number offset parts =
+    (fault : Fault) × IsFaultOf (written_lines aim) parts fault × (line ≡ fault_text aim.name number offset (cause_text fault)) × IsNote aim.explain note
+    × (text ≡ faulty_text modes.Export aim.select (spelled parts))
+
+-- a game that can be read is reported so in a mode: in the index by its mark, in the listing and in the export as above
+abbrev pub IsVerdictIn : Mode → Aim → ℕ → ℕ → List Part → Verdict → Type 0
+IsVerdictIn modes.Index aim number offset parts verdict = verdict ≡ SoundGame (mark_line aim.name number offset)
+IsVerdictIn modes.List aim number offset parts verdict = IsListed aim verdict number offset parts
+IsVerdictIn modes.Export aim number offset parts verdict = IsExported aim verdict number offset parts
+
+-- a game that can be read is reported so
+abbrev pub IsGameVerdict : Aim → ℕ → ℕ → List Part → Verdict → Type 0
+IsGameVerdict aim number offset parts verdict = IsVerdictIn aim.mode aim number offset parts verdict
+
+-- the piece is faulty: these bytes go to the output, this line to standard error, and a note after it where explanations are asked for
+abbrev pub IsReportedBy : Aim → List ℕ → List ℕ → Verdict → Type 0
+IsReportedBy aim text line verdict = (note : List ℕ) × IsNote aim.explain note × (verdict ≡ FaultyGame text line note)
+
+-- bytes that begin at the offset and are no game are reported so: by this line, and where explanations are asked for a note that names the byte at
+-- which they stop agreeing with games; and they stand in the output where the faulty ones are selected
+abbrev pub IsUnreadableVerdict : Aim → ℕ → List ℕ → List ℕ → Verdict → Type 0
+IsUnreadableVerdict aim offset bytes line verdict =
+    (note : List ℕ) × IsNote aim.explain note × NamesStop aim.explain offset bytes note
+    × (verdict ≡ FaultyGame (faulty_text aim.mode aim.select bytes) line note)
+
+-- a piece is reported so, by what it is: what can't be read is reported by the same line in each mode
+abbrev pub IsPieceVerdict : PieceKind → Aim → ℕ → ℕ → Verdict → Type 0
+IsPieceVerdict (ReadableGame parts) aim number offset verdict = IsGameVerdict aim number offset parts verdict
+IsPieceVerdict (UnreadableRest bytes) aim number offset verdict =
+    IsUnreadableVerdict aim offset bytes (fault_text aim.name number offset (codes "unreadable")) verdict
+IsPieceVerdict TooLongBlock aim number offset verdict = IsReportedBy aim [] (fault_text aim.name number offset (codes "too long")) verdict
+
+-- the piece with this number is reported so in the mode
+abbrev pub IsVerdict : Aim → ℕ → MarkedPiece → Verdict → Type 0
+IsVerdict aim number piece verdict = IsPieceVerdict piece.kind aim number piece.offset verdict
+
+-- the pieces in a row, which are numbered from a number on, are reported so one after the other
+abbrev pub AreVerdicts : Aim → ℕ → List MarkedPiece → List Verdict → Type 0
+AreVerdicts aim number [] verdicts = verdicts ≡ []
+AreVerdicts aim number (piece ∷ more) verdicts =
+    (own : Verdict) × (rest : List Verdict) × (verdicts ≡ own ∷ rest) × IsVerdict aim number piece own × AreVerdicts aim (number + 1) more rest
+
+-- the same is reported but for the notes, and all the same where no explanations are asked for
+pub record IsSameReport (aim : Aim) (reported others : List Verdict) : Type 0 where
+  pub but_notes : map without_note reported ≡ map without_note others
+  pub without_notes : aim.explain ≡ false → reported ≡ others

@@ -1,0 +1,20 @@
+-- What a reader must believe, in the order in which it is best read.
+pub mod Starts
+pub mod MainLines
+pub mod AllLines
+pub mod Faults
+pub mod Replays
+pub mod PlayedLines
+pub mod Openings
+pub mod Refusals
+pub mod TagLines
+pub mod TextLines
+pub mod Comments
+pub mod Exports
+pub mod GameLines
+pub mod PlyCodes
+pub mod CodeLines
+pub mod PackedGames
+pub mod PackReading
+pub mod PackStreams
+pub mod Laws
