@@ -1,5 +1,5 @@
--- The squares between two squares are the common squares of their lines that stand between them in order: by computing.
-use Rattle.std.proofs.Common.{◌≡◌, ◌⊎◌, ◌+◌, ◌-◌, ◌*◌, ◌^◌, ◌%◌, ◌/◌, ◌<◌, ◌≤◌, ◌&&◌, ◌||◌, not, ℕ, zero, suc, Bool, true, false, nat_eq, nat_lt, bit_and, bit_or, bit_xor, [], get_or, refl, inl, inr, sym, ap, ◌∙◌, subst, arith}
+-- The squares between two squares are those that the table has: by computing.
+use Rattle.std.proofs.Common.{◌≡◌, ◌⊎◌, ◌+◌, ◌-◌, ◌*◌, ◌^◌, ◌%◌, ◌/◌, ◌<◌, ◌≤◌, ◌&&◌, ◌||◌, not, ℕ, zero, suc, Bool, true, false, nat_eq, nat_lt, bit_or, [], get_or, refl, inl, inr, sym, ap, ◌∙◌, subst, arith}
 use Rattle.std.specs.Int.{bit_at}
 use Rattle.std.proofs.lemmas.Bool.{agree_below, agree_below_at, cases_eq}
 use Rattle.std.proofs.lemmas.Bool.Decides.{nat_tests}
@@ -9,21 +9,14 @@ use Rattle.chess.specs.Private.SetFacts.{square_at-index_of, index_of-below}
 use Rattle.chess.specs.Private.SetWords.{has_bit}
 use Rattle.chess.specs.Private.BitWords.{IsWordOf}
 use Rattle.chess.specs.Private.PseudoAttacks.{StandsBetween}
-use Rattle.chess.specs.declared.board.attack_tables.lines_table.TheConstants.{LINES}
+use Rattle.chess.specs.declared.board.attack_tables.between_table.TheConstants.{BETWEEN}
 use Rattle.chess.specs.declared.board.direction.Direction.{Direction}
 use Rattle.chess.specs.declared.board.direction.Direction.TheVariants.{North, South, East, West, NorthEast, NorthWest, SouthEast, SouthWest}
 use Rattle.chess.proofs.PseudoAttackFacts.{any_line, straight, diagonal}
 
--- the squares of one of the four lines through a square
-abbrev line_of : ℕ → ℕ → ℕ
-line_of a k = get_or (get_or LINES a []) k 0
-
-abbrev pub lines_word : ℕ → ℕ → ℕ
-lines_word a b = bit_or (bit_or (bit_or (bit_and (line_of a 0) (line_of b 0)) (bit_and (line_of a 1) (line_of b 1)))
-    (bit_and (line_of a 2) (line_of b 2))) (bit_and (line_of a 3) (line_of b 3))
-
+-- the word that the table has of two squares
 abbrev pub between_word : ℕ → ℕ → ℕ
-between_word a b = bit_and (lines_word a b) (bit_xor (18446744073709551615 * 2 ^ a % 2 ^ 64) (18446744073709551615 * 2 ^ b % 2 ^ 64))
+between_word a b = get_or (get_or BETWEEN a []) b 0
 
 -- the place of the square k steps ahead of the nth
 abbrev pub ahead_at : Direction → ℕ → ℕ → ℕ

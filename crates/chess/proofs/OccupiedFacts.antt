@@ -1,7 +1,7 @@
 -- The squares of a side's men, from the words of its kinds.
 use Rattle.std.proofs.Common.{◌≡◌, ◌≢◌, ◌↔◌, ◌⊎◌, ◌∙◌, bit_or, bit_and, ℕ, inl, inr, ap, refl, Some}
 use Rattle.chess.specs.Public.Squares.{Place, IsOnBoard, index_of}
-use Rattle.chess.specs.Public.Placements.{Placement, IsOccupiedBy}
+use Rattle.chess.specs.Public.Placements.{Placement, IsEmpty, IsOccupiedBy}
 use Rattle.chess.specs.Private.SetWords.{has_bit}
 use Rattle.chess.specs.Private.BitWords.{IsWordOf, IsMan, square_word}
 use Rattle.chess.specs.declared.board.man.Side.{Side}
@@ -69,3 +69,7 @@ has_square A all word s on is are = (
   ]),
   (λ fact zero. common_some all word s is ((are s on).1 fact) zero),
 )
+
+-- a square with a man of a side is not empty
+pub occupied_not_empty : (p : Placement) (side : Side) (s : Place) → IsOccupiedBy p side s → IsEmpty p s → ⊥
+occupied_not_empty p side s held empty = let here = held.1 in cc

@@ -8,12 +8,12 @@ ghost use Rattle.chess.specs.Private.SetWords.{has_bit};
 ghost use Rattle.chess.specs.Private.BitWords.{IsWordOf, pseudo_attacks_row_of};
 ghost use Rattle.chess.specs.Private.PseudoAttacks.{IsPseudoAttack, IsUnblocked, StandsBetween};
 
-mod lines_table;
+mod between_table;
 mod pseudo_attacks_table;
 
 use crate::board::bits::number_of;
 use crate::board::{Kind, Man, Side, Square, SquareSet};
-use lines_table::LINES;
+use between_table::BETWEEN;
 use pseudo_attacks_table::PSEUDO_ATTACKS;
 
 /// The number of the table of what a man sees: one for each kind, and a second one for Black's pawns.
@@ -53,13 +53,7 @@ pub(crate) fn squares_near(square: Square) -> SquareSet
 fn between(from: Square, to: Square) -> u64
     ensures { IsWordOf (StandsBetween from to) result }
 {
-    let (a, b) = (from.index(), to.index());
-    let (here, there) = (&LINES[a as usize], &LINES[b as usize]);
-    let lines = (here[0] & there[0])
-        | (here[1] & there[1])
-        | (here[2] & there[2])
-        | (here[3] & there[3]);
-    lines & ((u64::MAX << a) ^ (u64::MAX << b))
+    BETWEEN[from.index() as usize][to.index() as usize]
 }
 
 /// Whether none of these squares is between the two.

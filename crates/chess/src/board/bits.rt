@@ -54,7 +54,12 @@ impl Board for Bits {
 
     #[inline(always)]
     fn is_occupied_by(&self, side: Side, square: Square) -> bool {
-        occupied_by(&self.words, side) & word_of(square) != 0
+        // Mostly no man stands there at all.
+        let bit = word_of(square);
+        if occupied(&self.words) & bit == 0 {
+            return false;
+        }
+        occupied_by(&self.words, side) & bit != 0
     }
 
     #[inline(always)]

@@ -82,4 +82,15 @@ impl CastlingRights {
             (Side::Black, Wing::QueenSide) => self.black_queen_side,
         }
     }
+
+    /// Whether some right is held.
+    #[inline(always)]
+    pub(crate) fn has_some(self) -> bool
+        ensures { IsTrue result ↔ ((side : Side) × (wing : Wing) × IsTrue (has_right self side wing)) }
+    {
+        self.white_king_side
+            || self.white_queen_side
+            || self.black_king_side
+            || self.black_queen_side
+    }
 }

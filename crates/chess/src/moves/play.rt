@@ -54,13 +54,15 @@ fn rights_left(rights: CastlingRights, m: Move) -> CastlingRights
     }
 }
 
-/// Takes away the castling rights that the move ends: none, where it touches no square of castling.
+/// Takes away the castling rights that the move ends: none, where it touches no square of castling, or none is held.
 #[inline(always)]
 fn end_rights(rights: &mut CastlingRights, m: &Move)
     ensures { rights.new ≡ rights_after rights.old m.now }
 {
     if is_home(m.from) || is_home(m.to) {
-        *rights = rights_left(*rights, *m);
+        if rights.has_some() {
+            *rights = rights_left(*rights, *m);
+        }
     }
 }
 

@@ -94,6 +94,7 @@ pub fn push_ply(text: &mut Vec<u8>, mark: &[u8], ply: usize) -> Result<(), Alloc
 }
 
 /// Makes the line of an entry that of the entry at the next ply.
+#[inline(always)]
 pub fn count_up(line: &mut Vec<u8>, mark: &[u8], ply: usize) -> Result<(), AllocError>
     requires line { line.old.items ≡ mark.now ++ 32 ∷ decimal ply ++ 10 ∷ [] }
     requires room { ply < usize.MAX }

@@ -7,5 +7,5 @@ use Rattle.chess.proofs.board.attack_tables.between.Goals as goal
 pub returns : goal.returns
 returns c =
     subst (IsWordOf (StandsBetween c.args.from c.args.to))
-    (sym (λ i. between_word (c.index-a.ensures.place i) (c.index-b.ensures.place i)))
-    (between_is c.args.from c.args.to c.index-a.ensures.on_board c.index-b.ensures.on_board)
+    (sym (λ i. between_word (c.index.ensures.place i) (c.index-2.ensures.place i)))
+    (between_is c.args.from c.args.to c.index.ensures.on_board c.index-2.ensures.on_board)

@@ -1,13 +1,21 @@
-use Rattle.std.proofs.Common.{arith}
+use Rattle.std.proofs.Common.{◌≡◌, false, true, arith, eq-eqb}
 use Rattle.std.proofs.lemmas.Bool.Decides.{nat_tests}
 use Rattle.chess.specs.Public.Placements.{IsOccupiedBy}
 use Rattle.chess.specs.Private.BitWords.{words_men}
-use Rattle.chess.proofs.OccupiedFacts.{has_square}
+use Rattle.chess.proofs.BitFacts.{empty_by_word}
+use Rattle.chess.proofs.OccupiedFacts.{has_square, occupied_not_empty}
 use Rattle.chess.proofs.board.bits.BitsBoard.is_occupied_by.Goals as goal
+
+pub returns-then-occupied-bit-eq0 : goal.returns-then-occupied-bit-eq0
+returns-then-occupied-bit-eq0 c =
+    let empty =
+    empty_by_word (words_men c.args.self.now.words) c.occupied.result c.word_of-bit.result c.args.square c.word_of-bit.ensures.on_board c.word_of-bit.ensures.word
+    c.occupied.ensures in
+    ((λ e. absurd (let f : false ≡ true = e in cc)), (λ held. absurd (occupied_not_empty (words_men c.args.self.now.words) c.args.side c.args.square held (empty.0 (eq-eqb _ 0 c.if-occupied-bit-eq0.true)))))
 
 pub returns : goal.returns
 returns c =
     let asked =
-    has_square (IsOccupiedBy (words_men c.args.self.now.words) c.args.side) c.occupied_by.result c.word_of.result c.args.square c.word_of.ensures.on_board
-    c.word_of.ensures.word c.occupied_by.ensures in
+    has_square (IsOccupiedBy (words_men c.args.self.now.words) c.args.side) c.occupied_by.result c.word_of-bit.result c.args.square c.word_of-bit.ensures.on_board
+    c.word_of-bit.ensures.word c.occupied_by.ensures in
     ((λ e. asked.0 (λ zero. grind (arith, nat_tests, e, zero))), (λ held. grind (arith, nat_tests, asked.1 held)))
