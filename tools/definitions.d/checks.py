@@ -1,4 +1,6 @@
 """What is wrong with the definitions that a reader must believe."""
+import re
+
 from closure import name_of
 from sources import bound_in
 from surface import public_facts, public_functions
@@ -47,6 +49,16 @@ def bound_twice(tree):
                 yield tree.definitions[key], name
 
 
+def foreign_words(tree):
+    """Each line of a crate that imports a private file of another, and that file."""
+    for path in sorted(it for end in ("antt", "rt") for it in tree.top.glob(f"crates/*/*/**/*.{end}") if "out" not in it.parts):
+        own = path.relative_to(tree.top).parts[1]
+        for count, line in enumerate(path.read_text(encoding="utf-8").split("\n"), 1):
+            for crate, file in re.findall(r"\bRattle\.(\w+)\.specs\.Private\.(\w+)", line):
+                if crate != own:
+                    yield f"{path.relative_to(tree.top)}:{count}", f"{crate}::{file}"
+
+
 def faults(tree):
     """What is wrong, a line each."""
     for definition, name in bound_twice(tree):
@@ -55,5 +67,7 @@ def faults(tree):
         yield f"{definition.where} is to be believed, and rests on the private word {word.where}"
     for name, word in private_contracts(tree):
         yield f"the public contract {name} cites the private word {word.where}"
+    for place, file in foreign_words(tree):
+        yield f"{place} imports {file}, which is private to its crate"
     for definition in in_no_closure(tree):
         yield f"{definition.where} is to be believed, and no public contract rests on it"

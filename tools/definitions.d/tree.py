@@ -9,8 +9,8 @@ from sources import Source, add_import, free_names, names_in, read_source
 from words import locals_of, words_of
 
 LAW_FILES = re.compile(r"Laws$")
-# The folders of definitions: what a reader must believe, and private words.
-FOLDERS = ("Public", "Private")
+# The folders of definitions: what a reader must believe, what proofs of other crates may cite, and private words.
+FOLDERS = ("Public", "Shared", "Private")
 
 
 @dataclass(frozen=True)
@@ -26,10 +26,11 @@ class Declared:
 
 @dataclass
 class Crate:
-    """A crate: its files of definitions and of code, and the order in which specs/Public.antt and specs/Private.antt list the former."""
+    """A crate: its files of definitions and of code, and the order in which specs/Public.antt, specs/Shared.antt and specs/Private.antt list the former."""
     name: str
     folder: Path
     believed: list = field(default_factory=list)
+    shared: list = field(default_factory=list)
     private: list = field(default_factory=list)
     specs: dict = field(default_factory=dict)
     code: dict = field(default_factory=dict)
@@ -61,7 +62,7 @@ class Tree:
         if not (folder / "src").is_dir():
             return None
         crate = Crate(name, folder)
-        crate.believed, crate.private = (listed_in(folder / f"specs/{it}.antt") for it in FOLDERS)
+        crate.believed, crate.shared, crate.private = (listed_in(folder / f"specs/{it}.antt") for it in FOLDERS)
         for path in sorted(folder.glob("specs/*/*.antt")):
             crate.specs[path.stem] = read_source(path, name, f"specs.{path.parent.name}", path.stem)
         for path in sorted(folder.glob("src/**/*.rt")):
@@ -104,7 +105,7 @@ class Tree:
                     visit(parts[3])
             order.append(file)
 
-        for file in [*crate.believed, *crate.private, *crate.specs]:
+        for file in [*crate.believed, *crate.shared, *crate.private, *crate.specs]:
             visit(file)
         return order
 

@@ -4,7 +4,7 @@ use Rattle.chess.specs.Public.Squares.{Place, IsOnBoard}
 use Rattle.chess.specs.Public.Placements.{Placement, man_at, with_man, AreOnBoard, IsEmpty}
 use Rattle.chess.specs.Public.Positions.{State, rook_of, rook_from, rook_to}
 use Rattle.chess.specs.Public.Moves.{arriving, taken, with_rook, men_after}
-use Rattle.chess.specs.Private.CellFacts.{man_at-same, man_at-other}
+use Rattle.chess.specs.Shared.CellFacts.{man_at-same, man_at-other}
 use Rattle.chess.specs.declared.board.man.Man.{Man}
 use Rattle.chess.specs.declared.board.man.Side.{Side}
 use Rattle.chess.specs.declared.board.man.Side.TheVariants.{White, Black}

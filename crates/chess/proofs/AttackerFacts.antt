@@ -5,8 +5,8 @@ use Rattle.chess.specs.Public.Squares.{Place, IsOnBoard, index_of, same_square}
 use Rattle.chess.specs.Public.Attacks.{Reaches}
 use Rattle.chess.specs.Public.Placements.{Placement, IsEmpty, man_at}
 use Rattle.chess.specs.Public.Sets.{Places, is_in, no_places, HoldsExactly}
-use Rattle.chess.specs.Private.SetWords.{has_bit, HasOnly, IsTakenFirst}
-use Rattle.chess.specs.Private.SetFacts.{false_of}
+use Rattle.chess.specs.Shared.SetWords.{has_bit, HasOnly, IsTakenFirst}
+use Rattle.chess.specs.Shared.SetFacts.{false_of}
 use Rattle.chess.specs.Private.BitWords.{IsWordOf, IsMan, IsRunner, IsHitStraight, IsHitDiagonal}
 use Rattle.chess.specs.Private.MoveWords.{IsLeft, IsSifted}
 use Rattle.chess.specs.Private.PseudoAttacks.{IsPseudoAttack, StandsBetween, IsUnblocked}

@@ -5,8 +5,8 @@ use Rattle.std.proofs.lemmas.Bool.{agree_below, agree_below_at, cases_eq}
 use Rattle.std.proofs.lemmas.Bool.Decides.{nat_tests}
 use Rattle.std.proofs.lemmas.Nat.Bits.{bit_at_or, bit_at-lt, bit_at-pow_same, bit_at-pow_other, bit_at-zero}
 use Rattle.chess.specs.Public.Squares.{Place, IsOnBoard, IsAhead, square_at, index_of}
-use Rattle.chess.specs.Private.SetFacts.{square_at-index_of, index_of-below}
-use Rattle.chess.specs.Private.SetWords.{has_bit}
+use Rattle.chess.specs.Shared.SetFacts.{square_at-index_of, index_of-below}
+use Rattle.chess.specs.Shared.SetWords.{has_bit}
 use Rattle.chess.specs.Private.BitWords.{IsWordOf}
 use Rattle.chess.specs.Private.PseudoAttacks.{StandsBetween}
 use Rattle.chess.specs.declared.board.attack_tables.between_table.TheConstants.{BETWEEN}

@@ -8,9 +8,9 @@ use Rattle.std.proofs.lemmas.List.{get_or-set_same, get_or-set_other, get_or-rep
 use Rattle.std.proofs.lemmas.Bool.Decides.{nat_tests}
 use Rattle.chess.specs.Public.Squares.{Place, IsOnBoard, index_of}
 use Rattle.chess.specs.Public.Placements.{Placement, no_men, man_at, with_man, IsEmpty}
-use Rattle.chess.specs.Private.SetWords.{has_bit}
-use Rattle.chess.specs.Private.SetFacts.{index_of-below, false_of}
-use Rattle.chess.specs.Private.CellFacts.{man_at-men_of, men_of-put, men_of-none}
+use Rattle.chess.specs.Shared.SetWords.{has_bit}
+use Rattle.chess.specs.Shared.SetFacts.{index_of-below, false_of}
+use Rattle.chess.specs.Shared.CellFacts.{man_at-men_of, men_of-put, men_of-none}
 use Rattle.chess.specs.Private.BitWords.{IsWordOf, AreApart, man_below, man_in, words_men, word_at, square_word, row_of, man_of_row, is_row, IsCleared, IsBitSet, number_of_side, number_of_kind}
 use Rattle.chess.specs.declared.board.man.Man.{Man}
 use Rattle.chess.specs.declared.board.man.Side.{Side}

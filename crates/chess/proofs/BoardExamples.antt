@@ -1,15 +1,15 @@
 -- Worked rows of squares, attacks, positions, moves and sets: what the Laws say of single squares.
 use Rattle.std.proofs.Common.{◌≡◌, ◌≤◌, ◌+◌, ℕ, true, false, inl, inr, ap, refl, sym, subst, ◌∙◌, arith, Some, None}
 use Rattle.std.specs.FinMap.{get-empty}
-use Rattle.chess.specs.Private.CellFacts.{man_at-same, man_at-other}
-use Rattle.chess.specs.Private.SetFacts.{is_in-empty}
+use Rattle.chess.specs.Shared.CellFacts.{man_at-same, man_at-other}
+use Rattle.chess.specs.Shared.SetFacts.{is_in-empty}
 use Rattle.chess.specs.Public.Squares.{Place, IsOnBoard, IsStraight, IsAhead, gap, square_at, index_of, same_square, place_cmp}
 use Rattle.chess.specs.Public.Placements.{Placement, no_men, man_at, with_man, opposite, IsOccupiedBy, IsEmpty}
 use Rattle.chess.specs.Public.Attacks.{Reaches, IsOnRay, IsForward, IsNear, IsJump, IsPawnHit, IsAttackedFrom, IsAttacked}
 use Rattle.chess.specs.Public.Positions.{State, king_of, pawn_of, home_rank, pawn_rank, passed_rank, has_right, king_from, king_to, rook_from, rook_to, FitsEnPassant, IsSound}
 use Rattle.chess.specs.Public.Moves.{IsPromotion, Promotes, IsBetween, one_more, fullmove_number_after, keeps_right}
 use Rattle.chess.specs.Public.Sets.{Places, no_places, is_in, HoldsExactly}
-use Rattle.chess.specs.Private.SetWords.{IsTakenFirst}
+use Rattle.chess.specs.Shared.SetWords.{IsTakenFirst}
 use Rattle.chess.specs.declared.board.man.Man.{Man}
 use Rattle.chess.specs.declared.board.man.Side.TheVariants.{White, Black}
 use Rattle.chess.specs.declared.board.man.Kind.TheVariants.{Queen, Rook, Bishop, Knight}

@@ -2,8 +2,8 @@
 use Rattle.std.proofs.Common.{◌≡◌, ◌↔◌, ◌⊎◌, ◌<◌, ◌≤◌, ◌+◌, ◌&&◌, ◌||◌, ℕ, Bool, true, false, inl, inr, ap, refl, sym, subst, ◌∙◌, arith, IsTrue, Some, None}
 use Rattle.std.proofs.lemmas.Bool.{cases_eq}
 use Rattle.chess.specs.Public.Squares.{Place, IsOnBoard, square_at, index_of, IsAhead, same_square}
-use Rattle.chess.specs.Private.SquareFacts.{index_of-square_at}
-use Rattle.chess.specs.Private.SetFacts.{square_at-index_of, on_board-square_at, same_squares, other_squares, is_in-empty}
+use Rattle.chess.specs.Shared.SquareFacts.{index_of-square_at}
+use Rattle.chess.specs.Shared.SetFacts.{square_at-index_of, on_board-square_at, same_squares, other_squares, is_in-empty}
 use Rattle.chess.specs.Public.Placements.{Placement, man_at}
 use Rattle.chess.specs.Public.Sets.{Places, is_in, no_places, IsReachOf}
 use Rattle.chess.proofs.PlaceFacts.{same_square-then}

@@ -10,7 +10,7 @@ use Rattle.chess.specs.Private.MoveWords.{IsMover, IsStepper, IsTaker}
 use Rattle.chess.specs.Public.San.{Said, HasRival, kind_said}
 use Rattle.chess.specs.Private.SanWords.{IsMoveSaid, IsAsked, ChangesFile, IsCandidate, CanGoSaid, man_said, move_from}
 use Rattle.chess.specs.Public.Sets.{Places, is_in, no_places, HoldsExactly, IsAttacker}
-use Rattle.chess.specs.Private.SetWords.{IsTakenFirst}
+use Rattle.chess.specs.Shared.SetWords.{IsTakenFirst}
 use Rattle.chess.specs.declared.board.man.Side.{Side}
 use Rattle.chess.specs.declared.board.man.Side.TheVariants.{White, Black}
 use Rattle.chess.specs.declared.board.man.Kind.{Kind}

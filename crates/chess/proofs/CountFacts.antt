@@ -3,7 +3,8 @@ use Rattle.std.proofs.Common.{◌≡◌, ◌≤◌, ◌<◌, ◌+◌, ◌-◌, �
 use Rattle.std.specs.Prelude.{◌&&◌}
 use Rattle.std.specs.List.{list_all}
 use Rattle.chess.specs.Public.Fen.{is_digit}
-use Rattle.chess.specs.Private.FenWords.{ten_to, IsCounted}
+use Rattle.chess.specs.Shared.Tens.{ten_to}
+use Rattle.chess.specs.Private.FenWords.{IsCounted}
 
 ten_positive : (k : ℕ) → 0 < ten_to k
 ten_positive zero = omega arith

@@ -4,11 +4,11 @@ use Rattle.chess.specs.Public.Squares.{Place}
 use Rattle.chess.specs.Public.Placements.{Placement, AreOnBoard, opposite}
 use Rattle.chess.specs.Public.Attacks.{IsAttacked}
 use Rattle.chess.specs.Public.Positions.{State, king_of, IsOnlyKing, FitsEnPassant}
-use Rattle.chess.specs.Private.Codes.{IsKept}
+use Rattle.chess.specs.Shared.Codes.{IsKept}
 use Rattle.chess.specs.Public.Fen.{SpellsPosition, HasWrongKings, HasWrongPawns, HasWrongCheck}
 use Rattle.chess.specs.Private.FenWords.{IsEdgePawn}
 use Rattle.chess.specs.Public.Sets.{Places, is_in, IsSquaresOf}
-use Rattle.chess.specs.Private.SetWords.{IsTakenFirst}
+use Rattle.chess.specs.Shared.SetWords.{IsTakenFirst}
 use Rattle.chess.specs.declared.board.man.Side.{Side}
 use Rattle.chess.specs.declared.board.man.Side.TheVariants.{White, Black}
 use Rattle.chess.proofs.PlaceFacts.{cases_place, opposite-opposite, true_not_false}

@@ -4,7 +4,7 @@ use Rattle.std.specs.Prelude.{codes, replicate}
 use Rattle.std.proofs.lemmas.Bool.{cases_lt}
 use Rattle.chess.specs.Public.Squares.{Place, IsOnBoard}
 use Rattle.chess.specs.Public.Placements.{Placement, man_at}
-use Rattle.chess.specs.Private.CellFacts.{same_men}
+use Rattle.chess.specs.Shared.CellFacts.{same_men}
 use Rattle.chess.specs.Public.Letters.{man_letter, square_text, file_letter, rank_digit}
 use Rattle.chess.specs.Public.Positions.{State, has_right, FitsEnPassant}
 use Rattle.chess.specs.Public.Fen.{IsSquares, SpellsRank, row, SpellRanks, SpellsMen, parted_at, side_text, right_letter, has_byte, GivesEnPassant, IsCount, GiveCounts, AreAtHome, SpellsPosition, ReadsFen, IsRefused, HasWrongKings, HasWrongPawns, HasWrongCheck}

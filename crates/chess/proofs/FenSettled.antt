@@ -4,7 +4,7 @@ use Rattle.std.specs.List.{list_all}
 use Rattle.std.proofs.lemmas.Bool.{cases_eq}
 use Rattle.chess.specs.Public.Squares.{Place, IsOnBoard}
 use Rattle.chess.specs.Public.Placements.{Placement, man_at, AreOnBoard, opposite, IsEmpty}
-use Rattle.chess.specs.Private.CellFacts.{on_board_or_not}
+use Rattle.chess.specs.Shared.CellFacts.{on_board_or_not}
 use Rattle.chess.specs.Public.Attacks.{IsForward}
 use Rattle.chess.specs.Public.Positions.{State, king_of, pawn_of, rook_of, has_right, king_from, rook_from, passed_rank, IsOnlyKing, FitsEnPassant}
 use Rattle.chess.specs.Public.Letters.{square_text}

@@ -2,7 +2,7 @@
 use Rattle.std.proofs.Common.{◌≡◌, ℕ, true, false, List, [], ◌∷◌, ◌++◌, refl, sym, ap, ◌∙◌}
 use Rattle.std.specs.Prelude.{◌==◌, if◌then◌else◌}
 use Rattle.chess.specs.Public.Fen.{parted_at, before_first, without_empty, fields_of}
-use Rattle.chess.specs.Private.Runs.{run_of, after_run, after_all}
+use Rattle.chess.specs.Shared.Runs.{run_of, after_run, after_all}
 
 -- a text is its first run and what follows it
 pub run_whole : (separator : ℕ) (text : List ℕ) → run_of separator text ++ after_run separator text ≡ text

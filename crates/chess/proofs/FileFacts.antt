@@ -4,8 +4,8 @@ use Rattle.std.proofs.lemmas.Bool.{agree_below, agree_below_at, and_parts, and_f
 use Rattle.std.proofs.lemmas.Bool.Decides.{nat_tests}
 use Rattle.chess.specs.Public.Squares.{Place, IsOnBoard, index_of}
 use Rattle.chess.specs.Public.Sets.{Places, is_in, HoldsExactly}
-use Rattle.chess.specs.Private.SetWords.{has_bit}
-use Rattle.chess.specs.Private.SetFacts.{index_of-below}
+use Rattle.chess.specs.Shared.SetWords.{has_bit}
+use Rattle.chess.specs.Shared.SetFacts.{index_of-below}
 use Rattle.chess.proofs.PlaceFacts.{true_not_false}
 use Rattle.chess.proofs.FillFacts.{bit_of_both, no_bit}
 

@@ -6,10 +6,10 @@ use Rattle.std.proofs.lemmas.Bool.{cases_eq, cases_lt, eqb-true, eq-eqb, or_case
 use Rattle.std.proofs.lemmas.Bool.Decides.{nat_tests}
 use Rattle.std.proofs.lemmas.Nat.Bits.{bit_at-zero, bit_at-lt, bit_at_or, bit_at_and, bit_at-pow_same, bit_at-pow_other, and_pow}
 use Rattle.chess.specs.Public.Squares.{Place, IsOnBoard, IsStraight, IsAhead, index_of, square_at}
-use Rattle.chess.specs.Private.SetFacts.{square_at-index_of}
+use Rattle.chess.specs.Shared.SetFacts.{square_at-index_of}
 use Rattle.chess.specs.Public.Placements.{Placement, IsEmpty}
 use Rattle.chess.specs.Public.Attacks.{IsOnRay, IsClearFor}
-use Rattle.chess.specs.Private.SetWords.{has_bit}
+use Rattle.chess.specs.Shared.SetWords.{has_bit}
 use Rattle.chess.specs.Private.BitWords.{IsWordOf, IsNextWord, IsStraightRun, IsDiagonalRun, square_word}
 use Rattle.chess.proofs.PlaceFacts.{place_of}
 use Rattle.chess.specs.declared.board.direction.Direction.{Direction}

@@ -2,7 +2,7 @@
 use Rattle.std.proofs.Common.{◌≡◌, ◌≤◌, ℕ, zero, suc, true, inl, inr, ap, refl, sym, subst, ◌∙◌, arith, Option, Some, None}
 use Rattle.chess.specs.Public.Squares.{Place, IsOnBoard}
 use Rattle.chess.specs.Public.Placements.{Placement, man_at, AreOnBoard}
-use Rattle.chess.specs.Private.CellFacts.{same_men, on_board_or_not}
+use Rattle.chess.specs.Shared.CellFacts.{same_men, on_board_or_not}
 use Rattle.chess.specs.Public.Positions.{State, pawn_of, home_rank, pawn_rank, has_right}
 use Rattle.chess.specs.Public.Start.{initial_piece, initial_man, initial_men, IsInitialMen, IsInitial, initial}
 use Rattle.chess.specs.declared.board.man.Man.{Man}

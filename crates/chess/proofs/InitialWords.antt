@@ -3,7 +3,7 @@ use Rattle.std.proofs.Common.{◌≡◌, ◌<◌, ◌∙◌, ℕ, zero, suc, Boo
 use Rattle.std.proofs.lemmas.Bool.{agree_below, agree_below_at, eqb-true, eq-eqb, ne_eqb}
 use Rattle.chess.specs.Public.Squares.{square_at}
 use Rattle.chess.specs.Public.Placements.{with_man, first_men}
-use Rattle.chess.specs.Private.SetWords.{has_bit}
+use Rattle.chess.specs.Shared.SetWords.{has_bit}
 use Rattle.chess.specs.Private.BitWords.{AreApart, word_at, row_of, man_in, words_men}
 use Rattle.chess.specs.Public.Start.{initial_man, initial_men}
 use Rattle.chess.specs.declared.board.man.Man.{Man}

@@ -6,7 +6,7 @@ use Rattle.chess.specs.Public.Squares.{Place}
 use Rattle.chess.specs.Public.Placements.{Placement, man_at, opposite, IsEmpty}
 use Rattle.chess.specs.Public.Attacks.{IsForward}
 use Rattle.chess.specs.Public.Positions.{State, king_of, rook_of, pawn_of, king_to, rook_from, rook_to, IsOnlyKing, FitsEnPassant}
-use Rattle.chess.specs.Private.Codes.{IsFollowed}
+use Rattle.chess.specs.Shared.Codes.{IsFollowed}
 use Rattle.chess.specs.Public.Moves.{Goes, Castles, arriving, taken, is_pawn, is_square, is_en_passant, men_after, IsPawnMove}
 use Rattle.chess.specs.declared.board.man.Man.{Man}
 use Rattle.chess.specs.declared.board.man.Side.{Side}

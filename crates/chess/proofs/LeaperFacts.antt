@@ -5,8 +5,8 @@ use Rattle.std.proofs.lemmas.Bool.{agree_below, agree_below_at}
 use Rattle.std.proofs.lemmas.Bool.Decides.{nat_tests}
 use Rattle.chess.specs.Public.Squares.{Place, IsOnBoard, square_at, index_of, gap}
 use Rattle.chess.specs.Public.Attacks.{IsNear, IsJump, IsPawnHit}
-use Rattle.chess.specs.Private.SetWords.{has_bit}
-use Rattle.chess.specs.Private.SetFacts.{index_of-below, square_at-index_of}
+use Rattle.chess.specs.Shared.SetWords.{has_bit}
+use Rattle.chess.specs.Shared.SetFacts.{index_of-below, square_at-index_of}
 use Rattle.chess.specs.Private.BitWords.{IsWordOf, square_word, near_word, jumps_word, pawn_word}
 use Rattle.chess.specs.declared.board.man.Side.{Side}
 use Rattle.chess.specs.declared.board.man.Side.TheVariants.{White, Black}

@@ -3,12 +3,12 @@ use Rattle.std.proofs.Common.{◌≡◌, ◌↔◌, ◌⊎◌, ◌∙◌, ◌<�
 use Rattle.std.specs.Int.{bit_not}
 use Rattle.std.proofs.lemmas.Bool.{and_parts, and_from}
 use Rattle.chess.specs.Public.Squares.{Place, IsOnBoard, index_of}
-use Rattle.chess.specs.Private.SetWords.{has_bit}
-use Rattle.chess.specs.Private.SetFacts.{index_of-below}
+use Rattle.chess.specs.Shared.SetWords.{has_bit}
+use Rattle.chess.specs.Shared.SetFacts.{index_of-below}
 use Rattle.chess.specs.Public.Sets.{Places, is_in, HoldsExactly}
 use Rattle.chess.specs.Public.Placements.{Placement, man_at, with_man, opposite, AreOnBoard, IsEmpty}
 use Rattle.chess.specs.Private.PseudoAttacks.{IsPseudoAttack}
-use Rattle.chess.specs.Private.CellFacts.{man_at-same, man_at-other}
+use Rattle.chess.specs.Shared.CellFacts.{man_at-same, man_at-other}
 use Rattle.chess.specs.Private.BitWords.{IsWordOf, IsMan, IsRunner, AreLeft, IsHitBy, square_word}
 use Rattle.chess.specs.declared.board.man.Man.{Man}
 use Rattle.chess.specs.declared.board.man.Side.{Side}

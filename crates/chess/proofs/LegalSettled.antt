@@ -6,7 +6,7 @@ use Rattle.chess.specs.Public.Placements.{Placement, man_at, AreOnBoard, opposit
 use Rattle.chess.specs.Public.Attacks.{IsClearFor, IsOnRay, IsForward, Reaches, IsAttacked}
 use Rattle.chess.specs.Public.Positions.{State, king_of, home_rank, pawn_rank, has_right, king_from, king_to, rook_to, IsCheck}
 use Rattle.chess.specs.Public.Moves.{IsDoubleStep, IsPawnMove, IsPromotionKind, IsPromotion, Promotes, IsBetween, Castles, IsKingMove, Goes, IsPseudoLegal, men_after, IsUnbarred, IsLegal}
-use Rattle.chess.specs.Private.CellFacts.{on_board_or_not}
+use Rattle.chess.specs.Shared.CellFacts.{on_board_or_not}
 use Rattle.chess.specs.declared.board.direction.Direction.{Direction}
 use Rattle.chess.specs.declared.board.direction.Direction.TheVariants.{North, South, East, West, NorthEast, NorthWest, SouthEast, SouthWest}
 use Rattle.chess.specs.declared.board.man.Man.{Man}

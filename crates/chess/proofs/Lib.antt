@@ -29,6 +29,7 @@ pub mod LeftFacts
 pub mod SlideFacts
 pub mod FileFacts
 pub mod StartFacts
+pub mod StartText
 pub mod InitialFacts
 pub mod FieldFacts
 pub mod RestFacts

@@ -4,10 +4,10 @@ use Rattle.std.specs.Ordering.{eq_by_cmp}
 use Rattle.std.specs.FinSet.{remove, same_set, contains-remove, len-remove, empty_of_len}
 use Rattle.std.proofs.lemmas.Bool.{cases_eq}
 use Rattle.chess.specs.Public.Squares.{Place, IsOnBoard, place_cmp, same_square}
-use Rattle.chess.specs.Private.OrderFacts.{place_total, place_exact}
-use Rattle.chess.specs.Private.SetFacts.{is_in-empty, tied, ties, false_of}
+use Rattle.chess.specs.Shared.OrderFacts.{place_total, place_exact}
+use Rattle.chess.specs.Shared.SetFacts.{is_in-empty, tied, ties, false_of}
 use Rattle.chess.specs.Public.Sets.{Places, is_in, no_places, size_of, HoldsExactly}
-use Rattle.chess.specs.Private.SetWords.{HasOnly, IsTakenFirst}
+use Rattle.chess.specs.Shared.SetWords.{HasOnly, IsTakenFirst}
 use Rattle.chess.specs.Private.MoveWords.{HasEach, IsLeft, IsSifted}
 use Rattle.chess.proofs.PlaceFacts.{cases_place, same_square-same, same_square-then, true_not_false}
 

@@ -4,11 +4,11 @@ use Rattle.std.specs.Prelude.{replicate, ltb}
 use Rattle.std.proofs.lemmas.Bool.{lt-ltb, ltb-true}
 use Rattle.std.proofs.lemmas.List.{get_or-set_same, get_or-set_other, get_or-replicate, length-set}
 use Rattle.chess.specs.Public.Squares.{Place, IsOnBoard, index_of, square_at}
-use Rattle.chess.specs.Private.SetFacts.{index_of-below, square_at-index_of, false_of, and_false, and_true}
+use Rattle.chess.specs.Shared.SetFacts.{index_of-below, square_at-index_of, false_of, and_false, and_true}
 use Rattle.chess.specs.Public.Placements.{Placement, man_at}
 use Rattle.chess.specs.Public.Letters.{man_letter}
 use Rattle.chess.specs.Public.Sets.{Places, is_in, IsSquaresOf}
-use Rattle.chess.specs.Private.SetWords.{IsTakenFirst}
+use Rattle.chess.specs.Shared.SetWords.{IsTakenFirst}
 use Rattle.chess.specs.Private.BitWords.{row_of, man_of_row}
 use Rattle.chess.specs.Private.FenTextWords.{letter_on, letter_at, letter_below, AreLetters, AreLettersBelow}
 use Rattle.chess.specs.declared.board.man.Man.{Man}

@@ -5,8 +5,8 @@ use Rattle.std.proofs.lemmas.List.{get_or-map, length-map}
 use Rattle.std.proofs.Math.Pow.{pow-lt}
 use Rattle.chess.specs.Public.Squares.{Place, IsOnBoard, index_of}
 use Rattle.chess.specs.Public.Placements.{with_man}
-use Rattle.chess.specs.Private.SetWords.{has_bit}
-use Rattle.chess.specs.Private.SetFacts.{index_of-below}
+use Rattle.chess.specs.Shared.SetWords.{has_bit}
+use Rattle.chess.specs.Shared.SetFacts.{index_of-below}
 use Rattle.chess.specs.Private.BitWords.{AreApart, words_men, word_at, square_word, IsCleared}
 use Rattle.chess.specs.declared.board.man.Man.{Man}
 use Rattle.chess.proofs.FillFacts.{bit_of_either}

@@ -10,7 +10,7 @@ use Rattle.chess.specs.Private.SanWords.{said_by, IsReadSaid, IsCandidate, CanGo
 use Rattle.chess.specs.Private.SanAnswers.{IsAnswer, IsPlayed}
 use Rattle.chess.specs.Public.Refusals.{IsSpokenOf}
 use Rattle.chess.specs.Public.Sets.{Places, is_in, HoldsExactly}
-use Rattle.chess.specs.Private.SetWords.{IsTakenFirst}
+use Rattle.chess.specs.Shared.SetWords.{IsTakenFirst}
 use Rattle.chess.specs.Private.MoveWords.{IsLeft}
 use Rattle.chess.specs.declared.board.man.Man.{Man}
 use Rattle.chess.specs.declared.board.man.Kind.{Kind}

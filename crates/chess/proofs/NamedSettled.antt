@@ -10,7 +10,7 @@ use Rattle.chess.specs.Public.Letters.{is_check_mark, is_sign, square_text}
 use Rattle.chess.specs.Public.San.{Said, letter_text, file_text, rank_text, promotion_text, IsFileOrRank, Spells, castling_text, castling_with_zeros, IsCastlingText, kind_said, Agrees, IsNamed}
 use Rattle.chess.specs.Public.Moves.{IsPromotionKind}
 use Rattle.chess.specs.Public.Laws.{NamesOneNoneOrSeveral, EachTextNamesOneNoneOrSeveral}
-use Rattle.chess.specs.Private.CellFacts.{on_board_or_not}
+use Rattle.chess.specs.Shared.CellFacts.{on_board_or_not}
 use Rattle.chess.specs.declared.board.man.Man.{Man}
 use Rattle.chess.specs.declared.board.man.Kind.{Kind}
 use Rattle.chess.specs.declared.board.man.Kind.TheVariants.{Pawn}

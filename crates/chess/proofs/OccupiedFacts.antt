@@ -2,7 +2,7 @@
 use Rattle.std.proofs.Common.{◌≡◌, ◌≢◌, ◌↔◌, ◌⊎◌, ◌∙◌, bit_or, bit_and, ℕ, inl, inr, ap, refl, Some}
 use Rattle.chess.specs.Public.Squares.{Place, IsOnBoard, index_of}
 use Rattle.chess.specs.Public.Placements.{Placement, IsEmpty, IsOccupiedBy}
-use Rattle.chess.specs.Private.SetWords.{has_bit}
+use Rattle.chess.specs.Shared.SetWords.{has_bit}
 use Rattle.chess.specs.Private.BitWords.{IsWordOf, IsMan, square_word}
 use Rattle.chess.specs.declared.board.man.Side.{Side}
 use Rattle.chess.specs.declared.board.man.Kind.{Kind}

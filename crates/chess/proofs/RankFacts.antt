@@ -5,7 +5,7 @@ use Rattle.std.proofs.lemmas.Bool.{cases_eq, cases_lt}
 use Rattle.std.proofs.lemmas.List.{get_or-set_same, get_or-set_other, same_lists, append-nil, append_assoc, length-replicate, get_or-replicate, get_or_past, get_or_append_left, get_or-append_right}
 use Rattle.chess.specs.Public.Squares.{Place}
 use Rattle.chess.specs.Public.Placements.{Placement, man_at, with_man}
-use Rattle.chess.specs.Private.CellFacts.{man_at-same, man_at-other, no_cell}
+use Rattle.chess.specs.Shared.CellFacts.{man_at-same, man_at-other, no_cell}
 use Rattle.chess.specs.Public.Letters.{man_letter}
 use Rattle.chess.specs.Public.Fen.{IsSquares, SpellsRank, row}
 use Rattle.chess.specs.Public.Fen.IsSquares.{letter, step}

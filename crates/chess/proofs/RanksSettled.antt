@@ -4,8 +4,8 @@ use Rattle.std.proofs.lemmas.Bool.{cases_eq}
 use Rattle.std.proofs.lemmas.Bool.Decides.{nat_tests}
 use Rattle.chess.specs.Public.Squares.{Place, IsOnBoard, square_at}
 use Rattle.chess.specs.Public.Placements.{Placement, man_at, men_of}
-use Rattle.chess.specs.Private.CellFacts.{man_at-men_of, on_board-men_of}
-use Rattle.chess.specs.Private.SetFacts.{square_at-index_of}
+use Rattle.chess.specs.Shared.CellFacts.{man_at-men_of, on_board-men_of}
+use Rattle.chess.specs.Shared.SetFacts.{square_at-index_of}
 use Rattle.chess.specs.Public.Letters.{man_letter}
 use Rattle.chess.specs.Public.Fen.{IsSquares, SpellsRank, row, SpellRanks, SpellsMen, parted_at}
 use Rattle.chess.specs.Public.Fen.IsSquares.{letter, step}

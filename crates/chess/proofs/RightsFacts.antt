@@ -1,7 +1,7 @@
 -- Castling rights that a move leaves alone.
 use Rattle.std.proofs.Common.{◌≡◌, ◌⊎◌, ◌&&◌, Bool, true, false, not, inl, inr, refl, sym, ◌∙◌}
 use Rattle.chess.specs.Public.Squares.{Place, same_square}
-use Rattle.chess.specs.Private.SetFacts.{false_of}
+use Rattle.chess.specs.Shared.SetFacts.{false_of}
 use Rattle.chess.specs.Public.Positions.{has_right, king_from, rook_from}
 use Rattle.chess.specs.Public.Moves.{keeps_right, rights_after}
 use Rattle.chess.specs.declared.board.man.CastlingRights.{CastlingRights}

@@ -10,7 +10,7 @@ use Rattle.chess.specs.Public.Letters.{file_letter, kind_letter, rank_digit, squ
 use Rattle.chess.specs.Public.San.{IsRival, HasRival, IsDisambiguation, IsPieceText, IsBody, IsCheckMark, IsSan, capture_text}
 use Rattle.chess.specs.Public.San.IsDisambiguation.{alone, by_file, by_rank, by_both}
 use Rattle.chess.specs.Public.Sets.{Places, is_in, no_places, HoldsExactly, IsAttacker}
-use Rattle.chess.specs.Private.SetWords.{IsTakenFirst}
+use Rattle.chess.specs.Shared.SetWords.{IsTakenFirst}
 use Rattle.chess.specs.Private.MoveWords.{HasEach}
 use Rattle.chess.specs.Private.SanTextWords.{Appends, AreOf, HasSquare, AreRivalsSifted}
 use Rattle.chess.specs.declared.board.man.Man.{Man}
@@ -18,7 +18,7 @@ use Rattle.chess.specs.declared.board.man.Side.{Side}
 use Rattle.chess.specs.declared.board.man.Kind.{Kind}
 use Rattle.chess.specs.declared.board.man.Kind.TheVariants.{King, Queen, Rook, Bishop, Knight, Pawn}
 use Rattle.chess.specs.declared.moves.Move.{Move}
-use Rattle.chess.specs.Private.SetFacts.{false_of}
+use Rattle.chess.specs.Shared.SetFacts.{false_of}
 use Rattle.chess.proofs.PlaceFacts.{man_of, same_square-then}
 use Rattle.chess.proofs.LoopFacts.{sifted_start, sifted_more, left_start, left_more}
 

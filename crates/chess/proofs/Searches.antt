@@ -1,8 +1,8 @@
 -- Searches over the squares, ways, kinds, wings, sides and men of chess, and the equality of its values.
 use Rattle.std.proofs.Common.{◌⊎◌, Option, inl, inr, refl, subst, sym}
 use Rattle.chess.specs.Public.Squares.{Place, IsOnBoard, square_at, index_of}
-use Rattle.chess.specs.Private.SetFacts.{square_at-index_of, index_of-below, on_board-square_at}
-use Rattle.chess.specs.Private.Codes.{is_black_side, side_of, side_back, kind_bits, kind_by, kind_back}
+use Rattle.chess.specs.Shared.SetFacts.{square_at-index_of, index_of-below, on_board-square_at}
+use Rattle.chess.specs.Shared.Codes.{is_black_side, side_of, side_back, kind_bits, kind_by, kind_back}
 use Rattle.chess.specs.declared.board.direction.Direction.{Direction}
 use Rattle.chess.specs.declared.board.direction.Direction.TheVariants.{North, South, East, West, NorthEast, NorthWest, SouthEast, SouthWest}
 use Rattle.chess.specs.declared.board.man.Man.{Man}

@@ -6,9 +6,9 @@ use Rattle.std.proofs.lemmas.Nat.{and_le_l}
 use Rattle.std.proofs.lemmas.Nat.Bits.{bit_at_lowest, bit_at-suc, bit_at_and, bit_at_clear_same, bit_at_clear_other, same_from_bits_below}
 use Rattle.chess.specs.Public.Squares.{Place, IsOnBoard, square_at, index_of, same_square}
 use Rattle.chess.specs.Public.Sets.{is_in}
-use Rattle.chess.specs.Private.SetWords.{places_of, has_bit}
-use Rattle.chess.specs.Private.SetFacts.{false_of, is_in-set_bit, is_in-clear_bit, on_board-places_of}
-use Rattle.chess.specs.Private.CellFacts.{on_board_or_not}
+use Rattle.chess.specs.Shared.SetWords.{places_of, has_bit}
+use Rattle.chess.specs.Shared.SetFacts.{false_of, is_in-set_bit, is_in-clear_bit, on_board-places_of}
+use Rattle.chess.specs.Shared.CellFacts.{on_board_or_not}
 use Rattle.chess.proofs.PlaceFacts.{same_square-then}
 
 -- no square off the board is in the set of a word

@@ -4,8 +4,8 @@ use Rattle.std.proofs.lemmas.Bool.{cases_eq}
 use Rattle.std.proofs.lemmas.Nat.{ones_cat, ones_le_self, zero_from_ones, shr-shr}
 use Rattle.std.proofs.lemmas.Nat.Bits.{shr_and_one}
 use Rattle.chess.specs.Public.Sets.{size_of}
-use Rattle.chess.specs.Private.SetWords.{first_places, places_of, has_bit}
-use Rattle.chess.specs.Private.SetFacts.{size-no_places, size-next_bit}
+use Rattle.chess.specs.Shared.SetWords.{first_places, places_of, has_bit}
+use Rattle.chess.specs.Shared.SetFacts.{size-no_places, size-next_bit}
 
 ones_low : (b : ℕ) → b < 2 → count_ones b ≡ b
 ones_low b low =

@@ -6,8 +6,8 @@ use Rattle.std.proofs.lemmas.Nat.Bits.{bit_at-lt, bit_at_xor}
 use Rattle.std.proofs.lemmas.List.{get_or-set_same, get_or-set_other, length-map}
 use Rattle.chess.specs.Public.Squares.{Place, IsOnBoard, index_of}
 use Rattle.chess.specs.Public.Placements.{Placement, man_at, IsEmpty}
-use Rattle.chess.specs.Private.SetWords.{has_bit}
-use Rattle.chess.specs.Private.SetFacts.{index_of-below, false_of}
+use Rattle.chess.specs.Shared.SetWords.{has_bit}
+use Rattle.chess.specs.Shared.SetFacts.{index_of-below, false_of}
 use Rattle.chess.specs.Private.BitWords.{IsWordOf, AreApart, IsSlid, words_men, word_at, row_of, square_word}
 use Rattle.chess.specs.declared.board.man.Man.{Man}
 use Rattle.chess.proofs.PlaceFacts.{some_not_none}

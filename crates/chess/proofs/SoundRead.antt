@@ -2,8 +2,8 @@
 use Rattle.std.proofs.Common.{◌≡◌, ◌≢◌, ◌<◌, ◌⊎◌, ◌↔◌, ℕ, zero, suc, inl, inr, ap, refl, sym, subst, ◌∙◌, arith, Option, Some, None, List}
 use Rattle.std.proofs.lemmas.Bool.{cases_eq}
 use Rattle.chess.specs.Public.Squares.{Place, square_at, index_of}
-use Rattle.chess.specs.Private.SquareFacts.{index_of-square_at}
-use Rattle.chess.specs.Private.SetFacts.{square_at-index_of, index_of-below}
+use Rattle.chess.specs.Shared.SquareFacts.{index_of-square_at}
+use Rattle.chess.specs.Shared.SetFacts.{square_at-index_of, index_of-below}
 use Rattle.chess.specs.Public.Placements.{Placement, man_at, AreOnBoard}
 use Rattle.chess.specs.Public.Positions.{State, king_of, IsOnlyKing, IsSound}
 use Rattle.chess.specs.Public.Fen.{SpellsPosition, ReadsFen, HasWrongKings}

@@ -4,12 +4,12 @@ use Rattle.std.specs.Prelude.{◌==◌}
 use Rattle.std.proofs.lemmas.Bool.{agree_below, agree_below_at}
 use Rattle.std.proofs.lemmas.Bool.Decides.{nat_tests}
 use Rattle.chess.specs.Public.Squares.{Place, IsOnBoard, square_at, index_of}
-use Rattle.chess.specs.Private.SetFacts.{square_at-index_of, index_of-below}
+use Rattle.chess.specs.Shared.SetFacts.{square_at-index_of, index_of-below}
 use Rattle.chess.specs.Public.Placements.{first_men, no_men, with_man, man_at, IsEmpty}
 use Rattle.chess.specs.Public.Attacks.{Reaches, IsOnRay, IsAttacked}
-use Rattle.chess.specs.Private.CellFacts.{man_at-men_of, on_board-men_of}
+use Rattle.chess.specs.Shared.CellFacts.{man_at-men_of, on_board-men_of}
 use Rattle.chess.specs.Public.Positions.{king_of, rook_of, pawn_of, king_from, rook_from, IsOnlyKing, IsCheck}
-use Rattle.chess.specs.Private.Codes.{IsKept}
+use Rattle.chess.specs.Shared.Codes.{IsKept}
 use Rattle.chess.specs.Public.Start.{initial_piece, initial_man, initial_men, initial}
 use Rattle.chess.specs.declared.board.direction.Direction.{Direction}
 use Rattle.chess.specs.declared.board.direction.Direction.TheVariants.{North, South, East, West, NorthEast, NorthWest, SouthEast, SouthWest}

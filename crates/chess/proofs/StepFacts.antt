@@ -4,7 +4,7 @@ use Rattle.std.specs.Prelude.{ltb}
 use Rattle.std.proofs.lemmas.Bool.{agree_below, agree_below_at, and_parts, and_cases, eqb-true}
 use Rattle.std.proofs.lemmas.Bool.Decides.{nat_tests}
 use Rattle.chess.specs.Public.Squares.{Place, IsOnBoard, IsAhead, index_of}
-use Rattle.chess.specs.Private.SetFacts.{index_of-below}
+use Rattle.chess.specs.Shared.SetFacts.{index_of-below}
 use Rattle.chess.specs.Private.BitWords.{square_word, step_word, IsNextWord}
 use Rattle.chess.specs.declared.board.direction.Direction.{Direction}
 use Rattle.chess.specs.declared.board.direction.Direction.TheVariants.{North, South, East, West, NorthEast, NorthWest, SouthEast, SouthWest}

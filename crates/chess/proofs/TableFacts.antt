@@ -2,8 +2,8 @@
 use Rattle.std.proofs.Common.{◌≡◌, ℕ, Bool, true, get_or, List, ◌∙◌}
 use Rattle.std.proofs.lemmas.Bool.{agree_below, agree_below_at}
 use Rattle.chess.specs.Public.Squares.{Place, IsOnBoard, square_at, index_of}
-use Rattle.chess.specs.Private.SetWords.{has_bit}
-use Rattle.chess.specs.Private.SetFacts.{square_at-index_of, index_of-below}
+use Rattle.chess.specs.Shared.SetWords.{has_bit}
+use Rattle.chess.specs.Shared.SetFacts.{square_at-index_of, index_of-below}
 use Rattle.chess.proofs.LeaperFacts.{fits_word}
 
 -- each of 64 words of a table has the squares that pass the test with its own square

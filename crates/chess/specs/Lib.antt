@@ -1,3 +1,4 @@
--- Definitions: those that a reader must believe, and private words.
+-- Definitions: those that a reader must believe, what proofs of other crates may cite, and private words.
 pub mod Public
+pub mod Shared
 pub mod Private

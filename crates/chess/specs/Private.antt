@@ -1,19 +1,11 @@
--- Private words: what the code equals on the way, what its loops keep, and facts that types rest on. No public contract cites them.
-pub mod PlaceCodes
-pub mod SetWords
+-- Private words: what the code equals on the way, and what its loops keep. No public contract cites them.
 pub mod BitWords
 pub mod PseudoAttacks
 pub mod Cells
-pub mod CellFacts
-pub mod Codes
 pub mod MoveWords
-pub mod Runs
 pub mod FenWords
 pub mod FenTextWords
-pub mod OrderFacts
 pub mod SanWords
 pub mod SanAnswers
 pub mod RefusalWords
 pub mod SanTextWords
-pub mod SetFacts
-pub mod SquareFacts

@@ -25,8 +25,8 @@ pub struct Position<B: Board> {
 
 impl<B: Board> Model for Position<B> {
     ghost use Rattle.chess.specs.Public.Positions.{State};
-    ghost use Rattle.chess.specs.Private.Codes.{IsKept};
-    ghost use Rattle.chess.specs.Private.Codes.{coded_state};
+    ghost use Rattle.chess.specs.Shared.Codes.{IsKept};
+    ghost use Rattle.chess.specs.Shared.Codes.{coded_state};
 
     ghost Value = { State };
 

@@ -1,6 +1,6 @@
 -- What is laid out for men whose files are turned.
 use Rattle.std.proofs.Common.{◌≡◌, ◌↔◌, true, List, [], ◌∷◌, ◌++◌, sym, ap, ◌∙◌, subst, inl, inr}
-use Rattle.chess.specs.Private.CellFacts.{on_board_or_not}
+use Rattle.chess.specs.Shared.CellFacts.{on_board_or_not}
 use Rattle.chess.specs.Public.Placements.{Placement, man_at}
 use Rattle.chess.specs.Public.Sets.{is_in, HoldsExactly}
 use Rattle.chess.specs.Public.Squares.{IsOnBoard}

@@ -1,7 +1,7 @@
 -- Values that stand in a relation.
 use Rattle.std.proofs.Common.{◌↔◌, subst, List, ℕ, Bool, IsTrue}
 use Rattle.pgn_text.specs.Public.Strings.{IsContents}
-use Rattle.pgn_text.specs.Private.Reading.{value_of}
+use Rattle.pgn_text.specs.Shared.StringTexts.{value_of}
 use Rattle.pgn_text.proofs.Values.{has_value, one_value}
 use Rattle.pgn_criteria.specs.Public.Comparing.{Allows, Stands}
 use Rattle.pgn_criteria.specs.declared.compare.Relation.{Relation}

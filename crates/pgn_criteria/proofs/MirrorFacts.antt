@@ -4,8 +4,8 @@ use Rattle.std.specs.Prelude.{map, option_map, count_by, reverse, if◌then◌el
 use Rattle.std.proofs.lemmas.List.Sums.{sum_by-append}
 use Rattle.std.proofs.lemmas.List.Folds.{fold-map}
 use Rattle.chess.specs.Public.Squares.{Place, IsOnBoard, square_at}
-use Rattle.chess.specs.Private.SetFacts.{square_at-index_of}
-use Rattle.chess.specs.Private.CellFacts.{man_at-men_of, on_board-men_of, same_men, on_board_or_not}
+use Rattle.chess.specs.Shared.SetFacts.{square_at-index_of}
+use Rattle.chess.specs.Shared.CellFacts.{man_at-men_of, on_board-men_of, same_men, on_board_or_not}
 use Rattle.chess.specs.Public.Placements.{Placement, man_at, opposite, AreOnBoard}
 use Rattle.chess.specs.Public.Fen.{row}
 use Rattle.chess.specs.declared.board.man.Man.{Man}

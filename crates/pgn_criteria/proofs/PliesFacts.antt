@@ -4,7 +4,7 @@ use Rattle.std.specs.Prelude.{codes, ◌&&◌}
 use Rattle.std.specs.List.{list_all}
 use Rattle.std.proofs.lemmas.Bool.Decides.{nat_tests}
 use Rattle.chess.specs.Public.Fen.{is_digit}
-use Rattle.chess.specs.Private.FenWords.{ten_to}
+use Rattle.chess.specs.Shared.Tens.{ten_to}
 use Rattle.pgn_criteria.specs.Private.Numbers.{IsCounted}
 use Rattle.pgn_criteria.specs.Private.Reading.{run_of, after_word}
 use Rattle.pgn_criteria.specs.Public.Lines.{SpellsClaim, SpellsCompared, SpellsCount, comparison_text}

@@ -6,7 +6,7 @@ use Rattle.std.proofs.lemmas.Bool.{eqb-true, eq-eqb, and_parts, or_left}
 use Rattle.std.proofs.lemmas.List.{append_cancel_right}
 use Rattle.chess.specs.Public.Letters.{man_letter}
 use Rattle.chess.specs.Public.Fen.{IsSquares, before_first, has_byte}
-use Rattle.chess.specs.Private.Runs.{run_of, after_run}
+use Rattle.chess.specs.Shared.Runs.{run_of, after_run}
 use Rattle.chess.proofs.RestFacts.{first_and_rest, rest_within}
 use Rattle.chess.proofs.FieldFacts.{run_whole}
 use Rattle.chess.specs.declared.board.man.Man.{Man}

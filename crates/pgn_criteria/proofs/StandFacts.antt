@@ -2,7 +2,7 @@
 use Rattle.std.proofs.Common.{◌≡◌, ◌⊎◌, inl, inr, ◌-◌, ◌≤◌, ◌<◌, ℕ, List, [], ◌∷◌, length, take, drop, get_or, arith, subst, refl, sym, ap, ◌∙◌}
 use Rattle.std.proofs.lemmas.List.{take_all, length-drop}
 use Rattle.chess.specs.Public.Placements.{Placement}
-use Rattle.chess.specs.Private.SetFacts.{is_in-empty}
+use Rattle.chess.specs.Shared.SetFacts.{is_in-empty}
 use Rattle.chess.specs.Public.Sets.{Places, is_in, no_places, IsSquaresOf}
 use Rattle.chess.specs.declared.board.man.Man.{Man}
 use Rattle.pgn_game.specs.Public.PlyCodes.{PlyCode, code_of, moved}

@@ -6,7 +6,7 @@ use Rattle.std.specs.declared.cmp.Ordering.{Ordering}
 use Rattle.std.specs.declared.cmp.Ordering.TheVariants as order
 use Rattle.chess.proofs.Settled.{Settled, settled_like, settled_not, settled_true}
 use Rattle.pgn_text.specs.Public.Strings.{IsContents}
-use Rattle.pgn_text.specs.Private.Reading.{contents_front, value_of}
+use Rattle.pgn_text.specs.Shared.StringTexts.{contents_front, value_of}
 use Rattle.pgn_text.proofs.Values.{is_contents-none, is_contents-some}
 use Rattle.pgn_criteria.specs.Public.Comparing.{order_of, Allows, Stands, Compares}
 use Rattle.pgn_criteria.specs.declared.compare.Comparison.{Comparison}

@@ -5,7 +5,7 @@ use Rattle.std.proofs.lemmas.Bool.Decides.{nat_tests}
 use Rattle.chess.specs.Public.Squares.{Place, IsOnBoard, same_square}
 use Rattle.chess.specs.Public.Placements.{Placement, man_at, with_man}
 use Rattle.chess.specs.Public.Sets.{Places, is_in, IsSquaresOf}
-use Rattle.chess.specs.Private.CellFacts.{man_at-same, man_at-other}
+use Rattle.chess.specs.Shared.CellFacts.{man_at-same, man_at-other}
 use Rattle.chess.specs.declared.board.man.Man.{Man}
 use Rattle.chess.proofs.PlaceFacts.{same_square-then, same_square-same}
 use Rattle.chess.specs.Public.Positions.{rook_of, rook_from, rook_to}

@@ -7,7 +7,7 @@ use Rattle.std.proofs.lemmas.Bool.Decides.{nat_tests}
 use Rattle.pgn_text.specs.Public.Bytes.{is_white, is_empty}
 use Rattle.pgn_game.specs.Public.Comments.{in_first, cut_at_white, words_in, unbraced, later_word, closed, braced}
 use Rattle.pgn_game.specs.Public.TextLines.{joined}
-use Rattle.chess.specs.Private.SetFacts.{false_of}
+use Rattle.chess.specs.Shared.SetFacts.{false_of}
 use Rattle.pgn_game.specs.Private.CommentWords.{word_front, after_front, after_white, IsBare, IsAfterBare, IsAfterKept, IsSpaced, IsSpacedAfter}
 
 -- a text is its first run and what follows it

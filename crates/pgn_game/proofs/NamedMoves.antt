@@ -9,8 +9,8 @@ use Rattle.std.proofs.lemmas.List.{map-append, length-map, get_or-map}
 use Rattle.std.proofs.lemmas.List.Elements.{Contains-get_or, Contains-push, Contains-push_cases, Contains-append_left}
 use Rattle.chess.specs.Public.Positions.{State}
 use Rattle.chess.specs.Public.San.{IsNamed}
-use Rattle.chess.specs.Private.SetFacts.{square_at-index_of, index_of-below}
-use Rattle.chess.specs.Private.SquareFacts.{index_of-square_at}
+use Rattle.chess.specs.Shared.SetFacts.{square_at-index_of, index_of-below}
+use Rattle.chess.specs.Shared.SquareFacts.{index_of-square_at}
 use Rattle.chess.specs.Public.Squares.{Place, square_at, index_of}
 use Rattle.chess.specs.declared.moves.Move.{Move}
 use Rattle.pgn_game.specs.Public.Refusals.{AreNamed}

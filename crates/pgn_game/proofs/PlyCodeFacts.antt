@@ -1,8 +1,8 @@
 -- The men moved by the code of a move are the men after it; three bytes spell one code, and each three bytes do.
 use Rattle.std.proofs.Common.{◌≡◌, ◌↔◌, ℕ, zero, suc, ◌+◌, ◌*◌, ◌/◌, ◌%◌, ◌<◌, ◌==◌, ltb, Bool, true, false, cond, List, [], ◌∷◌, Option, Some, None, IfSome, refl, sym, ap, subst, ◌∙◌, arith}
 use Rattle.chess.specs.Public.Squares.{Place, IsOnBoard, square_at, index_of}
-use Rattle.chess.specs.Private.SquareFacts.{index_of-square_at}
-use Rattle.chess.specs.Private.SetFacts.{square_at-index_of, index_of-below, on_board-square_at}
+use Rattle.chess.specs.Shared.SquareFacts.{index_of-square_at}
+use Rattle.chess.specs.Shared.SetFacts.{square_at-index_of, index_of-below, on_board-square_at}
 use Rattle.chess.specs.Public.Placements.{Placement, with_man}
 use Rattle.chess.specs.Public.Positions.{State, king_of}
 use Rattle.chess.specs.Public.Moves.{after, arriving, with_rook, is_en_passant, Goes, IsPseudoLegal}

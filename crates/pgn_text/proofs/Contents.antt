@@ -6,7 +6,8 @@ use Rattle.std.proofs.lemmas.Bool.{and_parts, not-true, ne_eqb}
 use Rattle.std.proofs.lemmas.List.{drop_more, get_or-drop}
 use Rattle.std.proofs.Math.Seq.{take-add}
 use Rattle.pgn_text.specs.Public.Bytes.{is_plain, stops, run_of}
-use Rattle.pgn_text.specs.Private.Reading.{contents_front, with_byte, is_single}
+use Rattle.pgn_text.specs.Private.Reading.{is_single}
+use Rattle.pgn_text.specs.Shared.StringTexts.{contents_front, with_byte}
 use Rattle.pgn_text.specs.Private.Tokens.{RunTo, ContentsTo}
 use Rattle.pgn_text.proofs.Fronts.{run-append-after, list_all-run, stops-after_run}
 

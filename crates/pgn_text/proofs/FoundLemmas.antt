@@ -7,7 +7,8 @@ use Rattle.std.proofs.lemmas.Bool.{and_parts, and_from, or_parts, not-false, eqb
 use Rattle.pgn_text.specs.Public.Bytes.{is_white, is_digit, is_name_byte, is_word_byte, is_mark, is_plain, is_not_line_feed, is_not_brace, is_empty, run_of, after_run}
 use Rattle.pgn_text.specs.Public.Strings.{Sign, Single, Escaped, spelled_sign, is_sign, IsContents}
 use Rattle.pgn_text.specs.Public.Parts.{Part, ByteOrderMark, Brace, Line, EscapeLine, Tag, Word, Star, Dot, Glyph, Marks, Open, Close, Standing, Stands, spelled_part, number_of}
-use Rattle.pgn_text.specs.Private.Reading.{rest_after, brace_front, mark_front, gap_front, with_byte, contents_front, tag_end, tag_string, tag_name, tag_front, is_glyph, glyph_front, game_front, part_front}
+use Rattle.pgn_text.specs.Private.Reading.{rest_after, brace_front, mark_front, gap_front, tag_end, tag_string, tag_name, tag_front, is_glyph, glyph_front, game_front, part_front}
+use Rattle.pgn_text.specs.Shared.StringTexts.{with_byte, contents_front}
 use Rattle.pgn_text.proofs.Fronts.{run-append-after, list_all-run, stops-after_run}
 use Rattle.pgn_text.proofs.PartLemmas.{tag_regroup, stands-read}
 

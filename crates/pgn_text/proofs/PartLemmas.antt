@@ -7,7 +7,8 @@ use Rattle.std.proofs.lemmas.Bool.{and_parts, not-true, not_from_false}
 use Rattle.pgn_text.specs.Public.Bytes.{is_white, is_digit, is_name_byte, is_word_byte, is_mark, is_plain, is_not_line_feed, is_not_brace, is_empty, stops}
 use Rattle.pgn_text.specs.Public.Strings.{Sign, Single, Escaped, spelled_sign, is_sign, IsContents}
 use Rattle.pgn_text.specs.Public.Parts.{Part, ByteOrderMark, White, Brace, Line, EscapeLine, Tag, Word, Star, Dot, Glyph, Marks, Open, Close, Standing, Stands, spelled_part}
-use Rattle.pgn_text.specs.Private.Reading.{gap_front, with_byte, contents_front, tag_end, tag_string, tag_front, game_front, part_front, kept_found}
+use Rattle.pgn_text.specs.Private.Reading.{gap_front, tag_end, tag_string, tag_front, game_front, part_front, kept_found}
+use Rattle.pgn_text.specs.Shared.StringTexts.{with_byte, contents_front}
 use Rattle.pgn_text.proofs.Fronts.{run_of-append, after_run-append}
 use Rattle.pgn_text.proofs.Classes.{is_white-word, brace-word, semicolon-word, percent-word, order_mark-word, is_white-mark, brace-mark, semicolon-mark, percent-mark, order_mark-mark, is_word_byte-mark, dot-mark, dollar-mark, is_name_byte-white, is_white-name}
 

@@ -8,7 +8,8 @@ use Rattle.std.proofs.lemmas.List.{take-append-drop, length-take-le, take_at, dr
 use Rattle.pgn_text.specs.Public.Bytes.{is_white, is_word_byte, is_mark, is_digit, is_name_byte, is_not_brace, is_empty, run_of, after_run}
 use Rattle.pgn_text.specs.Public.Parts.{Part, Tag, Brace, Standing, Stands, spelled_part, standing_of}
 use Rattle.pgn_text.specs.Public.Games.{is_gap_part}
-use Rattle.pgn_text.specs.Private.Reading.{Kept, kept, kept_found, part_front, gap_front, game_front, rest_after, tag_front, is_glyph, tag_string, tag_end, contents_front}
+use Rattle.pgn_text.specs.Private.Reading.{Kept, kept, kept_found, part_front, gap_front, game_front, rest_after, tag_front, is_glyph, tag_string, tag_end}
+use Rattle.pgn_text.specs.Shared.StringTexts.{contents_front}
 use Rattle.pgn_text.specs.Private.Walk.{PartAt, KeptAt, NothingAt, GapPartAt, NoGapPartAt}
 use Rattle.pgn_text.proofs.PartLemmas.{part_has_byte, stands-read}
 use Rattle.pgn_text.proofs.FoundLemmas.{IsFound, gap-found, read-stands}

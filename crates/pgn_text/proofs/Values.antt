@@ -6,7 +6,7 @@ use Rattle.std.specs.List.{list_all}
 use Rattle.std.proofs.lemmas.Bool.{and_parts, not-true, or_parts, eqb-true}
 use Rattle.pgn_text.specs.Public.Bytes.{is_plain}
 use Rattle.pgn_text.specs.Public.Strings.{Sign, Single, Escaped, spelled_sign, is_sign, value_of_sign, IsContents, HasValue}
-use Rattle.pgn_text.specs.Private.Reading.{with_byte, contents_front, value_of}
+use Rattle.pgn_text.specs.Shared.StringTexts.{with_byte, contents_front, value_of}
 use Rattle.pgn_text.specs.Private.Tokens.{ContentsTo}
 use Rattle.pgn_text.proofs.FoundLemmas.{IsRead, contents-sound}
 use Rattle.std.proofs.lemmas.List.{nil_from_length}

@@ -3,7 +3,7 @@ use Rattle.std.specs.Prelude.{◌≡◌, ◌↔◌, ◌⊎◌, ◌<◌, ◌+◌,
 use Rattle.chess.specs.Public.Squares.{Place, IsOnBoard, IsStraight, IsAhead, index_of}
 use Rattle.chess.specs.Public.Placements.{Placement, man_at, men_of, AreOnBoard}
 use Rattle.chess.specs.Public.Attacks.{IsOnRay, Reaches}
-use Rattle.chess.specs.Private.SetWords.{has_bit}
+use Rattle.chess.specs.Shared.SetWords.{has_bit}
 use Rattle.chess.specs.declared.board.direction.Direction.{Direction}
 use Rattle.chess.specs.declared.board.direction.Direction.TheVariants.{North, South, East, West, NorthEast, NorthWest, SouthEast, SouthWest}
 use Rattle.chess.specs.declared.board.man.Man.{Man}

@@ -7,6 +7,7 @@ use Rattle.std.specs.List.{list_all}
 use Rattle.chess.specs.Public.Fen.{IsSquares, SpellsRank, is_digit, number_from}
 use Rattle.chess.specs.declared.board.man.Man.{Man}
 use Rattle.chess.specs.declared.board.man.Side.{Side}
+use Rattle.chess.specs.Shared.Tens.{ten_to}
 
 -- the byte spells so many squares, each with that man or none, and nothing else
 pub record IsByteOf (b : ℕ) (man : Option Man) (count : ℕ) : Type 0 where
@@ -34,11 +35,6 @@ IsEdgePawn p s = ((side : Side) × (man_at p s ≡ Some (pawn_of side))) × ((s.
 pub record IsPutUpTo (old new : Placement) (squares : List (Option Man)) (r n : ℕ) : Type 0 where
   pub put : (k : ℕ) → k < n → man_at new (record { file = k + 1; rank = r }) ≡ get_or squares k None
   pub others : (s : Place) → (s.rank ≡ r → ⊥) → man_at new s ≡ man_at old s
-
--- a power of ten
-abbrev pub ten_to : ℕ → ℕ
-ten_to zero = 1
-ten_to (suc n) = 10 * ten_to n
 
 -- the digits before the rest write the number
 pub record IsCounted (n : ℕ) (rest text : List ℕ) : Type 0 where

@@ -4,7 +4,7 @@ ghost use Rattle.chess.specs.Public.Squares.{Place, IsOnBoard, index_of};
 ghost use Rattle.chess.specs.Public.Placements.{Placement, IsEmpty};
 ghost use Rattle.chess.specs.Public.Attacks.{IsNear, Reaches};
 ghost use Rattle.chess.specs.Public.Sets.{HoldsExactly};
-ghost use Rattle.chess.specs.Private.SetWords.{has_bit};
+ghost use Rattle.chess.specs.Shared.SetWords.{has_bit};
 ghost use Rattle.chess.specs.Private.BitWords.{IsWordOf, pseudo_attacks_row_of};
 ghost use Rattle.chess.specs.Private.PseudoAttacks.{IsPseudoAttack, IsUnblocked, StandsBetween};
 

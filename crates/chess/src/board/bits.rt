@@ -6,7 +6,7 @@ ghost use Rattle.chess.specs.Public.Attacks.{IsAttacked};
 ghost use Rattle.chess.specs.Private.BitWords.{AreApart, AreLeft, IsWordOf, IsCleared, IsBitSet, IsSlid, IsMan, IsRunner, IsHitBy, IsHitStraight, IsHitDiagonal, words_men, man_in, man_of_row, number_of_kind, row_of};
 ghost use Rattle.chess.specs.Private.PseudoAttacks.{IsPseudoAttack};
 ghost use Rattle.chess.specs.Public.Start.{initial_men};
-ghost use Rattle.chess.specs.Private.CellFacts.{on_board-men_of};
+ghost use Rattle.chess.specs.Shared.CellFacts.{on_board-men_of};
 ghost use Rattle.chess.specs.declared.board.man.Kind.TheVariants.{King, Knight, Pawn};
 
 use crate::board::attack_tables::{attackers_of, has_unblocked, pseudo_attacks_on};

@@ -7,7 +7,7 @@ ghost use Rattle.chess.specs.Public.Attacks.{IsOnRay, IsClearFor, IsNear, IsJump
 ghost use Rattle.chess.specs.Private.PseudoAttacks.{IsHitFrom};
 ghost use Rattle.chess.specs.Public.Sets.{HoldsExactly, IsAttacker};
 ghost use Rattle.chess.specs.Private.Cells.{cells_men, cell_of};
-ghost use Rattle.chess.specs.Private.CellFacts.{on_board-men_of};
+ghost use Rattle.chess.specs.Shared.CellFacts.{on_board-men_of};
 
 use crate::board::initial::initial_man;
 use crate::board::{Board, Direction, Kind, Man, Side, Square, SquareSet};

@@ -2,7 +2,7 @@
 ghost use Rattle.std.specs.Prelude.{◌≡◌, ◌&&◌, ◌||◌, ◌↔◌, ◌<◌, ◌≤◌, IsTrue, IsSome, MatchOption, Some, None, true, not};
 ghost use Rattle.chess.specs.Public.Squares.{Place, IsOnBoard, same_square, index_of};
 ghost use Rattle.chess.specs.Public.Sets.{is_in, no_places, size_of, HoldsExactly};
-ghost use Rattle.chess.specs.Private.SetWords.{has_bit, HasOnly, IsTakenFirst};
+ghost use Rattle.chess.specs.Shared.SetWords.{has_bit, HasOnly, IsTakenFirst};
 
 use crate::board::Square;
 use std::marker::Model;
@@ -22,7 +22,7 @@ pub struct SquareSet {
 impl Model for SquareSet {
     ghost use Rattle.std.specs.Prelude.{◌<◌, ◌^◌};
     ghost use Rattle.chess.specs.Public.Sets.{Places};
-    ghost use Rattle.chess.specs.Private.SetWords.{coded_places, places_of, has_bit};
+    ghost use Rattle.chess.specs.Shared.SetWords.{coded_places, places_of, has_bit};
 
     ghost Value = { Places };
 

@@ -13,8 +13,8 @@ pub struct Square {
 impl Model for Square {
     ghost use Rattle.std.specs.Prelude.{◌<◌};
     ghost use Rattle.chess.specs.Public.Squares.{Place, square_at, index_of};
-    ghost use Rattle.chess.specs.Private.PlaceCodes.{coded_place};
-    ghost use Rattle.chess.specs.Private.SquareFacts.{index_of-square_at};
+    ghost use Rattle.chess.specs.Shared.PlaceCodes.{coded_place};
+    ghost use Rattle.chess.specs.Shared.SquareFacts.{index_of-square_at};
 
     ghost Value = { Place };
 

@@ -5,7 +5,7 @@ ghost use Rattle.chess.specs.Public.Positions.{IsSound, IsOnlyKing, IsCheck, kin
 ghost use Rattle.chess.specs.Public.Moves.{is_pawn, is_en_passant, taken, arriving, men_after, keeps_right, rights_after, en_passant_after, one_more, halfmove_clock_after, fullmove_number_after, after, IsPseudoLegal, IsLegal};
 ghost use Rattle.chess.specs.Public.Placements.{man_at, opposite};
 ghost use Rattle.chess.specs.Public.San.{is_capture};
-ghost use Rattle.chess.specs.Private.Codes.{IsFollowed};
+ghost use Rattle.chess.specs.Shared.Codes.{IsFollowed};
 ghost use Rattle.chess.specs.declared.board.man.Side.TheVariants.{White, Black};
 
 use crate::board::{Board, CastlingRights, Kind, Man, Side, Square, Wing};

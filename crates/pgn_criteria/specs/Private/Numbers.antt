@@ -2,7 +2,7 @@
 use Rattle.std.specs.Prelude.{ℕ, ◌≡◌, ◌≤◌, ◌<◌, ◌+◌, ◌*◌, ◌-◌, ◌==◌, ◌||◌, not, if◌then◌else◌, List, [], ◌∷◌, length, Option, Some, None}
 use Rattle.std.specs.List.{list_all}
 use Rattle.chess.specs.Public.Fen.{number_from}
-use Rattle.chess.specs.Private.FenWords.{ten_to}
+use Rattle.chess.specs.Shared.Tens.{ten_to}
 use Rattle.pgn_text.specs.Public.Bytes.{is_digit}
 
 -- the number that a text writes after digits of which there are so many already

@@ -1,7 +1,7 @@
 -- What is seen of a position, as one number.
 use Rattle.std.specs.Prelude.{Bool, refl}
 use Rattle.std.specs.Coded.{Coded, coded_bool, coded×, code_by}
-use Rattle.chess.specs.Private.Codes.{coded_placement, coded_side}
+use Rattle.chess.specs.Shared.Codes.{coded_placement, coded_side}
 use Rattle.chess.specs.Public.Placements.{Placement}
 use Rattle.chess.specs.declared.board.man.Side.{Side}
 use Rattle.pgn_criteria.specs.Public.Walks.{Sight}

@@ -2,9 +2,9 @@
 use Rattle.std.specs.Prelude.{◌≡◌, ℕ, Bool, true, false, List, Option, Some, None, refl}
 use Rattle.std.specs.Coded.{Coded, coded_ℕ, coded_bool, coded_list, coded_option, coded×, code_by}
 use Rattle.chess.specs.Public.Squares.{Place}
-use Rattle.chess.specs.Private.PlaceCodes.{coded_place}
+use Rattle.chess.specs.Shared.PlaceCodes.{coded_place}
 use Rattle.chess.specs.Public.Positions.{State}
-use Rattle.chess.specs.Private.Codes.{coded_state, coded_kind}
+use Rattle.chess.specs.Shared.Codes.{coded_state, coded_kind}
 use Rattle.chess.specs.declared.board.man.Kind.{Kind}
 use Rattle.chess.specs.declared.board.man.Wing.{Wing}
 use Rattle.chess.specs.declared.board.man.Wing.TheVariants.{KingSide, QueenSide}

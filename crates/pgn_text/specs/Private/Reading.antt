@@ -7,6 +7,7 @@ use Rattle.pgn_text.specs.Public.Parts.{Part, ByteOrderMark, White, Brace, Line,
 use Rattle.pgn_text.specs.Public.Games.{is_number, is_result_word, is_move_text, Item, MoveText, GlyphNumber, CommentText, VariationOpen, VariationClose, glyphs_of_marks}
 use Rattle.pgn_text.specs.Private.Steps.{State, in_movetext}
 use Rattle.pgn_text.specs.Public.Bytes.{run_of, after_run}
+use Rattle.pgn_text.specs.Shared.StringTexts.{contents_front}
 
 -- a byte that stands for itself in a string, wherever no backslash stands before it
 abbrev pub is_single : ℕ → Bool
@@ -36,20 +37,6 @@ gap_front place (b ∷ rest) =
     else (if b == 37 then (if place.column_one then Some (EscapeLine (run_of is_not_line_feed rest), after_run is_not_line_feed rest) else None)
     else (if b == 239 then (if place.file_start then mark_front rest else None)
     else None))))
-
--- one more byte before contents that were read
-abbrev pub with_byte : ℕ → List ℕ × List ℕ → List ℕ × List ℕ
-with_byte b found = (b ∷ found.0, found.1)
-
--- the longest contents of a string at the front of the text, and what follows them; `escaped` says that a backslash stands before
-abbrev pub contents_front : Bool → List ℕ → Option (List ℕ × List ℕ)
-contents_front true [] = None
-contents_front false [] = Some ([], [])
-contents_front true (b ∷ rest) = if is_plain b then option_map (with_byte b) (contents_front false rest) else None
-contents_front false (b ∷ rest) =
-    if b == 92 then option_map (with_byte b) (contents_front true rest)
-    else (if b == 34 || not (is_plain b) then Some ([], b ∷ rest)
-    else option_map (with_byte b) (contents_front false rest))
 
 -- the end of a tag, after the quote that ends its string
 abbrev pub tag_end : List ℕ → List ℕ → List ℕ → List ℕ → List ℕ → Option (Part × List ℕ)
@@ -182,9 +169,3 @@ items_of_kept _ = []
 abbrev pub named_kept : List ℕ → Kept → Option (List ℕ)
 named_kept wanted (KeptTag name contents) = if bytes_eq name wanted then Some contents else None
 named_kept wanted _ = None
-
--- the value of a string with these contents: a backslash before a quote or a backslash is dropped
-abbrev pub value_of : List ℕ → List ℕ
-value_of [] = []
-value_of (b ∷ []) = b ∷ []
-value_of (a ∷ b ∷ more) = if (a == 92 && (b == 34 || b == 92)) then b ∷ value_of more else a ∷ value_of (b ∷ more)

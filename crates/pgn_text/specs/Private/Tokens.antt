@@ -3,7 +3,8 @@ use Rattle.std.specs.Prelude.{◌≡◌, ◌≤◌, ◌-◌, ℕ, Bool, false, L
 use Rattle.std.specs.Borrow.{Bor}
 use Rattle.pgn_text.specs.Public.Bytes.{is_white, is_digit, is_letter, is_name_byte, is_word_byte, is_mark, run_of, after_run}
 use Rattle.pgn_text.specs.Public.Parts.{Standing as StandingOf}
-use Rattle.pgn_text.specs.Private.Reading.{is_single, contents_front, Kept, KeptGap, KeptComment, KeptTag, KeptMove, KeptNumber, KeptResult, KeptStray, KeptDot, KeptGlyph, KeptMarks, KeptOpen, KeptClose}
+use Rattle.pgn_text.specs.Private.Reading.{is_single, Kept, KeptGap, KeptComment, KeptTag, KeptMove, KeptNumber, KeptResult, KeptStray, KeptDot, KeptGlyph, KeptMarks, KeptOpen, KeptClose}
+use Rattle.pgn_text.specs.Shared.StringTexts.{contents_front}
 use Rattle.pgn_text.specs.Private.Steps.{State}
 use Rattle.pgn_text.specs.declared.lex.class.ByteClass.{ByteClass}
 use Rattle.pgn_text.specs.declared.lex.class.ByteClass.TheVariants.{White, Digit, Letter, Name, Word, Mark, Single}

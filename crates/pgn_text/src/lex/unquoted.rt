@@ -2,7 +2,7 @@
 
 ghost use Rattle.std.specs.Prelude.{◌≡◌, List, ℕ};
 ghost use Rattle.std.specs.Iterator.{YieldsFirst, item_count};
-ghost use Rattle.pgn_text.specs.Private.Reading.{value_of};
+ghost use Rattle.pgn_text.specs.Shared.StringTexts.{value_of};
 
 use std::marker::Model;
 

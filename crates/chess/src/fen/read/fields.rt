@@ -1,7 +1,7 @@
 //! The fields and the ranks of a text in Forsyth-Edwards notation.
 ghost use Rattle.std.specs.Prelude.{◌≡◌, ◌∷◌, ◌≤◌, [], length, MatchOption};
 ghost use Rattle.chess.specs.Public.Fen.{fields_of, parted_at};
-ghost use Rattle.chess.specs.Private.Runs.{run_of, after_run, after_all};
+ghost use Rattle.chess.specs.Shared.Runs.{run_of, after_run, after_all};
 
 /// The text from the first separator on.
 fn from_separator(separator: u8, text: &[u8]) -> &[u8]

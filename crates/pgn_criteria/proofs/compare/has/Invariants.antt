@@ -1,6 +1,6 @@
 use Rattle.std.proofs.Common.{◌↔◌, length}
 use Rattle.pgn_text.specs.Public.Strings.{IsContents}
-use Rattle.pgn_text.specs.Private.Reading.{value_of}
+use Rattle.pgn_text.specs.Shared.StringTexts.{value_of}
 use Rattle.pgn_criteria.specs.Public.Comparing.{Allows}
 use Rattle.pgn_criteria.specs.declared.compare.Relation.TheVariants.{Has}
 use Rattle.pgn_criteria.proofs.compare.has.Given as goal

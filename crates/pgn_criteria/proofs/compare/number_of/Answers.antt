@@ -1,5 +1,5 @@
 use Rattle.std.proofs.Common.{◌≡◌, ap, sym, ◌∙◌, arith}
-use Rattle.pgn_text.specs.Private.Reading.{value_of}
+use Rattle.pgn_text.specs.Shared.StringTexts.{value_of}
 use Rattle.pgn_text.proofs.Values.{one_value}
 use Rattle.pgn_criteria.specs.Private.Numbers.{number_after}
 use Rattle.pgn_criteria.proofs.NumberFacts.{number_found, tenfold, digit_small}

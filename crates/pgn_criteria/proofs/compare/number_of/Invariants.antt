@@ -1,5 +1,5 @@
 use Rattle.std.proofs.Common.{◌≡◌, ◌≤◌, ◌<◌, ◌^◌}
-use Rattle.pgn_text.specs.Private.Reading.{value_of}
+use Rattle.pgn_text.specs.Shared.StringTexts.{value_of}
 use Rattle.pgn_criteria.specs.Public.Comparing.{number_in}
 use Rattle.pgn_criteria.specs.Private.Numbers.{number_after}
 use Rattle.pgn_criteria.proofs.compare.number_of.Given as goal

@@ -1,7 +1,7 @@
 use Rattle.std.proofs.Common.{◌≡◌, ◌↔◌, ◌%◌, true, false, None, ap, subst, ◌∙◌, arith}
 use Rattle.chess.specs.Public.Squares.{Place, square_at}
 use Rattle.chess.specs.Public.Placements.{Placement, with_man}
-use Rattle.chess.specs.Private.SetFacts.{on_board-square_at}
+use Rattle.chess.specs.Shared.SetFacts.{on_board-square_at}
 use Rattle.chess.specs.Public.Positions.{rook_of, rook_from, rook_to}
 use Rattle.chess.specs.Public.Moves.{with_rook}
 use Rattle.chess.specs.Public.Sets.{IsSquaresOf}

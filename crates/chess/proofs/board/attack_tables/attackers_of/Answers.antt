@@ -1,6 +1,6 @@
 use Rattle.std.proofs.Common.{subst, Option, MatchOption}
 use Rattle.chess.specs.Public.Squares.{Place}
-use Rattle.chess.specs.Private.SetWords.{HasOnly, IsTakenFirst}
+use Rattle.chess.specs.Shared.SetWords.{HasOnly, IsTakenFirst}
 use Rattle.chess.proofs.LoopFacts.{fewer}
 use Rattle.chess.proofs.PlaceFacts.{true_not_false}
 use Rattle.chess.proofs.AttackerFacts.{searched_start, searched_more, searched_none, attackers_are, one_open, one_blocked}

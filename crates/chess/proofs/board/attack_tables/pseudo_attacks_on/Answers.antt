@@ -1,6 +1,6 @@
 use Rattle.std.proofs.Common.{◌≡◌, ◌∙◌, ap, sym, get_or, []}
 use Rattle.chess.specs.Public.Squares.{index_of}
-use Rattle.chess.specs.Private.SetWords.{has_bit}
+use Rattle.chess.specs.Shared.SetWords.{has_bit}
 use Rattle.chess.specs.Private.BitWords.{pseudo_attacks_row_of}
 use Rattle.chess.specs.declared.board.attack_tables.pseudo_attacks_table.TheConstants.{PSEUDO_ATTACKS}
 use Rattle.chess.proofs.TableFacts.{table_bit}

@@ -1,6 +1,6 @@
 use Rattle.std.proofs.Common.{◌∙◌, ap, sym, arith, Some}
 use Rattle.chess.specs.Public.Squares.{index_of}
-use Rattle.chess.specs.Private.SetFacts.{index_of-below, false_of}
+use Rattle.chess.specs.Shared.SetFacts.{index_of-below, false_of}
 use Rattle.chess.specs.Private.BitWords.{word_at}
 use Rattle.chess.proofs.FillFacts.{common_none, common_some}
 use Rattle.std.proofs.lemmas.Bool.{true_from_ne_false}

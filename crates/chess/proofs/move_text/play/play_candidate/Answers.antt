@@ -1,7 +1,7 @@
 use Rattle.std.proofs.Common.{◌≡◌, ap, sym, subst, refl, Option, None, Some, Ok, Err}
 use Rattle.chess.specs.Public.Squares.{Place}
 use Rattle.chess.specs.Public.Moves.{IsPseudoLegal, IsLegal}
-use Rattle.chess.specs.Private.SetWords.{IsTakenFirst}
+use Rattle.chess.specs.Shared.SetWords.{IsTakenFirst}
 use Rattle.chess.specs.Public.San.{HasRival, kind_said}
 use Rattle.chess.specs.Private.SanWords.{said_by, move_from, IsMoveSaid}
 use Rattle.chess.specs.declared.board.man.Kind.TheVariants.{Pawn}

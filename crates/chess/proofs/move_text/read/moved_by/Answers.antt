@@ -1,7 +1,7 @@
 use Rattle.std.proofs.Common.{◌≡◌, sym, subst, Option}
 use Rattle.chess.specs.Public.Squares.{Place}
 use Rattle.chess.specs.Public.Moves.{IsPseudoLegal, IsLegal}
-use Rattle.chess.specs.Private.SetWords.{IsTakenFirst}
+use Rattle.chess.specs.Shared.SetWords.{IsTakenFirst}
 use Rattle.chess.specs.Private.SanWords.{said_by, IsMoveSaid}
 use Rattle.chess.specs.declared.moves.Move.{Move}
 use Rattle.chess.proofs.PlaceFacts.{true_not_false}

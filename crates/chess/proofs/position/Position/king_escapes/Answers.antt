@@ -2,7 +2,7 @@ use Rattle.std.proofs.Common.{subst, Option, None}
 use Rattle.chess.specs.Public.Squares.{Place}
 use Rattle.chess.specs.Public.Attacks.{IsNear}
 use Rattle.chess.specs.Public.Positions.{IsOnlyKing}
-use Rattle.chess.specs.Private.SetWords.{IsTakenFirst}
+use Rattle.chess.specs.Shared.SetWords.{IsTakenFirst}
 use Rattle.chess.specs.declared.board.man.Side.{Side}
 use Rattle.chess.proofs.LoopFacts.{fewer, left_start, left_more}
 use Rattle.chess.proofs.position.Position.king_escapes.Goals as goal

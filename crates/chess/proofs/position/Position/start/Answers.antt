@@ -2,7 +2,7 @@ use Rattle.std.proofs.Common.{sym, subst}
 use Rattle.chess.specs.Public.Squares.{Place}
 use Rattle.chess.specs.Public.Placements.{Placement}
 use Rattle.chess.specs.Public.Positions.{State, IsSound, king_from}
-use Rattle.chess.specs.Private.Codes.{IsKept}
+use Rattle.chess.specs.Shared.Codes.{IsKept}
 use Rattle.chess.specs.Public.Start.{initial}
 use Rattle.chess.specs.declared.board.man.Side.TheVariants.{White}
 use Rattle.chess.proofs.StartFacts.{initial_kept}

@@ -1,6 +1,6 @@
 use Rattle.std.proofs.Common.{◌≡◌, true, false, sym, ap, ◌∙◌, subst}
 use Rattle.chess.specs.Public.Sets.{is_in}
-use Rattle.chess.specs.Private.SetFacts.{is_in-empty}
+use Rattle.chess.specs.Shared.SetFacts.{is_in-empty}
 use Rattle.pgn_criteria.specs.Private.Layouts.{AllStand}
 use Rattle.pgn_criteria.proofs.layout.Layout.new.Goals as goal
 

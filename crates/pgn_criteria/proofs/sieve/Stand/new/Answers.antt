@@ -1,5 +1,5 @@
 use Rattle.std.proofs.Common.{sym, ap, subst, ◌∙◌}
-use Rattle.chess.specs.Private.SetFacts.{is_in-empty}
+use Rattle.chess.specs.Shared.SetFacts.{is_in-empty}
 use Rattle.chess.specs.Public.Sets.{Places, is_in}
 use Rattle.pgn_criteria.specs.Private.Layouts.{AllStand}
 use Rattle.pgn_criteria.specs.declared.sieve.Stand.{Stand}

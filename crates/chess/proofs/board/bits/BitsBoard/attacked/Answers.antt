@@ -1,4 +1,4 @@
-use Rattle.chess.specs.Private.CellFacts.{on_board-men_of}
+use Rattle.chess.specs.Shared.CellFacts.{on_board-men_of}
 use Rattle.chess.specs.Private.BitWords.{words_men, man_in}
 use Rattle.chess.proofs.FileFacts.{all_bits}
 use Rattle.chess.proofs.LeftFacts.{all_left}

@@ -2,7 +2,7 @@ use Rattle.std.proofs.Common.{◌<◌, ◌^◌, ◌↔◌, ℕ, w64, bit_or, bit
 use Rattle.std.specs.Int.{bit_not}
 use Rattle.std.proofs.lemmas.Nat.{or_lt}
 use Rattle.chess.specs.Public.Attacks.{IsAttacked}
-use Rattle.chess.specs.Private.CellFacts.{on_board-men_of}
+use Rattle.chess.specs.Shared.CellFacts.{on_board-men_of}
 use Rattle.chess.specs.Public.Placements.{IsEmpty}
 use Rattle.chess.specs.Private.BitWords.{IsWordOf, AreLeft, words_men, man_in}
 use Rattle.chess.specs.declared.board.man.Side.{Side}

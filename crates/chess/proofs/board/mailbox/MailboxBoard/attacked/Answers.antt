@@ -1,6 +1,6 @@
 use Rattle.std.proofs.Common.{◌≡◌, true, false, arith}
-use Rattle.chess.specs.Private.SetFacts.{index_of-below}
-use Rattle.chess.specs.Private.CellFacts.{on_board-men_of}
+use Rattle.chess.specs.Shared.SetFacts.{index_of-below}
+use Rattle.chess.specs.Shared.CellFacts.{on_board-men_of}
 use Rattle.chess.specs.Private.Cells.{cell_of}
 use Rattle.chess.proofs.board.mailbox.MailboxBoard.attacked.Goals as goal
 

@@ -1,7 +1,7 @@
 use Rattle.std.proofs.Common.{sym, ap, ◌∙◌, nat_eq}
 use Rattle.chess.specs.Public.Sets.{is_in}
-use Rattle.chess.specs.Private.SetWords.{has_bit}
-use Rattle.chess.specs.Private.SetFacts.{is_in-places_of}
+use Rattle.chess.specs.Shared.SetWords.{has_bit}
+use Rattle.chess.specs.Shared.SetFacts.{is_in-places_of}
 use Rattle.chess.proofs.board.set.SquareSet.has.Goals as goal
 use Rattle.std.proofs.lemmas.Nat.Bits.{shr_and_one}
 

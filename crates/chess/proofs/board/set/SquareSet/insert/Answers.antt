@@ -1,7 +1,7 @@
 use Rattle.std.proofs.Common.{arith, ap, ◌∙◌, ◌||◌, ◌<◌, ◌*◌, ◌^◌, ◌%◌, bit_or}
 use Rattle.chess.specs.Public.Squares.{same_square}
 use Rattle.chess.specs.Public.Sets.{is_in}
-use Rattle.chess.specs.Private.SetWords.{places_of, has_bit}
+use Rattle.chess.specs.Shared.SetWords.{places_of, has_bit}
 use Rattle.chess.proofs.SetBits.{set_bit}
 use Rattle.chess.proofs.board.set.SquareSet.insert.Goals as goal
 use Rattle.std.proofs.lemmas.Nat.{or_lt}

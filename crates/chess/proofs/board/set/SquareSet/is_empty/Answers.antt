@@ -1,7 +1,7 @@
 use Rattle.std.proofs.Common.{arith, sym, ap, ◌∙◌, ◌≡◌}
 use Rattle.std.proofs.lemmas.Bool.Decides.{nat_tests}
-use Rattle.chess.specs.Private.SetWords.{places_of, has_bit}
-use Rattle.chess.specs.Private.SetFacts.{empty_word, not_empty_word}
+use Rattle.chess.specs.Shared.SetWords.{places_of, has_bit}
+use Rattle.chess.specs.Shared.SetFacts.{empty_word, not_empty_word}
 use Rattle.chess.proofs.board.set.SquareSet.is_empty.Goals as goal
 use Rattle.std.proofs.lemmas.Bool.{cases_eq}
 use Rattle.std.proofs.Common.{inl, inr}

@@ -4,10 +4,10 @@ use Rattle.std.proofs.lemmas.Bool.{cases_eq, eqb-true, eq-eqb}
 use Rattle.std.proofs.lemmas.Nat.{and_le_l}
 use Rattle.std.proofs.lemmas.Nat.Bits.{bit_at_and, bit_at-lt, same_from_bits_below}
 use Rattle.chess.specs.Public.Squares.{Place, index_of, square_at}
-use Rattle.chess.specs.Private.SquareFacts.{index_of-square_at}
+use Rattle.chess.specs.Shared.SquareFacts.{index_of-square_at}
 use Rattle.chess.specs.Public.Sets.{is_in}
-use Rattle.chess.specs.Private.SetWords.{has_bit, places_of}
-use Rattle.chess.specs.Private.SetFacts.{is_in-places_of, on_board-places_of, on_board-square_at}
+use Rattle.chess.specs.Shared.SetWords.{has_bit, places_of}
+use Rattle.chess.specs.Shared.SetFacts.{is_in-places_of, on_board-places_of, on_board-square_at}
 use Rattle.chess.proofs.board.set.SquareSet.is_within.Goals as goal
 
 -- words of which one has all bits of the other

@@ -1,4 +1,4 @@
-use Rattle.chess.specs.Private.SetFacts.{empty_word}
+use Rattle.chess.specs.Shared.SetFacts.{empty_word}
 use Rattle.chess.proofs.board.set.SquareSet.new.Goals as goal
 
 pub returns : goal.returns

@@ -1,6 +1,6 @@
 use Rattle.std.proofs.Common.{◌∙◌, sym}
-use Rattle.chess.specs.Private.SetWords.{has_bit}
-use Rattle.chess.specs.Private.SetFacts.{is_in-places_of, on_board-places_of}
+use Rattle.chess.specs.Shared.SetWords.{has_bit}
+use Rattle.chess.specs.Shared.SetFacts.{is_in-places_of, on_board-places_of}
 use Rattle.chess.proofs.board.set.SquareSet.of_word.Goals as goal
 
 pub returns : goal.returns

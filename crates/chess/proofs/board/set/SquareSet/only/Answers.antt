@@ -1,8 +1,8 @@
 use Rattle.std.proofs.Common.{ap, sym, subst, ◌∙◌, Option, Some}
 use Rattle.chess.specs.Public.Squares.{Place}
 use Rattle.chess.specs.Public.Sets.{Places, is_in}
-use Rattle.chess.specs.Private.SetWords.{has_bit, places_of, IsTakenFirst}
-use Rattle.chess.specs.Private.SetFacts.{on_board-places_of}
+use Rattle.chess.specs.Shared.SetWords.{has_bit, places_of, IsTakenFirst}
+use Rattle.chess.specs.Shared.SetFacts.{on_board-places_of}
 use Rattle.chess.proofs.LoopFacts.{only_first, not_only, none_only}
 use Rattle.chess.proofs.PlaceFacts.{true_not_false}
 use Rattle.chess.proofs.board.set.SquareSet.only.Goals as goal

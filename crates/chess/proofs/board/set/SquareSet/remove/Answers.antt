@@ -1,7 +1,7 @@
 use Rattle.std.proofs.Common.{arith, ap, not, ◌∙◌, ◌&&◌}
 use Rattle.chess.specs.Public.Squares.{Place, same_square, square_at}
 use Rattle.chess.specs.Public.Sets.{is_in}
-use Rattle.chess.specs.Private.SetFacts.{square_at-index_of}
+use Rattle.chess.specs.Shared.SetFacts.{square_at-index_of}
 use Rattle.chess.proofs.SetBits.{clear_bit}
 use Rattle.chess.proofs.board.set.SquareSet.remove.Goals as goal
 

@@ -1,10 +1,10 @@
 use Rattle.std.proofs.Common.{arith, refl, sym, ap, ◌∙◌, ◌≡◌, true, false, nat_eq, w64}
 use Rattle.std.proofs.lemmas.Bool.Decides.{nat_tests}
-use Rattle.chess.specs.Private.SquareFacts.{index_of-square_at}
+use Rattle.chess.specs.Shared.SquareFacts.{index_of-square_at}
 use Rattle.chess.specs.Public.Squares.{Place, IsOnBoard, same_square, index_of, square_at}
 use Rattle.chess.specs.Public.Sets.{is_in}
-use Rattle.chess.specs.Private.SetWords.{places_of, has_bit}
-use Rattle.chess.specs.Private.SetFacts.{is_in-places_of, on_board-places_of, empty_word}
+use Rattle.chess.specs.Shared.SetWords.{places_of, has_bit}
+use Rattle.chess.specs.Shared.SetFacts.{is_in-places_of, on_board-places_of, empty_word}
 use Rattle.chess.proofs.SetBits.{clear_bit, without_lowest}
 use Rattle.chess.proofs.board.set.SquareSet.take_first.Goals as goal
 use Rattle.std.proofs.lemmas.Nat.Bits.{bit_at-trailing_zeros}

@@ -1,5 +1,5 @@
 use Rattle.std.proofs.Common.{◌≡◌, length}
-use Rattle.chess.specs.Private.Runs.{after_run}
+use Rattle.chess.specs.Shared.Runs.{after_run}
 use Rattle.chess.proofs.fen.read.fields.from_separator.Given as goal
 
 abbrev pub invariant-loop-rest : goal.invariant-loop-rest

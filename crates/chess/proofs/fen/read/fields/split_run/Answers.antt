@@ -1,5 +1,5 @@
 use Rattle.std.proofs.Common.{arith}
-use Rattle.chess.specs.Private.Runs.{run_of, after_run}
+use Rattle.chess.specs.Shared.Runs.{run_of, after_run}
 use Rattle.chess.proofs.RestFacts.{rest_within, front_taken}
 use Rattle.chess.proofs.FieldFacts.{run_whole}
 use Rattle.chess.proofs.fen.read.fields.split_run.Goals as goal

@@ -1,7 +1,7 @@
 use Rattle.std.proofs.Common.{◌≡◌, ℕ, List, [], ◌∷◌, MatchOption, subst, arith}
 use Rattle.chess.specs.Public.Placements.{Placement}
 use Rattle.chess.specs.Public.Fen.{parted_at, SpellRanks}
-use Rattle.chess.specs.Private.Runs.{run_of, after_run}
+use Rattle.chess.specs.Shared.Runs.{run_of, after_run}
 use Rattle.chess.proofs.FieldFacts.{parted_by_run, parted_after}
 use Rattle.chess.proofs.fen.read.ranks.+put_ranks.Goals as goal
 

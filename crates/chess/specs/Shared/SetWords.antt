@@ -4,7 +4,7 @@ use Rattle.std.specs.Coded.{Coded}
 use Rattle.std.specs.Int.{bit_at}
 use Rattle.std.specs.FinSet.{empty, insert, code}
 use Rattle.chess.specs.Public.Squares.{Place, IsOnBoard, square_at, index_of, same_square}
-use Rattle.chess.specs.Private.PlaceCodes.{coded_place}
+use Rattle.chess.specs.Shared.PlaceCodes.{coded_place}
 use Rattle.chess.specs.Public.Sets.{Places, HoldsExactly, no_places, is_in}
 
 -- those of the first n squares that pass the test

@@ -4,9 +4,9 @@ use Rattle.std.specs.Ordering.{eq_by_cmp}
 use Rattle.std.specs.FinMap.{get-empty, get-insert, get-remove, same_map}
 use Rattle.std.proofs.lemmas.Bool.{cases_eq, cases_lt}
 use Rattle.chess.specs.Public.Squares.{Place, IsOnBoard, place_cmp, square_at, index_of}
-use Rattle.chess.specs.Private.SquareFacts.{index_of-square_at}
-use Rattle.chess.specs.Private.OrderFacts.{place_total, place_exact}
-use Rattle.chess.specs.Private.SetFacts.{square_at-index_of, index_of-below, on_board-square_at, ties, tied, false_of}
+use Rattle.chess.specs.Shared.SquareFacts.{index_of-square_at}
+use Rattle.chess.specs.Shared.OrderFacts.{place_total, place_exact}
+use Rattle.chess.specs.Shared.SetFacts.{square_at-index_of, index_of-below, on_board-square_at, ties, tied, false_of}
 use Rattle.chess.specs.Public.Placements.{Placement, no_men, man_at, with_man, first_men, men_of}
 use Rattle.std.specs.Prelude.{replicate}
 use Rattle.std.proofs.lemmas.List.{get_or-replicate, get_or_past, length-replicate}

@@ -9,10 +9,10 @@ use Rattle.std.proofs.lemmas.Bool.{cases_eq}
 use Rattle.std.proofs.lemmas.Nat.Bits.{bit_at-zero, bit_at-lt, shr_and_one, bit_at-trailing_zeros, bit_at_set_same, bit_at_set_other, bit_at_clear_same, bit_at_clear_other}
 use Rattle.std.proofs.lemmas.Bool.Decides.{nat_tests}
 use Rattle.chess.specs.Public.Squares.{Place, IsOnBoard, place_cmp, square_at, index_of, same_square}
-use Rattle.chess.specs.Private.SquareFacts.{index_of-square_at}
-use Rattle.chess.specs.Private.OrderFacts.{place_total, place_exact}
+use Rattle.chess.specs.Shared.SquareFacts.{index_of-square_at}
+use Rattle.chess.specs.Shared.OrderFacts.{place_total, place_exact}
 use Rattle.chess.specs.Public.Sets.{Places, is_in, no_places, size_of}
-use Rattle.chess.specs.Private.SetWords.{first_places, places_of, has_bit}
+use Rattle.chess.specs.Shared.SetWords.{first_places, places_of, has_bit}
 
 -- a square of the board stands at its place in order
 pub square_at-index_of : (s : Place) → IsOnBoard s → square_at (index_of s) ≡ s

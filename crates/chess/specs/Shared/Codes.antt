@@ -3,7 +3,7 @@ use Rattle.std.specs.Prelude.{◌≡◌, ℕ, Bool, true, false, Option, refl}
 use Rattle.std.specs.Coded.{Coded, coded_ℕ, coded_bool, coded_option, coded×, code_by}
 use Rattle.std.specs.FinMap.{code}
 use Rattle.chess.specs.Public.Squares.{Place}
-use Rattle.chess.specs.Private.PlaceCodes.{coded_place}
+use Rattle.chess.specs.Shared.PlaceCodes.{coded_place}
 use Rattle.chess.specs.Public.Placements.{Placement}
 use Rattle.chess.specs.Public.Positions.{State, IsOnlyKing, IsSound, king_of}
 use Rattle.chess.specs.declared.board.man.Man.{Man}
