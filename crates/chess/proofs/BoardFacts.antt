@@ -1,25 +1,12 @@
 -- Facts that boards rest on.
 use Rattle.std.proofs.Common.{◌≡◌, ◌↔◌, ◌⊎◌, ◌<◌, ◌≤◌, ◌+◌, ◌&&◌, ◌||◌, ℕ, Bool, true, false, inl, inr, ap, refl, sym, subst, ◌∙◌, arith, IsTrue, Some, None}
 use Rattle.std.proofs.lemmas.Bool.{cases_eq}
-use Rattle.chess.specs.Public.Squares.{Place, IsOnBoard, square_at, index_of, IsAhead, same_square}
+use Rattle.chess.specs.Public.Squares.{Place, IsOnBoard, square_at, index_of, same_square}
 use Rattle.chess.specs.Shared.SquareFacts.{index_of-square_at}
 use Rattle.chess.specs.Shared.SetFacts.{square_at-index_of, on_board-square_at, same_squares, other_squares, is_in-empty}
 use Rattle.chess.specs.Public.Placements.{Placement, man_at}
 use Rattle.chess.specs.Public.Sets.{Places, is_in, no_places, IsReachOf}
 use Rattle.chess.proofs.PlaceFacts.{same_square-then}
-use Rattle.chess.specs.declared.board.direction.Direction.{Direction}
-use Rattle.chess.specs.declared.board.direction.Direction.TheVariants.{North, South, East, West, NorthEast, NorthWest, SouthEast, SouthWest}
-
--- a square is so many steps ahead for one number of steps only
-pub one_count : (way : Direction) (j k : ℕ) (s t : Place) → IsAhead way j s t → IsAhead way k s t → j ≡ k
-one_count North j k s t a b = let a1 = a.1 in let b1 = b.1 in omega arith
-one_count South j k s t a b = let a1 = a.1 in let b1 = b.1 in omega arith
-one_count East j k s t a b = let a1 = a.0 in let b1 = b.0 in omega arith
-one_count West j k s t a b = let a1 = a.0 in let b1 = b.0 in omega arith
-one_count NorthEast j k s t a b = let a1 = a.0 in let b1 = b.0 in omega arith
-one_count NorthWest j k s t a b = let a1 = a.0 in let b1 = b.0 in omega arith
-one_count SouthEast j k s t a b = let a1 = a.0 in let b1 = b.0 in omega arith
-one_count SouthWest j k s t a b = let a1 = a.0 in let b1 = b.0 in omega arith
 
 -- ---- loops over the 64 squares that gather those with a fact
 

@@ -1,5 +1,5 @@
 -- Rays filled square by square, from one square and along one way.
-use Rattle.std.proofs.Common.{◌≡◌, ◌⊎◌, ◌<◌, ◌≤◌, ◌+◌, ◌-◌, ◌*◌, ◌^◌, ◌&&◌, ◌||◌, bit_and, bit_or, ℕ, true, false, nat_eq, inl, inr, ap, refl, sym, subst, ◌∙◌, arith, min, max, pow_pos}
+use Rattle.std.proofs.Common.{◌≡◌, ◌⊎◌, ◌<◌, ◌≤◌, ◌+◌, ◌*◌, ◌^◌, ◌&&◌, ◌||◌, bit_and, bit_or, ℕ, true, false, nat_eq, inl, inr, ap, sym, subst, ◌∙◌, arith, min, max, pow_pos}
 use Rattle.std.specs.Int.{bit_at}
 use Rattle.std.proofs.lemmas.Nat.{and_mask}
 use Rattle.std.proofs.lemmas.Bool.{cases_eq, cases_lt, eqb-true, eq-eqb, or_cases, or_left, or_right, true_from_ne_false}
@@ -11,134 +11,9 @@ use Rattle.chess.specs.Public.Placements.{Placement, IsEmpty}
 use Rattle.chess.specs.Public.Attacks.{IsOnRay, IsClearFor}
 use Rattle.chess.specs.Shared.SetWords.{has_bit}
 use Rattle.chess.specs.Private.BitWords.{IsWordOf, IsNextWord, IsStraightRun, IsDiagonalRun, square_word}
-use Rattle.chess.proofs.PlaceFacts.{place_of}
 use Rattle.chess.specs.declared.board.direction.Direction.{Direction}
 use Rattle.chess.specs.declared.board.direction.Direction.TheVariants.{North, South, East, West, NorthEast, NorthWest, SouthEast, SouthWest}
-
--- ---- squares ahead
-
--- a square is the only one so many steps ahead
-pub one_ahead : (way : Direction) (k : ℕ) (s t u : Place) → IsAhead way k s t → IsAhead way k s u → t ≡ u
-one_ahead North k s t u a b = let a1 = a.0 in let a2 = a.1 in let b1 = b.0 in let b2 = b.1 in place_of t u (omega arith) (omega arith)
-one_ahead South k s t u a b = let a1 = a.0 in let a2 = a.1 in let b1 = b.0 in let b2 = b.1 in place_of t u (omega arith) (omega arith)
-one_ahead East k s t u a b = let a1 = a.0 in let a2 = a.1 in let b1 = b.0 in let b2 = b.1 in place_of t u (omega arith) (omega arith)
-one_ahead West k s t u a b = let a1 = a.0 in let a2 = a.1 in let b1 = b.0 in let b2 = b.1 in place_of t u (omega arith) (omega arith)
-one_ahead NorthEast k s t u a b = let a1 = a.0 in let a2 = a.1 in let b1 = b.0 in let b2 = b.1 in place_of t u (omega arith) (omega arith)
-one_ahead NorthWest k s t u a b = let a1 = a.0 in let a2 = a.1 in let b1 = b.0 in let b2 = b.1 in place_of t u (omega arith) (omega arith)
-one_ahead SouthEast k s t u a b = let a1 = a.0 in let a2 = a.1 in let b1 = b.0 in let b2 = b.1 in place_of t u (omega arith) (omega arith)
-one_ahead SouthWest k s t u a b = let a1 = a.0 in let a2 = a.1 in let b1 = b.0 in let b2 = b.1 in place_of t u (omega arith) (omega arith)
-
--- no step leads to the square itself
-pub itself : (way : Direction) (s : Place) → IsAhead way 0 s s
-itself North s = (refl, omega arith)
-itself South s = (refl, omega arith)
-itself East s = (omega arith, refl)
-itself West s = (omega arith, refl)
-itself NorthEast s = (omega arith, omega arith)
-itself NorthWest s = (omega arith, omega arith)
-itself SouthEast s = (omega arith, omega arith)
-itself SouthWest s = (omega arith, omega arith)
-
--- steps follow on one another
-pub ahead_more : (way : Direction) (j k : ℕ) (s u t : Place) → IsAhead way j s u → IsAhead way k u t → IsAhead way (j + k) s t
-ahead_more North j k s u t a b = let a1 = a.0 in let a2 = a.1 in let b1 = b.0 in let b2 = b.1 in (omega arith, omega arith)
-ahead_more South j k s u t a b = let a1 = a.0 in let a2 = a.1 in let b1 = b.0 in let b2 = b.1 in (omega arith, omega arith)
-ahead_more East j k s u t a b = let a1 = a.0 in let a2 = a.1 in let b1 = b.0 in let b2 = b.1 in (omega arith, omega arith)
-ahead_more West j k s u t a b = let a1 = a.0 in let a2 = a.1 in let b1 = b.0 in let b2 = b.1 in (omega arith, omega arith)
-ahead_more NorthEast j k s u t a b = let a1 = a.0 in let a2 = a.1 in let b1 = b.0 in let b2 = b.1 in (omega arith, omega arith)
-ahead_more NorthWest j k s u t a b = let a1 = a.0 in let a2 = a.1 in let b1 = b.0 in let b2 = b.1 in (omega arith, omega arith)
-ahead_more SouthEast j k s u t a b = let a1 = a.0 in let a2 = a.1 in let b1 = b.0 in let b2 = b.1 in (omega arith, omega arith)
-ahead_more SouthWest j k s u t a b = let a1 = a.0 in let a2 = a.1 in let b1 = b.0 in let b2 = b.1 in (omega arith, omega arith)
-
--- what is left of the steps leads from the one square to the other
-pub ahead_rest : (way : Direction) (j k : ℕ) (s u t : Place) → IsAhead way j s u → IsAhead way (j + k) s t → IsAhead way k u t
-ahead_rest North j k s u t a b = let a1 = a.0 in let a2 = a.1 in let b1 = b.0 in let b2 = b.1 in (omega arith, omega arith)
-ahead_rest South j k s u t a b = let a1 = a.0 in let a2 = a.1 in let b1 = b.0 in let b2 = b.1 in (omega arith, omega arith)
-ahead_rest East j k s u t a b = let a1 = a.0 in let a2 = a.1 in let b1 = b.0 in let b2 = b.1 in (omega arith, omega arith)
-ahead_rest West j k s u t a b = let a1 = a.0 in let a2 = a.1 in let b1 = b.0 in let b2 = b.1 in (omega arith, omega arith)
-ahead_rest NorthEast j k s u t a b = let a1 = a.0 in let a2 = a.1 in let b1 = b.0 in let b2 = b.1 in (omega arith, omega arith)
-ahead_rest NorthWest j k s u t a b = let a1 = a.0 in let a2 = a.1 in let b1 = b.0 in let b2 = b.1 in (omega arith, omega arith)
-ahead_rest SouthEast j k s u t a b = let a1 = a.0 in let a2 = a.1 in let b1 = b.0 in let b2 = b.1 in (omega arith, omega arith)
-ahead_rest SouthWest j k s u t a b = let a1 = a.0 in let a2 = a.1 in let b1 = b.0 in let b2 = b.1 in (omega arith, omega arith)
-
--- between a square of the board and one ahead of it there is one at each number of steps
-pub between_ahead : (way : Direction) (j k : ℕ) (s t : Place) → j ≤ k → IsOnBoard s → IsOnBoard t → IsAhead way k s t
-    → (u : Place) × IsOnBoard u × IsAhead way j s u
-between_ahead North j k s t less on on_t a =
-    let a1 = a.0 in let a2 = a.1 in
-    let x = on.file_low in let y = on.file_high in let z = on.rank_low in let v = on.rank_high in
-    let p = on_t.file_low in let q = on_t.file_high in let m = on_t.rank_low in let n = on_t.rank_high in (
-      record { file = s.file; rank = s.rank + j },
-      record { file_low = omega arith; file_high = omega arith; rank_low = omega arith; rank_high = omega arith },
-      (omega arith, omega arith),
-    )
-between_ahead South j k s t less on on_t a =
-    let a1 = a.0 in let a2 = a.1 in
-    let x = on.file_low in let y = on.file_high in let z = on.rank_low in let v = on.rank_high in
-    let p = on_t.file_low in let q = on_t.file_high in let m = on_t.rank_low in let n = on_t.rank_high in (
-      record { file = s.file; rank = s.rank - j },
-      record { file_low = omega arith; file_high = omega arith; rank_low = omega arith; rank_high = omega arith },
-      (omega arith, omega arith),
-    )
-between_ahead East j k s t less on on_t a =
-    let a1 = a.0 in let a2 = a.1 in
-    let x = on.file_low in let y = on.file_high in let z = on.rank_low in let v = on.rank_high in
-    let p = on_t.file_low in let q = on_t.file_high in let m = on_t.rank_low in let n = on_t.rank_high in (
-      record { file = s.file + j; rank = s.rank },
-      record { file_low = omega arith; file_high = omega arith; rank_low = omega arith; rank_high = omega arith },
-      (omega arith, omega arith),
-    )
-between_ahead West j k s t less on on_t a =
-    let a1 = a.0 in let a2 = a.1 in
-    let x = on.file_low in let y = on.file_high in let z = on.rank_low in let v = on.rank_high in
-    let p = on_t.file_low in let q = on_t.file_high in let m = on_t.rank_low in let n = on_t.rank_high in (
-      record { file = s.file - j; rank = s.rank },
-      record { file_low = omega arith; file_high = omega arith; rank_low = omega arith; rank_high = omega arith },
-      (omega arith, omega arith),
-    )
-between_ahead NorthEast j k s t less on on_t a =
-    let a1 = a.0 in let a2 = a.1 in
-    let x = on.file_low in let y = on.file_high in let z = on.rank_low in let v = on.rank_high in
-    let p = on_t.file_low in let q = on_t.file_high in let m = on_t.rank_low in let n = on_t.rank_high in (
-      record { file = s.file + j; rank = s.rank + j },
-      record { file_low = omega arith; file_high = omega arith; rank_low = omega arith; rank_high = omega arith },
-      (omega arith, omega arith),
-    )
-between_ahead NorthWest j k s t less on on_t a =
-    let a1 = a.0 in let a2 = a.1 in
-    let x = on.file_low in let y = on.file_high in let z = on.rank_low in let v = on.rank_high in
-    let p = on_t.file_low in let q = on_t.file_high in let m = on_t.rank_low in let n = on_t.rank_high in (
-      record { file = s.file - j; rank = s.rank + j },
-      record { file_low = omega arith; file_high = omega arith; rank_low = omega arith; rank_high = omega arith },
-      (omega arith, omega arith),
-    )
-between_ahead SouthEast j k s t less on on_t a =
-    let a1 = a.0 in let a2 = a.1 in
-    let x = on.file_low in let y = on.file_high in let z = on.rank_low in let v = on.rank_high in
-    let p = on_t.file_low in let q = on_t.file_high in let m = on_t.rank_low in let n = on_t.rank_high in (
-      record { file = s.file + j; rank = s.rank - j },
-      record { file_low = omega arith; file_high = omega arith; rank_low = omega arith; rank_high = omega arith },
-      (omega arith, omega arith),
-    )
-between_ahead SouthWest j k s t less on on_t a =
-    let a1 = a.0 in let a2 = a.1 in
-    let x = on.file_low in let y = on.file_high in let z = on.rank_low in let v = on.rank_high in
-    let p = on_t.file_low in let q = on_t.file_high in let m = on_t.rank_low in let n = on_t.rank_high in (
-      record { file = s.file - j; rank = s.rank - j },
-      record { file_low = omega arith; file_high = omega arith; rank_low = omega arith; rank_high = omega arith },
-      (omega arith, omega arith),
-    )
-
--- and no square of the board is more than seven steps from another
-pub seven_steps : (way : Direction) (k : ℕ) (s t : Place) → IsOnBoard s → IsOnBoard t → IsAhead way k s t → k ≤ 7
-seven_steps North k s t on on_t a = let a1 = a.1 in let x = on.rank_low in let y = on.rank_high in let p = on_t.rank_low in let q = on_t.rank_high in omega arith
-seven_steps South k s t on on_t a = let a1 = a.1 in let x = on.rank_low in let y = on.rank_high in let p = on_t.rank_low in let q = on_t.rank_high in omega arith
-seven_steps East k s t on on_t a = let a1 = a.0 in let x = on.file_low in let y = on.file_high in let p = on_t.file_low in let q = on_t.file_high in omega arith
-seven_steps West k s t on on_t a = let a1 = a.0 in let x = on.file_low in let y = on.file_high in let p = on_t.file_low in let q = on_t.file_high in omega arith
-seven_steps NorthEast k s t on on_t a = let a1 = a.0 in let x = on.file_low in let y = on.file_high in let p = on_t.file_low in let q = on_t.file_high in omega arith
-seven_steps NorthWest k s t on on_t a = let a1 = a.0 in let x = on.file_low in let y = on.file_high in let p = on_t.file_low in let q = on_t.file_high in omega arith
-seven_steps SouthEast k s t on on_t a = let a1 = a.0 in let x = on.file_low in let y = on.file_high in let p = on_t.file_low in let q = on_t.file_high in omega arith
-seven_steps SouthWest k s t on on_t a = let a1 = a.0 in let x = on.file_low in let y = on.file_high in let p = on_t.file_low in let q = on_t.file_high in omega arith
+use Rattle.chess.proofs.AxisSteps.{one_ahead, itself, ahead_more, ahead_rest, between_ahead, seven_steps, straight_or_not}
 
 -- ---- bits
 
@@ -319,10 +194,7 @@ of_straight p s t North is ray = inl (inl ray)
 of_straight p s t South is ray = inl (inr ray)
 of_straight p s t East is ray = inr (inl ray)
 of_straight p s t West is ray = inr (inr ray)
-of_straight p s t NorthEast is ray = absurd is
-of_straight p s t NorthWest is ray = absurd is
-of_straight p s t SouthEast is ray = absurd is
-of_straight p s t SouthWest is ray = absurd is
+of_straight p s t way is ray = absurd is
 
 diagonal_of : (p : Placement) (s t : Place) → AreFourRays p NorthEast NorthWest SouthEast SouthWest s t → IsDiagonalRun p s t
 diagonal_of p s t (inl (inl ray)) = (NorthEast, (λ h. h), ray)
@@ -332,14 +204,11 @@ diagonal_of p s t (inr (inr ray)) = (SouthWest, (λ h. h), ray)
 
 of_diagonal : (p : Placement) (s t : Place) (way : Direction) → (¬ IsStraight way) → IsOnRay p way s t
     → AreFourRays p NorthEast NorthWest SouthEast SouthWest s t
-of_diagonal p s t North is ray = absurd (is tt)
-of_diagonal p s t South is ray = absurd (is tt)
-of_diagonal p s t East is ray = absurd (is tt)
-of_diagonal p s t West is ray = absurd (is tt)
 of_diagonal p s t NorthEast is ray = inl (inl ray)
 of_diagonal p s t NorthWest is ray = inl (inr ray)
 of_diagonal p s t SouthEast is ray = inr (inl ray)
 of_diagonal p s t SouthWest is ray = inr (inr ray)
+of_diagonal p s t way is ray = absurd (is tt)
 
 four_rays : (p : Placement) (s : Place) (a b c d : Direction) (k l m n : ℕ) → IsWordOf (IsOnRay p a s) k → IsWordOf (IsOnRay p b s) l
     → IsWordOf (IsOnRay p c s) m → IsWordOf (IsOnRay p d s) n → IsWordOf (AreFourRays p a b c d s) (bit_or (bit_or k l) (bit_or m n))
@@ -359,22 +228,11 @@ diagonal_joined p s k l m n in_k in_l in_m in_n t on =
     let four = four_rays p s NorthEast NorthWest SouthEast SouthWest k l m n in_k in_l in_m in_n t on in
     ((λ e. diagonal_of p s t (four.0 e)), (λ h. four.1 (of_diagonal p s t h.0 h.1 h.2)))
 
--- a way is straight or not
-pub way_is : (way : Direction) → IsStraight way ⊎ (¬ IsStraight way)
-way_is North = inl tt
-way_is South = inl tt
-way_is East = inl tt
-way_is West = inl tt
-way_is NorthEast = inr (λ h. h)
-way_is NorthWest = inr (λ h. h)
-way_is SouthEast = inr (λ h. h)
-way_is SouthWest = inr (λ h. h)
-
 -- queens run straight and along diagonals
 pub queen_joined : (p : Placement) (s : Place) (a b : ℕ) → IsWordOf (IsStraightRun p s) a → IsWordOf (IsDiagonalRun p s) b
     → IsWordOf (λ t. (way : Direction) × IsOnRay p way s t) (bit_or a b)
 queen_joined p s a b in_a in_b t on =
     let both = either_word (IsStraightRun p s) (IsDiagonalRun p s) a b in_a in_b t on in (
       (λ e. elim (both.0 e) [ inl h ↦ (h.0, h.2) | inr h ↦ (h.0, h.2) ]),
-      (λ h. elim (way_is h.0) [ inl straight ↦ both.1 (inl (h.0, straight, h.1)) | inr diagonal ↦ both.1 (inr (h.0, diagonal, h.1)) ]),
+      (λ h. elim (straight_or_not h.0) [ inl straight ↦ both.1 (inl (h.0, straight, h.1)) | inr diagonal ↦ both.1 (inr (h.0, diagonal, h.1)) ]),
     )

@@ -15,7 +15,8 @@ use Rattle.chess.specs.declared.board.man.Side.{Side}
 use Rattle.chess.specs.declared.board.man.Kind.{Kind}
 use Rattle.chess.specs.declared.board.man.Kind.TheVariants.{King, Queen, Rook, Bishop, Knight, Pawn}
 use Rattle.chess.proofs.PlaceFacts.{true_not_false, man_of}
-use Rattle.chess.proofs.FillFacts.{bit_of_both, no_bit, way_is}
+use Rattle.chess.proofs.AxisSteps.{straight_or_not}
+use Rattle.chess.proofs.FillFacts.{bit_of_both, no_bit}
 
 -- ---- words that meet
 
@@ -55,7 +56,7 @@ attacked_diagonal p side t h = elim h.2 [
 
 hit_of_kind : (p : Placement) (side : Side) (other : Kind) (s t : Place) → IsOnBoard s → IsMan p side other s → Reaches p side other s t → IsHitAtAll p side t
 hit_of_kind p side King s t on here reaches = inr (inl (s, on, here, reaches))
-hit_of_kind p side Queen s t on here reaches = elim (way_is reaches.0) [
+hit_of_kind p side Queen s t on here reaches = elim (straight_or_not reaches.0) [
   | inl straight ↦ inr (inr (inr (inl (s, on, inl here, (reaches.0, straight, reaches.1)))))
   | inr diagonal ↦ inr (inr (inr (inr (s, on, inl here, (reaches.0, diagonal, reaches.1)))))
 ]

@@ -8,7 +8,6 @@ use Rattle.chess.specs.Public.Positions.{State, king_of, home_rank, pawn_rank, h
 use Rattle.chess.specs.Public.Moves.{IsDoubleStep, IsPawnMove, IsPromotionKind, IsPromotion, Promotes, IsBetween, Castles, IsKingMove, Goes, IsPseudoLegal, men_after, IsUnbarred, IsLegal}
 use Rattle.chess.specs.Shared.CellFacts.{on_board_or_not}
 use Rattle.chess.specs.declared.board.direction.Direction.{Direction}
-use Rattle.chess.specs.declared.board.direction.Direction.TheVariants.{North, South, East, West, NorthEast, NorthWest, SouthEast, SouthWest}
 use Rattle.chess.specs.declared.board.man.Man.{Man}
 use Rattle.chess.specs.declared.board.man.Side.{Side}
 use Rattle.chess.specs.declared.board.man.Side.TheVariants.{White, Black}
@@ -18,6 +17,7 @@ use Rattle.chess.specs.declared.board.man.Wing.{Wing}
 use Rattle.chess.specs.declared.board.man.Wing.TheVariants.{KingSide, QueenSide}
 use Rattle.chess.specs.declared.moves.Move.{Move}
 use Rattle.chess.proofs.AfterFacts.{after_on_board}
+use Rattle.chess.proofs.AxisSteps.{Axis, Up, Level, Down, file_step, rank_step, IsAxisAhead, to_axes, of_axes, steps_gap, straight_or_not}
 use Rattle.chess.proofs.PlaceFacts.{cases_place}
 use Rattle.chess.proofs.Settled.{Settled, settled_like, settled_not, settled_both, settled_three, settled_either, settled_le, settled_true, settled_below, settled_held, cases_option}
 use Rattle.chess.proofs.Searches.{search_square, search_way, cases_kind, cases_side, cases_man, cases_wing}
@@ -33,28 +33,21 @@ settled_occupied_by p side s = settled_held (man_at p s) (λ man. man.side ≡ s
 
 -- ---- attacks
 
+settled_axis : (x : Axis) (k a b : ℕ) → Settled (IsAxisAhead x k a b)
+settled_axis Up k a b = cases_eq b (a + k)
+settled_axis Level k a b = cases_eq b a
+settled_axis Down k a b = cases_eq (b + k) a
+
 settled_ahead : (way : Direction) (k : ℕ) (s t : Place) → Settled (IsAhead way k s t)
-settled_ahead North k s t = settled_both (cases_eq t.file s.file) (cases_eq t.rank (s.rank + k))
-settled_ahead South k s t = settled_both (cases_eq t.file s.file) (cases_eq (t.rank + k) s.rank)
-settled_ahead East k s t = settled_both (cases_eq t.file (s.file + k)) (cases_eq t.rank s.rank)
-settled_ahead West k s t = settled_both (cases_eq (t.file + k) s.file) (cases_eq t.rank s.rank)
-settled_ahead NorthEast k s t = settled_both (cases_eq t.file (s.file + k)) (cases_eq t.rank (s.rank + k))
-settled_ahead NorthWest k s t = settled_both (cases_eq (t.file + k) s.file) (cases_eq t.rank (s.rank + k))
-settled_ahead SouthEast k s t = settled_both (cases_eq t.file (s.file + k)) (cases_eq (t.rank + k) s.rank)
-settled_ahead SouthWest k s t = settled_both (cases_eq (t.file + k) s.file) (cases_eq (t.rank + k) s.rank)
+settled_ahead way k s t =
+    settled_like (of_axes way k s t) (to_axes way k s t)
+    (settled_both (settled_axis (file_step way) k s.file t.file) (settled_axis (rank_step way) k s.rank t.rank))
 
 abbrev most_steps : Place → Place → ℕ
 most_steps s t = suc (s.file + s.rank + t.file + t.rank)
 
 few_steps : (way : Direction) (k : ℕ) (s t : Place) → IsAhead way k s t → k < most_steps s t
-few_steps North k s t a = let h = a.1 in omega arith
-few_steps South k s t a = let h = a.1 in omega arith
-few_steps East k s t a = let h = a.0 in omega arith
-few_steps West k s t a = let h = a.0 in omega arith
-few_steps NorthEast k s t a = let h = a.0 in omega arith
-few_steps NorthWest k s t a = let h = a.0 in omega arith
-few_steps SouthEast k s t a = let h = a.0 in omega arith
-few_steps SouthWest k s t a = let h = a.0 in omega arith
+few_steps way k s t a = let most = steps_gap way k s t a in omega arith
 
 abbrev IsManAt : Placement → Direction → Place → Place → ℕ → Type 0
 IsManAt p way s u j = (1 ≤ j) × IsAhead way j s u × (IsEmpty p u → ⊥)
@@ -82,16 +75,6 @@ settled_ray p way s t =
     (settled_below (most_steps s t) (λ k. (1 ≤ k) × IsAhead way k s t × IsClearFor p way s k)
     (λ k less. settled_three (settled_le 1 k) (settled_ahead way k s t) (settled_clear p way s k)))
 
-settled_straight : (way : Direction) → Settled (IsStraight way)
-settled_straight North = inl tt
-settled_straight South = inl tt
-settled_straight East = inl tt
-settled_straight West = inl tt
-settled_straight NorthEast = inr (λ h. h)
-settled_straight NorthWest = inr (λ h. h)
-settled_straight SouthEast = inr (λ h. h)
-settled_straight SouthWest = inr (λ h. h)
-
 -- a step of a pawn
 pub settled_forward : (side : Side) (a b : ℕ) → Settled (IsForward side a b)
 settled_forward White a b = cases_eq b (a + 1)
@@ -106,11 +89,11 @@ settled_reaches p side King s t = settled_three (settled_le _ 1) (settled_le _ 1
 settled_reaches p side Queen s t = search_way (λ way. IsOnRay p way s t) (λ way. settled_ray p way s t)
 settled_reaches p side Rook s t =
     settled_like (λ h. (h.0, h.1.0, h.1.1)) (λ h. (h.0, (h.1, h.2)))
-    (search_way (λ way. IsStraight way × IsOnRay p way s t) (λ way. settled_both (settled_straight way) (settled_ray p way s t)))
+    (search_way (λ way. IsStraight way × IsOnRay p way s t) (λ way. settled_both (straight_or_not way) (settled_ray p way s t)))
 settled_reaches p side Bishop s t =
     settled_like (λ h. (h.0, h.1.0, h.1.1)) (λ h. (h.0, (h.1, h.2)))
     (search_way (λ way. (¬ IsStraight way) × IsOnRay p way s t)
-    (λ way. settled_both (settled_not (settled_straight way)) (settled_ray p way s t)))
+    (λ way. settled_both (settled_not (straight_or_not way)) (settled_ray p way s t)))
 settled_reaches p side Knight s t =
     settled_either (settled_both (cases_eq _ 1) (cases_eq _ 2)) (settled_both (cases_eq _ 2) (cases_eq _ 1))
 settled_reaches p side Pawn s t = settled_both (cases_eq _ 1) (settled_forward side s.rank t.rank)

@@ -1,4 +1,5 @@
 pub mod PlaceFacts
+pub mod AxisSteps
 pub mod StepFacts
 pub mod BitFacts
 pub mod MovePieceFacts

@@ -1,57 +1,27 @@
 -- A man attacks the squares that it sees on the empty board, if no man stands between.
-use Rattle.std.proofs.Common.{◌≡◌, ◌↔◌, ◌<◌, ◌≤◌, ℕ, inl, inr, sym, subst, arith}
+use Rattle.std.proofs.Common.{◌≡◌, ◌↔◌, ◌≤◌, ℕ, inl, inr, sym, subst, arith}
 use Rattle.chess.specs.Public.Squares.{Place, IsAhead, gap}
 use Rattle.chess.specs.Public.Attacks.{IsJump, IsForward, IsOnRay, Reaches}
 use Rattle.chess.specs.Public.Placements.{Placement}
-use Rattle.chess.proofs.BoardFacts.{one_count}
 use Rattle.chess.specs.Private.PseudoAttacks.{IsInLine, IsPseudoAttack, IsUnblocked}
 use Rattle.chess.specs.declared.board.direction.Direction.{Direction}
-use Rattle.chess.specs.declared.board.direction.Direction.TheVariants.{North, South, East, West, NorthEast, NorthWest, SouthEast, SouthWest}
 use Rattle.chess.specs.declared.board.man.Side.{Side}
 use Rattle.chess.specs.declared.board.man.Side.TheVariants.{White, Black}
 use Rattle.chess.specs.declared.board.man.Kind.{Kind}
 use Rattle.chess.specs.declared.board.man.Kind.TheVariants.{King, Queen, Rook, Bishop, Knight, Pawn}
-use Rattle.chess.proofs.PseudoAttackFacts.{one_way}
+use Rattle.chess.proofs.AxisSteps.{steps_gap, even_gaps, one_count, one_way}
 
-far_near : (way : Direction) (k : ℕ) (s t : Place) → 2 ≤ k → IsAhead way k s t → gap s.file t.file ≤ 1 → gap s.rank t.rank ≤ 1 → ⊥
-far_near North k s t far a f r = let x = a.0 in let y = a.1 in omega arith
-far_near South k s t far a f r = let x = a.0 in let y = a.1 in omega arith
-far_near East k s t far a f r = let x = a.0 in let y = a.1 in omega arith
-far_near West k s t far a f r = let x = a.0 in let y = a.1 in omega arith
-far_near NorthEast k s t far a f r = let x = a.0 in let y = a.1 in omega arith
-far_near NorthWest k s t far a f r = let x = a.0 in let y = a.1 in omega arith
-far_near SouthEast k s t far a f r = let x = a.0 in let y = a.1 in omega arith
-far_near SouthWest k s t far a f r = let x = a.0 in let y = a.1 in omega arith
-
-no_line_one : (way : Direction) (k : ℕ) (s t : Place) → IsAhead way k s t → gap s.file t.file ≡ 1 → gap s.rank t.rank ≡ 2 → ⊥
-no_line_one North k s t a f r = let x = a.0 in let y = a.1 in omega arith
-no_line_one South k s t a f r = let x = a.0 in let y = a.1 in omega arith
-no_line_one East k s t a f r = let x = a.0 in let y = a.1 in omega arith
-no_line_one West k s t a f r = let x = a.0 in let y = a.1 in omega arith
-no_line_one NorthEast k s t a f r = let x = a.0 in let y = a.1 in omega arith
-no_line_one NorthWest k s t a f r = let x = a.0 in let y = a.1 in omega arith
-no_line_one SouthEast k s t a f r = let x = a.0 in let y = a.1 in omega arith
-no_line_one SouthWest k s t a f r = let x = a.0 in let y = a.1 in omega arith
-
-no_line_two : (way : Direction) (k : ℕ) (s t : Place) → IsAhead way k s t → gap s.file t.file ≡ 2 → gap s.rank t.rank ≡ 1 → ⊥
-no_line_two North k s t a f r = let x = a.0 in let y = a.1 in omega arith
-no_line_two South k s t a f r = let x = a.0 in let y = a.1 in omega arith
-no_line_two East k s t a f r = let x = a.0 in let y = a.1 in omega arith
-no_line_two West k s t a f r = let x = a.0 in let y = a.1 in omega arith
-no_line_two NorthEast k s t a f r = let x = a.0 in let y = a.1 in omega arith
-no_line_two NorthWest k s t a f r = let x = a.0 in let y = a.1 in omega arith
-no_line_two SouthEast k s t a f r = let x = a.0 in let y = a.1 in omega arith
-no_line_two SouthWest k s t a f r = let x = a.0 in let y = a.1 in omega arith
-
-two : (j k : ℕ) → 1 ≤ j → j < k → 2 ≤ k
-two j k low less = omega arith
+one_not_two : (a b : ℕ) → a ≡ 1 → b ≡ 2 → a ≡ b → ⊥
+one_not_two a b one two same = omega arith
 
 near_open : (p : Placement) (s t : Place) → gap s.file t.file ≤ 1 → gap s.rank t.rank ≤ 1 → IsUnblocked p s t
-near_open p s t f r u on h = absurd (far_near h.0 h.1 s t (two h.2 h.1 h.5 h.6) h.3 f r)
+near_open p s t f r u on h = let most = steps_gap h.0 h.1 s t h.3 in let low = h.5 in let less = h.6 in absurd (omega arith)
 
 jump_open : (p : Placement) (s t : Place) → IsJump s t → IsUnblocked p s t
-jump_open p s t (inl one) u on h = absurd (no_line_one h.0 h.1 s t h.3 one.0 one.1)
-jump_open p s t (inr other) u on h = absurd (no_line_two h.0 h.1 s t h.3 other.0 other.1)
+jump_open p s t (inl (f, r)) u on h =
+    absurd (one_not_two (gap s.file t.file) (gap s.rank t.rank) f r (even_gaps h.0 h.1 s t h.3 (omega (arith, f)) (omega (arith, r))))
+jump_open p s t (inr (f, r)) u on h =
+    absurd (one_not_two (gap s.rank t.rank) (gap s.file t.file) r f (sym (even_gaps h.0 h.1 s t h.3 (omega (arith, f)) (omega (arith, r)))))
 
 next_rank : (side : Side) (a b : ℕ) → IsForward side a b → gap a b ≤ 1
 next_rank White a b h = omega arith

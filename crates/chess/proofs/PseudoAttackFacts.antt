@@ -1,11 +1,12 @@
 -- What men see on the empty board: tests and the Laws' words.
-use Rattle.std.proofs.Common.{◌≡◌, ◌⊎◌, ◌↔◌, ◌+◌, ◌-◌, ◌<◌, ◌≤◌, ◌==◌, ◌&&◌, ◌||◌, not, ℕ, Bool, true, false, refl, inl, inr, arith}
-use Rattle.std.proofs.lemmas.Bool.{cases_eq, cases_lt}
+use Rattle.std.proofs.Common.{◌≡◌, ◌↔◌, ◌+◌, ◌-◌, ◌<◌, ◌≤◌, ◌==◌, ◌&&◌, ◌||◌, not, ℕ, Bool, true, inl, inr, arith}
+use Rattle.std.proofs.lemmas.Bool.{cases_eq, cases_lt, or_cases, or_left, or_right}
 use Rattle.std.proofs.lemmas.Bool.Decides.{nat_tests}
 use Rattle.chess.specs.Public.Squares.{Place, IsStraight, IsAhead}
 use Rattle.chess.specs.Private.PseudoAttacks.{IsInLine, IsPseudoAttack}
 use Rattle.chess.specs.declared.board.direction.Direction.{Direction}
 use Rattle.chess.specs.declared.board.direction.Direction.TheVariants.{North, South, East, West, NorthEast, NorthWest, SouthEast, SouthWest}
+use Rattle.chess.proofs.AxisSteps.{Axis, Up, Level, Down, file_step, rank_step, IsAheadBy, to_axes, IsMoving, steps_of, straight_or_not, axis_level, axis_apart}
 use Rattle.chess.specs.declared.board.man.Side.{Side}
 use Rattle.chess.specs.declared.board.man.Kind.{Kind}
 use Rattle.chess.specs.declared.board.man.Kind.TheVariants.{King, Queen, Rook, Bishop, Knight, Pawn}
@@ -43,21 +44,9 @@ sees side Pawn s t = is_pawn_hit side s t
 line_numbers : (a b x y : ℕ) → ((a == b && not (x == y)) ≡ true) ↔ ((a ≡ b) × (x ≡ y → ⊥))
 line_numbers a b x y = ((λ e. grind (arith, nat_tests)), (λ f. grind (arith, nat_tests)))
 
-either : (a b : Bool) → (a || b) ≡ true → (a ≡ true) ⊎ (b ≡ true)
-either true b e = inl refl
-either false b e = inr e
-
-right_too : (a b : Bool) → b ≡ true → (a || b) ≡ true
-right_too true b e = refl
-right_too false b e = e
-
-left_too : (a b : Bool) → a ≡ true → (a || b) ≡ true
-left_too true b e = refl
-left_too false b e = let f : false ≡ true = e in cc
-
 -- lines
 pub straight_line : (s t : Place) → straight s t ≡ true → (way : Direction) × IsStraight way × IsInLine way s t
-straight_line s t e = elim (either (on_file s t) (on_rank s t) e) [
+straight_line s t e = elim (or_cases (on_file s t) (on_rank s t) e) [
   | inl file ↦
       let at = (line_numbers s.file t.file s.rank t.rank).0 file in let same = at.0 in
       elim (cases_lt s.rank t.rank) [
@@ -75,7 +64,7 @@ straight_line s t e = elim (either (on_file s t) (on_rank s t) e) [
 ]
 
 pub diagonal_line : (s t : Place) → diagonal s t ≡ true → (way : Direction) × (¬ IsStraight way) × IsInLine way s t
-diagonal_line s t e = elim (either (rising s t) (falling s t) e) [
+diagonal_line s t e = elim (or_cases (rising s t) (falling s t) e) [
   | inl rise ↦
       let at = (line_numbers (s.file + t.rank) (t.file + s.rank) s.file t.file).0 rise in let same = at.0 in
       elim (cases_lt s.file t.file) [
@@ -96,45 +85,49 @@ on_line : (a b x y : ℕ) → a ≡ b → (x ≡ y → ⊥) → (a == b && not (
 on_line a b x y e f = (line_numbers a b x y).1 (e, f)
 
 pub straight_from : (way : Direction) → IsStraight way → (k : ℕ) (s t : Place) → 1 ≤ k → IsAhead way k s t → straight s t ≡ true
-straight_from North i k s t far a = let x = a.0 in let y = a.1 in left_too (on_file s t) (on_rank s t) (on_line s.file t.file s.rank t.rank (omega arith) (λ e. omega arith))
-straight_from South i k s t far a = let x = a.0 in let y = a.1 in left_too (on_file s t) (on_rank s t) (on_line s.file t.file s.rank t.rank (omega arith) (λ e. omega arith))
-straight_from East i k s t far a = let x = a.0 in let y = a.1 in right_too (on_file s t) (on_rank s t) (on_line s.rank t.rank s.file t.file (omega arith) (λ e. omega arith))
-straight_from West i k s t far a = let x = a.0 in let y = a.1 in right_too (on_file s t) (on_rank s t) (on_line s.rank t.rank s.file t.file (omega arith) (λ e. omega arith))
-straight_from NorthEast i k s t far a = absurd i
-straight_from NorthWest i k s t far a = absurd i
-straight_from SouthEast i k s t far a = absurd i
-straight_from SouthWest i k s t far a = absurd i
+straight_from way i k s t far a =
+    let x = file_step way in let y = rank_step way in let by = to_axes way k s t a in
+    elim (steps_of way) [
+      | inl is ↦ elim is.1 [
+        | inl file ↦
+            or_left (on_file s t) (on_rank s t)
+            (on_line s.file t.file s.rank t.rank (axis_level x k s.file t.file file.0 by.0) (axis_apart y k s.rank t.rank file.1 far by.1))
+        | inr rank ↦
+            or_right (on_file s t) (on_rank s t)
+            (on_line s.rank t.rank s.file t.file (axis_level y k s.rank t.rank rank.1 by.1) (axis_apart x k s.file t.file rank.0 far by.0))
+      ]
+      | inr not_so ↦ absurd (not_so.0 i)
+    ]
+
+rises : (s t : Place) → s.file + t.rank ≡ t.file + s.rank → (s.file ≡ t.file → ⊥) → diagonal s t ≡ true
+rises s t e apart = or_left (rising s t) (falling s t) (on_line (s.file + t.rank) (t.file + s.rank) s.file t.file e apart)
+
+falls : (s t : Place) → s.file + s.rank ≡ t.file + t.rank → (s.file ≡ t.file → ⊥) → diagonal s t ≡ true
+falls s t e apart = or_right (rising s t) (falling s t) (on_line (s.file + s.rank) (t.file + t.rank) s.file t.file e apart)
+
+slanted : (x y : Axis) → IsMoving x → IsMoving y → (k : ℕ) (s t : Place) → 1 ≤ k → IsAheadBy x y k s t → diagonal s t ≡ true
+slanted Level y m n k s t far by = absurd m
+slanted x Level m n k s t far by = absurd n
+slanted Up Up m n k s t far by = rises s t (omega (arith, by.0, by.1)) (λ e. omega (arith, by.0))
+slanted Down Down m n k s t far by = rises s t (omega (arith, by.0, by.1)) (λ e. omega (arith, by.0))
+slanted x y m n k s t far by = falls s t (omega (arith, by.0, by.1)) (λ e. omega (arith, by.0))
 
 pub diagonal_from : (way : Direction) → (¬ IsStraight way) → (k : ℕ) (s t : Place) → 1 ≤ k → IsAhead way k s t → diagonal s t ≡ true
-diagonal_from North i k s t far a = absurd (i tt)
-diagonal_from South i k s t far a = absurd (i tt)
-diagonal_from East i k s t far a = absurd (i tt)
-diagonal_from West i k s t far a = absurd (i tt)
-diagonal_from NorthEast i k s t far a = let x = a.0 in let y = a.1 in left_too (rising s t) (falling s t) (on_line (s.file + t.rank) (t.file + s.rank) s.file t.file (omega arith) (λ e. omega arith))
-diagonal_from SouthWest i k s t far a = let x = a.0 in let y = a.1 in left_too (rising s t) (falling s t) (on_line (s.file + t.rank) (t.file + s.rank) s.file t.file (omega arith) (λ e. omega arith))
-diagonal_from NorthWest i k s t far a = let x = a.0 in let y = a.1 in right_too (rising s t) (falling s t) (on_line (s.file + s.rank) (t.file + t.rank) s.file t.file (omega arith) (λ e. omega arith))
-diagonal_from SouthEast i k s t far a = let x = a.0 in let y = a.1 in right_too (rising s t) (falling s t) (on_line (s.file + s.rank) (t.file + t.rank) s.file t.file (omega arith) (λ e. omega arith))
-
-pub straight_or_not : (way : Direction) → IsStraight way ⊎ (¬ IsStraight way)
-straight_or_not North = inl tt
-straight_or_not South = inl tt
-straight_or_not East = inl tt
-straight_or_not West = inl tt
-straight_or_not NorthEast = inr (λ i. i)
-straight_or_not NorthWest = inr (λ i. i)
-straight_or_not SouthEast = inr (λ i. i)
-straight_or_not SouthWest = inr (λ i. i)
+diagonal_from way i k s t far a = elim (steps_of way) [
+  | inl is ↦ absurd (i is.0)
+  | inr moves ↦ slanted (file_step way) (rank_step way) moves.1 moves.2 k s t far (to_axes way k s t a)
+]
 
 pub any_line : (s t : Place) → (straight s t || diagonal s t) ≡ true → (way : Direction) × IsInLine way s t
-any_line s t e = elim (either (straight s t) (diagonal s t) e) [
+any_line s t e = elim (or_cases (straight s t) (diagonal s t) e) [
   | inl is ↦ let found = straight_line s t is in (found.0, found.2)
   | inr is ↦ let found = diagonal_line s t is in (found.0, found.2)
 ]
 
 pub line_from : (way : Direction) (k : ℕ) (s t : Place) → 1 ≤ k → IsAhead way k s t → (straight s t || diagonal s t) ≡ true
 line_from way k s t far a = elim (straight_or_not way) [
-  | inl is ↦ left_too (straight s t) (diagonal s t) (straight_from way is k s t far a)
-  | inr not_so ↦ right_too (straight s t) (diagonal s t) (diagonal_from way not_so k s t far a)
+  | inl is ↦ or_left (straight s t) (diagonal s t) (straight_from way is k s t far a)
+  | inr not_so ↦ or_right (straight s t) (diagonal s t) (diagonal_from way not_so k s t far a)
 ]
 
 pub sees_is : (side : Side) (kind : Kind) (s t : Place) → (sees side kind s t ≡ true) ↔ IsPseudoAttack side kind s t
@@ -144,70 +137,3 @@ sees_is side Rook s t = (straight_line s t, (λ f. straight_from f.0 f.1 f.2.0 s
 sees_is side Bishop s t = (diagonal_line s t, (λ f. diagonal_from f.0 f.1 f.2.0 s t f.2.1 f.2.2))
 sees_is side Knight s t = jump_is s t
 sees_is side Pawn s t = pawn_is side s t
-
--- one way leads to a square
-pub one_way : (way other : Direction) (k m : ℕ) (s t : Place) → 1 ≤ k → 1 ≤ m → IsAhead way k s t → IsAhead other m s t → way ≡ other
-one_way North North k m s t p q x y = refl
-one_way North South k m s t p q x y = let x0 = x.0 in let x1 = x.1 in let y0 = y.0 in let y1 = y.1 in absurd (omega arith)
-one_way North East k m s t p q x y = let x0 = x.0 in let x1 = x.1 in let y0 = y.0 in let y1 = y.1 in absurd (omega arith)
-one_way North West k m s t p q x y = let x0 = x.0 in let x1 = x.1 in let y0 = y.0 in let y1 = y.1 in absurd (omega arith)
-one_way North NorthEast k m s t p q x y = let x0 = x.0 in let x1 = x.1 in let y0 = y.0 in let y1 = y.1 in absurd (omega arith)
-one_way North NorthWest k m s t p q x y = let x0 = x.0 in let x1 = x.1 in let y0 = y.0 in let y1 = y.1 in absurd (omega arith)
-one_way North SouthEast k m s t p q x y = let x0 = x.0 in let x1 = x.1 in let y0 = y.0 in let y1 = y.1 in absurd (omega arith)
-one_way North SouthWest k m s t p q x y = let x0 = x.0 in let x1 = x.1 in let y0 = y.0 in let y1 = y.1 in absurd (omega arith)
-one_way South North k m s t p q x y = let x0 = x.0 in let x1 = x.1 in let y0 = y.0 in let y1 = y.1 in absurd (omega arith)
-one_way South South k m s t p q x y = refl
-one_way South East k m s t p q x y = let x0 = x.0 in let x1 = x.1 in let y0 = y.0 in let y1 = y.1 in absurd (omega arith)
-one_way South West k m s t p q x y = let x0 = x.0 in let x1 = x.1 in let y0 = y.0 in let y1 = y.1 in absurd (omega arith)
-one_way South NorthEast k m s t p q x y = let x0 = x.0 in let x1 = x.1 in let y0 = y.0 in let y1 = y.1 in absurd (omega arith)
-one_way South NorthWest k m s t p q x y = let x0 = x.0 in let x1 = x.1 in let y0 = y.0 in let y1 = y.1 in absurd (omega arith)
-one_way South SouthEast k m s t p q x y = let x0 = x.0 in let x1 = x.1 in let y0 = y.0 in let y1 = y.1 in absurd (omega arith)
-one_way South SouthWest k m s t p q x y = let x0 = x.0 in let x1 = x.1 in let y0 = y.0 in let y1 = y.1 in absurd (omega arith)
-one_way East North k m s t p q x y = let x0 = x.0 in let x1 = x.1 in let y0 = y.0 in let y1 = y.1 in absurd (omega arith)
-one_way East South k m s t p q x y = let x0 = x.0 in let x1 = x.1 in let y0 = y.0 in let y1 = y.1 in absurd (omega arith)
-one_way East East k m s t p q x y = refl
-one_way East West k m s t p q x y = let x0 = x.0 in let x1 = x.1 in let y0 = y.0 in let y1 = y.1 in absurd (omega arith)
-one_way East NorthEast k m s t p q x y = let x0 = x.0 in let x1 = x.1 in let y0 = y.0 in let y1 = y.1 in absurd (omega arith)
-one_way East NorthWest k m s t p q x y = let x0 = x.0 in let x1 = x.1 in let y0 = y.0 in let y1 = y.1 in absurd (omega arith)
-one_way East SouthEast k m s t p q x y = let x0 = x.0 in let x1 = x.1 in let y0 = y.0 in let y1 = y.1 in absurd (omega arith)
-one_way East SouthWest k m s t p q x y = let x0 = x.0 in let x1 = x.1 in let y0 = y.0 in let y1 = y.1 in absurd (omega arith)
-one_way West North k m s t p q x y = let x0 = x.0 in let x1 = x.1 in let y0 = y.0 in let y1 = y.1 in absurd (omega arith)
-one_way West South k m s t p q x y = let x0 = x.0 in let x1 = x.1 in let y0 = y.0 in let y1 = y.1 in absurd (omega arith)
-one_way West East k m s t p q x y = let x0 = x.0 in let x1 = x.1 in let y0 = y.0 in let y1 = y.1 in absurd (omega arith)
-one_way West West k m s t p q x y = refl
-one_way West NorthEast k m s t p q x y = let x0 = x.0 in let x1 = x.1 in let y0 = y.0 in let y1 = y.1 in absurd (omega arith)
-one_way West NorthWest k m s t p q x y = let x0 = x.0 in let x1 = x.1 in let y0 = y.0 in let y1 = y.1 in absurd (omega arith)
-one_way West SouthEast k m s t p q x y = let x0 = x.0 in let x1 = x.1 in let y0 = y.0 in let y1 = y.1 in absurd (omega arith)
-one_way West SouthWest k m s t p q x y = let x0 = x.0 in let x1 = x.1 in let y0 = y.0 in let y1 = y.1 in absurd (omega arith)
-one_way NorthEast North k m s t p q x y = let x0 = x.0 in let x1 = x.1 in let y0 = y.0 in let y1 = y.1 in absurd (omega arith)
-one_way NorthEast South k m s t p q x y = let x0 = x.0 in let x1 = x.1 in let y0 = y.0 in let y1 = y.1 in absurd (omega arith)
-one_way NorthEast East k m s t p q x y = let x0 = x.0 in let x1 = x.1 in let y0 = y.0 in let y1 = y.1 in absurd (omega arith)
-one_way NorthEast West k m s t p q x y = let x0 = x.0 in let x1 = x.1 in let y0 = y.0 in let y1 = y.1 in absurd (omega arith)
-one_way NorthEast NorthEast k m s t p q x y = refl
-one_way NorthEast NorthWest k m s t p q x y = let x0 = x.0 in let x1 = x.1 in let y0 = y.0 in let y1 = y.1 in absurd (omega arith)
-one_way NorthEast SouthEast k m s t p q x y = let x0 = x.0 in let x1 = x.1 in let y0 = y.0 in let y1 = y.1 in absurd (omega arith)
-one_way NorthEast SouthWest k m s t p q x y = let x0 = x.0 in let x1 = x.1 in let y0 = y.0 in let y1 = y.1 in absurd (omega arith)
-one_way NorthWest North k m s t p q x y = let x0 = x.0 in let x1 = x.1 in let y0 = y.0 in let y1 = y.1 in absurd (omega arith)
-one_way NorthWest South k m s t p q x y = let x0 = x.0 in let x1 = x.1 in let y0 = y.0 in let y1 = y.1 in absurd (omega arith)
-one_way NorthWest East k m s t p q x y = let x0 = x.0 in let x1 = x.1 in let y0 = y.0 in let y1 = y.1 in absurd (omega arith)
-one_way NorthWest West k m s t p q x y = let x0 = x.0 in let x1 = x.1 in let y0 = y.0 in let y1 = y.1 in absurd (omega arith)
-one_way NorthWest NorthEast k m s t p q x y = let x0 = x.0 in let x1 = x.1 in let y0 = y.0 in let y1 = y.1 in absurd (omega arith)
-one_way NorthWest NorthWest k m s t p q x y = refl
-one_way NorthWest SouthEast k m s t p q x y = let x0 = x.0 in let x1 = x.1 in let y0 = y.0 in let y1 = y.1 in absurd (omega arith)
-one_way NorthWest SouthWest k m s t p q x y = let x0 = x.0 in let x1 = x.1 in let y0 = y.0 in let y1 = y.1 in absurd (omega arith)
-one_way SouthEast North k m s t p q x y = let x0 = x.0 in let x1 = x.1 in let y0 = y.0 in let y1 = y.1 in absurd (omega arith)
-one_way SouthEast South k m s t p q x y = let x0 = x.0 in let x1 = x.1 in let y0 = y.0 in let y1 = y.1 in absurd (omega arith)
-one_way SouthEast East k m s t p q x y = let x0 = x.0 in let x1 = x.1 in let y0 = y.0 in let y1 = y.1 in absurd (omega arith)
-one_way SouthEast West k m s t p q x y = let x0 = x.0 in let x1 = x.1 in let y0 = y.0 in let y1 = y.1 in absurd (omega arith)
-one_way SouthEast NorthEast k m s t p q x y = let x0 = x.0 in let x1 = x.1 in let y0 = y.0 in let y1 = y.1 in absurd (omega arith)
-one_way SouthEast NorthWest k m s t p q x y = let x0 = x.0 in let x1 = x.1 in let y0 = y.0 in let y1 = y.1 in absurd (omega arith)
-one_way SouthEast SouthEast k m s t p q x y = refl
-one_way SouthEast SouthWest k m s t p q x y = let x0 = x.0 in let x1 = x.1 in let y0 = y.0 in let y1 = y.1 in absurd (omega arith)
-one_way SouthWest North k m s t p q x y = let x0 = x.0 in let x1 = x.1 in let y0 = y.0 in let y1 = y.1 in absurd (omega arith)
-one_way SouthWest South k m s t p q x y = let x0 = x.0 in let x1 = x.1 in let y0 = y.0 in let y1 = y.1 in absurd (omega arith)
-one_way SouthWest East k m s t p q x y = let x0 = x.0 in let x1 = x.1 in let y0 = y.0 in let y1 = y.1 in absurd (omega arith)
-one_way SouthWest West k m s t p q x y = let x0 = x.0 in let x1 = x.1 in let y0 = y.0 in let y1 = y.1 in absurd (omega arith)
-one_way SouthWest NorthEast k m s t p q x y = let x0 = x.0 in let x1 = x.1 in let y0 = y.0 in let y1 = y.1 in absurd (omega arith)
-one_way SouthWest NorthWest k m s t p q x y = let x0 = x.0 in let x1 = x.1 in let y0 = y.0 in let y1 = y.1 in absurd (omega arith)
-one_way SouthWest SouthEast k m s t p q x y = let x0 = x.0 in let x1 = x.1 in let y0 = y.0 in let y1 = y.1 in absurd (omega arith)
-one_way SouthWest SouthWest k m s t p q x y = refl

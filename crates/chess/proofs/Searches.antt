@@ -1,16 +1,16 @@
 -- Searches over the squares, ways, kinds, wings, sides and men of chess, and the equality of its values.
-use Rattle.std.proofs.Common.{◌⊎◌, Option, inl, inr, refl, subst, sym}
+use Rattle.std.proofs.Common.{◌≡◌, ◌⊎◌, Bool, true, false, Option, Some, None, inl, inr, refl, subst, sym}
 use Rattle.chess.specs.Public.Squares.{Place, IsOnBoard, square_at, index_of}
 use Rattle.chess.specs.Shared.SetFacts.{square_at-index_of, index_of-below, on_board-square_at}
 use Rattle.chess.specs.Shared.Codes.{is_black_side, side_of, side_back, kind_bits, kind_by, kind_back}
 use Rattle.chess.specs.declared.board.direction.Direction.{Direction}
-use Rattle.chess.specs.declared.board.direction.Direction.TheVariants.{North, South, East, West, NorthEast, NorthWest, SouthEast, SouthWest}
 use Rattle.chess.specs.declared.board.man.Man.{Man}
 use Rattle.chess.specs.declared.board.man.Side.{Side}
 use Rattle.chess.specs.declared.board.man.Kind.{Kind}
 use Rattle.chess.specs.declared.board.man.Wing.{Wing}
 use Rattle.chess.specs.declared.board.man.Wing.TheVariants.{KingSide, QueenSide}
 use Rattle.chess.specs.declared.moves.Move.{Move}
+use Rattle.chess.proofs.AxisSteps.{Axis, Up, Level, Down, file_step, rank_step, way_of, way_back}
 use Rattle.chess.proofs.PlaceFacts.{cases_place}
 use Rattle.chess.proofs.Settled.{settled_like, settled_either, settled_below, Search, SearchIn, search_by, search_pair, search_bool, search_option, Cases, cases_by, cases_pair, cases_bool, cases_option}
 
@@ -22,34 +22,26 @@ search_square F each =
     (λ h. (index_of h.0, index_of-below h.0 h.1, subst F (sym (square_at-index_of h.0 h.1)) h.2))
     (settled_below 64 (λ k. F (square_at k)) (λ k less. each (square_at k)))
 
-abbrev EitherWay : (Direction → Type 0) → Type 0
-EitherWay F = F North ⊎ (F South ⊎ (F East ⊎ (F West ⊎ (F NorthEast ⊎ (F NorthWest ⊎ (F SouthEast ⊎ F SouthWest))))))
+abbrev axis_code : Axis → Option Bool
+axis_code Up = Some true
+axis_code Level = None
+axis_code Down = Some false
 
-a_way : (F : Direction → Type 0) → EitherWay F → (way : Direction) × F way
-a_way F (inl h) = (North, h)
-a_way F (inr (inl h)) = (South, h)
-a_way F (inr (inr (inl h))) = (East, h)
-a_way F (inr (inr (inr (inl h)))) = (West, h)
-a_way F (inr (inr (inr (inr (inl h))))) = (NorthEast, h)
-a_way F (inr (inr (inr (inr (inr (inl h)))))) = (NorthWest, h)
-a_way F (inr (inr (inr (inr (inr (inr (inl h))))))) = (SouthEast, h)
-a_way F (inr (inr (inr (inr (inr (inr (inr h))))))) = (SouthWest, h)
+abbrev axis_by : Option Bool → Axis
+axis_by (Some true) = Up
+axis_by (Some false) = Down
+axis_by None = Level
 
-which_way : (F : Direction → Type 0) (way : Direction) → F way → EitherWay F
-which_way F North h = inl h
-which_way F South h = inr (inl h)
-which_way F East h = inr (inr (inl h))
-which_way F West h = inr (inr (inr (inl h)))
-which_way F NorthEast h = inr (inr (inr (inr (inl h))))
-which_way F NorthWest h = inr (inr (inr (inr (inr (inl h)))))
-which_way F SouthEast h = inr (inr (inr (inr (inr (inr (inl h))))))
-which_way F SouthWest h = inr (inr (inr (inr (inr (inr (inr h))))))
+axis_back : (x : Axis) → axis_by (axis_code x) ≡ x
+axis_back Up = refl
+axis_back Level = refl
+axis_back Down = refl
+
+search_axis : Search Axis
+search_axis = search_by axis_code axis_by axis_back (search_option search_bool)
 
 pub search_way : Search Direction
-search_way F each =
-    settled_like (a_way F) (λ p. which_way F p.0 p.1)
-    (settled_either (each North) (settled_either (each South) (settled_either (each East) (settled_either (each West)
-    (settled_either (each NorthEast) (settled_either (each NorthWest) (settled_either (each SouthEast) (each SouthWest))))))))
+search_way = search_by (λ way. (file_step way, rank_step way)) (λ p. way_of p.0 p.1) way_back (search_pair search_axis search_axis)
 
 a_wing : (F : Wing → Type 0) → F KingSide ⊎ F QueenSide → (wing : Wing) × F wing
 a_wing F (inl h) = (KingSide, h)

@@ -12,7 +12,7 @@ use Rattle.chess.specs.Public.Positions.{king_of, rook_of, pawn_of, king_from, r
 use Rattle.chess.specs.Shared.Codes.{IsKept}
 use Rattle.chess.specs.Public.Start.{initial_piece, initial_man, initial_men, initial}
 use Rattle.chess.specs.declared.board.direction.Direction.{Direction}
-use Rattle.chess.specs.declared.board.direction.Direction.TheVariants.{North, South, East, West, NorthEast, NorthWest, SouthEast, SouthWest}
+use Rattle.chess.specs.declared.board.direction.Direction.TheVariants.{North, NorthEast, NorthWest}
 use Rattle.chess.specs.declared.board.man.Man.{Man}
 use Rattle.chess.specs.declared.board.man.Side.{Side}
 use Rattle.chess.specs.declared.board.man.Side.TheVariants.{White, Black}
@@ -151,9 +151,6 @@ ray_ends North s low ray =
     let a = ray.ahead.0 in let b = ray.ahead.1 in
     blocked 5 (omega arith) (omega arith) (ray.clear (ray.steps - 1) (record { file = 5; rank = 7 }) (on_seventh 5 (omega arith) (omega arith))
     (omega arith) (omega arith) (omega arith, omega arith))
-ray_ends South s low ray = let b = ray.ahead.1 in omega arith
-ray_ends East s low ray = let b = ray.ahead.1 in omega arith
-ray_ends West s low ray = let b = ray.ahead.1 in omega arith
 ray_ends NorthEast s low ray =
     let a = ray.ahead.0 in let b = ray.ahead.1 in
     blocked 4 (omega arith) (omega arith) (ray.clear (ray.steps - 1) (record { file = 4; rank = 7 }) (on_seventh 4 (omega arith) (omega arith))
@@ -162,8 +159,7 @@ ray_ends NorthWest s low ray =
     let a = ray.ahead.0 in let b = ray.ahead.1 in
     blocked 6 (omega arith) (omega arith) (ray.clear (ray.steps - 1) (record { file = 6; rank = 7 }) (on_seventh 6 (omega arith) (omega arith))
     (omega arith) (omega arith) (omega arith, omega arith))
-ray_ends SouthEast s low ray = let b = ray.ahead.1 in omega arith
-ray_ends SouthWest s low ray = let b = ray.ahead.1 in omega arith
+ray_ends way s low ray = let b = ray.ahead.1 in omega arith
 
 no_hit : (other : Kind) (s : Place) → s.rank ≤ 2 → Reaches initial_men White other s (king_from Black) → ⊥
 no_hit King s low h = let a = h.1 in omega arith
