@@ -1,6 +1,6 @@
 -- What men see on the empty board: tests and the Laws' words.
-use Rattle.std.proofs.Common.{◌≡◌, ◌↔◌, ◌+◌, ◌-◌, ◌<◌, ◌≤◌, ◌==◌, ◌&&◌, ◌||◌, not, ℕ, Bool, true, inl, inr, arith}
-use Rattle.std.proofs.lemmas.Bool.{cases_eq, cases_lt, or_cases, or_left, or_right}
+use Rattle.std.proofs.Common.{◌≡◌, ◌⊎◌, ◌↔◌, ◌+◌, ◌-◌, ◌<◌, ◌≤◌, ◌==◌, ◌&&◌, ◌||◌, not, ℕ, Bool, true, inl, inr, arith}
+use Rattle.std.proofs.lemmas.Bool.{cases_order, or_cases, or_left, or_right}
 use Rattle.std.proofs.lemmas.Bool.Decides.{nat_tests}
 use Rattle.chess.specs.Public.Squares.{Place, IsStraight, IsAhead}
 use Rattle.chess.specs.Private.PseudoAttacks.{IsInLine, IsPseudoAttack}
@@ -44,22 +44,23 @@ sees side Pawn s t = is_pawn_hit side s t
 line_numbers : (a b x y : ℕ) → ((a == b && not (x == y)) ≡ true) ↔ ((a ≡ b) × (x ≡ y → ⊥))
 line_numbers a b x y = ((λ e. grind (arith, nat_tests)), (λ f. grind (arith, nat_tests)))
 
+up_or_down : (a b : ℕ) → (a ≡ b → ⊥) → (a < b) ⊎ (b < a)
+up_or_down a b apart = elim (cases_order a b) [ inl tie ↦ absurd (apart tie) | inr which ↦ which ]
+
 -- lines
 pub straight_line : (s t : Place) → straight s t ≡ true → (way : Direction) × IsStraight way × IsInLine way s t
 straight_line s t e = elim (or_cases (on_file s t) (on_rank s t) e) [
   | inl file ↦
       let at = (line_numbers s.file t.file s.rank t.rank).0 file in let same = at.0 in
-      elim (cases_lt s.rank t.rank) [
+      elim (up_or_down s.rank t.rank at.1) [
         | inl up ↦ (North, tt, (t.rank - s.rank, omega arith, (omega arith, omega arith)))
-        | inr down ↦ let less : t.rank < s.rank = elim (cases_eq s.rank t.rank) [ inl tie ↦ absurd (at.1 tie) | inr other ↦ omega arith ] in
-            (South, tt, (s.rank - t.rank, omega arith, (omega arith, omega arith)))
+        | inr down ↦ (South, tt, (s.rank - t.rank, omega arith, (omega arith, omega arith)))
       ]
   | inr rank ↦
       let at = (line_numbers s.rank t.rank s.file t.file).0 rank in let same = at.0 in
-      elim (cases_lt s.file t.file) [
+      elim (up_or_down s.file t.file at.1) [
         | inl up ↦ (East, tt, (t.file - s.file, omega arith, (omega arith, omega arith)))
-        | inr down ↦ let less : t.file < s.file = elim (cases_eq s.file t.file) [ inl tie ↦ absurd (at.1 tie) | inr other ↦ omega arith ] in
-            (West, tt, (s.file - t.file, omega arith, (omega arith, omega arith)))
+        | inr down ↦ (West, tt, (s.file - t.file, omega arith, (omega arith, omega arith)))
       ]
 ]
 
@@ -67,17 +68,15 @@ pub diagonal_line : (s t : Place) → diagonal s t ≡ true → (way : Direction
 diagonal_line s t e = elim (or_cases (rising s t) (falling s t) e) [
   | inl rise ↦
       let at = (line_numbers (s.file + t.rank) (t.file + s.rank) s.file t.file).0 rise in let same = at.0 in
-      elim (cases_lt s.file t.file) [
+      elim (up_or_down s.file t.file at.1) [
         | inl up ↦ (NorthEast, (λ i. i), (t.file - s.file, omega arith, (omega arith, omega arith)))
-        | inr down ↦ let less : t.file < s.file = elim (cases_eq s.file t.file) [ inl tie ↦ absurd (at.1 tie) | inr other ↦ omega arith ] in
-            (SouthWest, (λ i. i), (s.file - t.file, omega arith, (omega arith, omega arith)))
+        | inr down ↦ (SouthWest, (λ i. i), (s.file - t.file, omega arith, (omega arith, omega arith)))
       ]
   | inr fall ↦
       let at = (line_numbers (s.file + s.rank) (t.file + t.rank) s.file t.file).0 fall in let same = at.0 in
-      elim (cases_lt s.file t.file) [
+      elim (up_or_down s.file t.file at.1) [
         | inl up ↦ (SouthEast, (λ i. i), (t.file - s.file, omega arith, (omega arith, omega arith)))
-        | inr down ↦ let less : t.file < s.file = elim (cases_eq s.file t.file) [ inl tie ↦ absurd (at.1 tie) | inr other ↦ omega arith ] in
-            (NorthWest, (λ i. i), (s.file - t.file, omega arith, (omega arith, omega arith)))
+        | inr down ↦ (NorthWest, (λ i. i), (s.file - t.file, omega arith, (omega arith, omega arith)))
       ]
 ]
 

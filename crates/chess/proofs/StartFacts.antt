@@ -3,7 +3,7 @@ use Rattle.std.proofs.Common.{◌≡◌, ◌≢◌, ◌≤◌, ◌+◌, ◌-◌,
 use Rattle.std.specs.Prelude.{◌==◌}
 use Rattle.std.proofs.lemmas.Bool.{agree_below, agree_below_at}
 use Rattle.std.proofs.lemmas.Bool.Decides.{nat_tests}
-use Rattle.chess.specs.Public.Squares.{Place, IsOnBoard, square_at, index_of}
+use Rattle.chess.specs.Public.Squares.{Place, IsOnBoard, square_at, index_of, IsAhead}
 use Rattle.chess.specs.Shared.SetFacts.{square_at-index_of, index_of-below}
 use Rattle.chess.specs.Public.Placements.{first_men, no_men, with_man, man_at, IsEmpty}
 use Rattle.chess.specs.Public.Attacks.{Reaches, IsOnRay, IsAttacked}
@@ -146,19 +146,18 @@ blocked file low high empty = some_not_none (man_at initial_men (record { file =
 on_seventh : (file : ℕ) → 1 ≤ file → file ≤ 8 → IsOnBoard (record { file = file; rank = 7 })
 on_seventh file low high = record { file_low = low; file_high = high; rank_low = omega arith; rank_high = omega arith }
 
+ray_blocked : (way : Direction) (s : Place) (file : ℕ) → 1 ≤ file → file ≤ 8 → (ray : IsOnRay initial_men way s (king_from Black)) → 2 ≤ ray.steps
+    → IsAhead way (ray.steps - 1) s (record { file = file; rank = 7 }) → ⊥
+ray_blocked way s file low high ray far a =
+    blocked file low high (ray.clear (ray.steps - 1) (record { file = file; rank = 7 }) (on_seventh file low high) (omega arith) (omega arith) a)
+
 ray_ends : (way : Direction) (s : Place) → s.rank ≤ 2 → IsOnRay initial_men way s (king_from Black) → ⊥
 ray_ends North s low ray =
-    let a = ray.ahead.0 in let b = ray.ahead.1 in
-    blocked 5 (omega arith) (omega arith) (ray.clear (ray.steps - 1) (record { file = 5; rank = 7 }) (on_seventh 5 (omega arith) (omega arith))
-    (omega arith) (omega arith) (omega arith, omega arith))
+    let a = ray.ahead.0 in let b = ray.ahead.1 in ray_blocked North s 5 (omega arith) (omega arith) ray (omega arith) (omega arith, omega arith)
 ray_ends NorthEast s low ray =
-    let a = ray.ahead.0 in let b = ray.ahead.1 in
-    blocked 4 (omega arith) (omega arith) (ray.clear (ray.steps - 1) (record { file = 4; rank = 7 }) (on_seventh 4 (omega arith) (omega arith))
-    (omega arith) (omega arith) (omega arith, omega arith))
+    let a = ray.ahead.0 in let b = ray.ahead.1 in ray_blocked NorthEast s 4 (omega arith) (omega arith) ray (omega arith) (omega arith, omega arith)
 ray_ends NorthWest s low ray =
-    let a = ray.ahead.0 in let b = ray.ahead.1 in
-    blocked 6 (omega arith) (omega arith) (ray.clear (ray.steps - 1) (record { file = 6; rank = 7 }) (on_seventh 6 (omega arith) (omega arith))
-    (omega arith) (omega arith) (omega arith, omega arith))
+    let a = ray.ahead.0 in let b = ray.ahead.1 in ray_blocked NorthWest s 6 (omega arith) (omega arith) ray (omega arith) (omega arith, omega arith)
 ray_ends way s low ray = let b = ray.ahead.1 in omega arith
 
 no_hit : (other : Kind) (s : Place) → s.rank ≤ 2 → Reaches initial_men White other s (king_from Black) → ⊥
