@@ -1,6 +1,6 @@
 -- Facts that boards rest on.
-use Rattle.std.proofs.Common.{◌≡◌, ◌↔◌, ◌⊎◌, ◌<◌, ◌≤◌, ◌+◌, ◌&&◌, ◌||◌, ℕ, Bool, true, false, inl, inr, ap, refl, sym, subst, ◌∙◌, arith, IsTrue, Some, None}
-use Rattle.std.proofs.lemmas.Bool.{cases_eq}
+use Rattle.std.proofs.Common.{◌≡◌, ◌↔◌, ◌<◌, ◌≤◌, ◌+◌, ◌&&◌, ◌||◌, ℕ, Bool, true, false, inl, inr, ap, refl, sym, subst, ◌∙◌, arith, IsTrue, Some, None}
+use Rattle.std.proofs.lemmas.Bool.{cases_eq, or_cases, or_left, true≢false}
 use Rattle.chess.specs.Public.Squares.{Place, IsOnBoard, square_at, index_of, same_square}
 use Rattle.chess.specs.Shared.SquareFacts.{index_of-square_at}
 use Rattle.chess.specs.Shared.SetFacts.{square_at-index_of, on_board-square_at, same_squares, other_squares, is_in-empty}
@@ -15,20 +15,6 @@ pub record IsGathered (fact : Place → Type 0) (n : ℕ) (set : Places) : Type 
   pub none : (s : Place) → IsOnBoard s → n ≤ index_of s → is_in set s ≡ false
   pub inside : (s : Place) → is_in set s ≡ true → IsOnBoard s
 
-true_not_false : true ≡ false → ⊥
-true_not_false e = cc
-
-index_of-at : (n : ℕ) → n < 64 → index_of (square_at n) ≡ n
-index_of-at n h = index_of-square_at n h
-
-or_either : (a b : Bool) → (a || b) ≡ true → (a ≡ true) ⊎ (b ≡ true)
-or_either true b e = inl refl
-or_either false b e = inr e
-
-true_or : (b : Bool) → b ≡ true → (a : Bool) → (b || a) ≡ true
-true_or true e a = refl
-true_or false e a = let f : false ≡ true = e in cc
-
 -- the nth square is the one at its place
 the_square : (s : Place) (n : ℕ) → IsOnBoard s → index_of s ≡ n → s ≡ square_at n
 the_square s n on_board e = sym (square_at-index_of s on_board) ∙ ap square_at e
@@ -40,20 +26,20 @@ gathered_more fact n old new h so_far holds put = record {
     | inl same ↦
         let here = the_square s n on_board same in
         let in_set : is_in new s ≡ true =
-        put s ∙ true_or _ (same_squares (square_at n) s (on_board-square_at n h) on_board (ap index_of (sym here))) (is_in old s) in
+        put s ∙ or_left _ (is_in old s) (same_squares (square_at n) s (on_board-square_at n h) on_board (ap index_of (sym here))) in
         ((λ e. subst fact (sym here) holds), (λ f. in_set))
     | inr other ↦
         let apart = other_squares (square_at n) s (on_board-square_at n h) on_board
-        (λ e. other (sym e ∙ index_of-at n h)) in
+        (λ e. other (sym e ∙ index_of-square_at n h)) in
         let as_before : is_in new s ≡ is_in old s = put s ∙ ap (λ b. b || is_in old s) apart in
         let before = so_far.there s on_board (omega arith) in
         ((λ e. before.0 (sym as_before ∙ e)), (λ f. as_before ∙ before.1 f))
   ];
   none = λ s on_board more.
       let apart = other_squares (square_at n) s (on_board-square_at n h) on_board
-      (λ e. let place = index_of-at n h in omega arith) in
+      (λ e. let place = index_of-square_at n h in omega arith) in
       put s ∙ ap (λ b. b || is_in old s) apart ∙ so_far.none s on_board (omega arith);
-  inside = λ s here. elim (or_either (same_square (square_at n) s) (is_in old s) (sym (put s) ∙ here)) [
+  inside = λ s here. elim (or_cases (same_square (square_at n) s) (is_in old s) (sym (put s) ∙ here)) [
     | inl added ↦ subst IsOnBoard (same_square-then (square_at n) s added) (on_board-square_at n h)
     | inr before ↦ so_far.inside s before
   ];
@@ -64,7 +50,7 @@ gathered_skip fact n set h so_far fails = record {
   there = λ s on_board less. elim (cases_eq (index_of s) n) [
     | inl same ↦
         let here = the_square s n on_board same in (
-          (λ e. let out = so_far.none s on_board (omega arith) in let no : true ≡ false = sym e ∙ out in absurd (true_not_false no)),
+          (λ e. let out = so_far.none s on_board (omega arith) in let no : true ≡ false = sym e ∙ out in absurd (true≢false no)),
           (λ f. absurd (fails (subst fact here f))),
         )
     | inr other ↦ so_far.there s on_board (omega arith)
@@ -90,13 +76,13 @@ gathered_step fact n old new t true h so_far here test put =
     (λ s. put s ∙ ap (λ (u : Place). same_square u s || is_in old s) here)
 gathered_step fact n old new t false h so_far here test put =
     gathered_same fact (n + 1) old new
-    (gathered_skip fact n old h so_far (λ f. let no : false ≡ true = test.1 (subst fact (sym here) f) in absurd (true_not_false (sym no)))) put
+    (gathered_skip fact n old h so_far (λ f. let no : false ≡ true = test.1 (subst fact (sym here) f) in absurd (true≢false (sym no)))) put
 
 pub gathered_none : (fact : Place → Type 0) (set : Places) → set ≡ no_places → IsGathered fact 0 set
 gathered_none fact set e = record {
   there = λ s on_board less. absurd (omega arith);
   none = λ s on_board more. ap (λ set. is_in set s) e ∙ is_in-empty s;
-  inside = λ s here. let clash : true ≡ false = sym here ∙ ap (λ set. is_in set s) e ∙ is_in-empty s in absurd (true_not_false clash);
+  inside = λ s here. let clash : true ≡ false = sym here ∙ ap (λ set. is_in set s) e ∙ is_in-empty s in absurd (true≢false clash);
 }
 
 -- no square of 64 has the fact
@@ -107,6 +93,6 @@ IsNoneYet fact n = (s : Place) → IsOnBoard s → index_of s < n → fact s →
 pub no_reach : (p : Placement) (s : Place) (set : Places) → man_at p s ≡ None → set ≡ no_places → IsReachOf p s set
 no_reach p s set none bare t =
     let outside : is_in set t ≡ false = ap (λ set. is_in set t) bare ∙ is_in-empty t in (
-      (λ e. absurd (true_not_false (sym e ∙ outside))),
+      (λ e. absurd (true≢false (sym e ∙ outside))),
       (λ r. let both : None ≡ Some r.1.man = sym none ∙ r.1.here in cc),
     )

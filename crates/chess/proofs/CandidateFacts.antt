@@ -2,7 +2,7 @@
 use Rattle.std.proofs.Common.{◌≡◌, ◌⊎◌, ℕ, Bool, true, false, inl, inr, ap, refl, sym, subst, ◌∙◌, Option, Some, None, IfSome, is_some}
 use Rattle.std.proofs.lemmas.Bool.{cases_eq}
 use Rattle.chess.specs.Public.Squares.{Place, IsOnBoard}
-use Rattle.chess.specs.Public.Placements.{man_at, opposite, IsOccupiedBy}
+use Rattle.chess.specs.Public.Placements.{man_at, IsOccupiedBy}
 use Rattle.chess.specs.Public.Attacks.{Reaches}
 use Rattle.chess.specs.Public.Positions.{State, IsSound, FitsEnPassant}
 use Rattle.chess.specs.Public.Moves.{IsPawnMove, IsPawnCapture, IsSingleStep, IsDoubleStep, IsKingMove, Promotes, Goes}
@@ -11,12 +11,10 @@ use Rattle.chess.specs.Public.San.{Said, HasRival, kind_said}
 use Rattle.chess.specs.Private.SanWords.{IsMoveSaid, IsAsked, ChangesFile, IsCandidate, CanGoSaid, man_said, move_from}
 use Rattle.chess.specs.Public.Sets.{Places, is_in, no_places, HoldsExactly, IsAttacker}
 use Rattle.chess.specs.Shared.SetWords.{IsTakenFirst}
-use Rattle.chess.specs.declared.board.man.Side.{Side}
-use Rattle.chess.specs.declared.board.man.Side.TheVariants.{White, Black}
 use Rattle.chess.specs.declared.board.man.Kind.{Kind}
 use Rattle.chess.specs.declared.board.man.Kind.TheVariants.{King, Queen, Rook, Bishop, Knight, Pawn}
 use Rattle.chess.specs.declared.moves.Move.{Move}
-use Rattle.chess.proofs.PlaceFacts.{cases_place, true_not_false, same_side, same_kind, some_not_none}
+use Rattle.chess.proofs.PlaceFacts.{cases_place, true_not_false, same_side, same_kind, some_not_none, not_opposite}
 use Rattle.chess.proofs.LoopFacts.{not_in, still_left}
 use Rattle.chess.proofs.SanTextFacts.{rival_on, rival_reaches}
 use Rattle.chess.proofs.StepperFacts.{on_file, off_file, step_file, step_free}
@@ -157,10 +155,6 @@ pawn_candidate P said s e on there pawn asked stays free goes promotes =
     }
 
 -- a pawn that takes finds none of its own side there
-not_opposite : (side : Side) → side ≡ opposite side → ⊥
-not_opposite White e = let f : White ≡ Black = e in cc
-not_opposite Black e = let f : Black ≡ White = e in cc
-
 taker_free : (P : State) (t s : Place) → IsSound P → IsPawnCapture P s t → IsOccupiedBy P.men P.turn t → ⊥
 taker_free P t s sound capture held = elim capture.1 [
   | inl enemy ↦ not_opposite P.turn (sym held.2 ∙ same_side held.0 enemy.0 (sym held.1 ∙ enemy.1) ∙ enemy.2)

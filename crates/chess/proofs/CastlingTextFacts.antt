@@ -1,31 +1,21 @@
 -- The texts of castling, with and without marks.
-use Rattle.std.proofs.Common.{◌≡◌, ◌↔◌, ◌⊎◌, ◌&&◌, ℕ, Bool, true, false, inl, inr, ap, refl, sym, subst, ◌∙◌, arith, Some, None, List, [], ◌∷◌, ◌++◌, reverse, length}
+use Rattle.std.proofs.Common.{◌≡◌, ◌↔◌, ◌⊎◌, ℕ, Bool, true, false, inl, inr, ap, refl, sym, subst, ◌∙◌, arith, Some, None, List, [], ◌∷◌, ◌++◌, reverse, length}
 use Rattle.std.specs.Prelude.{if◌then◌else◌}
 use Rattle.std.specs.List.{list_all}
 use Rattle.std.proofs.lemmas.List.{append_assoc, append-nil, reverse-append, reverse-reverse}
+use Rattle.std.proofs.lemmas.Bool.{and_parts, and_from}
+use Rattle.std.proofs.lemmas.Option.{same_Some}
 use Rattle.chess.specs.Public.Letters.{is_check_mark}
 use Rattle.chess.specs.Public.San.{castling_text, castling_with_zeros, IsCastlingText}
 use Rattle.chess.specs.Private.SanWords.{unmarked, IsCastlingStem}
 use Rattle.chess.specs.declared.board.man.Wing.{Wing}
 use Rattle.chess.specs.declared.board.man.Wing.TheVariants.{KingSide, QueenSide}
 
-and_first : (a b : Bool) → (a && b) ≡ true → a ≡ true
-and_first true b e = refl
-and_first false b e = e
-
-and_second : (a b : Bool) → (a && b) ≡ true → b ≡ true
-and_second true b e = e
-and_second false b e = let f : false ≡ true = e in absurd (cc)
-
-and_both : (a b : Bool) → a ≡ true → b ≡ true → (a && b) ≡ true
-and_both true b e f = f
-and_both false b e f = e
-
 all_and_one : (m : List ℕ) (b : ℕ) → list_all is_check_mark m ≡ true → is_check_mark b ≡ true → list_all is_check_mark (m ++ b ∷ []) ≡ true
-all_and_one [] b all mark = and_both (is_check_mark b) true mark refl
+all_and_one [] b all mark = and_from (is_check_mark b) true mark refl
 all_and_one (a ∷ m) b all mark =
-    and_both (is_check_mark a) (list_all is_check_mark (m ++ b ∷ [])) (and_first (is_check_mark a) (list_all is_check_mark m) all)
-    (all_and_one m b (and_second (is_check_mark a) (list_all is_check_mark m) all) mark)
+    and_from (is_check_mark a) (list_all is_check_mark (m ++ b ∷ [])) (and_parts (is_check_mark a) (list_all is_check_mark m) all).0
+    (all_and_one m b (and_parts (is_check_mark a) (list_all is_check_mark m) all).1 mark)
 
 -- a text is what is left without its marks, and marks
 pub marks_of : (y : List ℕ) → (m : List ℕ) × (list_all is_check_mark m ≡ true) × (reverse y ≡ reverse (unmarked y) ++ m)
@@ -46,9 +36,9 @@ pub marks_off : (m s : List ℕ) → list_all is_check_mark m ≡ true → unmar
 marks_off [] s all = ap (λ x. unmarked (reverse x)) (append-nil s)
 marks_off (b ∷ m) s all =
     ap (λ x. unmarked (reverse x)) (sym (append_assoc s (b ∷ []) m))
-    ∙ marks_off m (s ++ b ∷ []) (and_second (is_check_mark b) (list_all is_check_mark m) all)
+    ∙ marks_off m (s ++ b ∷ []) (and_parts (is_check_mark b) (list_all is_check_mark m) all).1
     ∙ ap unmarked (reverse-append s (b ∷ []))
-    ∙ ap (λ t. if t then unmarked (reverse s) else b ∷ reverse s) (and_first (is_check_mark b) (list_all is_check_mark m) all)
+    ∙ ap (λ t. if t then unmarked (reverse s) else b ∷ reverse s) (and_parts (is_check_mark b) (list_all is_check_mark m) all).0
 
 -- the stem of a text
 abbrev pub IsStem : List ℕ → List ℕ → Type 0
@@ -96,13 +86,10 @@ one_size KingSide QueenSide e = absurd (omega arith)
 one_size QueenSide KingSide e = absurd (omega arith)
 one_size QueenSide QueenSide e = refl
 
-wing_of_some : (a b : Wing) → Some a ≡ Some b → a ≡ b
-wing_of_some a b e = cc
-
 pub castling_found : (wing : Wing) (x stem : List ℕ) → IsStem x stem → IsCastlingStem wing stem → (w : Wing) → IsCastlingText w x ↔ (Some wing ≡ Some w)
 castling_found wing x stem is castles w = (
   (λ text. ap (λ (v : Wing). Some v) (one_size wing w (sym (castles_size wing stem castles) ∙ castles_size w stem (stem_castles w x stem is text)))),
-  (λ e. subst (λ v. IsCastlingText v x) (wing_of_some wing w e) (castles_text wing x stem is castles)),
+  (λ e. subst (λ v. IsCastlingText v x) (same_Some wing w e) (castles_text wing x stem is castles)),
 )
 
 not_either : (stem : List ℕ) (wing : Wing) → (IsCastlingStem KingSide stem → ⊥) → (IsCastlingStem QueenSide stem → ⊥) → IsCastlingStem wing stem → ⊥

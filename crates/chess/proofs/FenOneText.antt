@@ -3,6 +3,7 @@ use Rattle.std.proofs.Common.{◌≡◌, ◌≤◌, ◌+◌, ◌-◌, ℕ, zero,
 use Rattle.std.specs.Prelude.{replicate, ◌&&◌, decimal}
 use Rattle.std.specs.List.{list_all}
 use Rattle.std.proofs.lemmas.Bool.Decides.{nat_tests}
+use Rattle.std.proofs.lemmas.Bool.{and_parts}
 use Rattle.chess.specs.Public.Placements.{Placement}
 use Rattle.chess.specs.Public.Positions.{State}
 use Rattle.chess.specs.Public.Letters.{man_letter}
@@ -17,14 +18,6 @@ longer_run : (k n : ℕ) (more : List (Option Man)) → spelled_from k (replicat
 longer_run k zero more = let same : k ≡ k + 0 = omega arith in ap (λ m. spelled_from m more) same
 longer_run k (suc n) more =
     let same : k + 1 + n ≡ k + suc n = omega arith in longer_run (k + 1) n more ∙ ap (λ m. spelled_from m more) same
-
-both_first : (a b : Bool) → (a && b) ≡ true → a ≡ true
-both_first true b e = refl
-both_first false b e = e
-
-both_second : (a b : Bool) → (a && b) ≡ true → b ≡ true
-both_second true b e = e
-both_second false b e = let clash : false ≡ true = e in absurd (cc)
 
 not_both : (a b : Bool) → not (a && b) ≡ true → a ≡ true → b ≡ true → ⊥
 not_both a b e f g = let both : not (true && true) ≡ true = sym (ap (λ t. not (t && b)) f ∙ ap (λ t. not (true && t)) g) ∙ e in let clash : false ≡ true = both in cc
@@ -42,7 +35,7 @@ after_digit : (n c : ℕ) (own : List (Option Man)) (x : List ℕ) (more rest : 
     → IsSquares c own → more ≡ own ++ rest → BeginsWithMan more
 after_digit n _ _ x more rest low high short (letter man) e = subst BeginsWithMan (sym e) tt
 after_digit n _ _ x more rest low high short (step k some few) e =
-    absurd (not_both (is_step (48 + n)) (is_step (48 + k)) (both_first (not (is_step (48 + n) && is_step (48 + k))) (is_shortest ((48 + k) ∷ x)) short)
+    absurd (not_both (is_step (48 + n)) (is_step (48 + k)) (and_parts (not (is_step (48 + n) && is_step (48 + k))) (is_shortest ((48 + k) ∷ x)) short).0
     (digit_byte n low high) (digit_byte k some few))
 
 squares_after : (n : ℕ) (x : List ℕ) (more : List (Option Man)) → 1 ≤ n → n ≤ 8 → is_shortest ((48 + n) ∷ x) ≡ true → SpellsRank x more → BeginsWithMan more
@@ -59,7 +52,7 @@ run_text (suc n) (Some man ∷ more) low begins = refl
 -- what follows a byte of a shortest text is a shortest text
 shortest_rest : (b : ℕ) (x : List ℕ) → is_shortest (b ∷ x) ≡ true → is_shortest x ≡ true
 shortest_rest b [] short = refl
-shortest_rest b (c ∷ x) short = both_second (not (is_step b && is_step c)) (is_shortest (c ∷ x)) short
+shortest_rest b (c ∷ x) short = (and_parts (not (is_step b && is_step c)) (is_shortest (c ∷ x)) short).1
 
 -- a shortest text of squares is the one that is written
 shortest_by : (b : ℕ) (x : List ℕ) (squares own more : List (Option Man)) → is_shortest (b ∷ x) ≡ true → squares ≡ own ++ more → IsSquares b own
@@ -82,10 +75,10 @@ same_ranks p n [] [] s t short also = refl
 same_ranks p n [] (b ∷ y) s t short also = let low = t.0 in absurd (omega arith)
 same_ranks p n (a ∷ x) [] s t short also = let low = s.0 in absurd (omega arith)
 same_ranks p n (a ∷ x) (b ∷ y) s t short also =
-    let first = shortest_is a (row p n) s.1 (both_first (is_shortest a) (list_all is_shortest x) short) in
-    let other = shortest_is b (row p n) t.1 (both_first (is_shortest b) (list_all is_shortest y) also) in
-    let rest = same_ranks p (n - 1) x y s.2 t.2 (both_second (is_shortest a) (list_all is_shortest x) short)
-    (both_second (is_shortest b) (list_all is_shortest y) also) in
+    let first = shortest_is a (row p n) s.1 (and_parts (is_shortest a) (list_all is_shortest x) short).0 in
+    let other = shortest_is b (row p n) t.1 (and_parts (is_shortest b) (list_all is_shortest y) also).0 in
+    let rest = same_ranks p (n - 1) x y s.2 t.2 (and_parts (is_shortest a) (list_all is_shortest x) short).1
+    (and_parts (is_shortest b) (list_all is_shortest y) also).1 in
     λ i. (first ∙ sym other) i ∷ rest i
 
 pub one_fen : (P : State) (x y : List ℕ) → IsFen P x → IsFen P y → x ≡ y

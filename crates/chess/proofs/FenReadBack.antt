@@ -4,6 +4,7 @@ use Rattle.std.specs.Prelude.{◌==◌, if◌then◌else◌, codes, decimal}
 use Rattle.std.specs.List.{list_all}
 use Rattle.std.proofs.lemmas.Bool.Decides.{nat_tests}
 use Rattle.std.proofs.lemmas.Fmt.{decimal_by_steps, length-decimal-le, decimal_nonempty}
+use Rattle.std.proofs.lemmas.Bool.{and_parts, not-true, or_from}
 use Rattle.chess.specs.Public.Squares.{Place}
 use Rattle.chess.specs.Public.Placements.{Placement}
 use Rattle.chess.specs.Public.Positions.{State, has_right, FitsEnPassant, IsSound}
@@ -68,14 +69,11 @@ fields_joined x more free some = ap without_empty (parted_joined 32 x more free)
 
 -- ---- the bytes of ranks
 
-either_false : (a b : Bool) → a ≡ false → b ≡ false → (a || b) ≡ false
-either_false a b e f = ap (λ t. t || b) e ∙ f
-
 has_byte-append : (s : ℕ) (x y : List ℕ) → has_byte s x ≡ false → has_byte s y ≡ false → has_byte s (x ++ y) ≡ false
 has_byte-append s [] y none other = other
 has_byte-append s (b ∷ x) y none other =
     let apart = not_first s b x none in
-    either_false (b == s) (has_byte s (x ++ y)) apart.0 (has_byte-append s x y apart.1 other)
+    or_from (b == s) (has_byte s (x ++ y)) apart.0 (has_byte-append s x y apart.1 other)
 
 other_byte : (b s : ℕ) → s ≤ 47 → 48 ≤ b → (b == s) ≡ false
 other_byte b s low high = grind (arith, nat_tests)
@@ -87,7 +85,7 @@ byte_above _ _ (step n low high) = omega arith
 rank_free : (s : ℕ) → s ≤ 47 → (x : List ℕ) (squares : List (Option Man)) → SpellsRank x squares → has_byte s x ≡ false
 rank_free s low [] squares spelled = refl
 rank_free s low (b ∷ x) squares (own, more, joined_by, byte, rest) =
-    either_false (b == s) (has_byte s x) (other_byte b s low (byte_above b own byte)) (rank_free s low x more rest)
+    or_from (b == s) (has_byte s x) (other_byte b s low (byte_above b own byte)) (rank_free s low x more rest)
 
 ranks_free : (s : ℕ) → s ≤ 47 → (p : Placement) (n : ℕ) (ranks : List (List ℕ)) → SpellRanks p n ranks → AreFreeOf s ranks
 ranks_free s low p n [] spelled = tt
@@ -165,18 +163,6 @@ sixteen false false true false = refl
 sixteen false false false true = refl
 sixteen false false false false = refl
 
-left : (a b : Bool) → (a && b) ≡ true → a ≡ true
-left true b e = refl
-left false b e = e
-
-right : (a b : Bool) → (a && b) ≡ true → b ≡ true
-right true b e = e
-right false b e = let clash : false ≡ true = e in absurd (cc)
-
-denied : (b : Bool) → not b ≡ true → b ≡ false
-denied true e = sym e
-denied false e = refl
-
 -- those facts one by one
 pub record AreLetters (r : CastlingRights) (x : List ℕ) : Type 0 where
   pub letters : list_all is_right_letter x ≡ true
@@ -200,20 +186,20 @@ are_letters r =
     let white = is_alike r.white_king_side (has_byte 75 x) && is_alike r.white_queen_side (has_byte 81 x) in
     let black = is_alike r.black_king_side (has_byte 107 x) && is_alike r.black_queen_side (has_byte 113 x) in
     let form = list_all is_right_letter x && is_distinct x in
-    let five = left ((form && white) && black) (not (has_byte 32 x)) all in
-    let three = left (form && white) black five in
-    let one = left form white three in
-    let of_white = right form white three in
-    let of_black = right (form && white) black five in
+    let five = (and_parts ((form && white) && black) (not (has_byte 32 x)) all).0 in
+    let three = (and_parts (form && white) black five).0 in
+    let one = (and_parts form white three).0 in
+    let of_white = (and_parts form white three).1 in
+    let of_black = (and_parts (form && white) black five).1 in
     record {
-      letters = left (list_all is_right_letter x) (is_distinct x) one;
-      distinct = right (list_all is_right_letter x) (is_distinct x) one;
+      letters = (and_parts (list_all is_right_letter x) (is_distinct x) one).0;
+      distinct = (and_parts (list_all is_right_letter x) (is_distinct x) one).1;
       each = four_rights r x
-          (alike _ _ (left (is_alike r.white_king_side (has_byte 75 x)) (is_alike r.white_queen_side (has_byte 81 x)) of_white))
-          (alike _ _ (right (is_alike r.white_king_side (has_byte 75 x)) (is_alike r.white_queen_side (has_byte 81 x)) of_white))
-          (alike _ _ (left (is_alike r.black_king_side (has_byte 107 x)) (is_alike r.black_queen_side (has_byte 113 x)) of_black))
-          (alike _ _ (right (is_alike r.black_king_side (has_byte 107 x)) (is_alike r.black_queen_side (has_byte 113 x)) of_black));
-      free = denied (has_byte 32 x) (right ((form && white) && black) (not (has_byte 32 x)) all);
+          (alike _ _ (and_parts (is_alike r.white_king_side (has_byte 75 x)) (is_alike r.white_queen_side (has_byte 81 x)) of_white).0)
+          (alike _ _ (and_parts (is_alike r.white_king_side (has_byte 75 x)) (is_alike r.white_queen_side (has_byte 81 x)) of_white).1)
+          (alike _ _ (and_parts (is_alike r.black_king_side (has_byte 107 x)) (is_alike r.black_queen_side (has_byte 113 x)) of_black).0)
+          (alike _ _ (and_parts (is_alike r.black_king_side (has_byte 107 x)) (is_alike r.black_queen_side (has_byte 113 x)) of_black).1);
+      free = not-true (has_byte 32 x) (and_parts ((form && white) && black) (not (has_byte 32 x)) all).1;
     }
 
 no_dash : (side : Side) (wing : Wing) → has_byte (right_letter side wing) (codes "-") ≡ false
@@ -248,8 +234,8 @@ pub record IsEnPassantField (o : Option Place) (x : List ℕ) : Type 0 where
 
 two_free : (a b : ℕ) → 48 ≤ a → 48 ≤ b → has_byte 32 (a ∷ b ∷ []) ≡ false
 two_free a b first second =
-    either_false (a == 32) (has_byte 32 (b ∷ [])) (other_byte a 32 (omega arith) first)
-    (either_false (b == 32) false (other_byte b 32 (omega arith) second) refl)
+    or_from (a == 32) (has_byte 32 (b ∷ [])) (other_byte a 32 (omega arith) first)
+    (or_from (b == 32) false (other_byte b 32 (omega arith) second) refl)
 
 en_passant_field : (p : Placement) (turn : Side) (o : Option Place) → IfSome o (FitsEnPassant p turn) → IsEnPassantField o (en_passant_text o)
 en_passant_field p turn None fits = record { gives = refl; free = refl; some = λ e. cc }
@@ -272,7 +258,7 @@ number_append k (b ∷ x) d = number_append (10 * k + (b - 48)) x d
 all_append : (test : ℕ → Bool) (x y : List ℕ) → list_all test x ≡ true → list_all test y ≡ true → list_all test (x ++ y) ≡ true
 all_append test [] y first second = second
 all_append test (b ∷ x) y first second =
-    ap (λ t. t && list_all test (x ++ y)) (left (test b) (list_all test x) first) ∙ all_append test x y (right (test b) (list_all test x) first) second
+    ap (λ t. t && list_all test (x ++ y)) (and_parts (test b) (list_all test x) first).0 ∙ all_append test x y (and_parts (test b) (list_all test x) first).1 second
 
 a_digit : (d : ℕ) → d < 10 → is_digit (48 + d) ≡ true
 a_digit d h = grind (arith, nat_tests)
@@ -313,8 +299,8 @@ digit_no_space b h = grind (arith, nat_tests)
 digits_free : (x : List ℕ) → list_all is_digit x ≡ true → has_byte 32 x ≡ false
 digits_free [] all = refl
 digits_free (b ∷ x) all =
-    either_false (b == 32) (has_byte 32 x) (digit_no_space b (left (is_digit b) (list_all is_digit x) all))
-    (digits_free x (right (is_digit b) (list_all is_digit x) all))
+    or_from (b == 32) (has_byte 32 x) (digit_no_space b (and_parts (is_digit b) (list_all is_digit x) all).0)
+    (digits_free x (and_parts (is_digit b) (list_all is_digit x) all).1)
 
 some_bytes : (x : List ℕ) → 1 ≤ length x → x ≢ []
 some_bytes [] low e = omega arith

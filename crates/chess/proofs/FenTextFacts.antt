@@ -17,6 +17,7 @@ use Rattle.chess.specs.declared.board.man.Side.{Side}
 use Rattle.chess.specs.declared.board.man.Side.TheVariants.{White, Black}
 use Rattle.chess.specs.declared.board.man.Kind.{Kind}
 use Rattle.chess.specs.declared.board.man.Kind.TheVariants.{King, Queen, Rook, Bishop, Knight, Pawn}
+use Rattle.chess.specs.Shared.SetFacts.{and_false}
 
 -- ---- lengths
 
@@ -74,10 +75,6 @@ no_step man = by_side man.side man.kind
 abbrev is_led : List ℕ → Bool
 is_led [] = false
 is_led (b ∷ x) = is_step b
-
-and_false : (b : Bool) → (b && false) ≡ false
-and_false true = refl
-and_false false = refl
 
 shortest_run : (n : ℕ) (x : List ℕ) → is_led x ≡ false → is_shortest x ≡ true → is_shortest (digit_of n ++ x) ≡ true
 shortest_run zero x led short = short

@@ -1,7 +1,6 @@
 -- Words of all squares, of the squares of a file or a rank, and of those that two sets have.
 use Rattle.std.proofs.Common.{◌≡◌, ◌⊎◌, ◌<◌, ◌≤◌, ◌-◌, ◌*◌, ◌^◌, ◌/◌, ◌%◌, ℕ, true, nat_eq, bit_and, inl, inr, refl, sym, ◌∙◌, arith}
-use Rattle.std.proofs.lemmas.Bool.{agree_below, agree_below_at, and_parts, and_from}
-use Rattle.std.proofs.lemmas.Bool.Decides.{nat_tests}
+use Rattle.std.proofs.lemmas.Bool.{agree_below, agree_below_at, and_parts, and_from, eqb-true, eq-eqb}
 use Rattle.chess.specs.Public.Squares.{Place, IsOnBoard, index_of}
 use Rattle.chess.specs.Public.Sets.{Places, is_in, HoldsExactly}
 use Rattle.chess.specs.Shared.SetWords.{has_bit}
@@ -27,12 +26,6 @@ file_word n = 72340172838076673 * 2 ^ n % 2 ^ 64
 files_fit : agree_below (λ f. agree_below (has_bit (file_word f)) (λ n. nat_eq (n % 8) f) 64) (λ _. true) 8 ≡ true
 files_fit = refl
 
-are_same : (a b : ℕ) → nat_eq a b ≡ true → a ≡ b
-are_same a b e = grind (arith, nat_tests)
-
-same_is : (a b : ℕ) → a ≡ b → nat_eq a b ≡ true
-same_is a b e = grind (arith, nat_tests)
-
 file_bit : (file : ℕ) (s : Place) → 1 ≤ file → file ≤ 8 → IsOnBoard s → has_bit (file_word (file - 1)) (index_of s) ≡ nat_eq (index_of s % 8) (file - 1)
 file_bit file s low high on =
     let row = agree_below_at (λ f. agree_below (has_bit (file_word f)) (λ n. nat_eq (n % 8) f) 64) (λ _. true) 8 (file - 1) files_fit (omega arith) in
@@ -45,14 +38,14 @@ file_squares file set low high found s = (
       let parts = (found s).0 h in
       let on = parts.0 in
       let f1 = on.file_low in let f2 = on.file_high in let r1 = on.rank_low in let r2 = on.rank_high in
-      let same = are_same (index_of s % 8) (file - 1) (sym (file_bit file s low high on) ∙ parts.1) in
+      let same = eqb-true (index_of s % 8) (file - 1) (sym (file_bit file s low high on) ∙ parts.1) in
       let at : s.file - 1 ≡ index_of s % 8 = omega arith in
       (on, omega arith)),
   (λ h.
       let on = h.0 in let same = h.1 in
       let f1 = on.file_low in let f2 = on.file_high in let r1 = on.rank_low in let r2 = on.rank_high in
       let at : s.file - 1 ≡ index_of s % 8 = omega arith in
-      (found s).1 (on, file_bit file s low high on ∙ same_is (index_of s % 8) (file - 1) (omega arith))),
+      (found s).1 (on, file_bit file s low high on ∙ eq-eqb (index_of s % 8) (file - 1) (omega arith))),
 )
 
 -- a number that is no file has no squares
@@ -84,14 +77,14 @@ rank_squares rank set low high found s = (
       let parts = (found s).0 h in
       let on = parts.0 in
       let f1 = on.file_low in let f2 = on.file_high in let r1 = on.rank_low in let r2 = on.rank_high in
-      let same = are_same (index_of s / 8) (rank - 1) (sym (rank_bit rank s low high on) ∙ parts.1) in
+      let same = eqb-true (index_of s / 8) (rank - 1) (sym (rank_bit rank s low high on) ∙ parts.1) in
       let at : s.rank - 1 ≡ index_of s / 8 = omega arith in
       (on, omega arith)),
   (λ h.
       let on = h.0 in let same = h.1 in
       let f1 = on.file_low in let f2 = on.file_high in let r1 = on.rank_low in let r2 = on.rank_high in
       let at : s.rank - 1 ≡ index_of s / 8 = omega arith in
-      (found s).1 (on, rank_bit rank s low high on ∙ same_is (index_of s / 8) (rank - 1) (omega arith))),
+      (found s).1 (on, rank_bit rank s low high on ∙ eq-eqb (index_of s / 8) (rank - 1) (omega arith))),
 )
 
 -- a number that is no rank has no squares

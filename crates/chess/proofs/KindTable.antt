@@ -1,7 +1,6 @@
 -- The table of the kinds by their letters.
-use Rattle.std.proofs.Common.{◌≡◌, ◌<◌, ℕ, true, nat_eq, get_or, ap, refl, sym, ◌∙◌, arith, Option, Some, None, MatchOption, is_some, [], ◌∷◌}
-use Rattle.std.proofs.lemmas.Bool.{agree_below, agree_below_at}
-use Rattle.std.proofs.lemmas.Bool.Decides.{nat_tests}
+use Rattle.std.proofs.Common.{◌≡◌, ◌<◌, ℕ, true, nat_eq, get_or, ap, refl, sym, ◌∙◌, Option, Some, None, MatchOption, is_some, [], ◌∷◌}
+use Rattle.std.proofs.lemmas.Bool.{agree_below, agree_below_at, eqb-true}
 use Rattle.chess.specs.Public.Letters.{kind_letter}
 use Rattle.chess.specs.Public.San.{letter_text}
 use Rattle.chess.specs.Private.SanWords.{kind_of}
@@ -21,16 +20,13 @@ code_back (Some k) = (letter_is_kind k).1
 same_code : (a b : Option Kind) → kind_code a ≡ kind_code b → a ≡ b
 same_code a b e = sym (code_back a) ∙ ap kind_of e ∙ code_back b
 
-are_same : (a b : ℕ) → nat_eq a b ≡ true → a ≡ b
-are_same a b e = grind (arith, nat_tests)
-
 kinds_fit : agree_below (λ i. nat_eq (kind_code (get_or KINDS i None)) (kind_code (kind_of i))) (λ _. true) 256 ≡ true
 kinds_fit = refl
 
 pub table_kind : (b : ℕ) → b < 256 → get_or KINDS b None ≡ kind_of b
 table_kind b below =
     let fits = agree_below_at (λ i. nat_eq (kind_code (get_or KINDS i None)) (kind_code (kind_of i))) (λ _. true) 256 b kinds_fit below in
-    same_code (get_or KINDS b None) (kind_of b) (are_same _ _ fits)
+    same_code (get_or KINDS b None) (kind_of b) (eqb-true _ _ fits)
 
 -- the kind is the one that has the letter
 pub kind_found : (b : ℕ) (o : Option Kind) → o ≡ kind_of b → MatchOption o ((other : Kind) → kind_letter other ≡ b → ⊥) (λ k. kind_letter k ≡ b)

@@ -1,5 +1,5 @@
 -- The men that are left where a man is moved from a square to another, by the words of those squares.
-use Rattle.std.proofs.Common.{◌≡◌, ◌↔◌, ◌⊎◌, ◌∙◌, ◌<◌, ◌^◌, w64, ℕ, Bool, true, false, not, inl, inr, ap, refl, sym, subst, bit_and, bit_or, Some, None, IsTrue}
+use Rattle.std.proofs.Common.{◌≡◌, ◌↔◌, ◌⊎◌, ◌∙◌, ◌<◌, ◌^◌, w64, ℕ, Bool, true, inl, inr, ap, sym, subst, bit_and, bit_or, Some, None, IsTrue}
 use Rattle.std.specs.Int.{bit_not}
 use Rattle.std.proofs.lemmas.Bool.{and_parts, and_from}
 use Rattle.chess.specs.Public.Squares.{Place, IsOnBoard, index_of}
@@ -12,10 +12,9 @@ use Rattle.chess.specs.Shared.CellFacts.{man_at-same, man_at-other}
 use Rattle.chess.specs.Private.BitWords.{IsWordOf, IsMan, IsRunner, AreLeft, IsHitBy, square_word}
 use Rattle.chess.specs.declared.board.man.Man.{Man}
 use Rattle.chess.specs.declared.board.man.Side.{Side}
-use Rattle.chess.specs.declared.board.man.Side.TheVariants.{White, Black}
 use Rattle.chess.specs.declared.board.man.Kind.{Kind}
 use Rattle.chess.specs.declared.board.man.Kind.TheVariants.{King, Queen, Knight, Pawn}
-use Rattle.chess.proofs.PlaceFacts.{cases_place, same_side, some_not_none}
+use Rattle.chess.proofs.PlaceFacts.{cases_place, same_side, some_not_none, not_true, true_not, not_opposite}
 use Rattle.chess.proofs.FillFacts.{bit_of_square, has_own_bit, bit_of_both, either_word}
 use Rattle.chess.proofs.BitFacts.{bit_of_rest}
 use Rattle.chess.proofs.AttackerFacts.{runners_seen}
@@ -25,14 +24,6 @@ use Rattle.chess.proofs.AttackerFacts.{runners_seen}
 -- the word of one square
 pub own_word : (s : Place) → IsOnBoard s → IsWordOf (λ t. t ≡ s) (square_word s)
 own_word s on t there = (bit_of_square s t on there, (λ e. subst (λ (u : Place). has_bit (square_word s) (index_of u) ≡ true) (sym e) (has_own_bit s)))
-
-not_true : (b : Bool) → (b ≡ true → ⊥) → not b ≡ true
-not_true true h = absurd (h refl)
-not_true false h = refl
-
-true_not : (b : Bool) → not b ≡ true → b ≡ true → ⊥
-true_not true e f = let clash : false ≡ true = e in cc
-true_not false e f = let clash : false ≡ true = f in cc
 
 -- the squares that have not the fact
 pub rest_word : (A : Place → Type 0) (word : ℕ) → word < 2 ^ 64 → IsWordOf A word → IsWordOf (λ s. A s → ⊥) (bit_not w64 word)
@@ -144,10 +135,6 @@ stands_then p man from taken to s =
           ]
     ]
 
-not_own : (side : Side) → side ≡ opposite side → ⊥
-not_own White e = let f : White ≡ Black = e in cc
-not_own Black e = let f : Black ≡ White = e in cc
-
 on_board_then : (p : Placement) (man : Man) (from taken to : Place) → AreOnBoard p → IsOnBoard to → AreOnBoard (moved_so p man from taken to)
 on_board_then p man from taken to on on_to s other here = elim (stands_then p man from taken to s) [
   | inl at_to ↦ subst IsOnBoard (sym at_to.0) on_to
@@ -163,7 +150,7 @@ left_then p man from taken to left on on_to are = record {
   on_board = on_board_then p man from taken to on on_to;
   same = λ other s there. (
     (λ here. elim (stands_then p man from taken to s) [
-      | inl at_to ↦ absurd (not_own man.side (same_side man (record { side = opposite man.side; kind = other }) (sym at_to.1 ∙ here)))
+      | inl at_to ↦ absurd (not_opposite man.side (same_side man (record { side = opposite man.side; kind = other }) (sym at_to.1 ∙ here)))
       | inr more ↦ elim more [
         | inl gone ↦ absurd (some_not_none _ _ gone.2 here)
         | inr stays ↦ ((are s there).1 stays.0, sym stays.1 ∙ here)

@@ -2,14 +2,14 @@
 use Rattle.std.proofs.Common.{◌≡◌, ◌↔◌, ◌<◌, ◌-◌, ◌&&◌, ◌||◌, ◌⊎◌, Bool, true, false, not, inl, inr, ap, refl, sym, subst, ◌∙◌, arith, Option, Some, None, IsTrue, if◌then◌else◌}
 use Rattle.std.specs.Ordering.{eq_by_cmp}
 use Rattle.std.specs.FinSet.{remove, same_set, contains-remove, len-remove, empty_of_len}
-use Rattle.std.proofs.lemmas.Bool.{cases_eq}
+use Rattle.std.proofs.lemmas.Bool.{cases_eq, and_parts, and_from}
 use Rattle.chess.specs.Public.Squares.{Place, IsOnBoard, place_cmp, same_square}
 use Rattle.chess.specs.Shared.OrderFacts.{place_total, place_exact}
 use Rattle.chess.specs.Shared.SetFacts.{is_in-empty, tied, ties, false_of}
 use Rattle.chess.specs.Public.Sets.{Places, is_in, no_places, size_of, HoldsExactly}
 use Rattle.chess.specs.Shared.SetWords.{HasOnly, IsTakenFirst}
 use Rattle.chess.specs.Private.MoveWords.{HasEach, IsLeft, IsSifted}
-use Rattle.chess.proofs.PlaceFacts.{cases_place, same_square-same, same_square-then, true_not_false}
+use Rattle.chess.proofs.PlaceFacts.{cases_place, same_square-same, same_square-then, true_not_false, not_true, true_not}
 
 -- no square is in the empty set
 pub not_in : (set : Places) (s : Place) → set ≡ no_places → is_in set s ≡ false
@@ -54,36 +54,15 @@ fewer old new t taken =
 
 -- ---- what is left after the first was taken out
 
-and_both : (a b : Bool) → a ≡ true → b ≡ true → (a && b) ≡ true
-and_both true true e f = refl
-and_both true false e f = f
-and_both false b e f = e
-
-and_first : (a b : Bool) → (a && b) ≡ true → a ≡ true
-and_first true b e = refl
-and_first false b e = e
-
-and_second : (a b : Bool) → (a && b) ≡ true → b ≡ true
-and_second true b e = e
-and_second false b e = let f : false ≡ true = e in cc
-
-not_of : (b : Bool) → (b ≡ true → ⊥) → not b ≡ true
-not_of true h = absurd (h refl)
-not_of false h = refl
-
-not_back : (b : Bool) → not b ≡ true → b ≡ true → ⊥
-not_back true e f = let clash : false ≡ true = e in cc
-not_back false e f = let clash : false ≡ true = f in cc
-
 pub still_left : (old new : Places) (t s : Place) → IsTakenFirst old new (Some t) → is_in old s ≡ true → (s ≡ t → ⊥) → is_in new s ≡ true
 still_left old new t s taken here other =
-    taken.3 s ∙ and_both (is_in old s) (not (same_square s t)) here (not_of (same_square s t) (λ e. other (same_square-then s t e)))
+    taken.3 s ∙ and_from (is_in old s) (not (same_square s t)) here (not_true (same_square s t) (λ e. other (same_square-then s t e)))
 
 pub was_left : (old new : Places) (t s : Place) → IsTakenFirst old new (Some t) → is_in new s ≡ true → (is_in old s ≡ true) × (s ≡ t → ⊥)
 was_left old new t s taken here =
     let both = sym (taken.3 s) ∙ here in (
-      and_first (is_in old s) (not (same_square s t)) both,
-      (λ e. not_back (same_square s t) (and_second (is_in old s) (not (same_square s t)) both) (same_square-same s t e)),
+      (and_parts (is_in old s) (not (same_square s t)) both).0,
+      (λ e. true_not (same_square s t) (and_parts (is_in old s) (not (same_square s t)) both).1 (same_square-same s t e)),
     )
 
 pub left_more : (range fact : Place → Type 0) (old new : Places) (t : Place) → IsLeft range fact old → IsTakenFirst old new (Some t)
@@ -128,7 +107,7 @@ sifted_more fact old new found more t test so_far taken tested put = record {
     | inl same ↦
         let passes = tested.1 (subst fact same holds) in
         inl (put s ∙ or_first (test && same_square t s) (is_in found s)
-        (and_both test (same_square t s) passes (same_square-same t s (sym same))))
+        (and_from test (same_square t s) passes (same_square-same t s (sym same))))
     | inr other ↦ elim (so_far.each s on holds) [
       | inl in_found ↦ inl (put s ∙ or_second (test && same_square t s) (is_in found s) in_found)
       | inr in_old ↦ inr (still_left old new t s taken in_old other)

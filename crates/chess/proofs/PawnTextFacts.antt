@@ -10,12 +10,11 @@ use Rattle.chess.specs.Public.Positions.{State, pawn_of}
 use Rattle.chess.specs.Public.Moves.{IsPawnMove, IsSingleStep, IsDoubleStep, is_pawn, is_square, is_en_passant}
 use Rattle.chess.specs.Public.San.{is_capture}
 use Rattle.chess.specs.declared.board.man.Man.{Man}
-use Rattle.chess.specs.declared.board.man.Side.{Side}
-use Rattle.chess.specs.declared.board.man.Side.TheVariants.{White, Black}
 use Rattle.chess.specs.declared.moves.Move.{Move}
 use Rattle.chess.proofs.PlaceFacts.{place_of, same_square-same, some_not_none, true_not_false}
 use Rattle.chess.proofs.GoesFacts.{IsTried}
 use Rattle.chess.proofs.KingFacts.{and_left, and_right, passing_pawn}
+use Rattle.chess.proofs.WayFacts.{same_back}
 
 -- ---- a step stays on its file, a capture does not
 
@@ -84,27 +83,23 @@ step_stays P m x here goes none = elim (cases_eq m.from.file m.to.file) [
 
 -- ---- two pawns of one file that go to one square are one
 
-forward_from : (side : Side) (a b n : ℕ) → IsForward side a n → IsForward side b n → a ≡ b
-forward_from White a b n first second = omega arith
-forward_from Black a b n first second = omega arith
-
 pub same_capture : (P : State) (m n : Move) → IsPawnMove P m.from m.to → IsPawnMove P n.from n.to → n.to ≡ m.to → n.from.file ≡ m.from.file
     → (m.from.file ≡ m.to.file → ⊥) → n.from ≡ m.from
 same_capture P m n goes others to file other =
     let there : IsForward P.turn n.from.rank n.to.rank = hit_of P n others (λ same. other (sym file ∙ same ∙ ap (λ (s : Place). s.file) to)) in
     place_of n.from m.from file
-    (forward_from P.turn n.from.rank m.from.rank m.to.rank (subst (λ (s : Place). IsForward P.turn n.from.rank s.rank) to there) (hit_of P m goes other))
+    (same_back P.turn n.from.rank m.from.rank m.to.rank (subst (λ (s : Place). IsForward P.turn n.from.rank s.rank) to there) (hit_of P m goes other))
 
 -- the square that a double step passes over is empty
 over_pawn : (P : State) (s t : Place) (own : Man) → man_at P.men s ≡ Some own → t.file ≡ s.file → IsForward P.turn s.rank t.rank
     → (from : Place) → IsDoubleStep P from t → ⊥
 over_pawn P s t own here file near from double =
-    let same : double.passed ≡ s = place_of double.passed s (double.same_file ∙ sym double.file ∙ file) (forward_from P.turn double.passed.rank s.rank t.rank double.second near) in
+    let same : double.passed ≡ s = place_of double.passed s (double.same_file ∙ sym double.file ∙ file) (same_back P.turn double.passed.rank s.rank t.rank double.second near) in
     some_not_none (man_at P.men s) own (subst (IsEmpty P.men) same double.empty) here
 
 same_steps : (P : State) (s from t : Place) (own : Man) → man_at P.men s ≡ Some own → man_at P.men from ≡ Some own
     → IsSingleStep P s t ⊎ IsDoubleStep P s t → IsSingleStep P from t ⊎ IsDoubleStep P from t → s ≡ from
-same_steps P s from t own here there (inl a) (inl b) = place_of s from (sym a.0 ∙ b.0) (forward_from P.turn s.rank from.rank t.rank a.1 b.1)
+same_steps P s from t own here there (inl a) (inl b) = place_of s from (sym a.0 ∙ b.0) (same_back P.turn s.rank from.rank t.rank a.1 b.1)
 same_steps P s from t own here there (inl a) (inr b) = absurd (over_pawn P s t own here a.0 a.1 from b)
 same_steps P s from t own here there (inr a) (inl b) = absurd (over_pawn P from t own there b.0 b.1 s a)
 same_steps P s from t own here there (inr a) (inr b) = place_of s from (sym a.file ∙ b.file) (a.from_first_rank ∙ sym b.from_first_rank)

@@ -1,7 +1,7 @@
 -- Facts about squares, sides and men, by cases.
-use Rattle.std.proofs.Common.{◌≡◌, ◌&&◌, ◌⊎◌, ℕ, Bool, true, false, inl, inr, ap, refl, sym, ◌∙◌, arith, Option, Some, None}
+use Rattle.std.proofs.Common.{◌≡◌, ◌&&◌, ◌⊎◌, ℕ, Bool, true, false, not, inl, inr, ap, refl, sym, ◌∙◌, arith, Option, Some, None}
 use Rattle.std.specs.Prelude.{◌==◌}
-use Rattle.std.proofs.lemmas.Bool.{cases_eq}
+use Rattle.std.proofs.lemmas.Bool.{cases_eq, not-true, not_from_false, false_from_ne_true}
 use Rattle.std.proofs.lemmas.Bool.Decides.{nat_tests}
 use Rattle.chess.specs.Public.Squares.{Place, same_square}
 use Rattle.chess.specs.Public.Placements.{opposite}
@@ -48,6 +48,10 @@ cases_side White Black = inr refl
 cases_side Black White = inr refl
 cases_side Black Black = inl refl
 
+pub not_opposite : (side : Side) → side ≡ opposite side → ⊥
+not_opposite White e = let f : White ≡ Black = e in cc
+not_opposite Black e = let f : Black ≡ White = e in cc
+
 -- men that are one agree in side and kind
 pub same_side : (a b : Man) → Some a ≡ Some b → a.side ≡ b.side
 same_side a b e = let same : a ≡ b = cc in ap (λ (x : Man). x.side) same
@@ -63,3 +67,9 @@ some_not_none o man none some = let e : None ≡ Some man = sym none ∙ some in
 
 pub true_not_false : (b : Bool) → b ≡ true → b ≡ false → ⊥
 true_not_false b yes_it no_it = let e : true ≡ false = sym yes_it ∙ no_it in cc
+
+pub not_true : (b : Bool) → (b ≡ true → ⊥) → not b ≡ true
+not_true b fails = not_from_false b (false_from_ne_true b fails)
+
+pub true_not : (b : Bool) → not b ≡ true → b ≡ true → ⊥
+true_not b no_it yes_it = true_not_false b yes_it (not-true b no_it)

@@ -1,6 +1,7 @@
 -- A move text says one thing: one castling, or one move of a man.
-use Rattle.std.proofs.Common.{◌≡◌, ℕ, sym, ◌∙◌, Some, List, reverse}
+use Rattle.std.proofs.Common.{◌≡◌, ℕ, sym, ◌∙◌, List, reverse}
 use Rattle.std.proofs.lemmas.List.{reverse-reverse}
+use Rattle.std.proofs.lemmas.Option.{same_Some}
 use Rattle.chess.specs.Public.San.{Said, Spells, IsCastlingText}
 use Rattle.chess.specs.Private.SanWords.{unmarked}
 use Rattle.chess.specs.declared.board.man.Wing.{Wing}
@@ -19,9 +20,6 @@ one_wing x v w text other =
 
 -- ---- what is said
 
-same_number : (m n : ℕ) → Some m ≡ Some n → m ≡ n
-same_number m n e = cc
-
 -- two readings of one text say the same
 said_by_bytes : (y : List ℕ) (a b : Bytes) → ReadAs y a → ReadAs y b → said_of a ≡ said_of b
 said_by_bytes y a b one other =
@@ -29,8 +27,8 @@ said_by_bytes y a b one other =
     let file : a.file ≡ b.file = sym one.file ∙ other.file in
     let rank : a.rank ≡ b.rank = sym one.rank ∙ other.rank in
     let promotion : a.promotion ≡ b.promotion = sym one.promotion ∙ other.promotion in
-    let target_file = same_number a.target_file b.target_file (sym one.target_file ∙ other.target_file) in
-    let target_rank = same_number a.target_rank b.target_rank (sym one.target_rank ∙ other.target_rank) in λ i. said_of (record {
+    let target_file = same_Some a.target_file b.target_file (sym one.target_file ∙ other.target_file) in
+    let target_rank = same_Some a.target_rank b.target_rank (sym one.target_rank ∙ other.target_rank) in λ i. said_of (record {
       letter = letter i;
       file = file i;
       rank = rank i;

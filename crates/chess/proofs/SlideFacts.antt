@@ -1,7 +1,7 @@
 -- A man that goes to an empty square by his own word alone: he is then carried as if the squares were cleared and he set on one of them.
 use Rattle.std.proofs.Common.{◌≡◌, ◌<◌, ◌+◌, ◌%◌, ◌^◌, ◌&&◌, ◌||◌, bit_or, bit_and, bit_xor, length, slice_set, nat_eq, ℕ, Bool, true, false, not, if◌then◌else◌, inl, inr, ap, refl, sym, ◌∙◌, arith, List, Some}
 use Rattle.std.specs.Int.{bit_at}
-use Rattle.std.proofs.lemmas.Bool.{cases_eq, eqb-true, eq-eqb, ne_eqb}
+use Rattle.std.proofs.lemmas.Bool.{cases_eq, eqb-true, eq-eqb, ne_eqb, true≢false}
 use Rattle.std.proofs.lemmas.Nat.Bits.{bit_at-lt, bit_at_xor}
 use Rattle.std.proofs.lemmas.List.{get_or-set_same, get_or-set_other, length-map}
 use Rattle.chess.specs.Public.Squares.{Place, IsOnBoard, index_of}
@@ -54,21 +54,18 @@ slide_one old row a b size in_row k i less on =
 
 -- ---- a man of the words on the one square, and none on the others
 
-clash : true ≡ false → ⊥
-clash e = cc
-
 slid_bit : (was own f t g : Bool) → (t ≡ true → was ≡ false) → (g ≡ true → was ≡ false) → (f ≡ true → was ≡ own)
     → (if own && (f || t) then not was else was) ≡ (if t then own else ((was && not g) && not f))
-slid_bit true own f true g ht hg hf = absurd (clash (ht refl))
+slid_bit true own f true g ht hg hf = absurd (true≢false (ht refl))
 slid_bit false true true true g ht hg hf = refl
 slid_bit false true false true g ht hg hf = refl
 slid_bit false false f true g ht hg hf = refl
 slid_bit true true true false true ht hg hf = refl
 slid_bit true true true false false ht hg hf = refl
-slid_bit true false true false g ht hg hf = absurd (clash (hf refl))
-slid_bit false true true false g ht hg hf = absurd (clash (sym (hf refl)))
+slid_bit true false true false g ht hg hf = absurd (true≢false (hf refl))
+slid_bit false true true false g ht hg hf = absurd (true≢false (sym (hf refl)))
 slid_bit false false true false g ht hg hf = refl
-slid_bit true own false false true ht hg hf = absurd (clash (hg refl))
+slid_bit true own false false true ht hg hf = absurd (true≢false (hg refl))
 slid_bit true true false false false ht hg hf = refl
 slid_bit true false false false false ht hg hf = refl
 slid_bit false true false false g ht hg hf = refl
@@ -115,7 +112,7 @@ slid_put old new man from taken to size on_from on_taken on_to apart here none f
 
 left_bit : (a b : Bool) → a ≡ true → (a || b) ≡ true
 left_bit true b e = refl
-left_bit false b e = absurd (clash (sym e))
+left_bit false b e = absurd (true≢false (sym e))
 
 right_bit : (a b : Bool) → b ≡ true → (a || b) ≡ true
 right_bit true b e = refl

@@ -1,5 +1,5 @@
 -- A move keeps a position sound.
-use Rattle.std.proofs.Common.{◌≡◌, ◌≢◌, ◌≤◌, ◌+◌, ◌/◌, ◌&&◌, ◌⊎◌, ℕ, Bool, true, false, not, inl, inr, ap, refl, sym, subst, ◌∙◌, arith, Option, Some, None, IfSome, if◌then◌else◌}
+use Rattle.std.proofs.Common.{◌≡◌, ◌≢◌, ◌≤◌, ◌+◌, ◌/◌, ◌&&◌, ◌⊎◌, ℕ, true, false, not, inl, inr, ap, refl, sym, subst, ◌∙◌, arith, Option, Some, None, IfSome, if◌then◌else◌}
 use Rattle.std.specs.Prelude.{◌==◌}
 use Rattle.std.proofs.lemmas.Bool.Decides.{nat_tests}
 use Rattle.chess.specs.Public.Squares.{Place, same_square, gap}
@@ -16,7 +16,7 @@ use Rattle.chess.specs.declared.board.man.Wing.{Wing}
 use Rattle.chess.specs.declared.board.man.Wing.TheVariants.{KingSide, QueenSide}
 use Rattle.chess.specs.declared.board.man.CastlingRights.{CastlingRights}
 use Rattle.chess.specs.declared.moves.Move.{Move}
-use Rattle.chess.proofs.PlaceFacts.{place_of, cases_place, same_square-same, cases_side, opposite-opposite, same_kind, some_not_none, man_of}
+use Rattle.chess.proofs.PlaceFacts.{place_of, cases_place, same_square-same, cases_side, opposite-opposite, same_kind, some_not_none, man_of, true_not}
 use Rattle.chess.proofs.GoesFacts.{IsTried, goes_castle, has_arrived}
 use Rattle.chess.proofs.AfterFacts.{IsNoRook, IsApart, after_apart, after_to, after_from, has_come, after_on_board}
 use Rattle.chess.proofs.KingFacts.{pawn_kind, taken_cases, rook_to-empty, king_apart, king_stays, king_moves, no_rook_to, and_left, and_right}
@@ -91,10 +91,6 @@ rights_are rights m White QueenSide = refl
 rights_are rights m Black KingSide = refl
 rights_are rights m Black QueenSide = refl
 
-not_then : (b : Bool) → not b ≡ true → b ≡ true → ⊥
-not_then true h e = let f : false ≡ true = h in cc
-not_then false h e = let f : false ≡ true = e in cc
-
 -- what a right that is kept says
 pub record IsRightKept (P : State) (m : Move) (side : Side) (wing : Wing) : Type 0 where
   pub held : has_right P.rights side wing ≡ true
@@ -112,9 +108,9 @@ right_kept P m side wing e =
     let two = and_left (held && king) leaves three in
     record {
       held = and_left held king two;
-      king = λ same. not_then _ (and_right held king two) (same_square-same m.from (king_from side) same);
-      leaves = λ same. not_then _ (and_right (held && king) leaves three) (same_square-same m.from (rook_from side wing) same);
-      comes = λ same. not_then _ (and_right (held && king && leaves) comes e) (same_square-same m.to (rook_from side wing) same);
+      king = λ same. true_not _ (and_right held king two) (same_square-same m.from (king_from side) same);
+      leaves = λ same. true_not _ (and_right (held && king) leaves three) (same_square-same m.from (rook_from side wing) same);
+      comes = λ same. true_not _ (and_right (held && king && leaves) comes e) (same_square-same m.to (rook_from side wing) same);
     }
 
 home_ranks : (side : Side) → home_rank (opposite side) ≡ home_rank side → ⊥

@@ -1,5 +1,6 @@
 -- The pawn that steps to a square: it comes from the next square back, or over that one from the square before it.
-use Rattle.std.proofs.Common.{◌≡◌, ◌⊎◌, ◌≤◌, ◌||◌, ℕ, Bool, true, false, inl, inr, ap, refl, sym, subst, ◌∙◌, arith, None}
+use Rattle.std.proofs.Common.{◌≡◌, ◌⊎◌, ◌≤◌, ◌||◌, ℕ, inl, inr, ap, sym, subst, ◌∙◌, arith, None}
+use Rattle.std.proofs.lemmas.Bool.{or_cases}
 use Rattle.chess.specs.Public.Squares.{Place, IsOnBoard, same_square, gap}
 use Rattle.chess.specs.Public.Placements.{man_at, opposite, IsEmpty}
 use Rattle.chess.specs.Public.Attacks.{IsForward}
@@ -12,7 +13,7 @@ use Rattle.chess.specs.declared.board.man.Kind.TheVariants.{Pawn}
 use Rattle.chess.specs.Public.Sets.{Places, is_in, no_places, HoldsExactly}
 use Rattle.chess.proofs.PlaceFacts.{place_of, some_not_none, same_square-same, same_square-then, true_not_false}
 use Rattle.chess.proofs.LoopFacts.{not_in}
-use Rattle.chess.proofs.WayFacts.{between_low, between_high}
+use Rattle.chess.proofs.WayFacts.{between_low, between_high, same_back}
 
 -- one rank forward for a side is one rank back for the other
 pub back : (side : Side) (a b : ℕ) → IsForward side a b → IsForward (opposite side) b a
@@ -22,10 +23,6 @@ back Black a b e = e
 pub forth : (side : Side) (a b : ℕ) → IsForward (opposite side) b a → IsForward side a b
 forth White a b e = e
 forth Black a b e = e
-
-same_back : (side : Side) (a b n : ℕ) → IsForward side a n → IsForward side b n → a ≡ b
-same_back White a b n e f = omega arith
-same_back Black a b n e f = omega arith
 
 -- the square back from another for a side
 abbrev pub IsAtRear : Side → Place → Place → Type 0
@@ -148,10 +145,6 @@ step_free P s t (inl single) = single.2
 step_free P s t (inr double) = double.end_empty
 
 -- a fact that one square alone has, as a set
-or_cases : (a b : Bool) → (a || b) ≡ true → (a ≡ true) ⊎ (b ≡ true)
-or_cases true b e = inl refl
-or_cases false b e = inr e
-
 pub one_holds : (fact : Place → Type 0) (old new : Places) (t : Place) → old ≡ no_places → IsOnBoard t → fact t
     → ((s : Place) → IsOnBoard s → fact s → s ≡ t) → ((s : Place) → is_in new s ≡ (same_square t s || is_in old s)) → HoldsExactly fact new
 one_holds fact old new t none on holds only put s = (

@@ -37,6 +37,11 @@ no_move P pawn knight bishop rook queen king h =
       | Pawn ↦ pawn
     ] some.1
 
+-- a pawn goes to a rank from one other
+pub same_back : (side : Side) (a b n : ℕ) → IsForward side a n → IsForward side b n → a ≡ b
+same_back White a b n e f = omega arith
+same_back Black a b n e f = omega arith
+
 pub between_low : (side : Side) (a n b : ℕ) → IsForward side a n → IsForward side n b → 1 ≤ b → 1 ≤ n
 between_low White a n b first second low = omega arith
 between_low Black a n b first second low = omega arith

@@ -1,4 +1,5 @@
 use Rattle.std.proofs.Common.{◌≡◌, ◌≤◌, ◌-◌, ℕ, inl, inr, ap, sym, subst, ◌∙◌, Some, None, List, [], reverse}
+use Rattle.std.proofs.lemmas.Option.{same_Some}
 use Rattle.chess.specs.Public.San.{Said, Spells}
 use Rattle.chess.specs.Private.SanWords.{kind_given, number_given, last_of, before_last, after_letter}
 use Rattle.chess.specs.declared.move_text.read.parse.ByteClass.TheVariants.{KindLetter}
@@ -10,9 +11,6 @@ use Rattle.chess.proofs.move_text.read.parse.parse_san.Goals as goal
 -- what a text that says something reads as
 read_as : (x : List ℕ) (said : Said) → Spells x said → (b : Bytes) × ReadAs (reverse x) b × (said ≡ said_of b)
 read_as x said spells = let s = said_bytes x said spells in (s.bytes, read_text x s.marks s.bytes s.are s.all s.text, s.back)
-
-some_number : (m n : ℕ) → Some m ≡ Some n → m ≡ n
-some_number m n e = cc
 
 pub returns-in_default-split_parts : goal.returns-in_default-split_parts
 returns-in_default-split_parts c said = (
@@ -49,8 +47,8 @@ read_parts : (c : goal.After-kind_given) (b : Bytes) → ReadAs (reverse c.args.
     → said_of b ≡ record { letter = c.in-Some-whole_letter.letter; file = c.number_given.result; rank = c.number_given-2.result; target = c.in_ok-target.target; promote = c.kind_given.result }
 read_parts c b read =
     let found = c.in-Some-split_parts.ensures in
-    let file = some_number _ _ (sym found.target.1 ∙ read.target_file) in
-    let rank = some_number _ _ (sym found.target.0 ∙ read.target_rank) in
+    let file = same_Some _ _ (sym found.target.1 ∙ read.target_file) in
+    let rank = same_Some _ _ (sym found.target.0 ∙ read.target_rank) in
     let target : c.in_ok-target.target ≡ record { file = b.target_file - 96; rank = b.target_rank - 48 } =
     c.in_ok-target.ensures.0
     ∙ (λ i. record { file = (c.saturating_sub.ensures ∙ ap (λ n. n - 96) file) i; rank = (c.saturating_sub-2.ensures ∙ ap (λ n. n - 48) rank) i }) in
