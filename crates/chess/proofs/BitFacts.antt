@@ -1,11 +1,12 @@
 -- Twelve words as a board: the man on a square, a man that is put, and the words of a man and of the empty squares.
 use Rattle.std.proofs.Common.{◌≡◌, ◌↔◌, ◌⊎◌, ◌<◌, ◌≤◌, ◌+◌, ◌-◌, ◌^◌, bit_or, bit_and, w64, length, slice_set, ◌&&◌, ◌||◌, ℕ, zero, suc, Bool, true, false, not, nat_eq, inl, inr, ap, refl, sym, subst, ◌∙◌, arith, if◌then◌else◌, List, Option, Some, None}
-use Rattle.std.proofs.lemmas.Bool.{agree_below, agree_below_at, cases_eq, eqb-true, eq-eqb, ne_eqb, not-true, or_cases, or_left, or_right}
+use Rattle.std.proofs.lemmas.Bool.{agree_below, agree_below_at, cases_eq, eqb-true, eq-eqb, ne_eqb, not-true, or_cases, or_left, or_right, cases_Bool}
 use Rattle.std.specs.Int.{bit_at, bit_not}
 use Rattle.std.proofs.lemmas.Nat.Bits.{bit_at-lt, bit_at_not, bit_at-pow_same, bit_at-pow_other}
 use Rattle.std.specs.Prelude.{replicate}
 use Rattle.std.proofs.lemmas.List.{get_or-set_same, get_or-set_other, get_or-replicate, length-set}
 use Rattle.std.proofs.lemmas.Bool.Decides.{nat_tests}
+use Rattle.std.proofs.Math.Bool.{or_comm}
 use Rattle.chess.specs.Public.Squares.{Place, IsOnBoard, index_of}
 use Rattle.chess.specs.Public.Placements.{Placement, no_men, man_at, with_man, IsEmpty}
 use Rattle.chess.specs.Shared.SetWords.{has_bit}
@@ -138,10 +139,6 @@ union_more words n all so_far i =
 not_one : (b : ℕ) → b < 2 → nat_eq (1 - b) 1 ≡ not (nat_eq b 1)
 not_one b h = grind (arith, nat_tests)
 
-pub is_or : (b : Bool) → (b ≡ true) ⊎ (b ≡ false)
-is_or true = inl refl
-is_or false = inr refl
-
 pub no_man_or : (o : Option Man) → (o ≡ None) ⊎ (o ≡ None → ⊥)
 no_man_or None = inl refl
 no_man_or (Some man) = inr (λ e. cc)
@@ -154,7 +151,7 @@ word_of_men words all apart union s on =
           let k = (union i).0 one in
           let man = has_man words 12 k.0 i apart (omega arith) k.1 (index_of-below s on) k.2 in
           let clash : None ≡ Some (man_of_row k.0) = sym here ∙ at ∙ man in cc),
-      (λ some. elim (is_or (has_bit all i)) [
+      (λ some. elim (cases_Bool (has_bit all i)) [
         | inl bit ↦ bit
         | inr none ↦ absurd (some (at ∙ no_man words 12 i (λ k less. false_of _ (λ one. true_not_false _ ((union i).1 (k, less, one)) none))))
       ]),
@@ -245,12 +242,6 @@ cleared_put true false = refl
 cleared_put false true = refl
 cleared_put false false = refl
 
-or_turned : (a b : Bool) → (a || b) ≡ (b || a)
-or_turned true true = refl
-or_turned true false = refl
-or_turned false true = refl
-or_turned false false = refl
-
 set_put : (b c r : Bool) → ((r && c) || (b && not c)) ≡ (if c then r else b)
 set_put true true true = refl
 set_put true true false = refl
@@ -303,7 +294,7 @@ set_one old row at size in_row k i less on =
     let word = bit_or (word_at old row) (2 ^ at) in elim (cases_eq k row) [
       | inl same ↦
           ap (λ j. has_bit (word_at (slice_set old row word) j) i) same ∙ ap (λ w. has_bit w i) (get_or-set_same old row word 0 (omega arith))
-          ∙ bit_of_either (word_at old row) (2 ^ at) i ∙ or_turned (has_bit (word_at old row) i) (has_bit (2 ^ at) i)
+          ∙ bit_of_either (word_at old row) (2 ^ at) i ∙ or_comm (has_bit (word_at old row) i) (has_bit (2 ^ at) i)
           ∙ ap (λ b. b || has_bit (word_at old row) i) (square_bit at i)
           ∙ ap (λ j. nat_eq i at || has_bit (word_at old j) i) (sym same)
           ∙ sym (ap (λ b. (b && nat_eq i at) || has_bit (word_at old k) i) (eq-eqb k row same))

@@ -13,18 +13,13 @@ use Rattle.chess.specs.declared.board.man.Side.TheVariants.{White, Black}
 use Rattle.chess.specs.declared.board.man.Kind.TheVariants.{King, Queen, Rook, Knight, Pawn}
 use Rattle.chess.specs.declared.board.man.Wing.TheVariants.{KingSide, QueenSide}
 use Rattle.chess.specs.declared.board.direction.Direction.{Direction}
-use Rattle.chess.specs.declared.board.direction.Direction.TheVariants.{North, South, East, West, NorthEast, NorthWest, SouthEast, SouthWest}
+use Rattle.chess.specs.declared.board.direction.Direction.TheVariants.{North}
+use Rattle.chess.proofs.AxisSteps.{even_gaps}
 
 -- no way leads from h4 to a5, so no rook or bishop reaches it
 h4_a5 : (way : Direction) (k : ℕ) → IsAhead way k (record { file = 8; rank = 4 }) (record { file = 1; rank = 5 }) → ⊥
-h4_a5 North k a = let e = a.0 in omega arith
-h4_a5 South k a = let e = a.0 in omega arith
-h4_a5 East k a = let e = a.0 in omega arith
-h4_a5 West k a = let e = a.1 in omega arith
-h4_a5 NorthEast k a = let e = a.0 in omega arith
-h4_a5 NorthWest k a = let e = a.0 in let f = a.1 in omega arith
-h4_a5 SouthEast k a = let e = a.0 in omega arith
-h4_a5 SouthWest k a = let e = a.1 in omega arith
+h4_a5 way k a =
+    let even = even_gaps way k (record { file = 8; rank = 4 }) (record { file = 1; rank = 5 }) a (omega arith) (omega arith) in omega (arith, even)
 
 rook_h4_not_a5 : (p : Placement) → Reaches p White Rook (record { file = 8; rank = 4 }) (record { file = 1; rank = 5 }) → ⊥
 rook_h4_not_a5 p r = h4_a5 r.0 r.2.steps r.2.ahead

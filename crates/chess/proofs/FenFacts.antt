@@ -1,5 +1,6 @@
 -- What is right and what is wrong with a position that a text spells.
 use Rattle.std.proofs.Common.{◌≡◌, ◌↔◌, ℕ, List, Bool, true, false, inl, inr, sym, refl, subst, ◌∙◌, Option, Some, None, IfSome, IsTrue, is_some}
+use Rattle.std.proofs.lemmas.Bool.{both_ways}
 use Rattle.chess.specs.Public.Squares.{Place}
 use Rattle.chess.specs.Public.Placements.{Placement, AreOnBoard, opposite}
 use Rattle.chess.specs.Public.Attacks.{IsAttacked}
@@ -26,16 +27,11 @@ each_king P white black kings Black = (black, kings.black_only)
 pub right_kings : (P : State) (white black : Place) → HasKings P white black → HasWrongKings P → ⊥
 right_kings P white black kings wrong = let king = each_king P white black kings wrong.0 in wrong.1 king.0 king.1
 
--- an answer that is no
-denied : (b : Bool) → b ≡ false → IsTrue b → ⊥
-denied true e t = let clash : true ≡ false = e in cc
-denied false e t = let clash : false ≡ true = t in cc
-
 pub wrong_pawns : (P : State) (b : Bool) → IsTrue b ↔ ((s : Place) × IsEdgePawn P.men s) → b ≡ true → HasWrongPawns P
 wrong_pawns P b test found = let s = test.0 found in (s.1.0.0, s.0, s.1.0.1, s.1.1)
 
 pub right_pawns : (P : State) (b : Bool) → IsTrue b ↔ ((s : Place) × IsEdgePawn P.men s) → b ≡ false → HasWrongPawns P → ⊥
-right_pawns P b test none wrong = denied b none (test.1 (wrong.1, ((wrong.0, wrong.2), wrong.3)))
+right_pawns P b test none wrong = both_ways b none (test.1 (wrong.1, ((wrong.0, wrong.2), wrong.3)))
 
 -- the king of the side not to move
 pub enemy_white : (P : State) (white black king : Place) → HasKings P white black → P.turn ≡ White → king ≡ black → IsOnlyKing P.men (opposite P.turn) king
@@ -54,7 +50,7 @@ wrong_check P king b only test attacked =
 pub right_check : (P : State) (king : Place) (b : Bool) → IsOnlyKing P.men (opposite P.turn) king → IsTrue b ↔ IsAttacked P.men P.turn king → b ≡ false
     → HasWrongCheck P → ⊥
 right_check P king b only test quiet wrong =
-    denied b quiet (test.1
+    both_ways b quiet (test.1
     (subst (IsAttacked P.men P.turn) (only.only wrong.0 wrong.1)
     (subst (λ side. IsAttacked P.men side wrong.0) (opposite-opposite P.turn) wrong.2)))
 

@@ -4,7 +4,7 @@ use Rattle.std.specs.Prelude.{◌==◌, if◌then◌else◌, codes, decimal}
 use Rattle.std.specs.List.{list_all}
 use Rattle.std.proofs.lemmas.Bool.Decides.{nat_tests}
 use Rattle.std.proofs.lemmas.Fmt.{decimal_by_steps, length-decimal-le, decimal_nonempty}
-use Rattle.std.proofs.lemmas.Bool.{and_parts, not-true, or_from}
+use Rattle.std.proofs.lemmas.Bool.{and_parts, not-true, or_from, eq-eqb, and_from}
 use Rattle.chess.specs.Public.Squares.{Place}
 use Rattle.chess.specs.Public.Placements.{Placement}
 use Rattle.chess.specs.Public.Positions.{State, has_right, FitsEnPassant, IsSound}
@@ -21,9 +21,6 @@ use Rattle.chess.proofs.SoundRead.{sound_read}
 
 -- ---- texts without a separator are found again
 
-number_itself : (n : ℕ) → (n == n) ≡ true
-number_itself n = grind (arith, nat_tests)
-
 not_first : (s b : ℕ) (x : List ℕ) → has_byte s (b ∷ x) ≡ false → ((b == s) ≡ false) × (has_byte s x ≡ false)
 not_first s b x none =
     elim (b == s) as (λ t. (b == s) ≡ t → (t || has_byte s x) ≡ false → ((b == s) ≡ false) × (has_byte s x ≡ false)) [
@@ -38,7 +35,7 @@ parted_one s (b ∷ x) none =
     ap (λ t. if t then [] ∷ parted_at s x else before_first b (parted_at s x)) apart.0 ∙ ap (before_first b) (parted_one s x apart.1)
 
 parted_more : (s : ℕ) (x y : List ℕ) → has_byte s x ≡ false → parted_at s (x ++ s ∷ y) ≡ x ∷ parted_at s y
-parted_more s [] y none = ap (λ t. if t then [] ∷ parted_at s y else before_first s (parted_at s y)) (number_itself s)
+parted_more s [] y none = ap (λ t. if t then [] ∷ parted_at s y else before_first s (parted_at s y)) (eq-eqb s s refl)
 parted_more s (b ∷ x) y none =
     let apart = not_first s b x none in
     ap (λ t. if t then [] ∷ parted_at s (x ++ s ∷ y) else before_first b (parted_at s (x ++ s ∷ y))) apart.0
@@ -263,23 +260,19 @@ all_append test (b ∷ x) y first second =
 a_digit : (d : ℕ) → d < 10 → is_digit (48 + d) ≡ true
 a_digit d h = grind (arith, nat_tests)
 
-one_digit : (b : Bool) → b ≡ true → (b && true) ≡ true
-one_digit true e = refl
-one_digit false e = e
-
 -- digits that write the number
 abbrev AreDigitsOf : ℕ → List ℕ → Type 0
 AreDigitsOf n x = (list_all is_digit x ≡ true) × (number_from 0 x ≡ n)
 
 digits_one : (n : ℕ) → n < 10 → AreDigitsOf n ((48 + n) ∷ [])
-digits_one n h = (one_digit (is_digit (48 + n)) (a_digit n h), omega arith)
+digits_one n h = (and_from (is_digit (48 + n)) true (a_digit n h) refl, omega arith)
 
 digits_more : (n : ℕ) (x : List ℕ) → 10 ≤ n → AreDigitsOf (n / 10) x → AreDigitsOf n (x ++ (48 + n % 10) ∷ [])
 digits_more n x high before =
     let small : n % 10 < 10 = omega arith in
     let value = before.1 in
     let appended = number_append 0 x (48 + n % 10) in (
-      all_append is_digit x ((48 + n % 10) ∷ []) before.0 (one_digit (is_digit (48 + n % 10)) (a_digit (n % 10) small)),
+      all_append is_digit x ((48 + n % 10) ∷ []) before.0 (and_from (is_digit (48 + n % 10)) true (a_digit (n % 10) small) refl),
       (let last : 48 + n % 10 - 48 ≡ n % 10 = omega arith in omega arith),
     )
 

@@ -2,6 +2,7 @@
 use Rattle.std.proofs.Common.{◌≡◌, ◌≢◌, ◌⊎◌, ◌↔◌, ℕ, ◌+◌, ◌<◌, Bool, true, false, Option, Some, None, List, [], ◌∷◌, length, codes, refl, sym, ◌∙◌, subst, inl, inr, arith}
 use Rattle.std.specs.List.{list_all}
 use Rattle.std.proofs.lemmas.Bool.{cases_eq}
+use Rattle.std.proofs.lemmas.Option.{same_Some}
 use Rattle.chess.specs.Public.Squares.{Place, IsOnBoard}
 use Rattle.chess.specs.Public.Placements.{Placement, man_at, AreOnBoard, opposite, IsEmpty}
 use Rattle.chess.specs.Shared.CellFacts.{on_board_or_not}
@@ -135,19 +136,16 @@ kept_each p rights Black KingSide = test_of-exact (settled_keeps p rights Black 
 kept_each p rights Black QueenSide = test_of-exact (settled_keeps p rights Black QueenSide)
 
 -- the en passant square that is kept
-some_place : (s t : Place) → Some s ≡ Some t → s ≡ t
-some_place s t e = cc
-
 abbrev IsPassing : Placement → Side → Option Place → Option Place → Type 0
 IsPassing p turn o kept = (s : Place) → (kept ≡ Some s) ↔ ((o ≡ Some s) × FitsEnPassant p turn s)
 
 passing_at : (p : Placement) (turn : Side) (t : Place) → Settled (FitsEnPassant p turn t)
     → (kept : Option Place) × IsPassing p turn (Some t) kept
 passing_at p turn t (inl fits) =
-    (Some t, λ s. ((λ e. (e, subst (FitsEnPassant p turn) (some_place t s e) fits)), (λ h. h.0)))
+    (Some t, λ s. ((λ e. (e, subst (FitsEnPassant p turn) (same_Some t s e) fits)), (λ h. h.0)))
 passing_at p turn t (inr none) = (
   None,
-  λ s. ((λ e. absurd (cc)), (λ h. absurd (none (subst (FitsEnPassant p turn) (sym (some_place t s h.0)) h.1)))),
+  λ s. ((λ e. absurd (cc)), (λ h. absurd (none (subst (FitsEnPassant p turn) (sym (same_Some t s h.0)) h.1)))),
 )
 
 passing : (p : Placement) (turn : Side) (o : Option Place) → (kept : Option Place) × IsPassing p turn o kept

@@ -1,7 +1,7 @@
 -- Facts about the table of letters: how it is filled man by man, and what it says of each square.
 use Rattle.std.proofs.Common.{◌≡◌, ◌<◌, ◌+◌, ◌&&◌, ℕ, false, not, inl, inr, ap, refl, sym, subst, ◌∙◌, arith, if◌then◌else◌, List, length, slice_set, Option, Some, None}
 use Rattle.std.specs.Prelude.{replicate, ltb}
-use Rattle.std.proofs.lemmas.Bool.{lt-ltb, ltb-true}
+use Rattle.std.proofs.lemmas.Bool.{lt-ltb, ltb-true, cases_Bool}
 use Rattle.std.proofs.lemmas.List.{get_or-set_same, get_or-set_other, get_or-replicate, length-set}
 use Rattle.chess.specs.Public.Squares.{Place, IsOnBoard, index_of, square_at}
 use Rattle.chess.specs.Shared.SetFacts.{index_of-below, square_at-index_of, false_of, and_false, and_true}
@@ -19,7 +19,7 @@ use Rattle.chess.specs.declared.board.man.Kind.TheVariants.{King, Queen, Rook, B
 use Rattle.chess.proofs.PlaceFacts.{cases_place, same_square-same, same_square-then, true_not_false}
 use Rattle.chess.proofs.LetterFacts.{letter_high}
 use Rattle.chess.proofs.LoopFacts.{not_in}
-use Rattle.chess.proofs.BitFacts.{is_or, man_of_row-row_of, row_of-below}
+use Rattle.chess.proofs.BitFacts.{man_of_row-row_of, row_of-below}
 
 -- ---- one letter on the squares of a set
 
@@ -64,7 +64,7 @@ one_row : (a b : Man) → row_of a ≡ row_of b → a ≡ b
 one_row a b e = sym (man_of_row-row_of a) ∙ ap man_of_row e ∙ man_of_row-row_of b
 
 below_too : (r n : ℕ) → (r ≡ n → ⊥) → ltb r n ≡ ltb r (n + 1)
-below_too r n other = elim (is_or (ltb r n)) [
+below_too r n other = elim (cases_Bool (ltb r n)) [
   | inl less ↦ let h = ltb-true r n less in less ∙ sym (lt-ltb r (n + 1) (omega arith))
   | inr more ↦ more ∙ sym (false_of _ (λ e.
       let h = ltb-true r (n + 1) e in
@@ -84,7 +84,7 @@ pub one_more_man : (p : Placement) (man : Man) (letter n : ℕ) (squares : Place
     → IsSquaresOf p man squares
     → ((s : Place) → IsOnBoard s → letter_at new s ≡ (if is_in squares s then letter else letter_at old s))
     → AreLettersBelow p old n → AreLettersBelow p new (n + 1)
-one_more_man p man letter n squares old new at own found marked before s on = elim (is_or (is_in squares s)) [
+one_more_man p man letter n squares old new at own found marked before s on = elim (cases_Bool (is_in squares s)) [
   | inl here ↦
       marked s on ∙ ap (λ b. if b then letter else letter_at old s) here ∙ own
       ∙ sym (ap (letter_below (n + 1)) ((found s).0 here).1 ∙ below_own man n at)

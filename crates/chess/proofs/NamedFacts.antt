@@ -1,5 +1,6 @@
 -- The moves that a text names: over the squares of the men that it speaks of.
 use Rattle.std.proofs.Common.{◌≡◌, ◌≢◌, ◌↔◌, ◌&&◌, ◌+◌, ◌⊎◌, ℕ, Bool, true, false, not, inl, inr, ap, refl, sym, subst, ◌∙◌, arith, Option, Some, None, Result, Ok, Err, IsTrue, MatchOption, is_some, IfSome, IfOk, OnErr, IsErrOf, List, [], ◌∷◌, ◌++◌, ◌≤◌}
+use Rattle.std.proofs.lemmas.Option.{same_Some}
 use Rattle.chess.specs.Public.Squares.{Place, IsOnBoard}
 use Rattle.chess.specs.Public.Placements.{man_at}
 use Rattle.chess.specs.Public.Positions.{State}
@@ -224,12 +225,6 @@ not_both x wing said castles spells =
     (no_target spells.sign said.target _ spells.sign_is spells.target)
     (subst (Begins BeginsCastling) spells.text (castling_begins x wing castles))
 
-pub some_wing : (a b : Wing) → Some a ≡ Some b → a ≡ b
-some_wing a b e = cc
-
-pub some_said : (a b : Said) → Some a ≡ Some b → a ≡ b
-some_said a b e = cc
-
 -- what was read of a text: the wing on which it castles, and what it says otherwise
 abbrev pub AreCastling : List ℕ → Option Wing → Type 0
 AreCastling x read = (w : Wing) → IsCastlingText w x ↔ (read ≡ Some w)
@@ -242,7 +237,7 @@ no_wing x read texts is w castles = let e : None ≡ Some w = sym is ∙ (texts 
 
 -- a move that the text speaks of, where it castles, or says something
 pub by_castling : (P : State) (x : List ℕ) (wing : Wing) (read : Option Wing) (m : Move) → AreCastling x read → read ≡ Some wing → IsSpokenOf P x m → m.castle ≡ Some wing
-by_castling P x wing read m texts is (inl by) = by.2 ∙ ap (λ (w : Wing). Some w) (some_wing by.0 wing (sym ((texts by.0).0 by.1) ∙ is))
+by_castling P x wing read m texts is (inl by) = by.2 ∙ ap (λ (w : Wing). Some w) (same_Some by.0 wing (sym ((texts by.0).0 by.1) ∙ is))
 by_castling P x wing read m texts is (inr by) = absurd (not_both x wing by.0 ((texts wing).1 is) by.1)
 
 pub by_none : (P : State) (x : List ℕ) (read : Option Wing) (said : Option Said) (m : Move) → AreCastling x read → read ≡ None → AreSaid x said → said ≡ None → IsSpokenOf P x m → ⊥
@@ -252,7 +247,7 @@ by_none P x read said m texts is spelled none (inr by) = let e : None ≡ Some b
 pub by_said : (P : State) (x : List ℕ) (read : Option Wing) (said : Option Said) (own : Said) (m : Move) → AreCastling x read → read ≡ None → AreSaid x said → said ≡ Some own
     → IsSpokenOf P x m → Agrees P own m
 by_said P x read said own m texts is spelled found (inl by) = absurd (no_wing x read texts is by.0 by.1)
-by_said P x read said own m texts is spelled found (inr by) = subst (λ s. Agrees P s m) (some_said by.0 own (sym ((spelled by.0).0 by.1) ∙ found)) by.2
+by_said P x read said own m texts is spelled found (inr by) = subst (λ s. Agrees P s m) (same_Some by.0 own (sym ((spelled by.0).0 by.1) ∙ found)) by.2
 
 -- so each move that it names
 pub castling_named : (P : State) (x : List ℕ) (wing : Wing) (read : Option Wing) → AreCastling x read → read ≡ Some wing

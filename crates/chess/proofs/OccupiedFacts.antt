@@ -1,5 +1,6 @@
 -- The squares of a side's men, from the words of its kinds.
 use Rattle.std.proofs.Common.{◌≡◌, ◌≢◌, ◌↔◌, ◌⊎◌, ◌∙◌, bit_or, bit_and, ℕ, inl, inr, ap, refl, Some}
+use Rattle.std.proofs.lemmas.Bool.{cases_Bool}
 use Rattle.chess.specs.Public.Squares.{Place, IsOnBoard, index_of}
 use Rattle.chess.specs.Public.Placements.{Placement, IsEmpty, IsOccupiedBy}
 use Rattle.chess.specs.Shared.SetWords.{has_bit}
@@ -9,7 +10,7 @@ use Rattle.chess.specs.declared.board.man.Kind.{Kind}
 use Rattle.chess.specs.declared.board.man.Kind.TheVariants.{King, Queen, Rook, Bishop, Knight, Pawn}
 use Rattle.chess.proofs.PlaceFacts.{man_of}
 use Rattle.chess.proofs.FillFacts.{either_word, common_none, common_some}
-use Rattle.chess.proofs.BitFacts.{is_or}
+use Rattle.chess.proofs.BitFacts.{}
 
 -- a man of the side is of one of six kinds
 abbrev pub IsOfSix : Placement → Side → Place → Type 0
@@ -63,7 +64,7 @@ word_of_occupied p side a b c d e f king queen rook bishop knight pawn s on =
 pub has_square : (A : Place → Type 0) (all word : ℕ) (s : Place) → IsOnBoard s → word ≡ square_word s → IsWordOf A all
     → (bit_and all word ≢ 0) ↔ A s
 has_square A all word s on is are = (
-  (λ some. elim (is_or (has_bit all (index_of s))) [
+  (λ some. elim (cases_Bool (has_bit all (index_of s))) [
     | inl bit ↦ (are s on).0 bit
     | inr none ↦ absurd (some (common_none all word s is none))
   ]),

@@ -1,11 +1,11 @@
 -- Move texts that are a target alone, or a letter and a target.
 use Rattle.std.proofs.Common.{◌≡◌, ◌∙◌, ◌<◌, ◌≤◌, ℕ, true, ap, refl, sym, subst, arith, Option, Some, None, IfSome, MatchOption, List, [], ◌∷◌, ◌++◌, length, get_or}
+use Rattle.std.proofs.lemmas.Option.{same_Some}
 use Rattle.chess.specs.Public.San.{Said, Spells}
 use Rattle.chess.specs.Private.SanWords.{is_of, said_by, IsReadSaid, SaysPlainly, SaysPawnTakes, IsBeforeMarks}
 use Rattle.chess.specs.declared.move_text.read.parse.ByteClass.TheVariants.{Digit, FileLetter, KindLetter, Sign}
 use Rattle.chess.specs.declared.move_text.read.parse.ParsedSan.{ParsedSan}
 use Rattle.chess.proofs.ReadingFacts.{given}
-use Rattle.chess.proofs.NamedFacts.{some_said}
 use Rattle.chess.proofs.SaidOnceFacts.{one_said}
 use Rattle.chess.proofs.SpelledParts.{spelled_parts, said_of}
 use Rattle.chess.proofs.TextParts.{Bytes, AreBytes, stem_text}
@@ -62,7 +62,7 @@ bytes_read x y b r are marked e says said =
     let own : Spells x (said_by r) =
     subst (Spells x) (sym says) (spelled_parts x marked.0 b are marked.1 (marked.2 ∙ ap (λ z. z ++ marked.0) e)) in (
       (λ spells. ap (λ (s : Said). Some s) (one_said x (said_by r) said own spells)),
-      (λ same. subst (Spells x) (some_said (said_by r) said same) own),
+      (λ same. subst (Spells x) (same_Some (said_by r) said same) own),
     )
 
 stem_plain : (letter : Option ℕ) (file rank : ℕ) → given letter ++ file ∷ rank ∷ [] ≡ stem_text (plain_bytes letter file rank)

@@ -6,7 +6,6 @@ use Rattle.chess.specs.Public.San.{Said, Spells, IsCastlingText}
 use Rattle.chess.specs.Private.SanWords.{unmarked}
 use Rattle.chess.specs.declared.board.man.Wing.{Wing}
 use Rattle.chess.proofs.CastlingTextFacts.{stem_castles, castling_found}
-use Rattle.chess.proofs.NamedFacts.{some_wing}
 use Rattle.chess.proofs.SpelledParts.{said_of, said_bytes}
 use Rattle.chess.proofs.TextParts.{Bytes, ReadAs, read_text}
 
@@ -16,7 +15,7 @@ pub one_wing : (x : List ℕ) (v w : Wing) → IsCastlingText v x → IsCastling
 one_wing x v w text other =
     let stem = reverse (unmarked (reverse x)) in
     let is = reverse-reverse (unmarked (reverse x)) in
-    some_wing v w ((castling_found v x stem is (stem_castles v x stem is text) w).0 other)
+    same_Some v w ((castling_found v x stem is (stem_castles v x stem is text) w).0 other)
 
 -- ---- what is said
 

@@ -1,5 +1,6 @@
 -- A move has one text in standard algebraic notation.
 use Rattle.std.proofs.Common.{◌≡◌, ℕ, refl, sym, ap, subst, ◌∙◌, Option, Some, None, List, ◌∷◌, ◌++◌}
+use Rattle.std.proofs.lemmas.Option.{same_Some}
 use Rattle.chess.specs.Public.Positions.{State}
 use Rattle.chess.specs.Public.Moves.{after}
 use Rattle.chess.specs.Public.Letters.{kind_letter, square_text}
@@ -56,12 +57,9 @@ one_body P m None Rook x y is also = one_piece P m (kind_letter Rook) x y is als
 one_body P m None Bishop x y is also = one_piece P m (kind_letter Bishop) x y is also
 one_body P m None Knight x y is also = one_piece P m (kind_letter Knight) x y is also
 
-one_man : (a b : Man) → Some a ≡ Some b → a ≡ b
-one_man a b e = cc
-
 pub one_san : (P : State) (m : Move) (x y : List ℕ) → IsSan P m x → IsSan P m y → x ≡ y
 one_san P m x y s t =
-    let same : t.man ≡ s.man = one_man t.man s.man (sym t.here ∙ s.here) in
+    let same : t.man ≡ s.man = same_Some t.man s.man (sym t.here ∙ s.here) in
     let body = one_body P m m.castle s.man.kind s.body t.body s.body_is (subst (λ (man : Man). IsBody P m m.castle man.kind t.body) same t.body_is) in
     let mark = one_mark (after P m) s.mark t.mark s.mark_is t.mark_is in
     s.text ∙ (λ i. body i ++ mark i) ∙ sym t.text

@@ -1,7 +1,7 @@
 -- A man that goes to an empty square by his own word alone: he is then carried as if the squares were cleared and he set on one of them.
 use Rattle.std.proofs.Common.{◌≡◌, ◌<◌, ◌+◌, ◌%◌, ◌^◌, ◌&&◌, ◌||◌, bit_or, bit_and, bit_xor, length, slice_set, nat_eq, ℕ, Bool, true, false, not, if◌then◌else◌, inl, inr, ap, refl, sym, ◌∙◌, arith, List, Some}
 use Rattle.std.specs.Int.{bit_at}
-use Rattle.std.proofs.lemmas.Bool.{cases_eq, eqb-true, eq-eqb, ne_eqb, true≢false}
+use Rattle.std.proofs.lemmas.Bool.{cases_eq, eqb-true, eq-eqb, ne_eqb, true≢false, or_left, or_right}
 use Rattle.std.proofs.lemmas.Nat.Bits.{bit_at-lt, bit_at_xor}
 use Rattle.std.proofs.lemmas.List.{get_or-set_same, get_or-set_other, length-map}
 use Rattle.chess.specs.Public.Squares.{Place, IsOnBoard, index_of}
@@ -110,14 +110,6 @@ slid_put old new man from taken to size on_from on_taken on_to apart here none f
 
 -- ---- squares that no man stands on
 
-left_bit : (a b : Bool) → a ≡ true → (a || b) ≡ true
-left_bit true b e = refl
-left_bit false b e = absurd (true≢false (sym e))
-
-right_bit : (a b : Bool) → b ≡ true → (a || b) ≡ true
-right_bit true b e = refl
-right_bit false b e = e
-
 has_own : (s : Place) (word : ℕ) → word ≡ square_word s → has_bit word (index_of s) ≡ true
 has_own s word is = ap (λ w. has_bit w (index_of s)) is ∙ has_own_bit s
 
@@ -131,9 +123,9 @@ empty_of p all mask s on men none bit = elim (no_man_or (man_at p s)) [
 pub first_empty : (p : Placement) (all a b : ℕ) (s : Place) → IsOnBoard s → IsWordOf (λ s. ¬ IsEmpty p s) all → bit_and all (bit_or a b) ≡ 0
     → a ≡ square_word s → IsEmpty p s
 first_empty p all a b s on men none is =
-    empty_of p all (bit_or a b) s on men none (bit_of_either a b (index_of s) ∙ left_bit _ (has_bit b (index_of s)) (has_own s a is))
+    empty_of p all (bit_or a b) s on men none (bit_of_either a b (index_of s) ∙ or_left _ (has_bit b (index_of s)) (has_own s a is))
 
 pub second_empty : (p : Placement) (all a b : ℕ) (s : Place) → IsOnBoard s → IsWordOf (λ s. ¬ IsEmpty p s) all → bit_and all (bit_or a b) ≡ 0
     → b ≡ square_word s → IsEmpty p s
 second_empty p all a b s on men none is =
-    empty_of p all (bit_or a b) s on men none (bit_of_either a b (index_of s) ∙ right_bit (has_bit a (index_of s)) _ (has_own s b is))
+    empty_of p all (bit_or a b) s on men none (bit_of_either a b (index_of s) ∙ or_right (has_bit a (index_of s)) _ (has_own s b is))

@@ -1,7 +1,7 @@
 -- A move keeps a position sound.
 use Rattle.std.proofs.Common.{◌≡◌, ◌≢◌, ◌≤◌, ◌+◌, ◌/◌, ◌&&◌, ◌⊎◌, ℕ, true, false, not, inl, inr, ap, refl, sym, subst, ◌∙◌, arith, Option, Some, None, IfSome, if◌then◌else◌}
 use Rattle.std.specs.Prelude.{◌==◌}
-use Rattle.std.proofs.lemmas.Bool.Decides.{nat_tests}
+use Rattle.std.proofs.lemmas.Bool.{eqb-true}
 use Rattle.chess.specs.Public.Squares.{Place, same_square, gap}
 use Rattle.chess.specs.Public.Placements.{man_at, opposite, IsEmpty}
 use Rattle.chess.specs.Public.Attacks.{IsForward}
@@ -245,14 +245,11 @@ passed_fits P m x pawn u file to_file empty ranks =
           ∙ ap (λ (side : Side). Some (pawn_of side)) (sym (opposite-opposite P.turn));
     }
 
-gap_two : (a b : ℕ) → (gap a b == 2) ≡ true → gap a b ≡ 2
-gap_two a b e = grind (arith, nat_tests)
-
 double_fits : (P : State) (m : Move) → IsTried P m → (is_pawn (man_at P.men m.from) && (gap m.from.rank m.to.rank == 2)) ≡ true
     → FitsEnPassant (men_after P m) (opposite P.turn) (record { file = m.from.file; rank = (m.from.rank + m.to.rank) / 2 })
 double_fits P m x e =
     let is_a_pawn = and_left (is_pawn (man_at P.men m.from)) (gap m.from.rank m.to.rank == 2) e in
-    let two = gap_two m.from.rank m.to.rank (and_right (is_pawn (man_at P.men m.from)) (gap m.from.rank m.to.rank == 2) e) in
+    let two = eqb-true (gap m.from.rank m.to.rank) 2 (and_right (is_pawn (man_at P.men m.from)) (gap m.from.rank m.to.rank == 2) e) in
     let pawn = pawn_kind x.rules.man (ap is_pawn (sym x.rules.here) ∙ is_a_pawn) in
     let goes : Goes P m Pawn = subst (Goes P m) pawn x.rules.goes in
     let double = double_of P m.from m.to goes.1 two in

@@ -1,7 +1,7 @@
 -- The initial position is sound.
 use Rattle.std.proofs.Common.{◌≡◌, ◌≢◌, ◌≤◌, ◌+◌, ◌-◌, ◌/◌, ◌&&◌, ◌||◌, ℕ, suc, Bool, true, false, not, inl, inr, ap, refl, sym, subst, ◌∙◌, arith, Option, Some, None, if◌then◌else◌}
 use Rattle.std.specs.Prelude.{◌==◌}
-use Rattle.std.proofs.lemmas.Bool.{agree_below, agree_below_at}
+use Rattle.std.proofs.lemmas.Bool.{agree_below, agree_below_at, eqb-true}
 use Rattle.std.proofs.lemmas.Bool.Decides.{nat_tests}
 use Rattle.chess.specs.Public.Squares.{Place, IsOnBoard, square_at, index_of, IsAhead}
 use Rattle.chess.specs.Shared.SetFacts.{square_at-index_of, index_of-below}
@@ -67,9 +67,6 @@ black_kings = refl
 white_men : agree_below (λ n. is_white_man (initial_man (square_at n))) is_low 64 ≡ true
 white_men = refl
 
-number_of : (a b : ℕ) → (a == b) ≡ true → a ≡ b
-number_of a b e = grind (arith, nat_tests)
-
 low_number : (n : ℕ) → is_low n ≡ true → n / 8 ≤ 1
 low_number n e = grind (arith, nat_tests)
 
@@ -84,7 +81,7 @@ place_by test table all s man here passes =
 only_king : (side : Side) (n : ℕ) (s t : Place) → square_at n ≡ s → (man_at initial_men t ≡ Some (king_of side) → (index_of t == n) ≡ true)
     → man_at initial_men t ≡ Some (king_of side) → t ≡ s
 only_king side n s t e table here =
-    sym (square_at-index_of t (initial_on t (king_of side) here)) ∙ ap square_at (number_of (index_of t) n (table here)) ∙ e
+    sym (square_at-index_of t (initial_on t (king_of side) here)) ∙ ap square_at (eqb-true (index_of t) n (table here)) ∙ e
 
 e1 : IsOnBoard (king_from White)
 e1 = record { file_low = omega arith; file_high = omega arith; rank_low = omega arith; rank_high = omega arith }

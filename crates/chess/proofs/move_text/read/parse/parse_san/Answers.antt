@@ -3,7 +3,6 @@ use Rattle.std.proofs.lemmas.Option.{same_Some}
 use Rattle.chess.specs.Public.San.{Said, Spells}
 use Rattle.chess.specs.Private.SanWords.{kind_given, number_given, last_of, before_last, after_letter}
 use Rattle.chess.specs.declared.move_text.read.parse.ByteClass.TheVariants.{KindLetter}
-use Rattle.chess.proofs.NamedFacts.{some_said}
 use Rattle.chess.proofs.SpelledParts.{file_number, rank_number, found_bytes, found_are, found_text, said_of, spelled_parts, said_bytes}
 use Rattle.chess.proofs.TextParts.{Bytes, ReadAs, read_text}
 use Rattle.chess.proofs.move_text.read.parse.parse_san.Goals as goal
@@ -72,5 +71,5 @@ returns c said =
           let b = found_bytes (reverse text) c.in-Some-split_parts.parts.target_file c.in-Some-split_parts.parts.target_rank in
           let are = found_are (reverse text) c.in-Some-split_parts.parts.target_file c.in-Some-split_parts.parts.target_rank has_rank has_file in
           let whole = found_text text c.in-Some-split_parts.parts.target_file c.in-Some-split_parts.parts.target_rank has_rank has_file rest in
-          subst (Spells text) (read_parts c b (read_text text whole.0 b are whole.1 whole.2) ∙ some_said _ _ e) (spelled_parts text whole.0 b are whole.1 whole.2)),
+          subst (Spells text) (read_parts c b (read_text text whole.0 b are whole.1 whole.2) ∙ same_Some _ _ e) (spelled_parts text whole.0 b are whole.1 whole.2)),
     )
