@@ -166,15 +166,15 @@ room_to way j k s less on e =
     let r = axis_room_to (rank_step way) j k s.rank less (rank_line s on) room.1 in
     (record { file_low = f.0.0; file_high = f.0.1; rank_low = r.0.0; rank_high = r.0.1 }, of_axes way j s (place_to way j s) (f.1, r.1))
 
+pub file_of : (s : Place) → IsOnBoard s → index_of s % 8 ≡ s.file - 1
+file_of s on = omega (arith, on.file_low, on.file_high, on.rank_low)
+
+pub rank_of : (s : Place) → IsOnBoard s → index_of s / 8 ≡ s.rank - 1
+rank_of s on = omega (arith, on.file_low, on.file_high, on.rank_low)
+
 -- the same of the square's place
 pub room_at : (way : Direction) (k : ℕ) (s : Place) → IsOnBoard s → has_room way (index_of s % 8) (index_of s / 8) k ≡ has_room way (s.file - 1) (s.rank - 1) k
-room_at way k s on = ap₂ (λ f r. has_room way f r k) file_of rank_of
-  where
-    file_of : index_of s % 8 ≡ s.file - 1
-    file_of = omega (arith, on.file_low, on.file_high, on.rank_low)
-
-    rank_of : index_of s / 8 ≡ s.rank - 1
-    rank_of = omega (arith, on.file_low, on.file_high, on.rank_low)
+room_at way k s on = ap₂ (λ f r. has_room way f r k) (file_of s on) (rank_of s on)
 
 -- between a square of the board and one ahead of it there is one at each number of steps
 pub between_ahead : (way : Direction) (j k : ℕ) (s t : Place) → j ≤ k → IsOnBoard s → IsOnBoard t → IsAhead way k s t

@@ -7,6 +7,7 @@ use Rattle.chess.specs.Shared.SetWords.{has_bit}
 use Rattle.chess.specs.Shared.SetFacts.{index_of-below}
 use Rattle.chess.proofs.PlaceFacts.{true_not_false}
 use Rattle.chess.proofs.FillFacts.{bit_of_both, no_bit}
+use Rattle.chess.proofs.AxisSteps.{IsLine, file_line, rank_line, file_of, rank_of}
 
 each_bit : agree_below (has_bit 18446744073709551615) (λ _. true) 64 ≡ true
 each_bit = refl
@@ -20,82 +21,53 @@ all_squares set found s = (
   (λ h. (found s).1 (h.0, all_bits s h.0)),
 )
 
+-- ---- the squares of a file or a rank, as the two are counted by place
+
+line_squares : (line : Place → ℕ) (part word : ℕ → ℕ) → agree_below (λ n. agree_below (has_bit (word n)) (λ i. nat_eq (part i) n) 64) (λ _. true) 8 ≡ true
+    → ((s : Place) → IsOnBoard s → (1 ≤ line s) × (part (index_of s) ≡ line s - 1)) → (n : ℕ) (set : Places) → 1 ≤ n → n ≤ 8
+    → HoldsExactly (λ s. has_bit (word (n - 1)) (index_of s) ≡ true) set → HoldsExactly (λ s. line s ≡ n) set
+line_squares line part word fits at n set low high found s = (
+  (λ h.
+      let on = ((found s).0 h).0 in
+      let same = eqb-true (part (index_of s)) (n - 1) (sym (bit on) ∙ ((found s).0 h).1) in
+      (on, omega (arith, (at s on).0, (at s on).1))),
+  (λ h. (found s).1 (h.0, bit h.0 ∙ eq-eqb (part (index_of s)) (n - 1) (omega (arith, (at s h.0).1, h.1)))),
+)
+  where
+    bit : IsOnBoard s → has_bit (word (n - 1)) (index_of s) ≡ nat_eq (part (index_of s)) (n - 1)
+    bit on =
+        let row = agree_below_at (λ n. agree_below (has_bit (word n)) (λ i. nat_eq (part i) n) 64) (λ _. true) 8 (n - 1) fits (omega arith) in
+        agree_below_at (has_bit (word (n - 1))) (λ i. nat_eq (part i) (n - 1)) 64 (index_of s) row (index_of-below s on)
+
+-- a number that is no file or no rank has no squares
+no_line : (line : Place → ℕ) → ((s : Place) → IsOnBoard s → IsLine (line s)) → (n : ℕ) (set : Places) → (n < 1) ⊎ ((1 ≤ n) × (8 < n))
+    → HoldsExactly (λ s. has_bit 0 (index_of s) ≡ true) set → HoldsExactly (λ s. line s ≡ n) set
+no_line line lines n set out found s = (
+  (λ h. let bit = ((found s).0 h).1 in absurd (true_not_false (has_bit 0 (index_of s)) bit (no_bit (index_of s)))),
+  (λ h.
+      let same = h.1 in let low = (lines s h.0).0 in let high = (lines s h.0).1 in
+      absurd (elim out [ inl less ↦ omega arith | inr more ↦ let beyond = more.1 in omega arith ])),
+)
+
 abbrev pub file_word : ℕ → ℕ
 file_word n = 72340172838076673 * 2 ^ n % 2 ^ 64
 
-files_fit : agree_below (λ f. agree_below (has_bit (file_word f)) (λ n. nat_eq (n % 8) f) 64) (λ _. true) 8 ≡ true
-files_fit = refl
-
-file_bit : (file : ℕ) (s : Place) → 1 ≤ file → file ≤ 8 → IsOnBoard s → has_bit (file_word (file - 1)) (index_of s) ≡ nat_eq (index_of s % 8) (file - 1)
-file_bit file s low high on =
-    let row = agree_below_at (λ f. agree_below (has_bit (file_word f)) (λ n. nat_eq (n % 8) f) 64) (λ _. true) 8 (file - 1) files_fit (omega arith) in
-    agree_below_at (has_bit (file_word (file - 1))) (λ n. nat_eq (n % 8) (file - 1)) 64 (index_of s) row (index_of-below s on)
-
 pub file_squares : (file : ℕ) (set : Places) → 1 ≤ file → file ≤ 8 → HoldsExactly (λ s. has_bit (file_word (file - 1)) (index_of s) ≡ true) set
     → HoldsExactly (λ s. s.file ≡ file) set
-file_squares file set low high found s = (
-  (λ h.
-      let parts = (found s).0 h in
-      let on = parts.0 in
-      let f1 = on.file_low in let f2 = on.file_high in let r1 = on.rank_low in let r2 = on.rank_high in
-      let same = eqb-true (index_of s % 8) (file - 1) (sym (file_bit file s low high on) ∙ parts.1) in
-      let at : s.file - 1 ≡ index_of s % 8 = omega arith in
-      (on, omega arith)),
-  (λ h.
-      let on = h.0 in let same = h.1 in
-      let f1 = on.file_low in let f2 = on.file_high in let r1 = on.rank_low in let r2 = on.rank_high in
-      let at : s.file - 1 ≡ index_of s % 8 = omega arith in
-      (found s).1 (on, file_bit file s low high on ∙ eq-eqb (index_of s % 8) (file - 1) (omega arith))),
-)
+file_squares = line_squares (λ s. s.file) (λ i. i % 8) file_word refl (λ s on. (on.file_low, file_of s on))
 
--- a number that is no file has no squares
 pub no_file : (file : ℕ) (set : Places) → (file < 1) ⊎ ((1 ≤ file) × (8 < file)) → HoldsExactly (λ s. has_bit 0 (index_of s) ≡ true) set → HoldsExactly (λ s. s.file ≡ file) set
-no_file file set out found s = (
-  (λ h. let bit = ((found s).0 h).1 in absurd (true_not_false (has_bit 0 (index_of s)) bit (no_bit (index_of s)))),
-  (λ h.
-      let on = h.0 in let same = h.1 in
-      let low = on.file_low in let high = on.file_high in
-      absurd (elim out [ inl less ↦ omega arith | inr more ↦ let beyond = more.1 in omega arith ])),
-)
+no_file = no_line (λ s. s.file) file_line
 
--- and of a rank
 abbrev pub rank_word : ℕ → ℕ
 rank_word n = 255 * 2 ^ (8 * n) % 2 ^ 64
 
-ranks_fit : agree_below (λ r. agree_below (has_bit (rank_word r)) (λ n. nat_eq (n / 8) r) 64) (λ _. true) 8 ≡ true
-ranks_fit = refl
-
-rank_bit : (rank : ℕ) (s : Place) → 1 ≤ rank → rank ≤ 8 → IsOnBoard s → has_bit (rank_word (rank - 1)) (index_of s) ≡ nat_eq (index_of s / 8) (rank - 1)
-rank_bit rank s low high on =
-    let row = agree_below_at (λ r. agree_below (has_bit (rank_word r)) (λ n. nat_eq (n / 8) r) 64) (λ _. true) 8 (rank - 1) ranks_fit (omega arith) in
-    agree_below_at (has_bit (rank_word (rank - 1))) (λ n. nat_eq (n / 8) (rank - 1)) 64 (index_of s) row (index_of-below s on)
-
 pub rank_squares : (rank : ℕ) (set : Places) → 1 ≤ rank → rank ≤ 8 → HoldsExactly (λ s. has_bit (rank_word (rank - 1)) (index_of s) ≡ true) set
     → HoldsExactly (λ s. s.rank ≡ rank) set
-rank_squares rank set low high found s = (
-  (λ h.
-      let parts = (found s).0 h in
-      let on = parts.0 in
-      let f1 = on.file_low in let f2 = on.file_high in let r1 = on.rank_low in let r2 = on.rank_high in
-      let same = eqb-true (index_of s / 8) (rank - 1) (sym (rank_bit rank s low high on) ∙ parts.1) in
-      let at : s.rank - 1 ≡ index_of s / 8 = omega arith in
-      (on, omega arith)),
-  (λ h.
-      let on = h.0 in let same = h.1 in
-      let f1 = on.file_low in let f2 = on.file_high in let r1 = on.rank_low in let r2 = on.rank_high in
-      let at : s.rank - 1 ≡ index_of s / 8 = omega arith in
-      (found s).1 (on, rank_bit rank s low high on ∙ eq-eqb (index_of s / 8) (rank - 1) (omega arith))),
-)
+rank_squares = line_squares (λ s. s.rank) (λ i. i / 8) rank_word refl (λ s on. (on.rank_low, rank_of s on))
 
--- a number that is no rank has no squares
 pub no_rank : (rank : ℕ) (set : Places) → (rank < 1) ⊎ ((1 ≤ rank) × (8 < rank)) → HoldsExactly (λ s. has_bit 0 (index_of s) ≡ true) set → HoldsExactly (λ s. s.rank ≡ rank) set
-no_rank rank set out found s = (
-  (λ h. let bit = ((found s).0 h).1 in absurd (true_not_false (has_bit 0 (index_of s)) bit (no_bit (index_of s)))),
-  (λ h.
-      let on = h.0 in let same = h.1 in
-      let low = on.rank_low in let high = on.rank_high in
-      absurd (elim out [ inl less ↦ omega arith | inr more ↦ let beyond = more.1 in omega arith ])),
-)
+no_rank = no_line (λ s. s.rank) rank_line
 
 pub common_squares : (a b : ℕ) (one other set : Places) → ((s : Place) → IsOnBoard s → has_bit a (index_of s) ≡ is_in one s)
     → ((s : Place) → IsOnBoard s → has_bit b (index_of s) ≡ is_in other s) → HoldsExactly (λ s. has_bit (bit_and a b) (index_of s) ≡ true) set
