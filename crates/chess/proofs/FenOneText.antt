@@ -1,9 +1,9 @@
 -- A position has one text in FEN: its ranks can be written in one shortest way only.
-use Rattle.std.proofs.Common.{◌≡◌, ◌≤◌, ◌+◌, ◌-◌, ℕ, zero, suc, Bool, true, false, not, ap, refl, sym, subst, ◌∙◌, arith, Option, Some, None, List, [], ◌∷◌, ◌++◌}
+use Rattle.std.proofs.Common.{◌≡◌, ◌≤◌, ◌+◌, ◌-◌, ℕ, zero, suc, Bool, true, not, ap, refl, sym, subst, ◌∙◌, arith, Option, Some, None, List, [], ◌∷◌, ◌++◌}
 use Rattle.std.specs.Prelude.{replicate, ◌&&◌, decimal}
 use Rattle.std.specs.List.{list_all}
 use Rattle.std.proofs.lemmas.Bool.Decides.{nat_tests}
-use Rattle.std.proofs.lemmas.Bool.{and_parts}
+use Rattle.std.proofs.lemmas.Bool.{and_parts, and_from}
 use Rattle.chess.specs.Public.Placements.{Placement}
 use Rattle.chess.specs.Public.Positions.{State}
 use Rattle.chess.specs.Public.Letters.{man_letter}
@@ -12,6 +12,7 @@ use Rattle.chess.specs.Public.Fen.IsSquares.{letter, step}
 use Rattle.chess.specs.Private.FenTextWords.{spelled_from, rank_texts}
 use Rattle.chess.proofs.FenTextFacts.{spell_ranks, shortest_ranks}
 use Rattle.chess.specs.declared.board.man.Man.{Man}
+use Rattle.chess.proofs.PlaceFacts.{true_not}
 
 -- a run of empty squares after others is a longer run
 longer_run : (k n : ℕ) (more : List (Option Man)) → spelled_from k (replicate n None ++ more) ≡ spelled_from (k + n) more
@@ -20,7 +21,7 @@ longer_run k (suc n) more =
     let same : k + 1 + n ≡ k + suc n = omega arith in longer_run (k + 1) n more ∙ ap (λ m. spelled_from m more) same
 
 not_both : (a b : Bool) → not (a && b) ≡ true → a ≡ true → b ≡ true → ⊥
-not_both a b e f g = let both : not (true && true) ≡ true = sym (ap (λ t. not (t && b)) f ∙ ap (λ t. not (true && t)) g) ∙ e in let clash : false ≡ true = both in cc
+not_both a b e f g = true_not (a && b) e (and_from a b f g)
 
 -- the squares after a digit begin with a man, or there are none
 abbrev BeginsWithMan : List (Option Man) → Type 0

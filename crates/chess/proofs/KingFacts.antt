@@ -2,6 +2,7 @@
 use Rattle.std.proofs.Common.{◌≡◌, ◌&&◌, ◌⊎◌, Bool, true, false, not, inl, inr, ap, refl, sym, subst, ◌∙◌, arith, Option, Some, None, IfSome, if◌then◌else◌}
 use Rattle.std.specs.Prelude.{◌==◌}
 use Rattle.std.proofs.lemmas.Bool.Decides.{nat_tests}
+use Rattle.std.proofs.lemmas.Bool.{and_parts}
 use Rattle.chess.specs.Public.Squares.{Place}
 use Rattle.chess.specs.Public.Placements.{Placement, man_at, opposite, IsEmpty}
 use Rattle.chess.specs.Public.Attacks.{IsForward}
@@ -21,12 +22,10 @@ use Rattle.chess.proofs.AfterFacts.{IsNoRook, IsApart, after_apart, after_to, ha
 -- ---- the man that is taken
 
 pub and_left : (a b : Bool) → (a && b) ≡ true → a ≡ true
-and_left true b e = refl
-and_left false b e = let f : false ≡ true = e in cc
+and_left a b e = (and_parts a b e).0
 
 pub and_right : (a b : Bool) → (a && b) ≡ true → b ≡ true
-and_right true b e = e
-and_right false b e = let f : false ≡ true = e in cc
+and_right a b e = (and_parts a b e).1
 
 pub pawn_kind : (man : Man) → is_pawn (Some man) ≡ true → man.kind ≡ Pawn
 pawn_kind man e = elim man.kind as (λ k. is_pawn (Some (record { side = man.side; kind = k })) ≡ true → k ≡ Pawn) [

@@ -2,7 +2,8 @@
 use Rattle.std.proofs.Common.{◌≡◌, ◌↔◌, ◌<◌, ◌-◌, ◌&&◌, ◌||◌, ◌⊎◌, Bool, true, false, not, inl, inr, ap, refl, sym, subst, ◌∙◌, arith, Option, Some, None, IsTrue, if◌then◌else◌}
 use Rattle.std.specs.Ordering.{eq_by_cmp}
 use Rattle.std.specs.FinSet.{remove, same_set, contains-remove, len-remove, empty_of_len}
-use Rattle.std.proofs.lemmas.Bool.{cases_eq, and_parts, and_from}
+use Rattle.std.proofs.lemmas.Bool.{cases_eq, and_parts, and_from, or_left, or_right}
+use Rattle.std.proofs.Math.Bool.{and_comm}
 use Rattle.chess.specs.Public.Squares.{Place, IsOnBoard, place_cmp, same_square}
 use Rattle.chess.specs.Shared.OrderFacts.{place_total, place_exact}
 use Rattle.chess.specs.Shared.SetFacts.{is_in-empty, tied, ties, false_of}
@@ -32,18 +33,12 @@ same_is_tied s t =
       | false ↦ λ e. sym (false_of _ (λ same. true_not_false (same_square s t) (same_square-same s t (tied s t _ refl same)) e))
     ] refl
 
-and_turned : (a b : Bool) → (a && not b) ≡ (not b && a)
-and_turned true true = refl
-and_turned true false = refl
-and_turned false true = refl
-and_turned false false = refl
-
 -- the loop goes on for as many squares as there are
 pub fewer : (old new : Places) (t : Place) → IsTakenFirst old new (Some t) → size_of new < size_of old
 fewer old new t taken =
     let is : new ≡ remove old t =
     same_set place_total place_exact new (remove old t)
-    (λ s. taken.3 s ∙ and_turned (is_in old s) (same_square s t) ∙ ap (λ b. not b && is_in old s) (same_is_tied s t)
+    (λ s. taken.3 s ∙ and_comm (is_in old s) (not (same_square s t)) ∙ ap (λ b. not b && is_in old s) (same_is_tied s t)
     ∙ sym (contains-remove place_total old t s)) in
     let size : size_of new ≡ size_of old - 1 =
     ap size_of is ∙ len-remove place_total old t ∙ ap (λ b. if b then size_of old - 1 else size_of old) taken.1 in
@@ -85,14 +80,6 @@ or_cases true true c e = inl (refl, refl)
 or_cases true false c e = inr e
 or_cases false b c e = inr e
 
-or_second : (a c : Bool) → c ≡ true → (a || c) ≡ true
-or_second true c e = refl
-or_second false c e = e
-
-or_first : (a c : Bool) → a ≡ true → (a || c) ≡ true
-or_first true c e = refl
-or_first false c e = let f : false ≡ true = e in cc
-
 pub sifted_more : (fact : Place → Type 0) (old new found more : Places) (t : Place) (test : Bool) → IsSifted fact old found
     → IsTakenFirst old new (Some t) → IsTrue test ↔ fact t
     → ((s : Place) → is_in more s ≡ ((test && same_square t s) || is_in found s)) → IsSifted fact new more
@@ -106,10 +93,10 @@ sifted_more fact old new found more t test so_far taken tested put = record {
   each = λ s on holds. elim (cases_place s t) [
     | inl same ↦
         let passes = tested.1 (subst fact same holds) in
-        inl (put s ∙ or_first (test && same_square t s) (is_in found s)
+        inl (put s ∙ or_left (test && same_square t s) (is_in found s)
         (and_from test (same_square t s) passes (same_square-same t s (sym same))))
     | inr other ↦ elim (so_far.each s on holds) [
-      | inl in_found ↦ inl (put s ∙ or_second (test && same_square t s) (is_in found s) in_found)
+      | inl in_found ↦ inl (put s ∙ or_right (test && same_square t s) (is_in found s) in_found)
       | inr in_old ↦ inr (still_left old new t s taken in_old other)
     ]
   ];

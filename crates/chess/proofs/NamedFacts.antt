@@ -25,16 +25,13 @@ use Rattle.chess.proofs.PlaceFacts.{cases_place, same_square-same, true_not_fals
 use Rattle.chess.proofs.LoopFacts.{left_more}
 use Rattle.chess.proofs.GoesFacts.{goes_castle}
 use Rattle.chess.proofs.CastlingTextFacts.{BeginsCastling, Begins, castling_begins}
+use Rattle.chess.specs.Shared.SetFacts.{and_false}
 
 -- the square that was taken out is gone
-and_not_true : (a : Bool) → (a && not true) ≡ false
-and_not_true true = refl
-and_not_true false = refl
-
 gone : (old new : Places) (t s : Place) → IsTakenFirst old new (Some t) → is_in new s ≡ true → s ≡ t → ⊥
 gone old new t s taken here e =
     true_not_false (is_in new s) here
-    (taken.3 s ∙ ap (λ b. is_in old s && not b) (same_square-same s t e) ∙ and_not_true (is_in old s))
+    (taken.3 s ∙ ap (λ b. is_in old s && not b) (same_square-same s t e) ∙ and_false (is_in old s))
 
 pub next_found : (fact : Place → Type 0) (squares old new : Places) (t : Place)
     → IsLeft (λ s. is_in squares s ≡ true) (λ s. (is_in squares s ≡ true) × fact s) old → IsTakenFirst old new (Some t) → fact t → IsNext fact squares new t
