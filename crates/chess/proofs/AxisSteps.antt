@@ -114,14 +114,14 @@ ahead_rest way j k s u t a b =
 -- ---- squares of the board
 
 -- a file or a rank of the board
-abbrev pub IsLine : ℕ → Type 0
-IsLine n = (1 ≤ n) × (n ≤ 8)
+abbrev pub IsFileOrRank : ℕ → Type 0
+IsFileOrRank n = (1 ≤ n) × (n ≤ 8)
 
-pub file_line : (s : Place) → IsOnBoard s → IsLine s.file
-file_line s on = (on.file_low, on.file_high)
+pub file_within : (s : Place) → IsOnBoard s → IsFileOrRank s.file
+file_within s on = (on.file_low, on.file_high)
 
-pub rank_line : (s : Place) → IsOnBoard s → IsLine s.rank
-rank_line s on = (on.rank_low, on.rank_high)
+pub rank_within : (s : Place) → IsOnBoard s → IsFileOrRank s.rank
+rank_within s on = (on.rank_low, on.rank_high)
 
 -- where k steps lead
 abbrev pub axis_to : Axis → ℕ → ℕ → ℕ
@@ -141,12 +141,12 @@ axis_room Down n k = leb k n
 abbrev pub has_room : Direction → ℕ → ℕ → ℕ → Bool
 has_room way file rank k = axis_room (file_step way) file k && axis_room (rank_step way) rank k
 
-axis_room_from : (x : Axis) (k a b : ℕ) → IsLine a → IsLine b → IsAxisAhead x k a b → axis_room x (a - 1) k ≡ true
+axis_room_from : (x : Axis) (k a b : ℕ) → IsFileOrRank a → IsFileOrRank b → IsAxisAhead x k a b → axis_room x (a - 1) k ≡ true
 axis_room_from Up k a b p q e = lt-ltb ((a - 1) + k) 8 (omega (arith, p.0, q.1))
 axis_room_from Level k a b p q e = refl
 axis_room_from Down k a b p q e = le-leb k (a - 1) (omega (arith, q.0))
 
-axis_room_to : (x : Axis) (j k a : ℕ) → j ≤ k → IsLine a → axis_room x (a - 1) k ≡ true → IsLine (axis_to x j a) × IsAxisAhead x j a (axis_to x j a)
+axis_room_to : (x : Axis) (j k a : ℕ) → j ≤ k → IsFileOrRank a → axis_room x (a - 1) k ≡ true → IsFileOrRank (axis_to x j a) × IsAxisAhead x j a (axis_to x j a)
 axis_room_to Up j k a less p e = let n = ltb-true ((a - 1) + k) 8 e in ((omega (arith, p.0), omega arith), refl)
 axis_room_to Level j k a less p e = (p, refl)
 axis_room_to Down j k a less p e = let n = leb-true k (a - 1) e in ((omega (arith, p.0), omega (arith, p.1)), omega (arith, p.0))
@@ -155,15 +155,15 @@ pub room_from : (way : Direction) (k : ℕ) (s t : Place) → IsOnBoard s → Is
 room_from way k s t on on_t a =
     let by = to_axes way k s t a in
     and_from (axis_room (file_step way) (s.file - 1) k) (axis_room (rank_step way) (s.rank - 1) k)
-    (axis_room_from (file_step way) k s.file t.file (file_line s on) (file_line t on_t) by.0)
-    (axis_room_from (rank_step way) k s.rank t.rank (rank_line s on) (rank_line t on_t) by.1)
+    (axis_room_from (file_step way) k s.file t.file (file_within s on) (file_within t on_t) by.0)
+    (axis_room_from (rank_step way) k s.rank t.rank (rank_within s on) (rank_within t on_t) by.1)
 
 pub room_to : (way : Direction) (j k : ℕ) (s : Place) → j ≤ k → IsOnBoard s → has_room way (s.file - 1) (s.rank - 1) k ≡ true
     → IsOnBoard (place_to way j s) × IsAhead way j s (place_to way j s)
 room_to way j k s less on e =
     let room = and_parts (axis_room (file_step way) (s.file - 1) k) (axis_room (rank_step way) (s.rank - 1) k) e in
-    let f = axis_room_to (file_step way) j k s.file less (file_line s on) room.0 in
-    let r = axis_room_to (rank_step way) j k s.rank less (rank_line s on) room.1 in
+    let f = axis_room_to (file_step way) j k s.file less (file_within s on) room.0 in
+    let r = axis_room_to (rank_step way) j k s.rank less (rank_within s on) room.1 in
     (record { file_low = f.0.0; file_high = f.0.1; rank_low = r.0.0; rank_high = r.0.1 }, of_axes way j s (place_to way j s) (f.1, r.1))
 
 pub file_of : (s : Place) → IsOnBoard s → index_of s % 8 ≡ s.file - 1
@@ -246,11 +246,11 @@ one_count way j k s t a b = sym (steps_gap way j s t a) ∙ steps_gap way k s t 
 pub seven_steps : (way : Direction) (k : ℕ) (s t : Place) → IsOnBoard s → IsOnBoard t → IsAhead way k s t → k ≤ 7
 seven_steps way k s t on on_t a =
     let most = steps_gap way k s t a in
-    let wide = gap_low s.file t.file (file_line s on) (file_line t on_t) in
-    let high = gap_low s.rank t.rank (rank_line s on) (rank_line t on_t) in
+    let wide = gap_low s.file t.file (file_within s on) (file_within t on_t) in
+    let high = gap_low s.rank t.rank (rank_within s on) (rank_within t on_t) in
     omega arith
   where
-    gap_low : (a b : ℕ) → IsLine a → IsLine b → gap a b ≤ 7
+    gap_low : (a b : ℕ) → IsFileOrRank a → IsFileOrRank b → gap a b ≤ 7
     gap_low a b p q = omega (arith, p.0, p.1, q.0, q.1)
 
 -- ---- straight ways and diagonal ones

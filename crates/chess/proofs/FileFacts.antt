@@ -7,7 +7,7 @@ use Rattle.chess.specs.Shared.SetWords.{has_bit}
 use Rattle.chess.specs.Shared.SetFacts.{index_of-below}
 use Rattle.chess.proofs.PlaceFacts.{true_not_false}
 use Rattle.chess.proofs.FillFacts.{bit_of_both, no_bit}
-use Rattle.chess.proofs.AxisSteps.{IsLine, file_line, rank_line, file_of, rank_of}
+use Rattle.chess.proofs.AxisSteps.{IsFileOrRank, file_within, rank_within, file_of, rank_of}
 
 each_bit : agree_below (has_bit 18446744073709551615) (λ _. true) 64 ≡ true
 each_bit = refl
@@ -40,7 +40,7 @@ line_squares line part word fits at n set low high found s = (
         agree_below_at (has_bit (word (n - 1))) (λ i. nat_eq (part i) (n - 1)) 64 (index_of s) row (index_of-below s on)
 
 -- a number that is no file or no rank has no squares
-no_line : (line : Place → ℕ) → ((s : Place) → IsOnBoard s → IsLine (line s)) → (n : ℕ) (set : Places) → (n < 1) ⊎ ((1 ≤ n) × (8 < n))
+no_line : (line : Place → ℕ) → ((s : Place) → IsOnBoard s → IsFileOrRank (line s)) → (n : ℕ) (set : Places) → (n < 1) ⊎ ((1 ≤ n) × (8 < n))
     → HoldsExactly (λ s. has_bit 0 (index_of s) ≡ true) set → HoldsExactly (λ s. line s ≡ n) set
 no_line line lines n set out found s = (
   (λ h. let bit = ((found s).0 h).1 in absurd (true_not_false (has_bit 0 (index_of s)) bit (no_bit (index_of s)))),
@@ -57,7 +57,7 @@ pub file_squares : (file : ℕ) (set : Places) → 1 ≤ file → file ≤ 8 →
 file_squares = line_squares (λ s. s.file) (λ i. i % 8) file_word refl (λ s on. (on.file_low, file_of s on))
 
 pub no_file : (file : ℕ) (set : Places) → (file < 1) ⊎ ((1 ≤ file) × (8 < file)) → HoldsExactly (λ s. has_bit 0 (index_of s) ≡ true) set → HoldsExactly (λ s. s.file ≡ file) set
-no_file = no_line (λ s. s.file) file_line
+no_file = no_line (λ s. s.file) file_within
 
 abbrev pub rank_word : ℕ → ℕ
 rank_word n = 255 * 2 ^ (8 * n) % 2 ^ 64
@@ -67,7 +67,7 @@ pub rank_squares : (rank : ℕ) (set : Places) → 1 ≤ rank → rank ≤ 8 →
 rank_squares = line_squares (λ s. s.rank) (λ i. i / 8) rank_word refl (λ s on. (on.rank_low, rank_of s on))
 
 pub no_rank : (rank : ℕ) (set : Places) → (rank < 1) ⊎ ((1 ≤ rank) × (8 < rank)) → HoldsExactly (λ s. has_bit 0 (index_of s) ≡ true) set → HoldsExactly (λ s. s.rank ≡ rank) set
-no_rank = no_line (λ s. s.rank) rank_line
+no_rank = no_line (λ s. s.rank) rank_within
 
 pub common_squares : (a b : ℕ) (one other set : Places) → ((s : Place) → IsOnBoard s → has_bit a (index_of s) ≡ is_in one s)
     → ((s : Place) → IsOnBoard s → has_bit b (index_of s) ≡ is_in other s) → HoldsExactly (λ s. has_bit (bit_and a b) (index_of s) ≡ true) set
