@@ -1,13 +1,11 @@
 -- What the reader of Forsyth-Edwards notation knows on its way.
-use Rattle.std.specs.Prelude.{◌≡◌, ◌⊎◌, ℕ, ◌+◌, ◌-◌, ◌≤◌, ◌<◌, List, ◌++◌, length, get_or, replicate, Option, Some, None}
+use Rattle.std.specs.Prelude.{◌≡◌, ◌⊎◌, ℕ, ◌+◌, ◌≤◌, ◌<◌, List, ◌++◌, length, get_or, replicate, Option, Some, None}
 use Rattle.chess.specs.Public.Squares.{Place}
 use Rattle.chess.specs.Public.Placements.{Placement, man_at}
 use Rattle.chess.specs.Public.Positions.{pawn_of}
-use Rattle.std.specs.List.{list_all}
-use Rattle.chess.specs.Public.Fen.{IsSquares, SpellsRank, is_digit, number_from}
+use Rattle.chess.specs.Public.Fen.{IsSquares, SpellsRank}
 use Rattle.chess.specs.declared.board.man.Man.{Man}
 use Rattle.chess.specs.declared.board.man.Side.{Side}
-use Rattle.chess.specs.Shared.Tens.{ten_to}
 
 -- the byte spells so many squares, each with that man or none, and nothing else
 pub record IsByteOf (b : ℕ) (man : Option Man) (count : ℕ) : Type 0 where
@@ -35,10 +33,3 @@ IsEdgePawn p s = ((side : Side) × (man_at p s ≡ Some (pawn_of side))) × ((s.
 pub record IsPutUpTo (old new : Placement) (squares : List (Option Man)) (r n : ℕ) : Type 0 where
   pub put : (k : ℕ) → k < n → man_at new (record { file = k + 1; rank = r }) ≡ get_or squares k None
   pub others : (s : Place) → (s.rank ≡ r → ⊥) → man_at new s ≡ man_at old s
-
--- the digits before the rest write the number
-pub record IsCounted (n : ℕ) (rest text : List ℕ) : Type 0 where
-  pub short : length rest ≤ 7
-  pub bound : n < ten_to (7 - length rest)
-  pub value : number_from n rest ≡ number_from 0 text
-  pub digits : list_all is_digit rest ≡ list_all is_digit text

@@ -4,19 +4,19 @@ use Rattle.chess.proofs.CountFacts.{count_start, count_small, count_more}
 use Rattle.chess.proofs.fen.read.parse.read_count.Goals as goal
 
 pub loop-rest-init : goal.loop-rest-init
-loop-rest-init c = count_start c.args.text.now (omega arith)
+loop-rest-init c = count_start 7 c.args.text.now (omega arith)
 
 pub overflow_mul-number : goal.overflow_mul-number
 overflow_mul-number c =
-    let small = count_small c.loop-rest.number c.loop-rest.rest.now c.args.text.now c.loop-rest.invariant c.in-len1-up.len_at_least in
+    let small = count_small 7 c.loop-rest.number c.loop-rest.rest.now c.args.text.now c.loop-rest.invariant c.in-len1-up.len_at_least in
     omega arith
 
 pub overflow_add-number : goal.overflow_add-number
 overflow_add-number c =
-    let small = count_small c.loop-rest.number c.loop-rest.rest.now c.args.text.now c.loop-rest.invariant c.in-len1-up.len_at_least in
+    let small = count_small 7 c.loop-rest.number c.loop-rest.rest.now c.args.text.now c.loop-rest.invariant c.in-len1-up.len_at_least in
     omega arith
 
 pub loop-rest-preserved : goal.loop-rest-preserved
 loop-rest-preserved c =
-    count_more c.loop-rest.number c.loop-rest.rest.now c.args.text.now _ _ c.loop-rest.invariant
+    count_more 7 c.loop-rest.number c.loop-rest.rest.now c.args.text.now _ _ c.loop-rest.invariant
     (first_and_rest c.loop-rest.rest.now c.in-len1-up.len_at_least) (search rules) (omega arith)
