@@ -37,6 +37,11 @@ cut_text now next left left' read block cut reads =
     ap (λ t. now.ahead ++ t) reads ∙ sym (append_assoc now.ahead read left') ∙ ap (λ t. t ++ left') cut.parted
     ∙ append_assoc block next.ahead left'
 
+-- a block before more bytes has some
+pub some_bytes : (ahead block : List ℕ) → ahead ≢ [] → IsFirstBlock block (ahead ++ []) → 0 < length block
+some_bytes ahead [] more first = absurd (more (sym (append-nil ahead) ∙ empty_first (ahead ++ []) first))
+some_bytes ahead (x ∷ block) more first = omega arith
+
 -- less is left after each block
 pub fewer_left : (now next : Window) (left left' read block : List ℕ) → IsCutOff now next (Some left') read block → left ≡ read ++ left'
     → length next.ahead + length left' + turns next.ended < length now.ahead + length left + turns now.ended
@@ -49,13 +54,9 @@ fewer_left now next left left' read block cut reads =
       | inl ended ↦ let after : turns next.ended ≡ 0 = ap turns ended in omega arith
       | inr going ↦
           let after : turns next.ended ≡ 1 = ap turns going in
-          let some : 0 < length block = some_bytes block (cut.more going) (cut.first [] (λ _. refl)) in
+          let some : 0 < length block = some_bytes next.ahead block (cut.more going) (cut.first [] (λ _. refl)) in
           omega arith
     ]
-  where
-    some_bytes : (b : List ℕ) → next.ahead ≢ [] → IsFirstBlock b (next.ahead ++ []) → 0 < length b
-    some_bytes [] more f = absurd (more (sym (append-nil next.ahead) ∙ empty_first (next.ahead ++ []) f))
-    some_bytes (x ∷ b) more f = omega arith
 
 -- one block more
 pub one_sized : (text : List ℕ) (now next : Window) (left left' read block sizes : List ℕ) (size : ℕ) → Sized text now left sizes

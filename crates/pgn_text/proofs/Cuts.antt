@@ -6,19 +6,14 @@ use Rattle.pgn_text.specs.Public.Games.{IsGame}
 use Rattle.pgn_text.specs.Public.Gaps.{IsLongestGap}
 use Rattle.pgn_text.specs.Public.Pieces.{Piece, Game, Unreadable, ArePieces, NoGame}
 use Rattle.pgn_text.specs.Private.Walk.{GapTo, LongestGapTo, GameTo}
-use Rattle.pgn_text.proofs.OneList.{no_bytes, game_has_byte, one_gap}
-
--- lists that join to none have no element
-second_empty : (a b : List ℕ) → a ++ b ≡ [] → b ≡ []
-second_empty [] b is = is
-second_empty (x ∷ a) b is = absurd (cc)
+use Rattle.pgn_text.proofs.OneList.{no_bytes, game_has_byte, one_gap, no_more}
 
 -- where no byte is left no piece is
 pub nothing_left : (max_depth : ℕ) (f : Bool) (before : List ℕ) (pieces : List Piece) → ArePieces max_depth f before pieces [] → pieces ≡ []
 nothing_left max_depth f before [] are = refl
 nothing_left max_depth f before (Game at parts ∷ more) are =
-    absurd (game_has_byte max_depth f (before ++ spelled are.0) parts are.1 are.5 (no_bytes (spelled parts) are.1 (second_empty (spelled are.0) (spelled parts ++ are.1) (sym are.2))))
-nothing_left max_depth f before (Unreadable at bytes ∷ more) are = absurd (are.4 (second_empty (spelled are.0) bytes (sym are.1)))
+    absurd (game_has_byte max_depth f (before ++ spelled are.0) parts are.1 are.5 (no_bytes (spelled parts) are.1 (no_more (spelled are.0) (spelled parts ++ are.1) (sym are.2))))
+nothing_left max_depth f before (Unreadable at bytes ∷ more) are = absurd (are.4 (no_more (spelled are.0) bytes (sym are.1)))
 
 -- the place after a gap
 place_past : (f : Bool) (block : List ℕ) (at begin : ℕ) → (to : GapTo f block at begin) → begin ≡ length (take at block ++ spelled to.gap)

@@ -2,10 +2,11 @@
 use Rattle.std.proofs.Common.{◌≡◌, ◌≢◌, ℕ, ◌+◌, ◌-◌, ◌≤◌, ◌↔◌, Bool, true, false, cond, ◌&&◌, ◌||◌, List, [], ◌∷◌, ◌++◌, Some, None, IsTrue, MatchBool, count_by, refl, sym, subst, ◌∙◌, inl, inr, arith, nat_lt}
 use Rattle.std.specs.List.{list_all}
 use Rattle.std.proofs.lemmas.Bool.{false≢true, and_parts, and_from, ltb-true, lt-ltb, cases_Bool, or_left, or_right, MatchBool-at_true, MatchBool-at_false, true_from_ne_false, false_from_ne_true}
+use Rattle.std.proofs.lemmas.Option.{cond_some}
 use Rattle.pgn_text.specs.Public.Parts.{Part, ByteOrderMark, White, Brace, Line, EscapeLine, Tag, Word, Star, Dot, Glyph, Marks, Open, Close, AllStand}
 use Rattle.pgn_text.specs.Public.Games.{is_number, is_result_word, is_move_text, is_gap_part, is_tag, is_result, is_meant, is_open, is_close, EachFrom, depth_after, MoveInLine, begins_outside_gap, IsGame}
 use Rattle.pgn_text.specs.Private.Steps.{State, start, in_movetext, step, Leads}
-use Rattle.pgn_text.proofs.Lines.{Shows, shows_start, shows_more, when_some, count_push_yes, count_push_not, depth_is}
+use Rattle.pgn_text.proofs.Lines.{Shows, shows_start, shows_more, count_push_yes, count_push_not, depth_is}
 
 -- what a game says of its parts after `front`, beside where they stand
 pub record GoesOn (max_depth : ℕ) (front parts : List Part) : Type 0 where
@@ -148,13 +149,13 @@ step_says : (max_depth : ℕ) (s t : State) (p : Part) → step max_depth s p �
     → (is_tag p ≡ true → s.in_tags ≡ true) × (is_meant p ≡ true) × (is_open p ≡ true → s.has_move ≡ true) ×
     (s.depth ≤ max_depth → t.depth ≤ max_depth)
 step_says max_depth s t (Tag first name second contents third) e =
-    let f = when_some s.in_tags s t e in
+    let f = cond_some s.in_tags s t e in
     (λ _. f.0, refl, λ x. cc, within max_depth s t f.1)
 step_says max_depth s t (Word text) e =
     let f = word_says max_depth s t (is_number text) (is_result_word text) (is_move_text text) e in
     (λ x. cc, f.0, λ x. cc, f.1)
 step_says max_depth s t Open e =
-    let f = when_some (s.has_move && nat_lt s.depth max_depth)
+    let f = cond_some (s.has_move && nat_lt s.depth max_depth)
     (record { in_tags = false; depth = s.depth + 1; has_move = false }) t e in
     let tests = and_parts s.has_move (nat_lt s.depth max_depth) f.0 in
     let fits : s.depth + 1 ≤ max_depth = omega (arith, ltb-true s.depth max_depth tests.1) in (
@@ -169,7 +170,7 @@ step_says max_depth s t Open e =
       }) t f.1 fits,
     )
 step_says max_depth s t Close e =
-    let f = when_some (nat_lt 0 s.depth) (record { in_tags = false; depth = s.depth - 1; has_move = true }) t e in (
+    let f = cond_some (nat_lt 0 s.depth) (record { in_tags = false; depth = s.depth - 1; has_move = true }) t e in (
       λ x. cc,
       refl,
       λ x. cc,

@@ -13,7 +13,8 @@ use Rattle.pgn_text.specs.Private.PartFronts.{Longest, Follows, IsPartFront, IsW
 use Rattle.pgn_text.specs.declared.error.error_position.InTag.TheVariants.{BeforeName}
 use Rattle.pgn_text.proofs.Furthest.{longest_after, longest_nothing, longest_take, greedy, longest_greedy}
 use Rattle.pgn_text.proofs.InTag.{tag_is, tag_ends}
-use Rattle.pgn_text.proofs.InWord.{bytes_same, move_far, result_far, move_goes, result_goes}
+use Rattle.pgn_text.proofs.InWord.{move_far, result_far, move_goes, result_goes}
+use Rattle.pgn_text.proofs.TagLemmas.{bytes_eq-same}
 
 module _ (max_depth : ℕ) where
   -- nothing is a front of white space
@@ -157,10 +158,10 @@ module _ (max_depth : ℕ) where
   result_no_move : (w : List ℕ) → is_result_word w ≡ true → (is_number w || is_move_text w) ≡ false
   result_no_move w e = elim (or_cases (bytes_eq w (codes "1-0") || bytes_eq w (codes "0-1")) _ e) [
     | inl l ↦ elim (or_cases (bytes_eq w (codes "1-0")) _ l) [
-      | inl p ↦ ap (λ v. is_number v || is_move_text v) (bytes_same w (codes "1-0") p)
-      | inr q ↦ ap (λ v. is_number v || is_move_text v) (bytes_same w (codes "0-1") q)
+      | inl p ↦ ap (λ v. is_number v || is_move_text v) (bytes_eq-same w (codes "1-0") p)
+      | inr q ↦ ap (λ v. is_number v || is_move_text v) (bytes_eq-same w (codes "0-1") q)
     ]
-    | inr r ↦ ap (λ v. is_number v || is_move_text v) (bytes_same w (codes "1/2-1/2") r)
+    | inr r ↦ ap (λ v. is_number v || is_move_text v) (bytes_eq-same w (codes "1/2-1/2") r)
   ]
 
   pub no_result : (w : List ℕ) → (is_number w || is_move_text w) ≡ true → is_result_word w ≡ false

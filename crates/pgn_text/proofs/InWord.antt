@@ -7,19 +7,12 @@ use Rattle.pgn_text.specs.Public.Bytes.{is_digit, is_letter, is_word_byte, is_ch
 use Rattle.pgn_text.specs.Public.Games.{is_number, is_result_word, is_zero_castling, is_move_text}
 use Rattle.pgn_text.specs.Private.PartFronts.{no_byte, IsFrontOf, IsMoveFront, IsResultFront}
 use Rattle.pgn_text.proofs.Furthest.{as_far_front, as_far_whole, as_far_goes}
+use Rattle.pgn_text.proofs.Classes.{is_digit-word}
+use Rattle.pgn_text.proofs.TagLemmas.{bytes_eq-same}
 
 -- the word has a meaning; a result has one only where `closed`
 abbrev pub IsMeant : Bool → List ℕ → Type 0
 IsMeant closed word = (is_number word || is_move_text word) ≡ true ⊎ ((closed ≡ true) × (is_result_word word ≡ true))
-
-pub bytes_same : (xs ys : List ℕ) → bytes_eq xs ys ≡ true → xs ≡ ys
-bytes_same [] [] e = refl
-bytes_same [] (y ∷ ys) e = cc
-bytes_same (x ∷ xs) [] e = cc
-bytes_same (x ∷ xs) (y ∷ ys) e =
-    let both = and_parts (x == y) (bytes_eq xs ys) e in
-    let head : x ∷ xs ≡ y ∷ xs = ap (λ k. k ∷ xs) (eqb-true x y both.0) in
-    head ∙ ap (λ l. y ∷ l) (bytes_same xs ys both.1)
 
 -- a word that begins as another and goes on with check marks
 castling_far : (w x y : List ℕ) → starts_with nat_eq (x ++ y) w ≡ true
@@ -36,7 +29,7 @@ castling_far w x y s all = as_far_front is_check_mark w x y (whole w (x ++ y) s 
 
 word_far : (w x y : List ℕ) → bytes_eq (x ++ y) w ≡ true → IsFrontOf no_byte w x
 word_far w x y e = as_far_front no_byte w x y
-    (subst (IsFrontOf no_byte w) (append-nil w ∙ sym (bytes_same (x ++ y) w e)) (as_far_whole no_byte w [] refl))
+    (subst (IsFrontOf no_byte w) (append-nil w ∙ sym (bytes_eq-same (x ++ y) w e)) (as_far_whole no_byte w [] refl))
 
 -- a word with a meaning that begins with no letter: how its fronts look
 pub move_far : (b : ℕ) (x y : List ℕ) → is_letter b ≡ false
@@ -87,9 +80,6 @@ all_words test within (b ∷ y) all =
     let both = and_parts (test b) (list_all test y) all in
     and_from (is_word_byte b) (list_all is_word_byte y) (within b both.0) (all_words test within y both.1)
 
-digit_word : (b : ℕ) → is_digit b ≡ true → is_word_byte b ≡ true
-digit_word b e = or_left _ _ (or_left _ _ (or_left _ _ (or_right (is_letter b) (is_digit b) e)))
-
 check_word : (b : ℕ) → is_check_mark b ≡ true → is_word_byte b ≡ true
 check_word b e = or_left _ _ (or_right _ _ (or_left _ _ e))
 
@@ -97,7 +87,7 @@ number_goes : (b : ℕ) (x : List ℕ) → IsFrontOf is_digit [] (b ∷ x) → G
 number_goes b x h =
     let next = as_far_goes is_digit [] (b ∷ x) h in
     let all : list_all is_digit ((b ∷ x) ++ next.0) ≡ true = ap (list_all is_digit) next.2 ∙ next.3 in
-    record { more = next.0; some = refl; words = all_words is_digit digit_word ((b ∷ x) ++ next.0) all; meant = all }
+    record { more = next.0; some = refl; words = all_words is_digit is_digit-word ((b ∷ x) ++ next.0) all; meant = all }
 
 -- the word and such bytes, if they have the meaning
 word_goes : (meaning : List ℕ → Bool) (test : ℕ → Bool) (w x : List ℕ) → IsFrontOf test w x

@@ -3,8 +3,7 @@
 use Rattle.std.proofs.Common.{◌≡◌, ◌≢◌, ℕ, suc, ◌-◌, ◌==◌, Bool, true, false, not, ◌&&◌, ◌||◌, List, [], ◌∷◌, ◌++◌, length, get_or, nat_eq, refl, sym, ap, ap₂, ◌∙◌, ◌⊎◌, inl, inr, arith, append_assoc, append-nil, IsTrue, ◌↔◌}
 use Rattle.std.specs.Prelude.{codes, bytes_eq}
 use Rattle.std.specs.List.{starts_with, list_all}
-use Rattle.std.proofs.lemmas.Bool.{and_parts, and_from, false≢true, or_cases}
-use Rattle.std.proofs.lemmas.Bool.Decides.{nat_tests}
+use Rattle.std.proofs.lemmas.Bool.{and_parts, and_from, false≢true, or_cases, eqb-true}
 use Rattle.std.proofs.lemmas.List.Folds.{list_all-append}
 use Rattle.pgn_text.specs.Public.Bytes.{is_white, ends_in_line_feed}
 use Rattle.pgn_text.specs.Public.Parts.{Part, ByteOrderMark, White, Brace, Line, EscapeLine, Word, Star, Standing, standing_of, Stands, AllStand, spelled, spelled_part}
@@ -24,9 +23,6 @@ starts_more (c ∷ line) (b ∷ u) v h =
     let both = and_parts (nat_eq c b) (starts_with nat_eq u line) h in
     and_from (nat_eq c b) (starts_with nat_eq (u ++ v) line) both.0 (starts_more line u v both.1)
 
-same_byte : (a b : ℕ) → nat_eq a b ≡ true → a ≡ b
-same_byte a b e = grind (arith, nat_tests)
-
 -- a front of what begins so begins so too, or is itself a front of those bytes
 pub short_front : (line u v : List ℕ) → starts_with nat_eq (u ++ v) line ≡ true
     → (starts_with nat_eq u line ≡ true) ⊎ ((rest : List ℕ) × (line ≡ u ++ rest))
@@ -36,7 +32,7 @@ short_front (c ∷ line) (b ∷ u) v h =
     let both = and_parts (nat_eq c b) (starts_with nat_eq (u ++ v) line) h in
     elim (short_front line u v both.1) [
       | inl t ↦ inl (and_from (nat_eq c b) (starts_with nat_eq u line) both.0 t)
-      | inr t ↦ inr (t.0, ap₂ (λ (x : ℕ) (xs : List ℕ). x ∷ xs) (same_byte c b both.0) t.1)
+      | inr t ↦ inr (t.0, ap₂ (λ (x : ℕ) (xs : List ℕ). x ∷ xs) (eqb-true c b both.0) t.1)
     ]
 
 -- ---- bytes that end neither a line nor a game, as all bytes of the event line are

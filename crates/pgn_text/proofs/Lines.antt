@@ -4,7 +4,9 @@ use Rattle.std.proofs.Common.{◌≡◌, ℕ, suc, ◌+◌, ◌-◌, ◌<◌, �
 use Rattle.std.specs.List.{list_all}
 use Rattle.std.proofs.lemmas.List.Sums.{sum_by_push}
 use Rattle.std.proofs.lemmas.List.Folds.{list_all-append}
-use Rattle.std.proofs.lemmas.Bool.{false≢true, and_parts, ltb-true, cases_lt}
+use Rattle.std.proofs.lemmas.Bool.{false≢true, and_parts, ltb-true, cases_lt, and_right}
+use Rattle.std.proofs.lemmas.Option.{cond_some}
+use Rattle.std.proofs.Math.Bool.{and-true}
 use Rattle.pgn_text.specs.Public.Parts.{Part, ByteOrderMark, White, Brace, Line, EscapeLine, Tag, Word, Star, Dot, Glyph, Marks, Open, Close}
 use Rattle.pgn_text.specs.Public.Games.{is_number, is_move_text, is_gap_part, is_tag, is_move, is_open, is_close, depth_after, MoveInLine}
 use Rattle.pgn_text.specs.Private.Steps.{State, start, in_movetext, step}
@@ -223,19 +225,11 @@ opened_push front k y low h = record {
   above = above_push (suc k) h.earlier Open h.later front y h.parted low h.above;
 }
 
-and_true : (b : Bool) → (b && true) ≡ b
-and_true true = refl
-and_true false = refl
-
-and_false : (b : Bool) → false ≡ (b && false)
-and_false true = refl
-and_false false = refl
-
 tags_push : (front : List Part) (x : Part) (a b : Bool) → a ≡ list_all (λ p. is_tag p || is_gap_part p) front
     → b ≡ (a && (is_tag x || is_gap_part x)) → b ≡ list_all (λ p. is_tag p || is_gap_part p) (front ++ x ∷ [])
 tags_push front x a b e f =
     f ∙ ap (λ c. c && (is_tag x || is_gap_part x)) e ∙ sym (list_all-append (λ p. is_tag p || is_gap_part p) front
-    (x ∷ []) ∙ ap (λ c. list_all (λ p. is_tag p || is_gap_part p) front && c) (and_true (is_tag x || is_gap_part x)))
+    (x ∷ []) ∙ ap (λ c. list_all (λ p. is_tag p || is_gap_part p) front && c) (and-true (is_tag x || is_gap_part x)))
 
 -- a part that is no parenthesis and no move
 plain_more : (front : List Part) (x : Part) (s t : State) → is_open x ≡ false → is_close x ≡ false → is_move x ≡ false
@@ -270,7 +264,7 @@ open_more front s t m tags depth moves h =
     let closes = count_push_not is_close front Open refl in
     let deeper : depth_after (front ++ Open ∷ []) ≡ depth_after front + 1 = omega (arith, opens, closes, h.balance) in
     record {
-      tags = tags_push front Open s.in_tags t.in_tags h.tags (tags ∙ and_false s.in_tags);
+      tags = tags_push front Open s.in_tags t.in_tags h.tags (tags ∙ sym (and_right s.in_tags false refl));
       balance = omega (arith, opens, closes, h.balance, depth);
       moved = λ e. absurd (false≢true (sym moves ∙ e));
       unmoved = λ e. line_begins front deeper;
@@ -296,7 +290,7 @@ close_more front s t deep tags depth moves h =
     let closes = count_push_yes is_close front Close refl in
     let now : depth_after (front ++ Close ∷ []) ≡ s.depth - 1 = omega (arith, opens, closes, h.balance) in
     record {
-      tags = tags_push front Close s.in_tags t.in_tags h.tags (tags ∙ and_false s.in_tags);
+      tags = tags_push front Close s.in_tags t.in_tags h.tags (tags ∙ sym (and_right s.in_tags false refl));
       balance = omega (arith, opens, closes, h.balance, depth);
       moved = λ e. outer (h.opened (s.depth - 1) (omega arith)) now;
       unmoved = λ e. absurd (false≢true (sym e ∙ moves));
@@ -329,7 +323,7 @@ kept_more : (front : List Part) (x : Part) (s t : State) → is_open x ≡ false
     → (is_tag x || is_gap_part x) ≡ true → Some s ≡ Some t → Shows front s → Shows (front ++ x ∷ []) t
 kept_more front x s t o c m g e h =
     let same : s ≡ t = cc in
-    plain_more front x s t o c m (ap (λ (u : State). u.in_tags) (sym same) ∙ sym (and_true s.in_tags)
+    plain_more front x s t o c m (ap (λ (u : State). u.in_tags) (sym same) ∙ sym (and-true s.in_tags)
     ∙ ap (λ b. s.in_tags && b) (sym g)) (ap (λ (u : State). u.depth) (sym same)) (ap (λ (u : State). u.has_move)
     (sym same)) h
 
@@ -339,14 +333,9 @@ movetext_more : (front : List Part) (x : Part) (s t : State) → is_open x ≡ f
     → Shows (front ++ x ∷ []) t
 movetext_more front x s t o c m g e h =
     let same : in_movetext s ≡ t = cc in
-    plain_more front x s t o c m (ap (λ (u : State). u.in_tags) (sym same) ∙ and_false s.in_tags
+    plain_more front x s t o c m (ap (λ (u : State). u.in_tags) (sym same) ∙ sym (and_right s.in_tags false refl)
     ∙ ap (λ b. s.in_tags && b) (sym g)) (ap (λ (u : State). u.depth) (sym same)) (ap (λ (u : State). u.has_move)
     (sym same)) h
-
--- an answer given only where a test holds
-pub when_some : {X : Type 0} (b : Bool) (x y : X) → cond b (Some x) None ≡ Some y → (b ≡ true) × (x ≡ y)
-when_some true x y e = (refl, cc)
-when_some false x y e = cc
 
 -- a word
 word_more : (front : List Part) (text : List ℕ) (s t : State) (moves number : Bool) → is_move_text text ≡ moves
@@ -355,10 +344,10 @@ word_more : (front : List Part) (text : List ℕ) (s t : State) (moves number : 
     → Shows front s → Shows (front ++ Word text ∷ []) t
 word_more front text s t true number m e h =
     let same : record { in_tags = false; depth = s.depth; has_move = true } ≡ t = cc in
-    move_more front (Word text) s t refl refl m (ap (λ (u : State). u.in_tags) (sym same) ∙ and_false s.in_tags)
+    move_more front (Word text) s t refl refl m (ap (λ (u : State). u.in_tags) (sym same) ∙ sym (and_right s.in_tags false refl))
     (ap (λ (u : State). u.depth) (sym same)) (ap (λ (u : State). u.has_move) (sym same)) h
 word_more front text s t false number m e h =
-    movetext_more front (Word text) s t refl refl m refl (ap (λ x. Some x) (when_some number (in_movetext s) t e).1) h
+    movetext_more front (Word text) s t refl refl m refl (ap (λ x. Some x) (cond_some number (in_movetext s) t e).1) h
 
 -- the state after one more part says what it means
 pub shows_more : (max_depth : ℕ) (front : List Part) (s t : State) (part : Part) → step max_depth s part ≡ Some t
@@ -370,20 +359,20 @@ shows_more max_depth front s t (Line text) e h = kept_more front (Line text) s t
 shows_more max_depth front s t (EscapeLine text) e h = kept_more front (EscapeLine text) s t refl refl refl refl e h
 shows_more max_depth front s t (Tag first name second contents third) e h =
     kept_more front (Tag first name second contents third) s t refl refl refl refl
-    (ap (λ x. Some x) (when_some s.in_tags s t e).1) h
+    (ap (λ x. Some x) (cond_some s.in_tags s t e).1) h
 shows_more max_depth front s t (Word text) e h = word_more front text s t (is_move_text text) (is_number text) refl e h
 shows_more max_depth front s t Star e h = cc
 shows_more max_depth front s t Dot e h = movetext_more front Dot s t refl refl refl refl e h
 shows_more max_depth front s t (Glyph digits) e h = movetext_more front (Glyph digits) s t refl refl refl refl e h
 shows_more max_depth front s t (Marks marks) e h = movetext_more front (Marks marks) s t refl refl refl refl e h
 shows_more max_depth front s t Open e h =
-    let f = when_some (s.has_move && nat_lt s.depth max_depth)
+    let f = cond_some (s.has_move && nat_lt s.depth max_depth)
     (record { in_tags = false; depth = s.depth + 1; has_move = false }) t e in
     let same = f.1 in
     open_more front s t (and_parts s.has_move (nat_lt s.depth max_depth) f.0).0 (ap (λ (u : State). u.in_tags)
     (sym same)) (ap (λ (u : State). u.depth) (sym same)) (ap (λ (u : State). u.has_move) (sym same)) h
 shows_more max_depth front s t Close e h =
-    let f = when_some (nat_lt 0 s.depth) (record { in_tags = false; depth = s.depth - 1; has_move = true }) t e in
+    let f = cond_some (nat_lt 0 s.depth) (record { in_tags = false; depth = s.depth - 1; has_move = true }) t e in
     let same = f.1 in
     close_more front s t (ltb-true 0 s.depth f.0) (ap (λ (u : State). u.in_tags) (sym same))
     (ap (λ (u : State). u.depth) (sym same)) (ap (λ (u : State). u.has_move) (sym same)) h

@@ -11,9 +11,9 @@ use Rattle.pgn_text.specs.Public.Parts.{Part, ByteOrderMark, White, Brace, Line,
 use Rattle.pgn_text.specs.Private.Reading.{part_front}
 use Rattle.pgn_text.specs.Private.Steps.{State, in_movetext, step}
 use Rattle.pgn_text.proofs.InPart.{from_word, word_follows, word_step}
-use Rattle.pgn_text.proofs.InWord.{bytes_same}
 use Rattle.pgn_text.proofs.PartLemmas.{stands-read}
 use Rattle.pgn_text.proofs.Stuck.{follows_always, bracket_tag, tag_stuck}
+use Rattle.pgn_text.proofs.TagLemmas.{bytes_eq-same}
 
 -- a result has a meaning
 pub result_meant : (p : Part) → is_result p ≡ true → is_meant p ≡ true
@@ -26,10 +26,10 @@ result_meant p r = cc
 result_front : (w y : List ℕ) → is_result_word w ≡ true → (is_number (w ++ y) || is_move_text (w ++ y)) ≡ false
 result_front w y e = elim (or_cases (bytes_eq w (codes "1-0") || bytes_eq w (codes "0-1")) _ e) [
   | inl l ↦ elim (or_cases (bytes_eq w (codes "1-0")) _ l) [
-    | inl p ↦ ap (λ v. is_number (v ++ y) || is_move_text (v ++ y)) (bytes_same w (codes "1-0") p)
-    | inr q ↦ ap (λ v. is_number (v ++ y) || is_move_text (v ++ y)) (bytes_same w (codes "0-1") q)
+    | inl p ↦ ap (λ v. is_number (v ++ y) || is_move_text (v ++ y)) (bytes_eq-same w (codes "1-0") p)
+    | inr q ↦ ap (λ v. is_number (v ++ y) || is_move_text (v ++ y)) (bytes_eq-same w (codes "0-1") q)
   ]
-  | inr r ↦ ap (λ v. is_number (v ++ y) || is_move_text (v ++ y)) (bytes_same w (codes "1/2-1/2") r)
+  | inr r ↦ ap (λ v. is_number (v ++ y) || is_move_text (v ++ y)) (bytes_eq-same w (codes "1/2-1/2") r)
 ]
 
 -- the part that was read, if one was

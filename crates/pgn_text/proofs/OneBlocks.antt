@@ -5,6 +5,7 @@ use Rattle.std.specs.List.{starts_with}
 use Rattle.std.proofs.lemmas.Bool.{cases_Bool, both_ways, false≢true, and_right}
 use Rattle.std.proofs.lemmas.List.{append-nil}
 use Rattle.pgn_text.specs.Public.Blocks.{event_line, is_event_line, IsFirstBlock, AreBlocks}
+use Rattle.pgn_text.proofs.OneList.{no_bytes}
 
 -- two cuts of one text: one of the fronts begins the other
 cuts : (a b rest rest' : List ℕ) → a ++ rest ≡ b ++ rest'
@@ -109,13 +110,13 @@ own_block x text (b ∷ more) here h =
     alone (z ∷ []) q e p_some q_some line = q_some (let k : [] ≡ q = cc in sym k)
     alone (z ∷ y ∷ p) q e p_some q_some line = cc
 
+-- the one block of no text
+pub empty_block : IsFirstBlock [] []
+empty_block = record { ends = λ some. absurd (some refl); whole = λ x y e some other here. some (no_bytes x y (sym e)) }
+
 -- each text has a list of blocks
 pub blocks_exist : (text : List ℕ) → (blocks : List (List ℕ)) × AreBlocks blocks text
-blocks_exist [] = ([] ∷ [], (refl, record { ends = λ some. absurd (some refl); whole = λ x y e some other here. other (nothing x y e) }))
-  where
-    nothing : (x y : List ℕ) → [] ≡ x ++ y → y ≡ []
-    nothing [] y e = sym e
-    nothing (z ∷ x) y e = cc
+blocks_exist [] = ([] ∷ [], (refl, empty_block))
 blocks_exist (x ∷ text) =
     let rest = blocks_exist text in
     elim (cases_Bool (is_event_line (x ∷ []) text)) [

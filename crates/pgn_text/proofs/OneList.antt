@@ -24,6 +24,10 @@ pub no_bytes : {X : Type 0} (a b : List X) → a ++ b ≡ [] → a ≡ []
 no_bytes [] b e = refl
 no_bytes (x ∷ a) b e = cc
 
+pub no_more : {X : Type 0} (a b : List X) → a ++ b ≡ [] → b ≡ []
+no_more [] b e = e
+no_more (x ∷ a) b e = cc
+
 -- after bytes less is left
 pub shorter : (text x rest : List ℕ) (fuel : ℕ) → text ≡ x ++ rest → x ≢ [] → length text < suc fuel → length rest < fuel
 shorter text [] rest fuel e some l = absurd (some refl)

@@ -2,7 +2,7 @@
 use Rattle.std.proofs.Common.{◌≡◌, ℕ, ◌+◌, ◌-◌, ◌<◌, Bool, true, false, List, [], ◌∷◌, ◌++◌, IsTrue, take, drop, length, refl, sym, ap, subst, ◌∙◌, inl, inr, arith, append_assoc, append-nil, length-append, drop-drop, drop_at, take_at}
 use Rattle.std.specs.Prelude.{not, ◌||◌, nat_lt, count_by, if◌then◌else◌}
 use Rattle.std.specs.List.{list_all, list_any}
-use Rattle.std.proofs.lemmas.Bool.{and_parts, false≢true, eqb-true, or_left, or_right}
+use Rattle.std.proofs.lemmas.Bool.{and_parts, false≢true, eqb-true, or_left, or_right, or_parts, not-true}
 use Rattle.std.proofs.lemmas.Bool.Decides.{nat_tests}
 use Rattle.std.proofs.lemmas.List.Folds.{list_all-append, list_any-append}
 use Rattle.pgn_text.specs.Public.AnswerLaws.{StandsInOneThing, CommentIsOpen}
@@ -21,15 +21,10 @@ bracket_no_brace : (front : List ℕ) → begins is_open_bracket front ≡ true 
 bracket_no_brace [] e = cc
 bracket_no_brace (b ∷ front) e = ap is_open_brace (eqb-true b 91 e)
 
-neither_true : (x y : Bool) → not (x || y) ≡ true → (x ≡ false) × (y ≡ false)
-neither_true true y e = cc
-neither_true false true e = cc
-neither_true false false e = (refl, refl)
-
 no_bracket : (front : List ℕ) → not (begins (λ b. is_open_brace b || is_open_bracket b) front) ≡ true
     → (begins is_open_brace front ≡ false) × (begins is_open_bracket front ≡ false)
 no_bracket [] e = (refl, refl)
-no_bracket (b ∷ front) e = neither_true (is_open_brace b) (is_open_bracket b) e
+no_bracket (b ∷ front) e = or_parts (is_open_brace b) (is_open_bracket b) (not-true (is_open_brace b || is_open_bracket b) e)
 
 -- before the movetext no variation is open
 before_no_open : (p : Part) → is_before_movetext p ≡ true → is_open p ≡ false

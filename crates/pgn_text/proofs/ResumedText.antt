@@ -9,15 +9,11 @@ use Rattle.pgn_text.specs.Public.Blocks.{event_line, is_event_line, IsFirstBlock
 use Rattle.pgn_text.specs.Public.Marks.{ReadableGame, UnreadableRest, TooLongBlock, MarkedPiece, marked, AreOfBlock, over, within, AreOfBlocks, AreMarkedPieces, ResumesAt}
 use Rattle.pgn_text.proofs.Lines.{cut_append, cut_single}
 use Rattle.pgn_text.proofs.MarkedPieces.{one_marked_pieces}
-use Rattle.pgn_text.proofs.OneList.{no_bytes, game_has_byte}
+use Rattle.pgn_text.proofs.OneList.{no_bytes, game_has_byte, no_more}
 use Rattle.pgn_text.proofs.Resumption.{IsClear, Begun, begun_start, begun_clear, begun_more, gap_spent}
 use Rattle.pgn_text.proofs.ResumedPieces.{moved_back, resumed_at_game, resumed_at_unreadable}
 
 -- ---- the blocks of what is left of a text within its first block
-
-no_more : {X : Type 0} (a b : List X) → a ++ b ≡ [] → b ≡ []
-no_more [] b e = e
-no_more (x ∷ a) b e = cc
 
 pub not_nil : {X : Type 0} (a : List X) (x : X) (b : List X) → a ++ x ∷ b ≡ [] → ⊥
 not_nil [] x b e = cc

@@ -1,7 +1,7 @@
 -- A block read again from one of its pieces on, as a block by itself that is not at the file's start: the same pieces follow.
 use Rattle.std.proofs.Common.{◌≡◌, ◌≢◌, ℕ, ◌+◌, ◌-◌, ◌≤◌, Bool, true, false, ◌&&◌, ◌==◌, List, [], ◌∷◌, ◌++◌, length, IsTrue, bytes_eq, slice_index, refl, sym, ap, ap₂, subst, ◌∙◌, ◌⊎◌, inl, inr, arith, append_assoc, append-nil, length-append}
 use Rattle.std.specs.List.{list_all}
-use Rattle.std.proofs.lemmas.Bool.{false≢true, and_parts, and_from, not-true}
+use Rattle.std.proofs.lemmas.Bool.{false≢true, and_parts, and_from, not-true, and_right}
 use Rattle.std.proofs.lemmas.List.{get_or-append-add, nil_from_length}
 use Rattle.std.proofs.lemmas.List.Folds.{list_all-append}
 use Rattle.std.proofs.lemmas.Bool.Decides.{nat_tests}
@@ -13,21 +13,18 @@ use Rattle.pgn_text.proofs.PartLemmas.{part_has_byte}
 use Rattle.pgn_text.proofs.ShorterText.{game_elsewhere}
 use Rattle.pgn_text.proofs.OneList.{no_bytes}
 use Rattle.pgn_text.proofs.Halfway.{spelled-append, stands_join}
+use Rattle.pgn_text.proofs.Classes.{order_mark-word, order_mark-mark}
 
 -- what stands before the place is no front of a byte order mark at the file's start that bytes after it could complete
 pub IsClear : Bool → List ℕ → Type 0
 IsClear file_start before =
     (b : ℕ) (bs : List ℕ) → (file_start && bytes_eq (before ++ b ∷ bs) (239 ∷ 187 ∷ 191 ∷ [])) ≡ false
 
-and_false : (b : Bool) → (b && false) ≡ false
-and_false true = refl
-and_false false = refl
-
 -- so the place is not at the file's start
 pub clear_start : (file_start : Bool) (before : List ℕ) → IsClear file_start before → (file_start && is_empty before) ≡ false
 unfolding IsClear
 clear_start file_start [] clear = clear 239 (187 ∷ 191 ∷ [])
-clear_start file_start (x ∷ before) clear = and_false file_start
+clear_start file_start (x ∷ before) clear = and_right file_start false refl
 
 -- ---- the place after bytes of the piece
 
@@ -51,7 +48,7 @@ same_place : (file_start : Bool) (before : List ℕ) (b : ℕ) (bs : List ℕ) �
 unfolding IsClear
 same_place file_start before b bs clear =
     let starts : (file_start && is_empty (before ++ b ∷ bs)) ≡ false = rw (is_empty-append before b bs)
-    (and_false file_start) in
+    (and_right file_start false refl) in
     let column : is_column_one file_start (before ++ b ∷ bs) ≡ is_column_one false (b ∷ bs) = rw (
       last_byte before b bs,
       bytes_eq-append before b bs,
@@ -226,18 +223,12 @@ clear_longer file_start before (c ∷ y) clear b bs = rw append_assoc (clear c (
 -- the first byte is another than that of a byte order mark
 other_byte : (file_start : Bool) (c : ℕ) (x : List ℕ) → (c == 239) ≡ false → IsClear file_start (c ∷ x)
 unfolding IsClear
-other_byte file_start c x e b bs = rw e (and_false file_start)
+other_byte file_start c x e b bs = rw e (and_right file_start false refl)
 
 -- after a whole byte order mark too
 mark_after : (file_start : Bool) (x : List ℕ) → IsClear file_start (239 ∷ 187 ∷ 191 ∷ x)
 unfolding IsClear
-mark_after file_start x b bs = rw (bytes_eq-append x b bs) (and_false file_start)
-
-word_byte : (c : ℕ) → is_word_byte c ≡ true → (c == 239) ≡ false
-word_byte c e = grind (arith, nat_tests)
-
-mark_byte : (c : ℕ) → is_mark c ≡ true → (c == 239) ≡ false
-mark_byte c e = grind (arith, nat_tests)
+mark_after file_start x b bs = rw (bytes_eq-append x b bs) (and_right file_start false refl)
 
 white_byte : (c : ℕ) → is_white c ≡ true → (c == 239) ≡ false
 white_byte c e = grind (arith, nat_tests)
@@ -253,13 +244,13 @@ clear_after file_start (EscapeLine text) after x h = other_byte file_start 37 (t
 clear_after file_start (Tag first name second contents third) after x h = other_byte file_start 91 _ refl
 clear_after file_start (Word []) after x h = absurd (false≢true h.0)
 clear_after file_start (Word (c ∷ text)) after x h =
-    other_byte file_start c (text ++ x) (word_byte c (and_parts (is_word_byte c) (list_all is_word_byte text) h.1).0)
+    other_byte file_start c (text ++ x) (order_mark-word c (and_parts (is_word_byte c) (list_all is_word_byte text) h.1).0)
 clear_after file_start Star after x h = other_byte file_start 42 x refl
 clear_after file_start Dot after x h = other_byte file_start 46 x refl
 clear_after file_start (Glyph digits) after x h = other_byte file_start 36 (digits ++ x) refl
 clear_after file_start (Marks []) after x h = absurd (false≢true h.0)
 clear_after file_start (Marks (c ∷ marks)) after x h =
-    other_byte file_start c (marks ++ x) (mark_byte c (and_parts (is_mark c) (list_all is_mark marks) h.1).0)
+    other_byte file_start c (marks ++ x) (order_mark-mark c (and_parts (is_mark c) (list_all is_mark marks) h.1).0)
 clear_after file_start Open after x h = other_byte file_start 40 x refl
 clear_after file_start Close after x h = other_byte file_start 41 x refl
 

@@ -1,5 +1,6 @@
 -- The contents of a tag that stands in a text are the contents of a string, and its name is made of the bytes of names.
 use Rattle.std.proofs.Common.{◌≡◌, ℕ, Bool, true, false, List, [], ◌∷◌, ◌++◌, refl, subst}
+use Rattle.std.proofs.lemmas.Option.{same_Some}
 use Rattle.std.specs.Prelude.{Some, bytes_eq, if◌then◌else◌, IsTrue}
 use Rattle.std.specs.List.{list_all}
 use Rattle.pgn_text.specs.Public.Bytes.{is_name_byte}
@@ -7,9 +8,6 @@ use Rattle.pgn_text.specs.Public.Parts.{Part, ByteOrderMark, White, Brace, Line,
 use Rattle.pgn_text.specs.Public.Games.{first_tag}
 use Rattle.pgn_text.specs.Public.Strings.{IsContents}
 use Rattle.pgn_text.proofs.TagLemmas.{bytes_eq-same}
-
-same_contents : (a b : List ℕ) → Some a ≡ Some b → a ≡ b
-same_contents a b is = cc
 
 -- the first tag of a name, among parts that stand in a text
 pub first_string : (wanted contents : List ℕ) (f : Bool) (before : List ℕ) (parts : List Part) (after : List ℕ) → AllStand f before parts after → first_tag wanted parts ≡ Some contents
@@ -26,7 +24,7 @@ first_string wanted contents f before (Tag first name second own third ∷ back)
     by : (same : Bool) → bytes_eq name wanted ≡ same → (first_tag wanted back ≡ Some contents → IsContents contents × IsTrue (list_all is_name_byte wanted))
         → (if same then Some own else first_tag wanted back) ≡ Some contents → IsContents contents × IsTrue (list_all is_name_byte wanted)
     by true same later here = (
-      subst IsContents (same_contents own contents here) stand.0.4,
+      subst IsContents (same_Some own contents here) stand.0.4,
       subst (λ bytes. IsTrue (list_all is_name_byte bytes)) (bytes_eq-same name wanted same) stand.0.2,
     )
     by false same later here = later here
