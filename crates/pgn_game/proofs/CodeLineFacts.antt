@@ -2,6 +2,7 @@
 use Rattle.std.proofs.Common.{◌≡◌, ℕ, zero, suc, ◌+◌, ◌*◌, ◌<◌, ◌≤◌, Bool, true, false, not, ◌&&◌, cond, List, [], ◌∷◌, ◌++◌, length, drop, get_or, Option, Some, None, refl, sym, ap, ◌∙◌, subst, append_assoc, append-nil, length-append, inl, inr, arith}
 use Rattle.std.specs.List.{slice_get, flat_map, AllByRecursion}
 use Rattle.std.proofs.Math.ListN.{drop_of_length-le}
+use Rattle.std.proofs.lemmas.Option.{same_Some, none-some}
 use Rattle.chess.specs.Public.Placements.{man_at}
 use Rattle.chess.specs.Public.Positions.{State}
 use Rattle.chess.specs.Public.Moves.{after, arriving, is_pawn, Goes, IsPseudoLegal, IsLegal, IsPromotionKind, IsPromotion}
@@ -16,6 +17,7 @@ use Rattle.pgn_game.specs.Public.MainLines.{IsMainLine}
 use Rattle.pgn_game.specs.Public.PlyCodes.{PlyCode, FitsCode, IsCode, AreCodes, code_bytes, code_of}
 use Rattle.pgn_game.proofs.PlyCodeFacts.{code_again, code_of_a_move_fits}
 use Rattle.pgn_game.proofs.RecordFacts.{plies_size}
+use Rattle.pgn_game.proofs.Cells.{no_cell, same_first, same_rest}
 
 -- ---- bytes
 
@@ -45,12 +47,6 @@ code_there (c ∷ cs) (suc k) first second third at next last within fits =
 
 -- ---- the move of a code
 
-some_is : {A : Type 0} (x y : A) → Some x ≡ Some y → x ≡ y
-some_is x y e = cc
-
-no_kind : (to : Kind) → None ≡ Some to → ⊥
-no_kind to e = absurd cc
-
 unlike : (b : Bool) (to : Kind) → None ≡ cond (b && not b) (Some to) None
 unlike true to = refl
 unlike false to = refl
@@ -62,13 +58,13 @@ becomes_kind false other to became is_pawn_own is_none is = absurd cc
 
 -- only a pawn becomes another man, and that is none
 pawn_becomes : (P : State) (m : Move) (own to : Kind) → m.promote ≡ Some to → Goes P m own → (own ≡ Pawn) × IsPromotionKind to
-pawn_becomes P m King to is goes = absurd (no_kind to (sym goes.0 ∙ is))
-pawn_becomes P m Queen to is goes = absurd (no_kind to (sym goes.1 ∙ is))
-pawn_becomes P m Rook to is goes = absurd (no_kind to (sym goes.1 ∙ is))
-pawn_becomes P m Bishop to is goes = absurd (no_kind to (sym goes.1 ∙ is))
-pawn_becomes P m Knight to is goes = absurd (no_kind to (sym goes.1 ∙ is))
+pawn_becomes P m King to is goes = absurd (none-some to (sym goes.0 ∙ is))
+pawn_becomes P m Queen to is goes = absurd (none-some to (sym goes.1 ∙ is))
+pawn_becomes P m Rook to is goes = absurd (none-some to (sym goes.1 ∙ is))
+pawn_becomes P m Bishop to is goes = absurd (none-some to (sym goes.1 ∙ is))
+pawn_becomes P m Knight to is goes = absurd (none-some to (sym goes.1 ∙ is))
 pawn_becomes P m Pawn to is (castle, go, inl there) = (refl, subst IsPromotion is there.1)
-pawn_becomes P m Pawn to is (castle, go, inr other) = absurd (no_kind to (sym other.1 ∙ is))
+pawn_becomes P m Pawn to is (castle, go, inr other) = absurd (none-some to (sym other.1 ∙ is))
 
 no_pawn : (side : Side) (to : Kind) → IsPromotionKind to → is_pawn (Some (record { side = side; kind = to })) ≡ false
 no_pawn side to (inl e) = ap (λ (k : Kind). is_pawn (Some (record { side = side; kind = k }))) e
@@ -82,9 +78,9 @@ is_pawn_of own e = ap (λ (k : Kind). is_pawn (Some (record { side = own.side; k
 becomes : (P : State) (m : Move) (own : Man) (promote : Option Kind) (comes : Man) → m.promote ≡ promote → man_at P.men m.from ≡ Some own → Goes P m own.kind
     → arriving P promote m.from ≡ Some comes → promote ≡ promoted (Some own) comes
 becomes P m own None comes is here goes arrives =
-    subst (λ (man : Man). None ≡ promoted (Some own) man) (sym (some_is comes own (sym arrives ∙ here))) (unlike (is_pawn (Some own)) own.kind)
+    subst (λ (man : Man). None ≡ promoted (Some own) man) (sym (same_Some comes own (sym arrives ∙ here))) (unlike (is_pawn (Some own)) own.kind)
 becomes P m own (Some to) comes is here goes arrives =
-    let man : comes ≡ record { side = P.turn; kind = to } = some_is comes (record { side = P.turn; kind = to }) (sym arrives) in
+    let man : comes ≡ record { side = P.turn; kind = to } = same_Some comes (record { side = P.turn; kind = to }) (sym arrives) in
     let pawn = pawn_becomes P m own.kind to is goes in
     subst (λ (x : Man). Some to ≡ promoted (Some own) x) (sym man)
     (becomes_kind (is_pawn (Some own)) (is_pawn (Some (record { side = P.turn; kind = to }))) to to (is_pawn_of own pawn.0) (no_pawn P.turn to pawn.1) refl)
@@ -127,15 +123,6 @@ record IsNextTold (here : State) (played : List Move) (c : PlyCode) (codes : Lis
   is_told : m ≡ told_move here c
   later : AreLegalMoves (after here m) rest
   are : AreCodes (after here m) rest codes
-
-same_first : {A : Type 0} (x y : A) (xs ys : List A) → x ∷ xs ≡ y ∷ ys → x ≡ y
-same_first x y xs ys e = cc
-
-same_rest : {A : Type 0} (x y : A) (xs ys : List A) → x ∷ xs ≡ y ∷ ys → xs ≡ ys
-same_rest x y xs ys e = cc
-
-no_cell : {A : Type 0} (x : A) (xs : List A) → [] ≡ x ∷ xs → ⊥
-no_cell x xs e = absurd cc
 
 first_left : (here : State) (played rest : List Move) (c : PlyCode) (codes : List PlyCode) (moves : List Move) → moves ≡ played ++ rest → AreLegalMoves here rest
     → AreCodes here rest (c ∷ codes) → IsNextTold here played c codes moves
@@ -231,5 +218,5 @@ no_move m is = absurd cc
 pub legal_along : (P : State) (moves : List Move) → AreLegalMoves P moves → (i : ℕ) (now : State) (m : Move) → slice_get (positions_from P moves) i ≡ Some now
     → slice_get moves i ≡ Some m → IsLegal now m
 legal_along P [] legal i now m at is = absurd (no_move m is)
-legal_along P (first ∷ moves) legal zero now m at is = subst (λ (Q : State). IsLegal Q m) (some_is P now at) (subst (IsLegal P) (some_is first m is) legal.0)
+legal_along P (first ∷ moves) legal zero now m at is = subst (λ (Q : State). IsLegal Q m) (same_Some P now at) (subst (IsLegal P) (same_Some first m is) legal.0)
 legal_along P (first ∷ moves) legal (suc i) now m at is = legal_along (after P first) moves legal.1 i now m at is

@@ -2,7 +2,7 @@
 use Rattle.std.proofs.Common.{◌≡◌, ℕ, ◌+◌, ◌-◌, ◌<◌, ◌≤◌, true, false, List, [], ◌∷◌, ◌++◌, length, map, take, drop, get_or, refl, sym, ap, subst, ◌∙◌, arith, append_assoc, length-append}
 use Rattle.std.specs.Prelude.{if◌then◌else◌, ◌==◌, not, filter}
 use Rattle.std.proofs.Math.Seq.{take-append_seam}
-use Rattle.std.proofs.lemmas.Bool.{ne_eqb}
+use Rattle.std.proofs.lemmas.Bool.{ne_eqb, both_ways}
 use Rattle.std.proofs.lemmas.Bool.Decides.{nat_tests}
 use Rattle.pgn_text.specs.Public.Bytes.{is_white, is_empty}
 use Rattle.pgn_game.specs.Public.Comments.{in_first, cut_at_white, words_in, unbraced, later_word, closed, braced}
@@ -92,6 +92,9 @@ begins_word (a ∷ text) b rest e =
     ] refl e
 
 -- a text whose white space at its front was taken off: without words, or the first word and what follows it
+pub full : (text : List ℕ) → (length text == 0) ≡ false → text ≡ [] → ⊥
+full text some none = both_ways (length text == 0) some (ap (λ t. length t == 0) none)
+
 pub no_word : (text : List ℕ) → after_white text ≡ [] → [] ≡ words_in text
 no_word text none = sym (words_after_white text ∙ ap words_in none)
 

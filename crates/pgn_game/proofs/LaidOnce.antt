@@ -1,6 +1,7 @@
 -- Tokens have one text of a width at most.
 use Rattle.std.proofs.Common.{◌≡◌, ℕ, ◌+◌, ◌<◌, ◌≤◌, List, [], ◌∷◌, ◌++◌, length, refl, sym, ap, ◌∙◌, subst, length-append, arith}
 use Rattle.pgn_game.specs.Public.TextLines.{joined, tokens_of, text_of, IsLine, IsFull, AreLines, TokensHaveOneText}
+use Rattle.pgn_game.proofs.Cells.{same_first, same_rest}
 
 -- a token more makes no line shorter
 after_first : (x y : List ℕ) (ys : List (List ℕ)) → length (joined (x ∷ y ∷ ys)) ≡ length x + 1 + length (joined (y ∷ ys))
@@ -32,20 +33,14 @@ data Fronts (a b : List (List ℕ)) (after_a after_b : List (List ℕ)) : Type 0
   shorter : (token : List ℕ) (rest : List (List ℕ)) → b ≡ a ++ token ∷ rest → after_a ≡ token ∷ (rest ++ after_b) → Fronts a b after_a after_b
   longer : (token : List ℕ) (rest : List (List ℕ)) → a ≡ b ++ token ∷ rest → after_b ≡ token ∷ (rest ++ after_a) → Fronts a b after_a after_b
 
-heads : (x y : List ℕ) (xs ys : List (List ℕ)) → x ∷ xs ≡ y ∷ ys → x ≡ y
-heads x y xs ys is = cc
-
-tails : (x y : List ℕ) (xs ys : List (List ℕ)) → x ∷ xs ≡ y ∷ ys → xs ≡ ys
-tails x y xs ys is = cc
-
 fronts : (a b after_a after_b : List (List ℕ)) → a ++ after_a ≡ b ++ after_b → Fronts a b after_a after_b
 fronts [] [] after_a after_b is = same refl is
 fronts [] (y ∷ b) after_a after_b is = shorter y b refl is
 fronts (x ∷ a) [] after_a after_b is = longer x a refl (sym is)
-fronts (x ∷ a) (y ∷ b) after_a after_b is = under (fronts a b after_a after_b (tails x y (a ++ after_a) (b ++ after_b) is))
+fronts (x ∷ a) (y ∷ b) after_a after_b is = under (fronts a b after_a after_b (same_rest x y (a ++ after_a) (b ++ after_b) is))
   where
     head : x ≡ y
-    head = heads x y (a ++ after_a) (b ++ after_b) is
+    head = same_first x y (a ++ after_a) (b ++ after_b) is
 
     under : Fronts a b after_a after_b → Fronts (x ∷ a) (y ∷ b) after_a after_b
     under (same front after) = same (ap (λ ts. x ∷ ts) front ∙ ap (λ t. t ∷ b) head) after
@@ -59,7 +54,7 @@ not_full width [] lines token rest others is_line full are is also = is_line
 not_full width (x ∷ line) [] token rest others is_line full are is also = let n = ap length is in absurd (omega arith)
 not_full width (x ∷ line) ([] ∷ lines) token rest others is_line full are is also = full
 not_full width (x ∷ line) ((first ∷ tokens) ∷ lines) token rest others is_line full are is also =
-    let head : first ≡ token = heads first token (tokens ++ tokens_of lines) others is in
+    let head : first ≡ token = same_first first token (tokens ++ tokens_of lines) others is in
     let past : width < length (joined ((x ∷ line) ++ token ∷ [])) = subst (λ t. width < length (joined ((x ∷ line) ++ t ∷ []))) head full in
     let front = front_fits (x ∷ line) token rest in
     let within : length (joined ((x ∷ line) ++ token ∷ rest)) ≤ width = two_or_more x line token rest also in

@@ -15,6 +15,7 @@ pub mod RefusalExamples
 pub mod NamedMoves
 pub mod OneWord
 pub mod OneLine
+pub mod Cells
 pub mod LaidFacts
 pub mod LaidOnce
 pub mod OneMovetext

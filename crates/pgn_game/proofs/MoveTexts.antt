@@ -1,6 +1,7 @@
 -- The text of a move in a notation: each legal move has one, which holds no space, and no other legal move has it.
 use Rattle.std.proofs.Common.{◌≡◌, ℕ, ◌+◌, ◌≤◌, List, [], ◌∷◌, refl, sym, ap, ◌∙◌, subst, arith}
-use Rattle.std.specs.Prelude.{Option, Some, None}
+use Rattle.std.proofs.lemmas.Option.{same_Some}
+use Rattle.std.specs.Prelude.{Option, Some, None, ◌==◌, if◌then◌else◌}
 use Rattle.chess.specs.Public.Squares.{Place, gap}
 use Rattle.chess.specs.Public.Placements.{AreOnBoard, man_at}
 use Rattle.chess.specs.Public.Positions.{State, IsSound, king_from, king_to}
@@ -17,6 +18,7 @@ use Rattle.chess.specs.declared.moves.Move.{Move}
 use Rattle.chess.proofs.SanNamesFacts.{san_names}
 use Rattle.chess.proofs.SanOnce.{one_san}
 use Rattle.chess.proofs.SanSettled.{some_san}
+use Rattle.chess.proofs.PlaceFacts.{place_of}
 use Rattle.pgn_game.specs.Public.GameLines.{IsMoveText, promotion_letter, uci_text}
 use Rattle.pgn_game.specs.declared.exports.notation.Notation.{Notation}
 use Rattle.pgn_game.specs.declared.exports.notation.Notation.TheVariants.{San, Uci}
@@ -48,9 +50,6 @@ move_unspaced Uci now m x is =
     subst IsUnspaced (sym is) (omega arith, (omega arith, (omega arith, (omega arith, letter_unspaced m.promote))))
 
 -- ---- squares and what a pawn becomes make a legal move
-
-same_man : (x : Option Man) (a b : Man) → x ≡ Some a → x ≡ Some b → a ≡ b
-same_man x a b is also = let both : Some a ≡ Some b = sym is ∙ also in cc
 
 -- only a king castles
 castling_king : (P : State) (m : Move) (kind : Kind) (wing : Wing) → Goes P m kind → m.castle ≡ Some wing → kind ≡ King
@@ -91,7 +90,7 @@ module _ (P : State) (m n : Move) (legal : IsLegal P m) (also : IsLegal P n) (fr
   same_kind : legal.pseudo_legal.man.kind ≡ also.pseudo_legal.man.kind
   same_kind =
       ap (λ (man : Man). man.kind)
-      (same_man (man_at P.men m.from) _ _ legal.pseudo_legal.here (ap (λ (s : Place). man_at P.men s) from ∙ also.pseudo_legal.here))
+      (same_Some _ _ (sym legal.pseudo_legal.here ∙ ap (λ (s : Place). man_at P.men s) from ∙ also.pseudo_legal.here))
 
   -- one castles and the other does not
   apart : (a b : Move) (kind : Kind) (wing : Wing) → Goes P a kind → Goes P b kind → a.from ≡ b.from → a.to ≡ b.to → a.castle ≡ Some wing → b.castle ≡ None → ⊥
@@ -113,46 +112,21 @@ module _ (P : State) (m n : Move) (legal : IsLegal P m) (also : IsLegal P n) (fr
   pub same_move : m.promote ≡ n.promote → m ≡ n
   same_move promote = λ i. record { from = from i; to = to i; promote = promote i; castle = same_castle m.castle n.castle refl refl i }
 
-same_place : (s t : Place) → s.file ≡ t.file → s.rank ≡ t.rank → s ≡ t
-same_place s t file rank = λ i. record { file = file i; rank = rank i }
+-- a letter is that of one kind
+abbrev pub kind_at : ℕ → Option Kind
+kind_at b = if b == 75 then Some King else if b == 81 then Some Queen else if b == 82 then Some Rook else if b == 66 then Some Bishop
+    else if b == 78 then Some Knight else if b == 80 then Some Pawn else None
 
-same_letter : (a b : Kind) → kind_letter a ≡ kind_letter b → a ≡ b
-same_letter King King is = refl
-same_letter King Queen is = absurd (omega arith)
-same_letter King Rook is = absurd (omega arith)
-same_letter King Bishop is = absurd (omega arith)
-same_letter King Knight is = absurd (omega arith)
-same_letter King Pawn is = absurd (omega arith)
-same_letter Queen King is = absurd (omega arith)
-same_letter Queen Queen is = refl
-same_letter Queen Rook is = absurd (omega arith)
-same_letter Queen Bishop is = absurd (omega arith)
-same_letter Queen Knight is = absurd (omega arith)
-same_letter Queen Pawn is = absurd (omega arith)
-same_letter Rook King is = absurd (omega arith)
-same_letter Rook Queen is = absurd (omega arith)
-same_letter Rook Rook is = refl
-same_letter Rook Bishop is = absurd (omega arith)
-same_letter Rook Knight is = absurd (omega arith)
-same_letter Rook Pawn is = absurd (omega arith)
-same_letter Bishop King is = absurd (omega arith)
-same_letter Bishop Queen is = absurd (omega arith)
-same_letter Bishop Rook is = absurd (omega arith)
-same_letter Bishop Bishop is = refl
-same_letter Bishop Knight is = absurd (omega arith)
-same_letter Bishop Pawn is = absurd (omega arith)
-same_letter Knight King is = absurd (omega arith)
-same_letter Knight Queen is = absurd (omega arith)
-same_letter Knight Rook is = absurd (omega arith)
-same_letter Knight Bishop is = absurd (omega arith)
-same_letter Knight Knight is = refl
-same_letter Knight Pawn is = absurd (omega arith)
-same_letter Pawn King is = absurd (omega arith)
-same_letter Pawn Queen is = absurd (omega arith)
-same_letter Pawn Rook is = absurd (omega arith)
-same_letter Pawn Bishop is = absurd (omega arith)
-same_letter Pawn Knight is = absurd (omega arith)
-same_letter Pawn Pawn is = refl
+kind_at_letter : (kind : Kind) → kind_at (kind_letter kind) ≡ Some kind
+kind_at_letter King = refl
+kind_at_letter Queen = refl
+kind_at_letter Rook = refl
+kind_at_letter Bishop = refl
+kind_at_letter Knight = refl
+kind_at_letter Pawn = refl
+
+pub same_letter : (a b : Kind) → kind_letter a ≡ kind_letter b → a ≡ b
+same_letter a b is = same_Some a b (sym (kind_at_letter a) ∙ ap kind_at is ∙ kind_at_letter b)
 
 same_promotion : (a b : Option Kind) → promotion_letter a ≡ promotion_letter b → a ≡ b
 same_promotion None None is = refl
@@ -169,7 +143,7 @@ same_uci P m n legal also same =
     let c : 96 + m.to.file ≡ 96 + n.to.file = cc in
     let d : 48 + m.to.rank ≡ 48 + n.to.rank = cc in
     let rest : promotion_letter m.promote ≡ promotion_letter n.promote = cc in
-    same_move P m n legal also (same_place m.from n.from (omega arith) (omega arith)) (same_place m.to n.to (omega arith) (omega arith))
+    same_move P m n legal also (place_of m.from n.from (omega arith) (omega arith)) (place_of m.to n.to (omega arith) (omega arith))
     (same_promotion m.promote n.promote rest)
 
 pub same_by_text : (notation : Notation) (P : State) (m n : Move) (x : List ℕ) → IsSound P → IsLegal P m → IsLegal P n

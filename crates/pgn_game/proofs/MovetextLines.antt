@@ -2,6 +2,7 @@
 use Rattle.std.proofs.Common.{◌≡◌, ℕ, ◌+◌, ◌-◌, ◌<◌, Bool, true, false, List, [], ◌∷◌, ◌++◌, refl, sym, ap, ◌∙◌, subst, append_assoc, append-nil, inl, inr, arith}
 use Rattle.std.proofs.Math.Bool.{or_comm}
 use Rattle.std.proofs.lemmas.Bool.Decides.{nat_tests}
+use Rattle.std.proofs.lemmas.Option.{same_Some}
 use Rattle.std.specs.List.{slice_get}
 use Rattle.std.specs.Prelude.{◌==◌, ◌||◌, if◌then◌else◌, Option, Some, None, IfSome, codes, decimal}
 use Rattle.chess.specs.Public.Positions.{State}
@@ -34,7 +35,6 @@ use Rattle.pgn_game.proofs.OneReplay.{line_head, no_fault}
 use Rattle.pgn_game.proofs.PenFacts.{put_both}
 use Rattle.pgn_game.proofs.RunFacts.{stops_faulty}
 use Rattle.pgn_game.proofs.Spelling.{one_spelt}
-use Rattle.pgn_game.proofs.WalkFacts.{same_state}
 
 -- ---- the fault of the main line
 
@@ -82,7 +82,7 @@ written_fault false start items fault paired stops = main_stops items 0 (first_l
 pub starts_there : (style : Style) (fen : Option (List ℕ)) (items : List Item) (replay : Replay) (now : State) (is : IsReplayFor style fen items replay)
     → slice_get replay.positions 0 ≡ Some now → is.2.start ≡ now
 starts_there style fen items replay now (lines, all, is) here =
-    same_state is.start now (sym (line_head is.start (main_words items 0) replay.positions replay.played is.line) ∙ here)
+    same_Some is.start now (sym (line_head is.start (main_words items 0) replay.positions replay.played is.line) ∙ here)
 
 -- ---- the tokens of all lines
 

@@ -1,5 +1,6 @@
 -- A game is replayed in one way at most, has one fault at most, and not both.
 use Rattle.std.proofs.Common.{◌≡◌, ℕ, ◌+◌, zero, suc, List, [], ◌∷◌, length, refl, sym, ap, ◌∙◌, subst, false, inl, inr, arith}
+use Rattle.std.proofs.lemmas.Option.{same_Some}
 use Rattle.std.specs.Prelude.{Option, Some, None}
 use Rattle.std.specs.List.{slice_get}
 use Rattle.chess.specs.Public.Positions.{State}
@@ -25,9 +26,6 @@ use Rattle.pgn_game.proofs.Spelling.{one_tree}
 
 -- ---- the move at a place
 
-same_move : (m n : Move) → Some m ≡ Some n → m ≡ n
-same_move m n is = cc
-
 -- the first position of a main line is the one that it is played from
 pub line_head : (now : State) (words : List (List ℕ)) (positions : List State) (played : List Move) → IsMainLine now words positions played → slice_get positions 0 ≡ Some now
 line_head now [] positions played line = ap (λ ps. slice_get ps 0) line.0
@@ -43,7 +41,7 @@ pub move_at : (start : State) (words : List (List ℕ)) (positions : List State)
     → (i : ℕ) (m : Move) → slice_get played i ≡ Some m → IsMoveAt words positions i m
 move_at start [] positions played line i m at = let none : None ≡ Some m = sym (ap (λ ms. slice_get ms i) line.1) ∙ at in absurd (cc)
 move_at start (word ∷ words) positions played (own, later, more, positions_is, played_is, named, rest) zero m at =
-    let same : own ≡ m = same_move own m (sym (ap (λ ms. slice_get ms 0) played_is) ∙ at) in
+    let same : own ≡ m = same_Some own m (sym (ap (λ ms. slice_get ms 0) played_is) ∙ at) in
     subst (λ n. IsMoveAt (word ∷ words) positions 0 n) same (
       word,
       start,

@@ -8,6 +8,7 @@ use Rattle.std.proofs.lemmas.Cmp.{nat_list_cmp_total, nat_list_eq_equiv}
 use Rattle.std.proofs.lemmas.List.{length-append}
 use Rattle.std.proofs.lemmas.List.Concat.{flat_map-cons}
 use Rattle.std.proofs.lemmas.Map.Text.{is_eq-slice_cmp}
+use Rattle.std.proofs.lemmas.Option.{same_Some}
 use Rattle.chess.specs.Public.Letters.{square_text}
 use Rattle.chess.specs.Public.Moves.{after}
 use Rattle.chess.specs.Public.Positions.{State}
@@ -26,7 +27,6 @@ use Rattle.pgn_game.specs.Public.PackedGames.{Tag as NamedTag, longest_name, nam
 use Rattle.pgn_game.specs.Public.PlyCodes.{AreCodes}
 use Rattle.pgn_game.proofs.OneReplay.{line_head}
 use Rattle.pgn_game.proofs.RecordWriting.{codes_count, record_fits}
-use Rattle.pgn_game.proofs.WalkFacts.{same_state}
 
 -- ---- words
 
@@ -211,7 +211,7 @@ name_within (Some own) short = omega arith
 
 pub game_fits : GameOfABlockFits
 game_fits name number offset game parts replay packed is shows small replays is_packed short number_fits offset_fits =
-    let begins = same_state is_packed.start replays.start (sym is_packed.first ∙ line_head replays.start (main_words game.elements 0) replay.positions replay.played replays.line) in
+    let begins = same_Some is_packed.start replays.start (sym is_packed.first ∙ line_head replays.start (main_words game.elements 0) replay.positions replay.played replays.line) in
     let codes : AreCodes replays.start replay.played packed.plies = subst (λ (P : State). AreCodes P replay.played packed.plies) begins is_packed.plies in
     record_fits packed replays.start (main_words game.elements 0) replay.positions replay.played (omega (arith, is_packed.number)) (omega (arith, is_packed.offset))
     (subst IsResult (sym is_packed.result) is.ends) replays.line codes

@@ -1,5 +1,6 @@
 -- The men moved by the code of a move are the men after it; three bytes spell one code, and each three bytes do.
 use Rattle.std.proofs.Common.{◌≡◌, ◌↔◌, ℕ, zero, suc, ◌+◌, ◌*◌, ◌/◌, ◌%◌, ◌<◌, ◌==◌, ltb, Bool, true, false, cond, List, [], ◌∷◌, Option, Some, None, IfSome, refl, sym, ap, subst, ◌∙◌, arith}
+use Rattle.std.proofs.lemmas.Option.{same_Some, none-some}
 use Rattle.chess.specs.Public.Squares.{Place, IsOnBoard, square_at, index_of}
 use Rattle.chess.specs.Shared.SquareFacts.{index_of-square_at}
 use Rattle.chess.specs.Shared.SetFacts.{square_at-index_of, index_of-below, on_board-square_at}
@@ -17,16 +18,10 @@ use Rattle.chess.specs.declared.moves.Move.{Move}
 use Rattle.pgn_game.specs.Public.Laws.{MoveHasOneCode, CodeOfAMoveFits, CodeMovesAsItsMove, GameHasOneRecord}
 use Rattle.pgn_game.specs.Public.PlyCodes.{PlyCode, AreMarks, IsCode, AreCodes, FitsCode, bit, marks_number, man_number, numbered_kind, numbered_man, numbered_castle, code_bytes, code_of}
 
-some_is : {A : Type 0} (x y : A) → Some x ≡ Some y → x ≡ y
-some_is x y e = cc
-
-none_is_not : (wing : Wing) → None ≡ Some wing → ⊥
-none_is_not wing e = absurd cc
-
 -- the man that arrives is one of the side to move
 arrives_own : (P : State) (m : Move) (man : Man) (promote : Option Kind) → IsPseudoLegal P m → arriving P promote m.from ≡ Some man → man.side ≡ P.turn
-arrives_own P m man None legal e = ap (λ (x : Man). x.side) (some_is man legal.man (sym e ∙ legal.here)) ∙ legal.own
-arrives_own P m man (Some kind) legal e = ap (λ (x : Man). x.side) (some_is man (record { side = P.turn; kind = kind }) (sym e))
+arrives_own P m man None legal e = ap (λ (x : Man). x.side) (same_Some man legal.man (sym e ∙ legal.here)) ∙ legal.own
+arrives_own P m man (Some kind) legal e = ap (λ (x : Man). x.side) (same_Some man (record { side = P.turn; kind = kind }) (sym e))
 
 -- the men moved by the code of a move are those of the position after it
 pub moved_after : CodeMovesAsItsMove
@@ -48,7 +43,7 @@ marks_agree false false p q = refl
 pub one_code_of_a_move : MoveHasOneCode
 one_code_of_a_move P m c other own also =
     let from = own.from ∙ sym also.from in let to = own.to ∙ sym also.to in let taken = own.taken ∙ sym also.taken in
-    let man = some_is c.man other.man (sym own.man ∙ also.man) in
+    let man = same_Some c.man other.man (sym own.man ∙ also.man) in
     let castle = own.castle ∙ sym also.castle in
     let check = marks_agree c.check other.check own.marks.check also.marks.check in
     let stuck = marks_agree c.stuck other.stuck own.marks.stuck also.marks.stuck in
@@ -61,15 +56,12 @@ codes_same P (m ∷ moves) codes others (c, more, is, is_code, are) (d, rest, is
     let later = codes_same (after P m) moves more rest are are_too in
     is ∙ (λ i. first i ∷ later i) ∙ sym is_too
 
-same_start : (P Q : State) → Some P ≡ Some Q → P ≡ Q
-same_start P Q e = cc
-
 -- a replayed game has one record at most
 pub one_record_of_a_game : GameHasOneRecord
 one_record_of_a_game its_name its_number its_offset game replay packed other own also =
     let number = own.number ∙ sym also.number in let offset = own.offset ∙ sym also.offset in let tags = own.tags ∙ sym also.tags in
     let name = own.name ∙ sym also.name in let result = own.result ∙ sym also.result in
-    let start = same_start also.start own.start (sym also.first ∙ own.first) in
+    let start = same_Some also.start own.start (sym also.first ∙ own.first) in
     let marks = subst (λ (P : State). AreMarks P other.check other.stuck) start also.marks in
     let check = marks_agree packed.check other.check own.marks.check marks.check in
     let stuck = marks_agree packed.stuck other.stuck own.marks.stuck marks.stuck in
@@ -83,18 +75,18 @@ one_of false s t p q = q
 -- only a king castles, and it becomes nothing
 king_castles : (P : State) (m : Move) (kind : Kind) (wing : Wing) → Goes P m kind → m.castle ≡ Some wing → (kind ≡ King) × (m.promote ≡ None)
 king_castles P m King wing goes e = (refl, goes.0)
-king_castles P m Queen wing goes e = absurd (none_is_not wing (sym goes.0 ∙ e))
-king_castles P m Rook wing goes e = absurd (none_is_not wing (sym goes.0 ∙ e))
-king_castles P m Bishop wing goes e = absurd (none_is_not wing (sym goes.0 ∙ e))
-king_castles P m Knight wing goes e = absurd (none_is_not wing (sym goes.0 ∙ e))
-king_castles P m Pawn wing goes e = absurd (none_is_not wing (sym goes.0 ∙ e))
+king_castles P m Queen wing goes e = absurd (none-some wing (sym goes.0 ∙ e))
+king_castles P m Rook wing goes e = absurd (none-some wing (sym goes.0 ∙ e))
+king_castles P m Bishop wing goes e = absurd (none-some wing (sym goes.0 ∙ e))
+king_castles P m Knight wing goes e = absurd (none-some wing (sym goes.0 ∙ e))
+king_castles P m Pawn wing goes e = absurd (none-some wing (sym goes.0 ∙ e))
 
 king_of_castling : (P : State) (m : Move) (c : PlyCode) (castle : Option Wing) → IsPseudoLegal P m → IsCode P m c → m.castle ≡ castle → IfSome castle (λ _. c.man.kind ≡ King)
 king_of_castling P m c None legal code e = tt
 king_of_castling P m c (Some wing) legal code e =
     let king = king_castles P m legal.man.kind wing legal.goes e in
     let stays = subst (λ (promote : Option Kind). arriving P promote m.from ≡ Some c.man) king.1 code.man in
-    ap (λ (man : Man). man.kind) (some_is c.man legal.man (sym stays ∙ legal.here)) ∙ king.0
+    ap (λ (man : Man). man.kind) (same_Some c.man legal.man (sym stays ∙ legal.here)) ∙ king.0
 
 -- the code of a pseudo-legal move has a spelling
 pub code_of_a_move_fits : CodeOfAMoveFits

@@ -6,7 +6,7 @@ use Rattle.std.specs.Int.{w32, w64, to_be_bytes}
 use Rattle.std.proofs.Math.ListN.{drop_of_length-le}
 use Rattle.std.proofs.lemmas.Grind.{flat_map-append}
 use Rattle.std.specs.Prelude.{option_map, IfSome}
-use Rattle.std.proofs.lemmas.Option.{slice_get-map}
+use Rattle.std.proofs.lemmas.Option.{slice_get-map, same_Some}
 use Rattle.std.proofs.lemmas.List.{append-nil, length-append}
 use Rattle.std.proofs.lemmas.List.Concat.{flat_map-cons}
 use Rattle.chess.specs.Public.Positions.{State}
@@ -21,7 +21,6 @@ use Rattle.pgn_game.specs.Public.PackedGames.{PackedGame, Tag, FitsTag, FitsReco
 use Rattle.pgn_game.specs.Private.PackWords.{IsLinePlayed, AreMarksAfter, PutsFront, PutsHead, PutsPly, HasPutPlies, PutsPlies}
 use Rattle.pgn_game.proofs.OneReplay.{line_head, move_at}
 use Rattle.pgn_game.proofs.OnBoard.{line_legal}
-use Rattle.pgn_game.proofs.WalkFacts.{same_state}
 use Rattle.pgn_game.proofs.PlyCodeFacts.{code_of_a_move_fits}
 use Rattle.pgn_game.proofs.RecordFacts.{plies_size}
 
@@ -97,14 +96,14 @@ pub next_is : (replay : Replay) (plies : ℕ) (P : State) (m : Move) → IsLineP
     → slice_get replay.positions (plies + 1) ≡ Some (after P m)
 next_is replay plies P m line here at =
     let found = move_at line.0 line.1 replay.positions replay.played line.2 plies m at in
-    let same : found.1 ≡ P = same_state found.1 P (sym found.3 ∙ here) in
+    let same : found.1 ≡ P = same_Some found.1 P (sym found.3 ∙ here) in
     let one : plies + 1 ≡ suc plies = omega arith in
     rw one (subst (λ (Q : State). slice_get replay.positions (suc plies) ≡ Some (after Q m)) same found.5)
 
 pub next_marks : (replay : Replay) (plies : ℕ) (P : State) (m : Move) (check stuck : Bool) → IsLinePlayed replay → slice_get replay.positions plies ≡ Some P
     → slice_get replay.played plies ≡ Some m → AreMarksAfter replay (plies + 1) check stuck → AreMarks (after P m) check stuck
 next_marks replay plies P m check stuck line here at marks =
-    subst (λ (Q : State). AreMarks Q check stuck) (same_state marks.0 (after P m) (sym marks.1 ∙ next_is replay plies P m line here at)) marks.2
+    subst (λ (Q : State). AreMarks Q check stuck) (same_Some marks.0 (after P m) (sym marks.1 ∙ next_is replay plies P m line here at)) marks.2
 
 from_here : {A : Type 0} (xs : List A) (i : ℕ) (x : A) → slice_get xs i ≡ Some x → drop i xs ≡ x ∷ drop (i + 1) xs
 from_here [] i x at = let none : None ≡ Some x = at in absurd cc
@@ -128,7 +127,7 @@ flat_more codes code = flat_map-append code_bytes codes (code ∷ []) ∙ ap (λ
 pub put_more : (replay : Replay) (plies : ℕ) (old mid new : List ℕ) → IsLinePlayed replay → HasPutPlies replay plies old mid → PutsPly replay plies mid new
     → HasPutPlies replay (plies + 1) old new
 put_more replay plies old mid new line so_far ply =
-    let same : ply.now ≡ so_far.now = same_state ply.now so_far.now (sym ply.here ∙ so_far.here) in
+    let same : ply.now ≡ so_far.now = same_Some ply.now so_far.now (sym ply.here ∙ so_far.here) in
     let is_code : IsCode so_far.now ply.m ply.code = subst (λ (Q : State). IsCode Q ply.m ply.code) same ply.is_code in
     let left : drop plies replay.played ≡ ply.m ∷ drop (plies + 1) replay.played = from_here replay.played plies ply.m ply.played in
     record {
@@ -197,6 +196,17 @@ record_fits packed start words positions played number offset ends line codes sm
 regroup : (o s n f h a t c : List ℕ) → ((((o ++ (s ++ (n ++ f))) ++ h) ++ a) ++ t) ++ c ≡ o ++ (s ++ (n ++ (f ++ (h ++ (a ++ (t ++ c))))))
 regroup o s n f h a t c = simp append_assoc refl
 
+-- the record of a replayed game with these marks and codes
+abbrev pub record_with : Option (List ℕ) → ℕ → ℕ → GameText → Bool → Bool → List PlyCode → PackedGame
+record_with name number offset game check stuck codes =
+    record { number = number; offset = offset; name = name; tags = game.tags; result = game.result; check = check; stuck = stuck; plies = codes }
+
+pub is_record_with : (name : Option (List ℕ)) (number offset : ℕ) (game : GameText) (replay : Replay) (start : State) (check stuck : Bool) (codes : List PlyCode)
+    → slice_get replay.positions 0 ≡ Some start → AreMarks start check stuck → AreCodes start replay.played codes
+    → IsPacked name number offset game replay (record_with name number offset game check stuck codes)
+is_record_with name number offset game replay start check stuck codes first marks are =
+    record { name = refl; number = refl; offset = refl; tags = refl; result = refl; start = start; first = first; marks = marks; plies = are }
+
 -- what was written, field by field, is the record of the game
 pub written : (name : Option (List ℕ)) (number offset : ℕ) (game : GameText) (replay : Replay) (old fronted headed named tagged new : List ℕ)
     → number < 2 ^ 64 → offset < 2 ^ 64 → IsResult game.result → IsLinePlayed replay → body_size name game.tags (length replay.played) ≤ largest_body
@@ -204,28 +214,10 @@ pub written : (name : Option (List ℕ)) (number offset : ℕ) (game : GameText)
     → named ≡ headed ++ name_bytes name → tagged ≡ named ++ flat_map tag_bytes game.tags → PutsPlies replay tagged new
     → (packed : PackedGame) × IsPacked name number offset game replay packed × FitsRecord packed × (new ≡ old ++ record_bytes packed)
 written name number offset game replay old fronted headed named tagged new number_fits offset_fits ends line small front head name_put tags_put plies =
-    let packed : PackedGame = record {
-      number = number;
-      offset = offset;
-      name = name;
-      tags = game.tags;
-      result = game.result;
-      check = head.0;
-      stuck = head.1;
-      plies = plies.codes;
-    } in
-    let is : IsPacked name number offset game replay packed = record {
-      name = refl;
-      number = refl;
-      offset = refl;
-      tags = refl;
-      result = refl;
-      start = plies.start;
-      first = plies.first;
-      marks = subst (λ (P : State). AreMarks P head.0 head.1) (same_state head.2.0 plies.start (sym head.2.1 ∙ plies.first)) head.2.2;
-      plies = plies.are;
-    } in
-    let begins = same_state plies.start line.0 (sym plies.first ∙ line_head line.0 line.1 replay.positions replay.played line.2) in
+    let packed : PackedGame = record_with name number offset game head.0 head.1 plies.codes in
+    let marks = subst (λ (P : State). AreMarks P head.0 head.1) (same_Some head.2.0 plies.start (sym head.2.1 ∙ plies.first)) head.2.2 in
+    let is = is_record_with name number offset game replay plies.start head.0 head.1 plies.codes plies.first marks plies.are in
+    let begins = same_Some plies.start line.0 (sym plies.first ∙ line_head line.0 line.1 replay.positions replay.played line.2) in
     let codes : AreCodes line.0 replay.played plies.codes = subst (λ (P : State). AreCodes P replay.played plies.codes) begins plies.are in
     let same : body_size name game.tags (length plies.codes) ≡ body_size name game.tags (length replay.played) =
     ap (body_size name game.tags) (codes_count line.0 replay.played plies.codes codes) in

@@ -23,6 +23,7 @@ use Rattle.pgn_game.specs.declared.replays.replayer.Lines.TheVariants.{Main}
 use Rattle.pgn_game.proofs.AnAnswer.{start_on_board}
 use Rattle.pgn_game.proofs.OneReplay.{line_head, one_replay}
 use Rattle.pgn_game.proofs.PlyCodeFacts.{one_record_of_a_game}
+use Rattle.pgn_game.proofs.RecordWriting.{record_with, is_record_with}
 
 -- ---- marks
 
@@ -73,27 +74,9 @@ a_record name number offset game (replay, is) =
     let on_board = start_on_board (tag_in fen_tag game.tags) is.start is.is_start in
     let marks = some_marks is.start on_board in
     let codes = some_codes is.start words replay.positions replay.played on_board is.line in
-    let packed : PackedGame = record {
-      number = number;
-      offset = offset;
-      name = name;
-      tags = game.tags;
-      result = game.result;
-      check = marks.0;
-      stuck = marks.1;
-      plies = codes.0;
-    } in
-    let is_packed : IsPacked name number offset game replay packed = record {
-      name = refl;
-      number = refl;
-      offset = refl;
-      tags = refl;
-      result = refl;
-      start = is.start;
-      first = line_head is.start words replay.positions replay.played is.line;
-      marks = marks.2;
-      plies = codes.1;
-    } in
+    let packed : PackedGame = record_with name number offset game marks.0 marks.1 codes.0 in
+    let first = line_head is.start words replay.positions replay.played is.line in
+    let is_packed = is_record_with name number offset game replay is.start marks.0 marks.1 codes.0 first marks.2 codes.1 in
     (record_bytes packed, record { replay = replay; is_replay = is; packed = packed; is_packed = is_packed; spells = refl })
 
 pub one_spelling : GameHasOneSpelling

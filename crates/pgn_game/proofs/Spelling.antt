@@ -3,6 +3,7 @@ use Rattle.std.proofs.Common.{◌≡◌, ℕ, ◌+◌, ◌-◌, ◌<◌, List, [
 use Rattle.pgn_text.specs.Public.Games.{Item, MoveText, GlyphNumber, CommentText, VariationOpen, VariationClose}
 use Rattle.pgn_text.specs.Public.GameTexts.{IsPaired}
 use Rattle.pgn_game.specs.Public.AllLines.{Line, LineEnd, ThenMove, ThenGlyph, ThenComment, ThenVariation, spelled}
+use Rattle.pgn_game.proofs.Cells.{same_first}
 
 -- the line and those further out, joined by the ends of variations
 abbrev pub spelled_out : Line → List Line → List Item
@@ -83,9 +84,6 @@ lines_back (ThenVariation inner line) more outer is =
     ap (λ items. varied (lines_of items)) (append_assoc (spelled inner) (VariationClose ∷ spelled line) more)
     ∙ ap varied (lines_back inner (VariationClose ∷ (spelled line ++ more)) (line ∷ outer) (ap (λ lines. LineEnd ∷ lines) (lines_back line more outer is)))
 
-same_first : (line other : Line) → line ∷ [] ≡ other ∷ [] → line ≡ other
-same_first line other is = cc
-
 pub one_tree : (line other : Line) → spelled line ≡ spelled other → line ≡ other
 one_tree line other is =
-    same_first line other (sym (lines_back line [] [] refl) ∙ ap (λ items. lines_of (items ++ [])) is ∙ lines_back other [] [] refl)
+    same_first line other [] [] (sym (lines_back line [] [] refl) ∙ ap (λ items. lines_of (items ++ [])) is ∙ lines_back other [] [] refl)

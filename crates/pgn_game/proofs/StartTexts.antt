@@ -1,9 +1,10 @@
 -- The text of the position from which a game starts: there is one, it holds no space, and no other position has it.
 use Rattle.std.proofs.Common.{◌≡◌, ◌≢◌, ℕ, suc, ◌+◌, ◌-◌, ◌*◌, ◌≤◌, Bool, true, false, List, [], ◌∷◌, ◌++◌, length, map, refl, sym, ap, ◌∙◌, subst, arith, length-append}
 use Rattle.std.proofs.lemmas.Bool.Decides.{nat_tests}
+use Rattle.std.proofs.lemmas.Bool.{and_parts}
 use Rattle.std.proofs.lemmas.Fmt.{decimal_digit}
 use Rattle.std.proofs.lemmas.Slice.Eq.{bytes_eq-Decides}
-use Rattle.std.specs.Prelude.{◌==◌, ◌&&◌, if◌then◌else◌, bytes_eq, codes, decimal, Option, Some, None, Result, Ok, Err, OnOk, is_ok}
+use Rattle.std.specs.Prelude.{◌==◌, if◌then◌else◌, bytes_eq, codes, decimal, Option, Some, None, Result, Ok, Err, OnOk, is_ok}
 use Rattle.std.specs.List.{list_all}
 use Rattle.chess.specs.Public.Squares.{Place}
 use Rattle.chess.specs.Public.Placements.{Placement, man_at}
@@ -44,19 +45,12 @@ largest bound (d ∷ x) = largest (10 * bound + 9) x
 digit_small : (b : ℕ) → is_digit b ≡ true → b ≤ 57
 digit_small b is = grind (arith, nat_tests)
 
-all_left : (a b : Bool) → (a && b) ≡ true → a ≡ true
-all_left true b is = refl
-all_left false b is = is
-
-all_right : (a b : Bool) → (a && b) ≡ true → b ≡ true
-all_right true b is = is
-all_right false b is = let never : false ≡ true = is in absurd (cc)
-
 at_most : (x : List ℕ) (n bound : ℕ) → list_all is_digit x ≡ true → n ≤ bound → number_from n x ≤ largest bound x
 at_most [] n bound digits low = low
 at_most (d ∷ x) n bound digits low =
-    let small = digit_small d (all_left (is_digit d) (list_all is_digit x) digits) in
-    at_most x (10 * n + (d - 48)) (10 * bound + 9) (all_right (is_digit d) (list_all is_digit x) digits) (omega arith)
+    let both = and_parts (is_digit d) (list_all is_digit x) digits in
+    let small = digit_small d both.0 in
+    at_most x (10 * n + (d - 48)) (10 * bound + 9) both.1 (omega arith)
 
 seven : (x : List ℕ) → length x ≤ 7 → largest 0 x ≤ 9999999
 seven [] short = omega arith

@@ -24,7 +24,7 @@ AreSought wanted raw i rest = (game : PackedGame) → FitsRecord game → raw �
 pub sought_from_first : (wanted : List ℕ) (raw : RawRecord) → AreSought wanted raw 0 raw.tail
 sought_from_first wanted raw game fits shows = record { left = ap (λ (r : RawRecord). r.tail) shows; later = refl }
 
-tag_again : (t : Tag) (rest : List ℕ) → FitsTag t → tag_at (tag_bytes t ++ rest) ≡ Ok ((t.0, t.1), rest)
+pub tag_again : (t : Tag) (rest : List ℕ) → FitsTag t → tag_at (tag_bytes t ++ rest) ≡ Ok ((t.0, t.1), rest)
 tag_again t rest fits =
     ap tag_at (append_assoc (with_length t.0) (with_length t.1) rest) ∙ rw (text_again t.0 (with_length t.1 ++ rest) fits.name, text_again t.1 rest fits.contents) refl
 

@@ -17,9 +17,6 @@ use Rattle.pgn_game.specs.declared.replays.main_line.LineKeeper.{LineKeeper}
 use Rattle.pgn_game.specs.declared.replays.main_line.MainWalk.{MainWalk}
 use Rattle.pgn_game.proofs.Openings.{joined}
 
-pub same_state : (a b : State) → Some a ≡ Some b → a ≡ b
-same_state a b is = cc
-
 -- outside all variations a move's word is the first of the main line
 pub main_word : (word : List ℕ) (items : List Item) (depth : ℕ) → depth ≡ 0 → main_words (MoveText word ∷ items) depth ≡ word ∷ main_words items depth
 main_word word items depth outside = subst (λ d. main_words (MoveText word ∷ items) d ≡ word ∷ main_words items d) (sym outside) refl

@@ -1,10 +1,6 @@
-use Rattle.std.proofs.Common.{◌≡◌, [], true, false, List, ℕ, length, sym, ap, ◌∙◌}
-use Rattle.std.specs.Prelude.{◌==◌}
-use Rattle.pgn_game.proofs.CommentFacts.{kept_word}
+use Rattle.std.proofs.Common.{false, sym, ◌∙◌}
+use Rattle.pgn_game.proofs.CommentFacts.{kept_word, full}
 use Rattle.pgn_game.proofs.exports.comment.after_kept.Goals as goal
-
-full : (word : List ℕ) → (length word == 0) ≡ false → word ≡ [] → ⊥
-full word some none = let clash : true ≡ false = sym (ap (λ w. length w == 0) none) ∙ some in cc
 
 pub returns : goal.returns
 returns c =
