@@ -120,45 +120,28 @@ abbrev pub total : List ℕ → ℕ
 total [] = 0
 total (b ∷ x) = b + total x
 
-not_apart : (claim : Claim (List ℕ)) → 337 ≡ total (key claim) → ⊥
-not_apart (Tag name relation contents) same = omega arith
-not_apart (Fen pattern) same = omega arith
-not_apart (Flip pattern) same = omega arith
-not_apart (Material white black) same = omega arith
-not_apart (Moves words) same = omega arith
-not_apart (Plies comparison count) same = omega arith
-not_apart (Result result) same = omega arith
-not_apart (Next word) same = omega arith
-not_apart (Played word) same = omega arith
-not_apart (For count) same = omega arith
-not_apart (Count comparison count) same = omega arith
-not_apart (Turn side) same = omega arith
-not_apart Check same = omega arith
-not_apart Mate same = omega arith
-not_apart Stalemate same = omega arith
-
-either_apart : (claim : Claim (List ℕ)) → 641 ≡ total (key claim) → ⊥
-either_apart (Tag name relation contents) same = omega arith
-either_apart (Fen pattern) same = omega arith
-either_apart (Flip pattern) same = omega arith
-either_apart (Material white black) same = omega arith
-either_apart (Moves words) same = omega arith
-either_apart (Plies comparison count) same = omega arith
-either_apart (Result result) same = omega arith
-either_apart (Next word) same = omega arith
-either_apart (Played word) same = omega arith
-either_apart (For count) same = omega arith
-either_apart (Count comparison count) same = omega arith
-either_apart (Turn side) same = omega arith
-either_apart Check same = omega arith
-either_apart Mate same = omega arith
-either_apart Stalemate same = omega arith
+keys_apart : (claim : Claim (List ℕ)) → (337 ≡ total (key claim) → ⊥) × (641 ≡ total (key claim) → ⊥)
+keys_apart (Tag name relation contents) = (λ same. omega arith, λ same. omega arith)
+keys_apart (Fen pattern) = (λ same. omega arith, λ same. omega arith)
+keys_apart (Flip pattern) = (λ same. omega arith, λ same. omega arith)
+keys_apart (Material white black) = (λ same. omega arith, λ same. omega arith)
+keys_apart (Moves words) = (λ same. omega arith, λ same. omega arith)
+keys_apart (Plies comparison count) = (λ same. omega arith, λ same. omega arith)
+keys_apart (Result result) = (λ same. omega arith, λ same. omega arith)
+keys_apart (Next word) = (λ same. omega arith, λ same. omega arith)
+keys_apart (Played word) = (λ same. omega arith, λ same. omega arith)
+keys_apart (For count) = (λ same. omega arith, λ same. omega arith)
+keys_apart (Count comparison count) = (λ same. omega arith, λ same. omega arith)
+keys_apart (Turn side) = (λ same. omega arith, λ same. omega arith)
+keys_apart Check = (λ same. omega arith, λ same. omega arith)
+keys_apart Mate = (λ same. omega arith, λ same. omega arith)
+keys_apart Stalemate = (λ same. omega arith, λ same. omega arith)
 
 pub claim_either : (text : List ℕ) (claim : Claim (List ℕ)) → run_of text ≡ codes "either" → SpellsClaim text claim → ⊥
-claim_either text claim run spells = either_apart claim (ap total (sym run ∙ key_read text claim spells))
+claim_either text claim run spells = (keys_apart claim).1 (ap total (sym run ∙ key_read text claim spells))
 
 pub claim_not : (text : List ℕ) (claim : Claim (List ℕ)) → run_of text ≡ codes "not" → SpellsClaim text claim → ⊥
-claim_not text claim run spells = not_apart claim (ap total (sym run ∙ key_read text claim spells))
+claim_not text claim run spells = (keys_apart claim).0 (ap total (sym run ∙ key_read text claim spells))
 
 -- a claim can be denied, whatever its texts are held in
 pub denied_seen : {T : Type 0} (bytes : T → List ℕ) (claim : Claim T) → can_be_denied (claim_seen bytes claim) ≡ can_be_denied claim

@@ -1,24 +1,20 @@
-use Rattle.std.proofs.Common.{◌≡◌, ◌+◌, ◌∷◌, [], ℕ, List, Vec, Global, true, length, map, drop, subst, sym, ap, ◌∙◌, arith}
+use Rattle.std.proofs.Common.{◌≡◌, ◌+◌, ◌∷◌, [], true, length, drop, subst, sym, ap, ◌∙◌, arith}
 use Rattle.std.proofs.Math.Seq.{drop-length}
 use Rattle.pgn_criteria.specs.Private.Stages.{OfPattern, AllOfPatterns, seen, stage_of}
 use Rattle.pgn_criteria.specs.declared.meets.Stage.TheVariants.{Squares}
-use Rattle.pgn_criteria.specs.declared.condition.Condition.{Condition}
-use Rattle.pgn_criteria.proofs.MeetFacts.{alternatives_from}
+use Rattle.pgn_criteria.proofs.MeetFacts.{alternatives_from, all_seen}
 use Rattle.pgn_criteria.proofs.LayoutFacts.{lays_step, lays_end}
 use Rattle.pgn_criteria.proofs.alternative.plan_all.Goals as goal
 use Rattle.pgn_criteria.proofs.alternative.plan_all.Goals.{then-branch, else-branch}
-
-abbrev view : List (Condition (Vec ℕ Global)) → List (Condition (List ℕ))
-view conditions = map (seen (λ text. text.items)) conditions
 
 pub loop-condition-preserved : goal.loop-condition-preserved
 loop-condition-preserved c =
     let all = c.args.conditions.now in
     let i = c.loop-condition.condition-index in
     let own = c.condition-item.result in
-    let front : view (drop i all) ≡ seen (λ text. text.items) own ∷ view (drop (i + 1) all) = ap view (alternatives_from all i own c.loop-condition-test.true c.condition-item.is) in
-    lays_step (λ p. AllOfPatterns p (view all)) (λ p. AllOfPatterns p (view (drop i all))) (λ p. stage_of (seen (λ text. text.items) own).claim ≡ Squares → OfPattern p (seen (λ text. text.items) own))
-    (λ p. AllOfPatterns p (view (drop (i + 1) all))) c.args.plan.now c.loop-condition.plan c.plan_one.new.plan c.loop-condition.is_all c.in_ok-is_all.is_all c.if-branch.is_all
+    let front : all_seen (drop i all) ≡ seen (λ text. text.items) own ∷ all_seen (drop (i + 1) all) = ap all_seen (alternatives_from all i own c.loop-condition-test.true c.condition-item.is) in
+    lays_step (λ p. AllOfPatterns p (all_seen all)) (λ p. AllOfPatterns p (all_seen (drop i all))) (λ p. stage_of (seen (λ text. text.items) own).claim ≡ Squares → OfPattern p (seen (λ text. text.items) own))
+    (λ p. AllOfPatterns p (all_seen (drop (i + 1) all))) c.args.plan.now c.loop-condition.plan c.plan_one.new.plan c.loop-condition.is_all c.in_ok-is_all.is_all c.if-branch.is_all
     c.loop-condition.invariant c.in_ok-is_all.ensures
     (λ p. (λ holds. subst (AllOfPatterns p) front holds, λ both. subst (AllOfPatterns p) (sym front) both))
     (λ t. elim c.if-branch.branch [
@@ -31,6 +27,6 @@ returns c =
     let all = c.args.conditions.now in
     let i = c.loop-condition.condition-index in
     let end : i ≡ length all = omega arith in
-    let none : view (drop i all) ≡ [] = ap view (ap (λ n. drop n all) end ∙ drop-length all) in
-    lays_end (λ p. AllOfPatterns p (view all)) (λ p. AllOfPatterns p (view (drop i all))) c.args.plan.now c.loop-condition.plan c.loop-condition.is_all c.loop-condition.is_all
+    let none : all_seen (drop i all) ≡ [] = ap all_seen (ap (λ n. drop n all) end ∙ drop-length all) in
+    lays_end (λ p. AllOfPatterns p (all_seen all)) (λ p. AllOfPatterns p (all_seen (drop i all))) c.args.plan.now c.loop-condition.plan c.loop-condition.is_all c.loop-condition.is_all
     c.loop-condition.invariant (λ t. (t, λ p. subst (AllOfPatterns p) (sym none) tt))

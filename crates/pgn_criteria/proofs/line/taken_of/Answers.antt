@@ -11,19 +11,13 @@ use Rattle.pgn_criteria.proofs.line.taken_of.Goals as goal
 none_denied : (text own : List ℕ) → run_of text ≡ codes "not" → own ≡ after_word text
     → ((claim : Claim (List ℕ)) → IsTrue (can_be_denied claim) → SpellsClaim own claim → ⊥)
     → (denied : Bool) (claim : Claim (List ℕ)) → SpellsTaken text denied claim → ⊥
-none_denied text own run is none denied claim = by denied claim
-  where
-    by : (denied : Bool) (claim : Claim (List ℕ)) → SpellsTaken text denied claim → ⊥
-    by false claim spells = claim_not text claim run spells
-    by true claim spells = let read = not_read text claim spells in none claim read.1 (subst (λ x. SpellsClaim x claim) (sym is) read.2)
+none_denied text own run is none false claim spells = claim_not text claim run spells
+none_denied text own run is none true claim spells = let read = not_read text claim spells in none claim read.1 (subst (λ x. SpellsClaim x claim) (sym is) read.2)
 
 none_claimed : (text : List ℕ) → run_of text ≢ codes "not" → ((claim : Claim (List ℕ)) → SpellsClaim text claim → ⊥)
     → (denied : Bool) (claim : Claim (List ℕ)) → SpellsTaken text denied claim → ⊥
-none_claimed text other none denied claim = by denied claim
-  where
-    by : (denied : Bool) (claim : Claim (List ℕ)) → SpellsTaken text denied claim → ⊥
-    by false claim spells = none claim spells
-    by true claim spells = other (not_read text claim spells).0
+none_claimed text other none false claim spells = none claim spells
+none_claimed text other none true claim spells = other (not_read text claim spells).0
 
 pub returns-in_err-denied_of-in-Some : goal.returns-in_err-denied_of-in-Some
 returns-in_err-denied_of-in-Some c =

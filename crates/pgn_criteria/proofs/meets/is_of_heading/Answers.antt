@@ -1,7 +1,6 @@
-use Rattle.std.proofs.Common.{◌≡◌, ◌↔◌, ℕ, List, IsTrue, not, subst, sym}
+use Rattle.std.proofs.Common.{◌↔◌, IsTrue, not, subst, sym}
 use Rattle.std.specs.Bool.{beq}
-use Rattle.chess.specs.Public.Fen.{parted_at}
-use Rattle.pgn_criteria.specs.Public.Meeting.{Heading, HasOneOf}
+use Rattle.pgn_criteria.specs.Public.Meeting.{Heading}
 use Rattle.pgn_criteria.specs.Private.Stages.{SaysOfHeading, claim_seen}
 use Rattle.pgn_criteria.proofs.MeetFacts.{reports_taken}
 use Rattle.pgn_criteria.proofs.meets.is_of_heading.Goals as goal
@@ -10,10 +9,7 @@ pub returns-in-Tag : goal.returns-in-Tag
 returns-in-Tag g c =
     let heading : Heading = g.H.Headed.heading c.args.game.now in
     let denied = c.args.condition.now.is_denied in
-    let reports : IsTrue c.has_one_of.result ↔ HasOneOf heading c.in-Tag.relation c.in-Tag.contents.items (parted_at 124 c.in-Tag.names.items) =
-    subst (λ (x : List ℕ). IsTrue c.has_one_of.result ↔ HasOneOf heading c.in-Tag.relation x (parted_at 124 c.in-Tag.names.items)) c.deref-in-Tag.ensures.value
-    (subst (λ (x : List ℕ). IsTrue c.has_one_of.result ↔ HasOneOf heading c.in-Tag.relation c.deref-in-Tag.result.now (parted_at 124 x)) c.deref.ensures.value
-    c.has_one_of.ensures) in
+    let reports = rw (c.deref-in-Tag.ensures.value, c.deref.ensures.value) at c.has_one_of.ensures in
     subst (λ k. IsTrue (not (beq c.has_one_of.result denied)) ↔ SaysOfHeading heading denied (claim_seen (λ text. text.items) k)) (sym c.in-Tag.is)
     (reports_taken denied c.has_one_of.result reports)
 
@@ -21,7 +17,6 @@ pub returns-in-Result : goal.returns-in-Result
 returns-in-Result g c =
     let heading : Heading = g.H.Headed.heading c.args.game.now in
     let denied = c.args.condition.now.is_denied in
-    let reports : IsTrue c.ends_with.result ↔ (heading.result ≡ c.in-Result.result.items) =
-    subst (λ (x : List ℕ). IsTrue c.ends_with.result ↔ (heading.result ≡ x)) c.deref-in-Result.ensures.value c.ends_with.ensures in
+    let reports = rw c.deref-in-Result.ensures.value at c.ends_with.ensures in
     subst (λ k. IsTrue (not (beq c.ends_with.result denied)) ↔ SaysOfHeading heading denied (claim_seen (λ text. text.items) k)) (sym c.in-Result.is)
     (reports_taken denied c.ends_with.result reports)

@@ -1,23 +1,19 @@
-use Rattle.std.proofs.Common.{ℕ, List, Vec, Global, map, subst}
+use Rattle.std.proofs.Common.{subst}
 use Rattle.pgn_criteria.specs.Public.Sieves.{NowhereSeen, codes_in}
 use Rattle.pgn_criteria.specs.Private.Marks.{FitsSeen}
-use Rattle.pgn_criteria.specs.Private.Stages.{seen}
-use Rattle.pgn_criteria.specs.declared.condition.Condition.{Condition}
 use Rattle.pgn_criteria.proofs.alternative.Form.needs_are_shown.Goals as goal
-
-abbrev view : List (Condition (Vec ℕ Global)) → List (Condition (List ℕ))
-view conditions = map (seen (λ text. text.items)) conditions
+use Rattle.pgn_criteria.proofs.MeetFacts.{all_seen}
 
 pub returns-then-not-marks_are_shown : goal.returns-then-not-marks_are_shown
 returns-then-not-marks_are_shown g c = λ none.
     let S = c.args.start.now in
     subst (λ conditions. NowhereSeen (FitsSeen conditions) (g.S.Seen.men S) (g.S.Seen.turn S) (g.S.Seen.checked S) (g.S.Seen.stuck S) (codes_in c.args.plies.now)) c.self.view_is
-    (subst (λ all. NowhereSeen (FitsSeen (view all)) (g.S.Seen.men S) (g.S.Seen.turn S) (g.S.Seen.checked S) (g.S.Seen.stuck S) (codes_in c.args.plies.now)) c.deref.ensures.value
+    (subst (λ all. NowhereSeen (FitsSeen (all_seen all)) (g.S.Seen.men S) (g.S.Seen.turn S) (g.S.Seen.checked S) (g.S.Seen.stuck S) (codes_in c.args.plies.now)) c.deref.ensures.value
     (c.marks_are_shown.ensures c.if-not-marks_are_shown.true))
 
 pub returns : goal.returns
 returns g c = λ none.
     let S = c.args.start.now in
     subst (λ conditions. NowhereSeen (FitsSeen conditions) (g.S.Seen.men S) (g.S.Seen.turn S) (g.S.Seen.checked S) (g.S.Seen.stuck S) (codes_in c.args.plies.now)) c.self.view_is
-    (subst (λ all. NowhereSeen (FitsSeen (view all)) (g.S.Seen.men S) (g.S.Seen.turn S) (g.S.Seen.checked S) (g.S.Seen.stuck S) (codes_in c.args.plies.now)) c.deref-2.ensures.value
+    (subst (λ all. NowhereSeen (FitsSeen (all_seen all)) (g.S.Seen.men S) (g.S.Seen.turn S) (g.S.Seen.checked S) (g.S.Seen.stuck S) (codes_in c.args.plies.now)) c.deref-2.ensures.value
     (c.numbers_are_shown.ensures none))
