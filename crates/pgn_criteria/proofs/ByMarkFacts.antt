@@ -11,6 +11,7 @@ use Rattle.chess.specs.Public.Placements.{Placement, opposite}
 use Rattle.chess.specs.Public.Positions.{State}
 use Rattle.chess.specs.declared.board.man.Side.{Side}
 use Rattle.chess.specs.declared.board.man.Side.TheVariants.{White, Black}
+use Rattle.chess.proofs.PlaceFacts.{opposite-opposite}
 use Rattle.pgn_game.specs.Public.PlyCodes.{PlyCode, AreMarks, bit, marks_number}
 use Rattle.pgn_game.specs.Public.Replays.{Replay}
 use Rattle.pgn_criteria.specs.Public.ByMarks.{place_of_marks, has_marks, NoneMeets, IsNextMet}
@@ -22,7 +23,6 @@ use Rattle.pgn_criteria.specs.Public.Walks.{IsSeenOf}
 use Rattle.pgn_criteria.specs.declared.condition.Condition.{Condition}
 use Rattle.pgn_criteria.proofs.EitherFacts.{met_plain, met_fixed}
 use Rattle.pgn_criteria.proofs.MarkFacts.{eight_on}
-use Rattle.pgn_criteria.proofs.MirrorFacts.{other_twice}
 use Rattle.pgn_criteria.proofs.StageFacts.{all_of_heading, not_of_heading, all_free_within, kept_one, dropped_one, reports_seen}
 use Rattle.pgn_criteria.proofs.StandFacts.{three, below}
 
@@ -203,7 +203,7 @@ module _ (check stuck : Bool) (set : ℕ) (needs : Needs check stuck set) (turn 
   pub lacks_on : (j : ℕ) (code : PlyCode) (codes : List PlyCode) → LacksMarks check stuck code → NoneMeets set (before j turn) codes → NoneMeets set (before (suc j) turn) (code ∷ codes)
   lacks_on j code codes lacks none = (
     lacks_none check stuck set (opposite (before (suc j) turn)) code.check code.stuck needs lacks,
-    subst (λ side. NoneMeets set side codes) (sym (other_twice (before j turn))) none,
+    subst (λ side. NoneMeets set side codes) (sym (opposite-opposite (before j turn))) none,
   )
 
   pub lacks_next : (side : Side) (left : List PlyCode) (j : ℕ) (code : PlyCode) (codes : List PlyCode) → LacksMarks check stuck code → IsNextMet set (before j turn) codes side left
@@ -211,7 +211,7 @@ module _ (check stuck : Bool) (set : ℕ) (needs : Needs check stuck set) (turn 
   lacks_next side left j code codes lacks next =
       inr (
         lacks_none check stuck set (opposite (before (suc j) turn)) code.check code.stuck needs lacks,
-        subst (λ own. IsNextMet set own codes side left) (sym (other_twice (before j turn))) next,
+        subst (λ own. IsNextMet set own codes side left) (sym (opposite-opposite (before j turn))) next,
       )
 
 module _ (check stuck : Bool) (bytes rest : List ℕ) (long : 24 ≤ length bytes) (same : rest ≡ drop 24 bytes) where

@@ -2,14 +2,14 @@
 use Rattle.std.proofs.Common.{◌≡◌, ℕ, true, false, List, [], ◌∷◌, ◌++◌, reverse, refl, sym, ap, ◌∙◌, inl, inr, append_assoc, arith}
 use Rattle.std.specs.Prelude.{if◌then◌else◌, ◌==◌, ◌⊎◌}
 use Rattle.std.specs.List.{list_all}
-use Rattle.std.proofs.lemmas.Bool.{and_parts, eqb-true}
+use Rattle.std.proofs.lemmas.Bool.{and_parts, eqb-true, and_from}
 use Rattle.std.proofs.lemmas.Bool.Decides.{nat_tests}
 use Rattle.std.proofs.lemmas.List.{reverse-append, reverse-reverse}
 use Rattle.std.proofs.lemmas.List.Folds.{list_all-append}
 use Rattle.pgn_criteria.specs.Public.Words.{is_blank}
 use Rattle.pgn_criteria.specs.Private.Reading.{after_blanks, drop_return, core_of}
 use Rattle.pgn_criteria.specs.Public.Lines.{AreBlanks}
-use Rattle.pgn_criteria.proofs.SolidFacts.{is_solid, solid_blank, solid_return, both_true, over_blanks, blank_front, BeginsSolid, EndsSolid, begins_kept}
+use Rattle.pgn_criteria.proofs.SolidFacts.{is_solid, solid_blank, solid_return, over_blanks, blank_front, BeginsSolid, EndsSolid, begins_kept}
 
 -- blanks read from their end
 blanks_reversed : (x : List ℕ) → AreBlanks x → AreBlanks (reverse x)
@@ -17,7 +17,7 @@ blanks_reversed [] are = refl
 blanks_reversed (b ∷ x) are =
     let parts : (is_blank b ≡ true) × (list_all is_blank x ≡ true) = and_parts _ _ are in
     ap (list_all is_blank) (reverse-append (b ∷ []) x) ∙ list_all-append is_blank (reverse x) (b ∷ [])
-    ∙ both_true _ _ (blanks_reversed x parts.1) (both_true (is_blank b) true parts.0 refl)
+    ∙ and_from _ _ (blanks_reversed x parts.1) (and_from (is_blank b) true parts.0 refl)
 
 -- what a line of blanks, a text, blanks and its end is, read from its end
 line_reversed : (before text after last : List ℕ) → reverse (before ++ (text ++ (after ++ last))) ≡ reverse last ++ (reverse after ++ (reverse text ++ reverse before))
@@ -80,7 +80,7 @@ pub empty_core : (line before text after last : List ℕ) → line ≡ before ++
     → (last ≡ []) ⊎ (last ≡ 13 ∷ []) → text ≡ [] → core_of line ≡ []
 empty_core line before text after last whole blank_before blank_after end none =
     let blanks : AreBlanks (reverse after ++ reverse before) =
-    list_all-append is_blank (reverse after) (reverse before) ∙ both_true _ _ (blanks_reversed after blank_after) (blanks_reversed before blank_before) in
+    list_all-append is_blank (reverse after) (reverse before) ∙ and_from _ _ (blanks_reversed after blank_after) (blanks_reversed before blank_before) in
     let line_is : reverse line ≡ reverse last ++ (reverse after ++ reverse before) =
     ap reverse whole ∙ line_reversed before text after last ∙ ap (λ x. reverse last ++ (reverse after ++ (reverse x ++ reverse before))) none in
     ap (λ x. after_blanks (reverse (after_blanks (drop_return x)))) line_is

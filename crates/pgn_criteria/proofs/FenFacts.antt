@@ -2,7 +2,7 @@
 use Rattle.std.proofs.Common.{◌≡◌, ◌≢◌, ℕ, true, false, Bool, List, [], ◌∷◌, ◌++◌, IsTrue, refl, sym, subst, arith}
 use Rattle.std.specs.Prelude.{codes, Option, ◌+◌, ◌-◌, ◌==◌, if◌then◌else◌}
 use Rattle.std.specs.List.{list_all}
-use Rattle.std.proofs.lemmas.Bool.{and_parts}
+use Rattle.std.proofs.lemmas.Bool.{and_parts, and_from}
 use Rattle.std.proofs.lemmas.Bool.Decides.{nat_tests}
 use Rattle.chess.specs.Public.Fen.{IsSquares, letter, step, parted_at, before_first}
 use Rattle.chess.specs.Public.Letters.{man_letter}
@@ -17,7 +17,7 @@ use Rattle.pgn_criteria.specs.Private.Reading.{run_of, after_word}
 use Rattle.pgn_criteria.specs.Public.Lines.{SpellsFen, SpellsClaim}
 use Rattle.pgn_criteria.specs.declared.condition.Claim.TheVariants.{Fen, Flip}
 use Rattle.pgn_criteria.proofs.SetFacts.{all_men, letter_in, are_split}
-use Rattle.pgn_criteria.proofs.SolidFacts.{is_solid, AreSolid, EachSolid, all_solid, both_true, front_solid, parts_solid, solid_begins, word_read, word_spelled, BeginsSolid, begins_some}
+use Rattle.pgn_criteria.proofs.SolidFacts.{is_solid, AreSolid, EachSolid, all_solid, front_solid, parts_solid, solid_begins, word_read, word_spelled, BeginsSolid, begins_some}
 
 letter_solid : (side : Side) (kind : Kind) → is_solid (man_letter (record { side = side; kind = kind })) ≡ true
 letter_solid White King = refl
@@ -49,10 +49,10 @@ letters_solid letters are = all_solid is_letter one_solid letters are
 -- both ends of a set are
 set_solid : (letters : List ℕ) → AreSolid letters → AreSolid (91 ∷ (letters ++ 93 ∷ []))
 set_solid [] solid = refl
-set_solid (b ∷ x) solid = let parts = and_parts (is_solid b) (list_all is_solid x) solid in both_true (is_solid b) (list_all is_solid (x ++ 93 ∷ [])) parts.0 (set_solid x parts.1)
+set_solid (b ∷ x) solid = let parts = and_parts (is_solid b) (list_all is_solid x) solid in and_from (is_solid b) (list_all is_solid (x ++ 93 ∷ [])) parts.0 (set_solid x parts.1)
 
 stretch_solid : (item : List ℕ) (own : List (Option Man)) → IsStretch item own → AreSolid item
-stretch_solid _ _ (spelled byte squares is) = both_true (is_solid byte) true (squares_solid byte squares is) refl
+stretch_solid _ _ (spelled byte squares is) = and_from (is_solid byte) true (squares_solid byte squares is) refl
 stretch_solid _ _ (any square) = refl
 stretch_solid _ _ (occupied man) = refl
 stretch_solid _ _ (white man of) = refl
@@ -66,13 +66,13 @@ cut_solid : (in_set : Bool) (x : List ℕ) → EachSolid (items_where in_set x) 
 cut_solid in_set [] each = refl
 cut_solid true (b ∷ x) each =
     elim (b == 93) as (λ t. EachSolid (if t then (b ∷ []) ∷ items_where false x else before_first b (items_where true x)) → AreSolid (b ∷ x)) [
-      | true ↦ λ solid. both_true (is_solid b) (list_all is_solid x) (and_parts (is_solid b) true solid.0).0 (cut_solid false x solid.1)
-      | false ↦ λ solid. let parts = front_solid b (items_where true x) solid in both_true (is_solid b) (list_all is_solid x) parts.0 (cut_solid true x parts.1)
+      | true ↦ λ solid. and_from (is_solid b) (list_all is_solid x) (and_parts (is_solid b) true solid.0).0 (cut_solid false x solid.1)
+      | false ↦ λ solid. let parts = front_solid b (items_where true x) solid in and_from (is_solid b) (list_all is_solid x) parts.0 (cut_solid true x parts.1)
     ] each
 cut_solid false (b ∷ x) each =
     elim (b == 91) as (λ t. EachSolid (if t then before_first b (items_where true x) else (b ∷ []) ∷ items_where false x) → AreSolid (b ∷ x)) [
-      | true ↦ λ solid. let parts = front_solid b (items_where true x) solid in both_true (is_solid b) (list_all is_solid x) parts.0 (cut_solid true x parts.1)
-      | false ↦ λ solid. both_true (is_solid b) (list_all is_solid x) (and_parts (is_solid b) true solid.0).0 (cut_solid false x solid.1)
+      | true ↦ λ solid. let parts = front_solid b (items_where true x) solid in and_from (is_solid b) (list_all is_solid x) parts.0 (cut_solid true x parts.1)
+      | false ↦ λ solid. and_from (is_solid b) (list_all is_solid x) (and_parts (is_solid b) true solid.0).0 (cut_solid false x solid.1)
     ] each
 
 each_solid : (items : List (List ℕ)) → AreItems items → EachSolid items

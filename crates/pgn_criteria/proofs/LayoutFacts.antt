@@ -1,8 +1,8 @@
 -- What patterns ask of squares, as it is laid out.
 use Rattle.std.proofs.Common.{◌≡◌, ◌↔◌, ◌≤◌, ◌<◌, ◌+◌, ◌-◌, ℕ, zero, suc, Bool, true, false, List, [], ◌∷◌, ◌++◌, length, take, drop, get_or, Option, Some, None, IsTrue, refl, sym, ap, ◌∙◌, subst, arith, inl, inr, length-drop}
-use Rattle.std.specs.Prelude.{◌||◌, ◌⊎◌}
+use Rattle.std.specs.Prelude.{◌||◌}
 use Rattle.std.proofs.Math.ListN.{get_or-append}
-use Rattle.std.proofs.lemmas.Bool.{cases_lt}
+use Rattle.std.proofs.lemmas.Bool.{cases_lt, or_cases, or_left, or_right}
 use Rattle.std.proofs.lemmas.List.{get_or-drop, take-append-drop, drop-drop, length-take}
 use Rattle.chess.specs.Public.Fen.{row}
 use Rattle.chess.specs.Public.Squares.{Place, same_square}
@@ -144,18 +144,6 @@ both_sides men square = (
 )
 
 -- a square more that must be empty
-either_true : (a b : Bool) → (a || b) ≡ true → (a ≡ true) ⊎ (b ≡ true)
-either_true true b e = inl refl
-either_true false b e = inr e
-
-first_true : (a b : Bool) → a ≡ true → (a || b) ≡ true
-first_true true b e = refl
-first_true false b e = absurd (cc)
-
-second_true : (a b : Bool) → b ≡ true → (a || b) ≡ true
-second_true true b e = refl
-second_true false b e = e
-
 pub lays_empty : (old new : Layout) (square : Place) → ((s : Place) → is_in new.empty s ≡ (same_square square s || is_in old.empty s)) → new.asked.items ≡ old.asked.items → new.barred.items ≡ old.barred.items
     → Lays (λ p. man_at p square ≡ None) (λ p. Unit {0}) old new true
 lays_empty old new square reports items barred = record {
@@ -164,7 +152,7 @@ lays_empty old new square reports items barred = record {
     (
       subst (AllStand p) (sym items) laid.0,
       subst (AllStand p) (sym barred) laid.1,
-      λ s is. elim (either_true (same_square square s) (is_in old.empty s) (sym (reports s) ∙ is)) [
+      λ s is. elim (or_cases (same_square square s) (is_in old.empty s) (sym (reports s) ∙ is)) [
         | inl same ↦ subst (λ t. man_at p t ≡ None) (same_square-then square s same) here
         | inr before ↦ laid.2 s before
       ],
@@ -172,8 +160,8 @@ lays_empty old new square reports items barred = record {
     tt,
   );
   enough = λ so p laid left. (
-    (subst (AllStand p) items laid.0, subst (AllStand p) barred laid.1, λ s is. laid.2 s (reports s ∙ second_true (same_square square s) (is_in old.empty s) is)),
-    laid.2 square (reports square ∙ first_true (same_square square square) (is_in old.empty square) (same_square-same square square refl)),
+    (subst (AllStand p) items laid.0, subst (AllStand p) barred laid.1, λ s is. laid.2 s (reports s ∙ or_right (same_square square s) (is_in old.empty s) is)),
+    laid.2 square (reports square ∙ or_left (same_square square square) (is_in old.empty square) (same_square-same square square refl)),
   );
 }
 

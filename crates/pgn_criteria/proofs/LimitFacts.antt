@@ -1,8 +1,8 @@
 -- Letters of kinds with their limits: what spells them is cut as they are read, and the other way round.
 use Rattle.std.proofs.Common.{◌≡◌, ◌≢◌, ◌≤◌, ℕ, Bool, true, false, List, [], ◌∷◌, ◌++◌, refl, sym, ap, ◌∙◌, subst, IsTrue, inl, inr, arith}
-use Rattle.std.specs.Prelude.{map, Option, Some, None, ◌+◌, ◌-◌, ◌==◌, ◌||◌, ◌&&◌, not, nat_le, if◌then◌else◌}
+use Rattle.std.specs.Prelude.{map, ◌+◌, ◌-◌, ◌==◌, ◌||◌, ◌&&◌, not, nat_le, if◌then◌else◌}
 use Rattle.std.specs.List.{list_all}
-use Rattle.std.proofs.lemmas.Bool.{and_parts, not-true, eqb-true}
+use Rattle.std.proofs.lemmas.Bool.{and_parts, not-true, eqb-true, and_from, eq-eqb}
 use Rattle.std.proofs.lemmas.Bool.Decides.{nat_tests}
 use Rattle.std.proofs.lemmas.List.Folds.{list_all-append}
 use Rattle.chess.specs.Public.Fen.{is_digit, has_byte, is_distinct}
@@ -15,23 +15,8 @@ use Rattle.pgn_criteria.specs.Private.Reading.{AreEntries, digit_limit, first_li
 use Rattle.pgn_criteria.specs.declared.material.Limit.{Limit}
 use Rattle.pgn_criteria.specs.declared.material.Limit.TheVariants.{Exactly, AtLeast, AtMost, AnyNumber}
 use Rattle.pgn_criteria.specs.declared.material.Limits.{Limits}
-use Rattle.pgn_criteria.proofs.SolidFacts.{is_solid, AreSolid, both_true}
-
--- a letter is that of one kind
-abbrev pub kind_at : ℕ → Option Kind
-kind_at b = if b == 75 then Some King else if b == 81 then Some Queen else if b == 82 then Some Rook else if b == 66 then Some Bishop
-    else if b == 78 then Some Knight else if b == 80 then Some Pawn else None
-
-kind_at_letter : (kind : Kind) → kind_at (kind_letter kind) ≡ Some kind
-kind_at_letter King = refl
-kind_at_letter Queen = refl
-kind_at_letter Rook = refl
-kind_at_letter Bishop = refl
-kind_at_letter Knight = refl
-kind_at_letter Pawn = refl
-
-pub same_kind : (a b : Kind) → kind_letter a ≡ kind_letter b → a ≡ b
-same_kind a b e = let found : Some a ≡ Some b = sym (kind_at_letter a) ∙ ap kind_at e ∙ kind_at_letter b in cc
+use Rattle.pgn_criteria.proofs.SolidFacts.{is_solid, AreSolid}
+use Rattle.pgn_game.proofs.MoveTexts.{same_letter}
 
 -- letters of kinds are high, the bytes of limits low
 abbrev pub is_high : ℕ → Bool
@@ -222,7 +207,7 @@ entries_spelled b x kind is other (more, spells, distinct) =
     let absent : has_byte (kind_letter kind) (letters more) ≡ false =
     sym (has_letter (kind_letter kind) (first_limit x).1 more (letter_high kind) spells) ∙ ap (λ a. has_byte a (first_limit x).1) (sym is) ∙ other in
     subst (λ a. AreEntries (a ∷ x)) (sym is)
-    ((kind, (first_limit x).0) ∷ more, entry_spelled kind x more spells, both_true _ _ (ap not absent) distinct)
+    ((kind, (first_limit x).0) ∷ more, entry_spelled kind x more spells, and_from _ _ (ap not absent) distinct)
 
 -- the entries of a text give each kind the limit after its letter
 pub entries_give : (text : List ℕ) (entries : List (Kind × Limit)) → SpellsEntries text entries → (kind : Kind) → IsLimitIn entries kind (limit_after (kind_letter kind) text)
@@ -232,17 +217,14 @@ entries_give text (entry ∷ more) (own, rest, is, limit, spells) kind =
     (elim (kind_letter entry.0 == kind_letter kind) as (λ t. (kind_letter entry.0 == kind_letter kind) ≡ t
     → IsLimitIn (entry ∷ more) kind (if t then (first_limit (own ++ rest)).0 else limit_after (kind_letter kind) (own ++ rest))) [
       | true ↦ λ same. inl (
-        same_kind entry.0 kind (eqb-true _ _ same),
+        same_letter entry.0 kind (eqb-true _ _ same),
         ap (λ (f : Limit × List ℕ). f.0) (limit_read own rest entry.1 limit (entries_begin rest more spells)),
       )
       | false ↦ λ other. inr (
-        (λ e. let clash : true ≡ false = sym (eqb-same _ _ (ap kind_letter e)) ∙ other in cc),
+        (λ e. let clash : true ≡ false = sym (eq-eqb _ _ (ap kind_letter e)) ∙ other in cc),
         subst (IsLimitIn more kind) (sym (limit_after_low (kind_letter kind) own rest (letter_high kind) (limit_low own entry.1 limit))) (entries_give rest more spells kind),
       )
     ] refl)
-  where
-    eqb-same : (a b : ℕ) → a ≡ b → (a == b) ≡ true
-    eqb-same a b e = grind (arith, nat_tests)
 
 -- and no other limit
 one_limit : (entries : List (Kind × Limit)) (kind : Kind) (a b : Limit) → IsLimitIn entries kind a → IsLimitIn entries kind b → a ≡ b
@@ -280,14 +262,14 @@ entries_solid : (text : List ℕ) (entries : List (Kind × Limit)) → SpellsEnt
 entries_solid text [] is = ap (list_all is_solid) is
 entries_solid text (entry ∷ more) (own, rest, is, limit, spells) =
     ap (list_all is_solid) is
-    ∙ both_true (is_solid (kind_letter entry.0)) (list_all is_solid (own ++ rest)) (high_solid (kind_letter entry.0) (letter_high entry.0))
-    (list_all-append is_solid own rest ∙ both_true _ _ (all_low own (limit_low own entry.1 limit)) (entries_solid rest more spells))
+    ∙ and_from (is_solid (kind_letter entry.0)) (list_all is_solid (own ++ rest)) (high_solid (kind_letter entry.0) (letter_high entry.0))
+    (list_all-append is_solid own rest ∙ and_from _ _ (all_low own (limit_low own entry.1 limit)) (entries_solid rest more spells))
   where
     all_low : (x : List ℕ) → IsTrue (list_all is_low x) → AreSolid x
     all_low [] low = refl
     all_low (b ∷ x) low =
         let parts : (is_low b ≡ true) × (list_all is_low x ≡ true) = and_parts _ _ low in
-        both_true (is_solid b) (list_all is_solid x) (low_solid b parts.0) (all_low x parts.1)
+        and_from (is_solid b) (list_all is_solid x) (low_solid b parts.0) (all_low x parts.1)
 
 pub limits_solid : (text : List ℕ) (limits : Limits) → SpellsLimits text limits → AreSolid text
 limits_solid text limits (entries, some, spells, distinct, each) = entries_solid text entries spells

@@ -1,9 +1,10 @@
 -- Where no ply shows the marks that conditions need, the conditions hold nowhere.
 use Rattle.std.proofs.Common.{◌≡◌, ◌⊎◌, inl, inr, ℕ, zero, suc, Bool, true, false, List, [], ◌∷◌, ◌+◌, ◌<◌, ◌≤◌, length, map, drop, get_or, max, bit_or, if◌then◌else◌, refl, sym, ap, ◌∙◌, subst, arith, length-drop}
-use Rattle.std.specs.Prelude.{◌&&◌, IsTrue, ◌==◌, ◌/◌, ◌%◌, nat_le}
+use Rattle.std.specs.Prelude.{IsTrue, ◌==◌, ◌/◌, ◌%◌, nat_le}
 use Rattle.std.specs.Int.{bit_at}
 use Rattle.std.proofs.Math.Nat.{max-le, le-max_left, le-max_right}
 use Rattle.std.proofs.lemmas.Bool.Decides.{nat_tests}
+use Rattle.std.proofs.lemmas.Bool.{and_parts, and_right}
 use Rattle.std.proofs.lemmas.Nat.{le_or_l, le_or_r}
 use Rattle.std.proofs.lemmas.Nat.Bits.{bit_at_or, bit_at-lt}
 use Rattle.std.proofs.lemmas.List.{get_or-drop, drop-drop}
@@ -12,6 +13,7 @@ use Rattle.chess.specs.Public.Placements.{Placement, opposite}
 use Rattle.chess.specs.Public.Positions.{State}
 use Rattle.chess.specs.declared.board.man.Side.{Side}
 use Rattle.pgn_game.specs.Public.PlyCodes.{PlyCode, code_of, moved}
+use Rattle.pgn_game.proofs.Cells.{no_cell, same_first}
 use Rattle.pgn_criteria.specs.Public.Sieves.{MeetsSeen, NowhereSeen, codes_in}
 use Rattle.pgn_criteria.specs.Private.Marks.{FitsSeen, IsMarked, NeedMark, LacksMarks, SaysOfNumbers, asks_mark}
 use Rattle.pgn_criteria.specs.Public.Meeting.{is_turned}
@@ -97,28 +99,14 @@ turned_numbers P either Check is says = tt
 turned_numbers P either Mate is says = tt
 turned_numbers P either Stalemate is says = tt
 
-and_first : (a b : Bool) → (a && b) ≡ true → a ≡ true
-and_first true b e = refl
-and_first false b e = absurd (cc)
-
 numbers_of : (P other : State) (condition : Condition (List ℕ)) → condition.is_denied ≡ false
     → (condition.is_either ≡ true → SaysOfPosition other false condition.claim → SaysOfNumbers condition.is_either condition.claim P.men)
     → OfPosition (if is_turned condition then other else P) condition → SaysOfNumbers condition.is_either condition.claim P.men
 numbers_of P other condition plain turned says =
     elim (is_turned condition) as (λ t. is_turned condition ≡ t → OfPosition (if t then other else P) condition → SaysOfNumbers condition.is_either condition.claim P.men) [
-      | true ↦ λ is there. turned (and_first condition.is_either (can_be_mirrored condition.claim) is) (subst (λ denied. SaysOfPosition other denied condition.claim) plain there)
+      | true ↦ λ is there. turned (and_parts condition.is_either (can_be_mirrored condition.claim) is).0 (subst (λ denied. SaysOfPosition other denied condition.claim) plain there)
       | false ↦ λ is here. plain_numbers P condition.is_either condition.claim (subst (λ denied. SaysOfPosition P denied condition.claim) plain here)
     ] refl says
-
-no_cell : {A : Type 0} (x : A) (xs : List A) → [] ≡ x ∷ xs → ⊥
-no_cell x xs e = absurd cc
-
-same_first : {A : Type 0} (x y : A) (xs ys : List A) → x ∷ xs ≡ y ∷ ys → x ≡ y
-same_first x y xs ys e = cc
-
-not_turned : (either can : Bool) → can ≡ false → (either && can) ≡ false
-not_turned true can e = e
-not_turned false can e = refl
 
 module _ {V : Type 0} (view : V → Condition (List ℕ)) where
   -- where each condition holds, one of them does
@@ -144,7 +132,7 @@ module _ {V : Type 0} (view : V → Condition (List ℕ)) where
           let condition = view own in
           let facts = asked which condition.claim asks in
           facts.1 P (subst (λ denied. SaysOfPosition P denied condition.claim) plain
-          (subst (λ t. OfPosition (if t then other else P) condition) (not_turned condition.is_either (can_be_mirrored condition.claim) facts.0) (one_of_each P other all i own rest at each)))
+          (subst (λ t. OfPosition (if t then other else P) condition) (and_right condition.is_either (can_be_mirrored condition.claim) facts.0) (one_of_each P other all i own rest at each)))
 
   -- what a line `material` without `not` says is so where all conditions hold
   pub one_material : (all : List V) (i : ℕ) (own : V) (rest : List V) → drop i all ≡ own ∷ rest → (view own).is_denied ≡ false → (P : State) → AllOfPosition P (map view all)

@@ -11,6 +11,7 @@ use Rattle.chess.specs.Public.Fen.{row}
 use Rattle.chess.specs.declared.board.man.Man.{Man}
 use Rattle.chess.specs.declared.board.man.Side.{Side}
 use Rattle.chess.specs.declared.board.man.Side.TheVariants.{White, Black}
+use Rattle.chess.proofs.PlaceFacts.{opposite-opposite}
 use Rattle.pgn_criteria.specs.Public.Materials.{Allows, limit_of, is_man, squares_to, count_of, FitsMaterial}
 use Rattle.pgn_criteria.specs.Public.Mirrors.{other_man, across, beside, mirrored_men, flipped_men}
 use Rattle.pgn_criteria.specs.declared.material.Limits.{Limits}
@@ -21,12 +22,8 @@ abbrev pub exchanged : Option Man → Option Man
 exchanged = option_map other_man
 
 -- all is undone by itself
-pub other_twice : (side : Side) → opposite (opposite side) ≡ side
-other_twice White = refl
-other_twice Black = refl
-
 pub man_twice : (man : Man) → other_man (other_man man) ≡ man
-man_twice man = λ i. record { side = other_twice man.side i; kind = man.kind }
+man_twice man = λ i. record { side = opposite-opposite man.side i; kind = man.kind }
 
 pub square_twice : (square : Option Man) → exchanged (exchanged square) ≡ square
 square_twice None = refl
@@ -119,7 +116,7 @@ flipped_mirrored men =
 
 -- who is to move
 pub turn_exchanged : (turn side : Side) → (opposite turn ≡ side) ↔ (turn ≡ opposite side)
-turn_exchanged turn side = (λ e. sym (other_twice turn) ∙ ap opposite e, λ e. ap opposite e ∙ other_twice side)
+turn_exchanged turn side = (λ e. sym (opposite-opposite turn) ∙ ap opposite e, λ e. ap opposite e ∙ opposite-opposite side)
 
 -- how many men there are
 is_other : (man : Man) (square : Option Man) → is_man man (exchanged square) ≡ is_man (other_man man) square

@@ -3,12 +3,13 @@ use Rattle.std.proofs.Common.{◌≡◌, ℕ, Bool, true, false, List, [], ◌�
 use Rattle.std.specs.Prelude.{if◌then◌else◌, option_map}
 use Rattle.chess.specs.Public.Squares.{Place, IsOnBoard}
 use Rattle.chess.specs.Public.Positions.{State}
+use Rattle.chess.proofs.PlaceFacts.{opposite-opposite}
 use Rattle.pgn_game.specs.Public.Replays.{Replay}
 use Rattle.pgn_criteria.specs.Public.Laws.{MirrorIsUndone, AreTurned, SidesAreAlike}
 use Rattle.pgn_criteria.specs.Public.Meeting.{Heading, Holds, EachHold, is_turned}
 use Rattle.pgn_criteria.specs.Public.Mirrors.{across, mirror}
 use Rattle.pgn_criteria.specs.declared.condition.Condition.{Condition}
-use Rattle.pgn_criteria.proofs.MirrorFacts.{mirrored_twice, other_twice, across_twice}
+use Rattle.pgn_criteria.proofs.MirrorFacts.{mirrored_twice, across_twice}
 
 passed_twice : (square : Option Place) → ((s : Place) → square ≡ Some s → IsOnBoard s) → option_map across (option_map across square) ≡ square
 passed_twice None on = refl
@@ -17,7 +18,7 @@ passed_twice (Some s) on = ap Some (across_twice s (on s refl))
 pub mirror_undone : MirrorIsUndone
 mirror_undone P on =
     let men = mirrored_twice P.men on.0 in
-    let turn = other_twice P.turn in
+    let turn = opposite-opposite P.turn in
     let en_passant = passed_twice P.en_passant on.1 in
     λ i. record {
       men = men i;

@@ -2,7 +2,7 @@
 use Rattle.std.proofs.Common.{◌≡◌, ◌≢◌, ◌↔◌, ◌≤◌, ◌+◌, ◌-◌, ℕ, zero, suc, Bool, true, false, List, [], ◌∷◌, ◌++◌, Option, Some, None, IsTrue, refl, sym, ap, ◌∙◌, subst, append_assoc, arith}
 use Rattle.std.specs.Prelude.{map, replicate, ◌==◌, ◌||◌, if◌then◌else◌}
 use Rattle.std.specs.List.{list_all}
-use Rattle.std.proofs.lemmas.Bool.{eqb-true, eq-eqb, and_parts}
+use Rattle.std.proofs.lemmas.Bool.{eqb-true, eq-eqb, and_parts, and_from}
 use Rattle.std.proofs.lemmas.Bool.Decides.{nat_tests}
 use Rattle.std.proofs.lemmas.List.{map-append}
 use Rattle.chess.specs.Public.Placements.{Placement, opposite}
@@ -20,7 +20,6 @@ use Rattle.pgn_criteria.specs.Public.Mirrors.{other_man, mirrored_men}
 use Rattle.pgn_criteria.specs.Private.Turning.{other_letter, turned_ranks, turned}
 use Rattle.pgn_criteria.proofs.CountFacts.{true_both}
 use Rattle.pgn_criteria.proofs.SetFacts.{all_men, letter_in}
-use Rattle.pgn_criteria.proofs.SolidFacts.{both_true}
 use Rattle.pgn_criteria.proofs.MirrorFacts.{exchanged, man_twice, squares_twice, row_mirrored}
 
 -- ---- letters
@@ -77,7 +76,7 @@ all_letters : (x : List ℕ) → IsTrue (list_all is_letter x) → IsTrue (list_
 all_letters [] are = refl
 all_letters (b ∷ x) are =
     let parts = and_parts (is_letter b) (list_all is_letter x) are in
-    both_true (is_letter (other_letter b)) (list_all is_letter (map other_letter x)) (one_letter b parts.0) (all_letters x parts.1)
+    and_from (is_letter (other_letter b)) (list_all is_letter (map other_letter x)) (one_letter b parts.0) (all_letters x parts.1)
 
 some_letters : (x : List ℕ) → x ≢ [] → map other_letter x ≢ []
 some_letters [] some = absurd (some refl)

@@ -1,22 +1,18 @@
 -- A record shows the heading of its game.
-use Rattle.std.proofs.Common.{◌≡◌, ℕ, List, [], ◌∷◌, ◌++◌, length, Option, Result, Ok, refl, sym, ap, ◌∙◌, append_assoc, Bor}
+use Rattle.std.proofs.Common.{◌≡◌, ℕ, List, [], ◌∷◌, ◌++◌, length, Option, Result, refl, sym, ap, ◌∙◌, append_assoc, Bor}
 use Rattle.std.specs.Prelude.{option_map}
 use Rattle.std.specs.List.{flat_map, AllByRecursion}
 use Rattle.std.proofs.lemmas.List.Concat.{flat_map-cons}
 use Rattle.pgn_text.specs.Public.GameTexts.{GameText, tag_in}
 use Rattle.pgn_game.specs.declared.pack.error.RecordError.{RecordError}
 use Rattle.pgn_game.specs.Public.PlyCodes.{code_bytes}
-use Rattle.pgn_game.specs.Public.PackedGames.{PackedGame, Tag, FitsTag, FitsRecord, IsPacked, with_length, tag_bytes}
-use Rattle.pgn_game.specs.Public.PackReading.{IsRawOfGame, RawRecord, raw_of, tag_at}
+use Rattle.pgn_game.specs.Public.PackedGames.{PackedGame, Tag, FitsTag, FitsRecord, IsPacked, tag_bytes}
+use Rattle.pgn_game.specs.Public.PackReading.{IsRawOfGame, RawRecord, raw_of}
 use Rattle.pgn_game.specs.Public.Replays.{Replay}
 use Rattle.pgn_game.proofs.HeadFacts.{head_shows}
-use Rattle.pgn_game.proofs.RecordFields.{text_again}
+use Rattle.pgn_game.proofs.TagSearch.{tag_again}
 use Rattle.pgn_criteria.specs.Public.Meeting.{Heading, heading_of}
 use Rattle.pgn_criteria.specs.Private.Records.{tag_before, tags_at, heading_of_raw, heading_of_packed}
-
-tag_again : (t : Tag) (rest : List ℕ) → FitsTag t → tag_at (tag_bytes t ++ rest) ≡ Ok ((t.0, t.1), rest)
-tag_again t rest fits =
-    ap tag_at (append_assoc (with_length t.0) (with_length t.1) rest) ∙ rw (text_again t.0 (with_length t.1 ++ rest) fits.name, text_again t.1 rest fits.contents) refl
 
 -- the tags of a record are those of its game
 tags_again : (tags : List Tag) (rest : List ℕ) → AllByRecursion FitsTag tags → tags_at (length tags) (flat_map tag_bytes tags ++ rest) ≡ tags

@@ -1,6 +1,6 @@
 -- What conditions say of one position, by what is seen of it.
 use Rattle.std.proofs.Common.{◌≡◌, ◌↔◌, if◌then◌else◌, ℕ, Bool, true, false, List, [], ◌∷◌, refl, sym, ◌∙◌, inl, inr}
-use Rattle.std.specs.Prelude.{◌&&◌}
+use Rattle.std.proofs.lemmas.Bool.{and_parts}
 use Rattle.chess.specs.Public.Moves.{HasMove}
 use Rattle.chess.specs.Public.Placements.{Placement, opposite}
 use Rattle.chess.specs.Public.Positions.{State, IsCheck}
@@ -183,11 +183,7 @@ said_of_men men turn A B C D denied Mate can = absurd (cc)
 said_of_men men turn A B C D denied Stalemate can = absurd (cc)
 
 pub can_be_turned : (condition : Condition (List ℕ)) → is_turned condition ≡ true → can_be_mirrored condition.claim ≡ true
-can_be_turned condition turned = second_of condition.is_either (can_be_mirrored condition.claim) turned
-  where
-    second_of : (a b : Bool) → (a && b) ≡ true → b ≡ true
-    second_of true b e = e
-    second_of false b e = absurd (cc)
+can_be_turned condition turned = (and_parts condition.is_either (can_be_mirrored condition.claim) turned).1
 
 -- what is said of what is seen of a position is said of the position
 each_position : (P other : State) (conditions : List (Condition (List ℕ)))

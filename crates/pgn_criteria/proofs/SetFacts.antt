@@ -23,6 +23,7 @@ use Rattle.pgn_criteria.specs.declared.rank.SquareTest.TheVariants.{Among, Other
 use Rattle.pgn_criteria.specs.declared.rank.Item.{Item}
 use Rattle.pgn_criteria.specs.declared.rank.Item.TheVariants.{Run}
 use Rattle.pgn_criteria.proofs.ItemFacts.{item_exact, no_stretch, some_stretch}
+use Rattle.pgn_game.proofs.Cells.{same_first}
 
 -- the first byte of an item, and those after it
 abbrev pub first_of : List ℕ → ℕ
@@ -225,12 +226,9 @@ open_stretch _ _ (among letters man are has) x e unclosed =
 open_stretch _ _ (other letters square are none) x e unclosed =
     let same : (94 ∷ letters) ++ 93 ∷ [] ≡ x = ap rest_of e in no_end (94 ∷ letters) (ap (after_run 93) same ∙ unclosed)
 
-first_is : (a b : List ℕ) (more rest : List (List ℕ)) → a ∷ more ≡ b ∷ rest → a ≡ b
-first_is a b more rest e = cc
-
 pub open_fails : (x : List ℕ) → after_run 93 x ≡ [] → HasNoItem (91 ∷ x)
 open_fails x unclosed text more cut item =
-    let same = first_is (91 ∷ x) text [] more (sym (set_open 91 x unclosed) ∙ cut) in
+    let same = same_first (91 ∷ x) text [] more (sym (set_open 91 x unclosed) ∙ cut) in
     open_stretch text item.0 item.1 x (sym same) unclosed
 
 pub set_next : (x after : List ℕ) (c : ℕ) (class : SquareTest) → after_run 93 x ≡ c ∷ after → Reads (91 ∷ (run_of 93 x ++ 93 ∷ [])) (Run class 1) → IsNextItem (91 ∷ x) (Run class 1) after
@@ -239,7 +237,7 @@ set_next x after c class cut reads =
 
 pub set_fails : (x after : List ℕ) (c : ℕ) → after_run 93 x ≡ c ∷ after → (IsItem (91 ∷ (run_of 93 x ++ 93 ∷ [])) → ⊥) → HasNoItem (91 ∷ x)
 set_fails x after c end no_item text more cut item =
-    let same = first_is (91 ∷ (run_of 93 x ++ 93 ∷ [])) text (items_of after) more (sym (ap (before_first 91) (set_cut x after c end)) ∙ cut) in
+    let same = same_first (91 ∷ (run_of 93 x ++ 93 ∷ [])) text (items_of after) more (sym (ap (before_first 91) (set_cut x after c end)) ∙ cut) in
     no_item (subst IsItem (sym same) item)
 
 -- a byte that begins no set
@@ -254,7 +252,7 @@ byte_next b x item differs is = record { text = b ∷ []; cut = byte_cut b x (di
 
 pub byte_fails : (b : ℕ) (x : List ℕ) → b ≢ 91 → item_of b ≡ None → HasNoItem (b ∷ x)
 byte_fails b x differs none text more cut item =
-    let same = first_is (b ∷ []) text (items_of x) more (sym (byte_cut b x (differs_by b differs)) ∙ cut) in
+    let same = same_first (b ∷ []) text (items_of x) more (sym (byte_cut b x (differs_by b differs)) ∙ cut) in
     no_stretch b none item.0 (subst (λ t. IsStretch t item.0) (sym same) item.1)
 
 -- a rank that is not empty has a first item

@@ -1,5 +1,6 @@
 -- The squares on which a man has to stand and those on which he may, gathered.
-use Rattle.std.proofs.Common.{◌≡◌, ◌↔◌, ◌⊎◌, inl, inr, ◌||◌, ◌&&◌, not, Bool, true, false, Some, refl, sym, subst, ◌∙◌}
+use Rattle.std.proofs.Common.{◌≡◌, ◌↔◌, inl, inr, ◌||◌, ◌&&◌, not, Bool, true, false, Some, refl, sym, subst, ◌∙◌}
+use Rattle.std.proofs.lemmas.Bool.{or_cases}
 use Rattle.chess.specs.Public.Squares.{Place, IsOnBoard, same_square}
 use Rattle.chess.specs.Public.Placements.{Placement, man_at}
 use Rattle.chess.specs.Public.Sets.{Places, is_in, IsSquaresOf}
@@ -17,15 +18,11 @@ stays stand man men squares his = (
   λ so. (λ s here. (his s).1 (so.wanted s here), λ s here. let at = (his s).0 here in so.free s at.0 at.1),
 )
 
-one_or_other : (same was : Bool) → (same || was) ≡ true → (same ≡ true) ⊎ (was ≡ true)
-one_or_other true was e = inl refl
-one_or_other false was e = inr e
-
 -- one square more is wanted
 pub wants : (old new : Stand) (man : Man) (men : Placement) (t : Place) → ((s : Place) → is_in new.wanted s ≡ (same_square t s || is_in old.wanted s)) → new.free ≡ old.free
     → IsOnBoard t → man_at men t ≡ Some man → StaysOn old man men → StaysOn new man men
 wants old new man men t put same on stands so = record {
-  wanted = λ s here. elim (one_or_other (same_square t s) (is_in old.wanted s) (sym (put s) ∙ here)) [
+  wanted = λ s here. elim (or_cases (same_square t s) (is_in old.wanted s) (sym (put s) ∙ here)) [
     | inl own ↦ subst (λ (s : Place). IsOnBoard s × (man_at men s ≡ Some man)) (same_square-then t s own) (on, stands)
     | inr was ↦ so.wanted s was
   ];

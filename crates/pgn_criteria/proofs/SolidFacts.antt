@@ -1,8 +1,8 @@
 -- Bytes from 33 on are neither blanks nor carriage returns. All bytes of words, patterns and limits are such, so a line is cut at its gaps.
 use Rattle.std.proofs.Common.{◌≡◌, ◌≢◌, ℕ, Bool, true, false, List, [], ◌∷◌, ◌++◌, refl, sym, ap, ◌∙◌, IsTrue, append_assoc, append-nil, arith}
-use Rattle.std.specs.Prelude.{if◌then◌else◌, ◌==◌, ◌&&◌, nat_le}
+use Rattle.std.specs.Prelude.{if◌then◌else◌, ◌==◌, nat_le}
 use Rattle.std.specs.List.{list_all}
-use Rattle.std.proofs.lemmas.Bool.{eqb-true, and_parts}
+use Rattle.std.proofs.lemmas.Bool.{eqb-true, and_parts, and_from}
 use Rattle.std.proofs.lemmas.Bool.Decides.{nat_tests}
 use Rattle.chess.specs.Public.Fen.{parted_at, before_first}
 use Rattle.pgn_criteria.specs.Public.Words.{is_blank}
@@ -23,15 +23,12 @@ solid_blank b solid = grind (arith, nat_tests)
 pub solid_return : (b : ℕ) → is_solid b ≡ true → (b == 13) ≡ false
 solid_return b solid = grind (arith, nat_tests)
 
-pub both_true : (a b : Bool) → a ≡ true → b ≡ true → (a && b) ≡ true
-both_true a b x y = ap (λ t. t && b) x ∙ y
-
 -- bytes of a class whose bytes are solid
 pub all_solid : (test : ℕ → Bool) → ((b : ℕ) → test b ≡ true → is_solid b ≡ true) → (x : List ℕ) → IsTrue (list_all test x) → AreSolid x
 all_solid test each [] all = refl
 all_solid test each (b ∷ x) all =
     let parts : (test b ≡ true) × (list_all test x ≡ true) = and_parts _ _ all in
-    both_true (is_solid b) (list_all is_solid x) (each b parts.0) (all_solid test each x parts.1)
+    and_from (is_solid b) (list_all is_solid x) (each b parts.0) (all_solid test each x parts.1)
 
 -- parts of a text are
 abbrev pub EachSolid : List (List ℕ) → Type 0
@@ -48,9 +45,9 @@ parts_solid separator solid [] each = refl
 parts_solid separator solid (b ∷ x) each =
     elim (b == separator) as (λ t. (b == separator) ≡ t → EachSolid (if t then [] ∷ parted_at separator x else before_first b (parted_at separator x)) → AreSolid (b ∷ x)) [
       | true ↦ λ same parts.
-          both_true (is_solid b) (list_all is_solid x) (ap is_solid (eqb-true b separator same) ∙ solid) (parts_solid separator solid x parts.1)
+          and_from (is_solid b) (list_all is_solid x) (ap is_solid (eqb-true b separator same) ∙ solid) (parts_solid separator solid x parts.1)
       | false ↦ λ other parts.
-          let both = front_solid b (parted_at separator x) parts in both_true (is_solid b) (list_all is_solid x) both.0 (parts_solid separator solid x both.1)
+          let both = front_solid b (parted_at separator x) parts in and_from (is_solid b) (list_all is_solid x) both.0 (parts_solid separator solid x both.1)
     ] refl each
 
 -- a text begins, and ends, with a solid byte

@@ -13,6 +13,11 @@ use Rattle.pgn_criteria.specs.declared.condition.Claim.TheVariants.{For, Count}
 
 -- ---- all plies that are such
 
+-- what is there or not counts as one at most
+pub at_most_one : (is : Bool) → (if is then 1 else 0) ≤ 1
+at_most_one true = omega arith
+at_most_one false = omega arith
+
 above : (least : ℕ) (plies : List ℕ) → Ascend least plies → (ply : ℕ) → IsAmong ply plies → least ≤ ply
 above least [] up ply among = absurd among
 above least (first ∷ more) up ply (inl is) = let low = up.0 in omega (arith, is, low)

@@ -1,6 +1,7 @@
 -- Whether squares can be split among items, and so whether a position fits a pattern, is settled.
 use Rattle.std.proofs.Common.{◌≡◌, ◌⊎◌, ℕ, ◌-◌, List, [], ◌∷◌, ◌++◌, length, Option, Some, None, IsTrue, refl, sym, ap, subst, inl, inr}
 use Rattle.std.proofs.lemmas.Bool.{cases_eq}
+use Rattle.std.proofs.lemmas.Option.{same_Some}
 use Rattle.chess.specs.Public.Placements.{Placement}
 use Rattle.chess.specs.Public.Fen.{row, parted_at}
 use Rattle.chess.specs.declared.board.man.Man.{Man}
@@ -20,9 +21,6 @@ use Rattle.pgn_criteria.proofs.SetFacts.{first_of, rest_of, among_read, other_re
 
 -- ---- whether an item takes squares
 
-some_same : (a b : Man) → Some b ≡ Some a → a ≡ b
-some_same a b e = cc
-
 settled_class : (class : SquareTest) (square : Option Man) → Settled (IsOf class square)
 settled_class Empty square = cases_option cases_man square None
 settled_class (This man) square = cases_option cases_man square (Some man)
@@ -34,7 +32,7 @@ settled_class (Of side) square = settled_held square (λ man. man.side ≡ side)
 settled_class (Among men) square = settled_held square (λ man. IsTrue (has_man men man)) (λ man. settled_true (has_man men man))
 settled_class (Other men) None = inl (λ man has is. cc)
 settled_class (Other men) (Some man) =
-    settled_like (λ none other has is. none (subst (λ m. IsTrue (has_man men m)) (some_same other man is) has)) (λ none has. none man has refl)
+    settled_like (λ none other has is. none (subst (λ m. IsTrue (has_man men m)) (same_Some other man (sym is)) has)) (λ none has. none man has refl)
     (settled_not (settled_true (has_man men man)))
 
 settled_each : (class : SquareTest) (squares : List (Option Man)) → Settled (EachOf class squares)

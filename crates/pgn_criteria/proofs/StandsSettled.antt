@@ -1,10 +1,10 @@
 -- Whether the value of a tag stands in a relation to a text is settled.
-use Rattle.std.proofs.Common.{◌≡◌, ◌↔◌, ◌==◌, ◌<◌, ◌≤◌, ℕ, length, Some, None, Bool, true, false, List, [], ◌∷◌, IsTrue, refl, sym, ap, inl, inr, arith}
+use Rattle.std.proofs.Common.{◌≡◌, ◌↔◌, ◌==◌, ◌<◌, ℕ, length, Some, None, Bool, true, false, List, [], ◌∷◌, IsTrue, refl, sym, ap, inl, inr, arith}
 use Rattle.std.proofs.lemmas.Bool.{eqb-true, cases_lt}
 use Rattle.std.proofs.lemmas.Bool.Decides.{nat_tests}
 use Rattle.std.specs.declared.cmp.Ordering.{Ordering}
 use Rattle.std.specs.declared.cmp.Ordering.TheVariants as order
-use Rattle.chess.proofs.Settled.{Settled, settled_like, settled_not, settled_true}
+use Rattle.chess.proofs.Settled.{Settled, settled_like, settled_not, settled_true, settled_le}
 use Rattle.pgn_text.specs.Public.Strings.{IsContents}
 use Rattle.pgn_text.specs.Shared.StringTexts.{contents_front, value_of}
 use Rattle.pgn_text.proofs.Values.{is_contents-none, is_contents-some}
@@ -31,9 +31,6 @@ settled_test r reports = settled_like reports.0 reports.1 (settled_true r)
 settled_below : (a b : ℕ) → Settled (a < b)
 settled_below a b = elim (cases_lt a b) [ inl less ↦ inl less | inr over ↦ inr (λ less. omega (arith, less, over)) ]
 
-settled_most : (a b : ℕ) → Settled (a ≤ b)
-settled_most a b = elim (cases_lt b a) [ inl less ↦ inr (λ most. omega (arith, less, most)) | inr over ↦ inl over ]
-
 settled_same : (a b : ℕ) → Settled (a ≡ b)
 settled_same a b = settled_like (eqb-true a b) (λ e. grind (arith, nat_tests)) (settled_true (a == b))
 
@@ -41,9 +38,9 @@ pub settled_compared : (comparison : Comparison) (a b : ℕ) → Settled (Compar
 settled_compared compared.Equal a b = settled_same a b
 settled_compared compared.Unequal a b = settled_not (settled_same a b)
 settled_compared compared.Less a b = settled_below a b
-settled_compared compared.LessOrEqual a b = settled_most a b
+settled_compared compared.LessOrEqual a b = settled_le a b
 settled_compared compared.Greater a b = settled_below b a
-settled_compared compared.GreaterOrEqual a b = settled_most b a
+settled_compared compared.GreaterOrEqual a b = settled_le b a
 
 -- ---- the values of tags
 

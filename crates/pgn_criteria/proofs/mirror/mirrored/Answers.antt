@@ -1,5 +1,5 @@
-use Rattle.std.proofs.Common.{◌≡◌, ℕ, Bool, true, false, List, Vec, Global, refl, sym, ap, ◌∙◌, subst}
-use Rattle.std.specs.Prelude.{◌&&◌}
+use Rattle.std.proofs.Common.{◌≡◌, ℕ, true, false, List, Vec, Global, refl, sym, ap, ◌∙◌, subst}
+use Rattle.std.proofs.lemmas.Bool.{and_from, and_left, and_right}
 use Rattle.pgn_criteria.specs.Public.Meeting.{is_turned}
 use Rattle.pgn_criteria.specs.Public.Mirrors.{can_be_mirrored}
 use Rattle.pgn_criteria.specs.Private.Stages.{IsMirrorOf, seen, claim_seen}
@@ -11,18 +11,6 @@ use Rattle.pgn_criteria.proofs.mirror.mirrored.Goals.{then-condition+then-can_be
 abbrev view : Condition (Vec ℕ Global) → Condition (List ℕ)
 view condition = seen (λ text. text.items) condition
 
-both_are : (a b : Bool) → a ≡ true → b ≡ true → (a && b) ≡ true
-both_are true b p q = q
-both_are false b p q = absurd (cc)
-
-first_is_not : (a b : Bool) → a ≡ false → (a && b) ≡ false
-first_is_not true b p = absurd (cc)
-first_is_not false b p = refl
-
-second_is_not : (a b : Bool) → b ≡ false → (a && b) ≡ false
-second_is_not true b p = p
-second_is_not false b p = refl
-
 pub returns : goal.returns
 returns c =
     let condition = c.args.condition.now in
@@ -30,7 +18,7 @@ returns c =
     elim c.if-condition.branch [
       | then-condition+then-can_be_mirrored+in_ok-claim w ↦
           let can : can_be_mirrored claim ≡ true = can_be_seen (λ text. text.items) condition.claim ∙ sym w.can_be_mirrored.ensures ∙ w.if-can_be_mirrored.true in
-          let turned : is_turned (view condition) ≡ true = both_are condition.is_either (can_be_mirrored claim) w.if-condition.true can in
+          let turned : is_turned (view condition) ≡ true = and_from condition.is_either (can_be_mirrored claim) w.if-condition.true can in
           record {
             denied = refl;
             turned = λ is. subst (λ k. IsMirrorOf (claim_seen (λ text. text.items) k) claim) (sym w.claim-is) w.in_ok-claim.ensures;
@@ -40,9 +28,9 @@ returns c =
           let fixed : is_turned (view condition) ≡ false =
           elim w.else-condition.branch [
             | else-condition-via-then-condition+else-can_be_mirrored w' ↦
-                second_is_not condition.is_either (can_be_mirrored claim)
+                and_right condition.is_either (can_be_mirrored claim)
                 (can_be_seen (λ text. text.items) condition.claim ∙ sym w'.can_be_mirrored.ensures ∙ w'.if-can_be_mirrored.false)
-            | else-condition-via-else-condition w' ↦ first_is_not condition.is_either (can_be_mirrored claim) w'.if-condition.false
+            | else-condition-via-else-condition w' ↦ and_left condition.is_either (can_be_mirrored claim) w'.if-condition.false
           ] in
           record {
             denied = refl;

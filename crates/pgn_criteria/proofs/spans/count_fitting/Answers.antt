@@ -1,12 +1,8 @@
-use Rattle.std.proofs.Common.{◌≡◌, ◌+◌, ◌-◌, ◌≤◌, if◌then◌else◌, ℕ, Bool, true, false, subst, sym, arith}
+use Rattle.std.proofs.Common.{◌≡◌, ◌+◌, ◌-◌, ◌≤◌, ℕ, true, false, subst, sym, arith}
 use Rattle.std.proofs.lemmas.Option.{slice_get_within}
 use Rattle.pgn_criteria.specs.Private.Stages.{FitsAt}
-use Rattle.pgn_criteria.proofs.SpanFacts.{AreFrom, none_from, counted_before, from_first}
+use Rattle.pgn_criteria.proofs.SpanFacts.{AreFrom, none_from, counted_before, from_first, at_most_one}
 use Rattle.pgn_criteria.proofs.spans.count_fitting.Goals as goal
-
-at_most_one : (is : Bool) → (if is then 1 else 0) ≤ 1
-at_most_one true = omega arith
-at_most_one false = omega arith
 
 pub loop-plies-init : goal.loop-plies-init
 loop-plies-init c = record {

@@ -1,13 +1,8 @@
-use Rattle.std.proofs.Common.{◌≡◌, ℕ, List, Some, None, sym, subst, ◌∙◌}
+use Rattle.std.proofs.Common.{◌≡◌, Some, None, sym, subst, ◌∙◌}
+use Rattle.std.proofs.lemmas.Option.{same_Some, none-some}
 use Rattle.pgn_text.specs.Public.Strings.{IsContents}
 use Rattle.pgn_criteria.proofs.RecordHeadings.{named_there}
 use Rattle.pgn_criteria.proofs.headed.RawRecordHeaded.tag.Goals as goal
-
-same_contents : (own found : List ℕ) → Some own ≡ Some found → own ≡ found
-same_contents own found is = cc
-
-no_contents : (own : List ℕ) → None ≡ Some own → ⊥
-no_contents own is = absurd cc
 
 pub returns-then-is_contents : goal.returns-then-is_contents
 returns-then-is_contents c =
@@ -16,10 +11,10 @@ returns-then-is_contents c =
 pub returns-else-is_contents : goal.returns-else-is_contents
 returns-else-is_contents c contents is own =
     let there = named_there c.args.self.now c.requires c.args.name.now (Some c.in-Some.contents) c.in-Some.ensures in
-    let same : contents ≡ c.in-Some.contents.now = same_contents contents c.in-Some.contents.now (sym is ∙ there) in
+    let same : contents ≡ c.in-Some.contents.now = same_Some contents c.in-Some.contents.now (sym is ∙ there) in
     let yes = c.is_contents.ensures.1 (subst IsContents same own) in
     absurd (cc (yes, c.if-is_contents.false))
 
 pub returns-in-None : goal.returns-in-None
 returns-in-None c contents is own =
-    no_contents contents (sym (named_there c.args.self.now c.requires c.args.name.now None c.in-None.ensures) ∙ is)
+    none-some contents (sym (named_there c.args.self.now c.requires c.args.name.now None c.in-None.ensures) ∙ is)
