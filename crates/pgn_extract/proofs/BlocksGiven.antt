@@ -9,6 +9,7 @@ use Rattle.pgn_text.specs.Public.Marks.{MarkedPiece, AreOfBlock, AreOfBlocks, Ar
 use Rattle.pgn_text.specs.Public.Windows.{Window, IsCutOff}
 use Rattle.pgn_text.proofs.MarkedPieces.{of_blocks_exist}
 use Rattle.pgn_text.proofs.OneBlocks.{blocks_exist}
+use Rattle.pgn_text.proofs.OneList.{no_bytes}
 
 -- the blocks that are still to come: none once the last was given
 abbrev pub AreLeft : Bool → List (List ℕ) → List ℕ → Type 0
@@ -54,7 +55,7 @@ module _ {limit max_depth offset : ℕ} {now : Window} {bytes : List ℕ} {piece
     leads = λ rest more end left.
         let text : now.ahead ++ (read ++ rest) ≡ block ++ (next.ahead ++ rest) =
         sym (append_assoc now.ahead read rest) ∙ ap (λ t. t ++ rest) cut.parted ∙ append_assoc block next.ahead rest in
-        let some : next.ended ≡ false → next.ahead ++ rest ≢ [] = λ going none. cut.more going (nothing next.ahead rest none) in
+        let some : next.ended ≡ false → next.ahead ++ rest ≢ [] = λ going none. cut.more going (no_bytes next.ahead rest none) in
         let all : AreBlocks (block ∷ more) (now.ahead ++ (read ++ rest)) =
         subst (AreBlocks (block ∷ more)) (sym text) (lead next.ended block more (next.ahead ++ rest) (cut.first rest end) some left) in
         let before = given.leads (read ++ rest) (block ∷ more) (λ ended. absurd (both_ways now.ended cut.going ended))
@@ -69,10 +70,6 @@ module _ {limit max_depth offset : ℕ} {now : Window} {bytes : List ℕ} {piece
         subst (λ b. AreOfBlocks limit max_depth offset b ((pieces ++ own) ++ others)) (sym (append_assoc given.blocks (block ∷ []) more))
         (subst (AreOfBlocks limit max_depth offset (given.blocks ++ block ∷ more)) (sym (append_assoc pieces own others)) (given.each (block ∷ more) (own ++ others) both));
   }
-    where
-      nothing : (xs ys : List ℕ) → xs ++ ys ≡ [] → xs ≡ []
-      nothing [] ys e = refl
-      nothing (x ∷ xs) ys e = cc
 
   -- the pieces of the blocks given
   pieces_given : AreOfBlocks limit max_depth offset given.blocks pieces

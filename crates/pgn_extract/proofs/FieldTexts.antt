@@ -2,7 +2,7 @@
 use Rattle.std.proofs.Common.{◌≡◌, ◌<◌, ℕ, zero, suc, Bool, true, false, not, List, [], ◌∷◌, ◌++◌, length, Some, refl, sym, ap, ◌∙◌, subst, append_assoc, arith}
 use Rattle.std.specs.Prelude.{◌&&◌, Option, None, MatchOption, codes}
 use Rattle.std.specs.List.{slice_get}
-use Rattle.std.proofs.lemmas.Option.{slice_get-get_or}
+use Rattle.std.proofs.lemmas.Option.{slice_get-get_or, same_Some}
 use Rattle.chess.specs.Public.Placements.{AreOnBoard}
 use Rattle.chess.specs.Public.Positions.{State}
 use Rattle.chess.specs.Public.Moves.{after}
@@ -21,24 +21,21 @@ use Rattle.pgn_game.proofs.StartTexts.{start_read_back}
 use Rattle.pgn_extract.specs.Public.Listing.{IsFenField, IsNextMove, IsNextField, AreFields, is_plain}
 use Rattle.pgn_extract.specs.declared.settings.Fields.{Fields}
 
-same_state : (a b : State) → Some a ≡ Some b → a ≡ b
-same_state a b is = cc
-
 one_fen_field : (fen : Bool) (replay : Replay) (ply : ℕ) (x y : List ℕ) → IsFenField fen replay ply x → IsFenField fen replay ply y → x ≡ y
 one_fen_field false replay ply x y first other = first ∙ sym other
 one_fen_field true replay ply x y (position, text, here, is, shown) (other, also, there, of, seen) =
-    let same : other ≡ position = same_state other position (sym there ∙ here) in
+    let same : other ≡ position = same_Some other position (sym there ∙ here) in
     shown ∙ ap (λ (t : List ℕ). 32 ∷ t) (one_fen position text also is (subst (λ P. IsFen P also) same of)) ∙ sym seen
 
 -- the text of a move at a place of positions
-abbrev IsTextAt : List State → ℕ → List ℕ → Move → Type 0
+abbrev pub IsTextAt : List State → ℕ → List ℕ → Move → Type 0
 IsTextAt positions ply text m = (position : State) × (slice_get positions ply ≡ Some position) × IsSan position m text
 
 one_next : (move : Option Move) (positions : List State) (ply : ℕ) (x y : List ℕ) → MatchOption move (x ≡ codes "-") (IsTextAt positions ply x)
     → MatchOption move (y ≡ codes "-") (IsTextAt positions ply y) → x ≡ y
 one_next None positions ply x y first other = first ∙ sym other
 one_next (Some m) positions ply x y (position, here, is) (other, there, of) =
-    one_san position m x y is (subst (λ P. IsSan P m y) (same_state other position (sym there ∙ here)) of)
+    one_san position m x y is (subst (λ P. IsSan P m y) (same_Some other position (sym there ∙ here)) of)
 
 one_next_field : (next : Bool) (replay : Replay) (ply : ℕ) (x y : List ℕ) → IsNextField next replay ply x → IsNextField next replay ply y → x ≡ y
 one_next_field false replay ply x y first other = first ∙ sym other

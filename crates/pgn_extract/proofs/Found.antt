@@ -1,6 +1,6 @@
 -- The entries of a game, found while its main line is played.
 use Rattle.std.proofs.Common.{◌≡◌, ◌↔◌, ℕ, ◌+◌, ◌<◌, ◌≤◌, Bool, true, false, List, [], ◌∷◌, ◌++◌, length, Option, Some, IsTrue, refl, sym, ap, ◌∙◌, subst, append_assoc, append-nil, length-append, inl, inr, not, arith}
-use Rattle.std.proofs.lemmas.Bool.{cases_lt, both_ways}
+use Rattle.std.proofs.lemmas.Bool.{cases_lt, both_ways, not-false}
 use Rattle.std.proofs.lemmas.Option.{slice_get_within}
 use Rattle.std.specs.List.{slice_get}
 use Rattle.std.specs.Prelude.{MatchOption, codes}
@@ -98,6 +98,12 @@ pub stops_at : (game : GameText) {line : PlayedLine} {before : List State} {play
 stops_at game to old mid new some written fault (met, more, added) =
     (inr (to.start, to.is_start, to.faults fault met), some ++ more, added ∙ ap (λ t. t ++ more) written ∙ append_assoc old some more)
 
+-- and so is the one that is met by the next move
+pub stops_moved : (game : GameText) {line : PlayedLine} {before : List State} {played : List Move}
+    → IsPlayedTo (tag_in fen_tag game.tags) game.elements line before played → (old new some : List ℕ) → new ≡ old ++ some
+    → (fault : Fault) → IsMoveFault line.position line.plies line.words fault → StopsAtFault game old new fault
+stops_moved game to old new some written fault met = (inr (to.start, to.is_start, to.faults fault met), some, written)
+
 -- where no position is asked yet, none is an entry if nothing can be met
 pub finds_none : (aim : Aim) (number offset : ℕ) (game : GameText) (asked : List (List (Condition (List ℕ)))) (text : List ℕ) (on : Bool) → AsksFor aim game asked
     → (on ≡ false → length asked ≡ 0) → Finds aim number offset game [] text text on
@@ -138,10 +144,6 @@ at_seam (first ∷ before) P rest = at_seam before P rest
 -- that position is one of the main line
 pub seam_within : (positions before : List State) (P : State) (rest : List State) → positions ≡ before ++ P ∷ rest → length before < length positions
 seam_within positions before P rest is = slice_get_within positions (length before) P (ap (λ ps. slice_get ps (length before)) is ∙ at_seam before P rest)
-
-first_by : (b : Bool) → not b ≡ false → b ≡ true
-first_by true is = refl
-first_by false is = absurd (cc)
 
 -- one more position
 module _ {aim : Aim} {number offset : ℕ} {game : GameText} {before : List State} {old new : List ℕ} {on : Bool} (P : State) (so_far : Finds aim number offset game before old new on) where
@@ -215,7 +217,7 @@ module _ {aim : Aim} {number offset : ℕ} {game : GameText} {before : List Stat
         (subst (λ n. AreChosen number offset (IsEntry aim (heading_of game) replay) (AreFields aim.fields replay) (plies_of n rest) later) grown chosen)));
     quiet = λ is first replay own rest at n less. let no : not aim.first ≡ false = ap not first in absurd (both_ways (not aim.first) no is);
     shut = λ is replay own rest at n low within is_entry.
-        is_entry.1 (first_by aim.first is) (length before) (let size = grown in omega arith) (wanted replay own rest (joined replay rest at));
+        is_entry.1 (not-false aim.first is) (length before) (let size = grown in omega arith) (wanted replay own rest (joined replay rest at));
   }
     where
       entry : Entry

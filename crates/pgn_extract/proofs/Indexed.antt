@@ -1,6 +1,5 @@
 -- The marks of a block that the iterator has given so far.
-use Rattle.std.proofs.Common.{◌≡◌, ◌==◌, ℕ, ◌+◌, ◌≤◌, Bool, true, false, List, [], ◌∷◌, ◌++◌, map, length, Option, refl, sym, ap, ◌∙◌, subst, arith, append_assoc, length-append}
-use Rattle.std.specs.Prelude.{if◌then◌else◌}
+use Rattle.std.proofs.Common.{◌≡◌, ◌==◌, ℕ, ◌+◌, ◌≤◌, false, List, [], ◌∷◌, ◌++◌, map, length, Option, refl, sym, ap, ◌∙◌, subst, arith, append_assoc, length-append}
 use Rattle.std.proofs.lemmas.List.{append-nil, map_push, length-map}
 use Rattle.pgn_text.specs.Public.Limits.{block_limit, depth_limit}
 use Rattle.pgn_text.specs.Public.Left.{Left, ArePiecesLeft}
@@ -19,6 +18,7 @@ use Rattle.pgn_extract.specs.declared.settings.Mode.TheVariants as modes
 use Rattle.pgn_extract.proofs.GameVerdict.{unreadable_there}
 use Rattle.pgn_extract.proofs.Gathered.{gathers_none, gathers_more, gathers_passed}
 use Rattle.pgn_extract.proofs.Listed.{piece_in, begun_of}
+use Rattle.pgn_criteria.proofs.SpanFacts.{at_most_one}
 
 -- what is reported of a mark is the index's verdict on the piece
 mark_is_verdict : (aim : Aim) (number offset : ℕ) (block : List ℕ) (mark : PieceStart) (shown : spec.Piece) (verdict : Verdict)
@@ -30,11 +30,6 @@ mark_is_verdict aim number offset block (Game place) (spec.Unreadable at bytes) 
 mark_is_verdict aim number offset block (Unreadable place) (spec.Game at parts) verdict index is among by = absurd is
 mark_is_verdict aim number offset block (Unreadable place) (spec.Unreadable at bytes) verdict index is among by =
     unreadable_there aim number offset block place at bytes verdict is among by
-
--- a verdict counts as one faulty piece at most
-faulty_once : (faulty : Bool) → (if faulty then 1 else 0) ≤ 1
-faulty_once true = omega arith
-faulty_once false = omega arith
 
 -- the marks of some pieces are given, and the pieces reported by the index
 pub record Indexed (aim : Aim) (start now : Left) (report : Report) (number offset : ℕ) (out out' err err' : Option (List ℕ)) : Type 0 where
@@ -83,7 +78,7 @@ module _ {aim : Aim} {start now : Left} {report : Report} {number offset : ℕ} 
         subst (Gathers aim report' out out' err err' number) (sym (map_push (marked offset) l.done takes.shown)) more;
     games = let old = l.games in let new = adds.games in omega (arith, length-append l.done (takes.shown ∷ []));
     faulty =
-        let old = l.faulty in let new = adds.faulty in let once = faulty_once (is_faulty verdict) in
+        let old = l.faulty in let new = adds.faulty in let once = at_most_one (is_faulty verdict) in
         omega (arith, length-append l.done (takes.shown ∷ []));
     few = let f = l.few in let g = takes.grows in omega (arith, length-append l.done (takes.shown ∷ []));
     within = takes.within;

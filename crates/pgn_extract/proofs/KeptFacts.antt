@@ -18,6 +18,7 @@ use Rattle.pgn_extract.specs.Private.Finding.{IsOfGame, Finds, ShowsPosition}
 use Rattle.pgn_extract.specs.Public.Listing.{IsFenField, IsNextMove, IsNextField, AreFields}
 use Rattle.pgn_extract.specs.declared.settings.Fields.{Fields}
 use Rattle.pgn_extract.proofs.Found.{finds_none}
+use Rattle.pgn_extract.proofs.FieldTexts.{IsTextAt}
 use Rattle.pgn_extract.proofs.Picks.{same_met}
 use Rattle.pgn_extract.proofs.Sought.{one_main}
 
@@ -52,10 +53,6 @@ pub position_shown : (fen : Bool) (replay : Replay) (ply : ℕ) (P : State) (sho
     → ShowsPosition fen P shown → IsFenField fen replay ply shown
 position_shown false replay ply P shown here bare = bare
 position_shown true replay ply P shown here (text, of, whole) = (P, text, here, of, whole)
-
--- the text of a move at a place of positions
-abbrev IsTextAt : List State → ℕ → List ℕ → Move → Type 0
-IsTextAt positions ply text m = (position : State) × (slice_get positions ply ≡ Some position) × IsSan position m text
 
 pub next_played : (replay : Replay) (ply : ℕ) (P : State) (m : Move) (text : List ℕ) → slice_get replay.positions ply ≡ Some P
     → slice_get replay.played ply ≡ Some m → IsSan P m text → IsNextMove replay.positions replay.played ply text

@@ -1,5 +1,6 @@
 -- The line that the codes of a record tell is the main line of each game that has the record.
-use Rattle.std.proofs.Common.{◌≡◌, List, Some, sym, ap, ◌∙◌, subst}
+use Rattle.std.proofs.Common.{◌≡◌, List, sym, ap, ◌∙◌, subst}
+use Rattle.std.proofs.lemmas.Option.{same_Some}
 use Rattle.chess.specs.Public.Positions.{State}
 use Rattle.chess.specs.declared.moves.Move.{Move}
 use Rattle.pgn_text.specs.Public.GameTexts.{GameText, tag_in}
@@ -15,9 +16,6 @@ use Rattle.pgn_game.proofs.OneReplay.{one_start, line_head}
 use Rattle.pgn_extract.specs.Private.KeptPacked.{IsStartOf, IsKeptOf}
 use Rattle.pgn_extract.specs.Private.Packed.{IsOfRecord, HasNoText}
 
-same_state : (P Q : State) → Some P ≡ Some Q → P ≡ Q
-same_state P Q e = cc
-
 module _ {raw : RawRecord} {game : GameText} {replay : Replay} {packed : PackedGame} (own : IsOfRecord raw game replay packed) (start : State)
     (is : IsStart (tag_in fen_tag game.tags) start) where
   starts : own.is_replay.start ≡ start
@@ -25,7 +23,7 @@ module _ {raw : RawRecord} {game : GameText} {replay : Replay} {packed : PackedG
 
   kept_start : own.kept.start ≡ start
   kept_start =
-      same_state own.kept.start own.is_replay.start
+      same_Some own.kept.start own.is_replay.start
       (sym own.kept.first ∙ line_head own.is_replay.start (main_words game.elements 0) replay.positions replay.played own.is_replay.line)
       ∙ starts
 

@@ -3,6 +3,7 @@ use Rattle.std.proofs.Common.{◌≡◌, ◌↔◌, ℕ, ◌+◌, ◌<◌, Bool,
 use Rattle.std.specs.Prelude.{◌==◌, ◌/◌, ◌%◌}
 use Rattle.std.specs.List.{slice_get}
 use Rattle.std.proofs.lemmas.List.{drop-drop}
+use Rattle.std.proofs.lemmas.Option.{same_Some}
 use Rattle.chess.specs.Public.Placements.{opposite}
 use Rattle.chess.specs.Public.Positions.{State}
 use Rattle.chess.specs.declared.board.man.Side.{Side}
@@ -24,7 +25,7 @@ use Rattle.pgn_extract.specs.Private.MarkedPacked.{AreMetWith}
 use Rattle.pgn_extract.specs.Private.Packed.{IsOfRecord}
 use Rattle.pgn_extract.proofs.Found.{at_seam, finds_open, leaves_unwanted}
 use Rattle.pgn_extract.proofs.KeptFacts.{unwanted_there}
-use Rattle.pgn_extract.proofs.PackedFacts.{IsWalkedTo, IsListedOf, begins, first_is, kept_start, same_state, walked_by, walked_all, walked_enough}
+use Rattle.pgn_extract.proofs.PackedFacts.{IsWalkedTo, IsListedOf, begins, first_is, kept_start, walked_by, walked_all, walked_enough}
 use Rattle.pgn_extract.proofs.Sifted.{codes_again}
 
 -- how many codes bytes spell
@@ -81,7 +82,7 @@ module _ {raw : RawRecord} {game : GameText} {replay : Replay} {packed : PackedG
     start_sight = record { men = own.is_replay.start.men; turn = own.is_replay.start.turn; check = packed.check; stuck = packed.stuck }
 
     start_turn : own.is_replay.start.turn ≡ turn
-    start_turn = subst (λ (P : State). P.turn ≡ turn) (same_state first.0 own.is_replay.start (sym first.1 ∙ first_is own)) first.2
+    start_turn = subst (λ (P : State). P.turn ≡ turn) (same_Some first.0 own.is_replay.start (sym first.1 ∙ first_is own)) first.2
 
     start_marks : AreMarks own.is_replay.start packed.check packed.stuck
     start_marks = subst (λ (P : State). AreMarks P packed.check packed.stuck) (kept_start own) own.kept.marks

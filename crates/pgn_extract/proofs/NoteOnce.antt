@@ -3,6 +3,7 @@ use Rattle.std.proofs.Common.{◌≡◌, ◌⊎◌, ℕ, ◌+◌, ◌^◌, ◌<�
 use Rattle.std.proofs.lemmas.Fmt.{decimal_injective}
 use Rattle.std.proofs.lemmas.List.{append_cancel_left}
 use Rattle.pgn_game.proofs.PlainTokens.{AreDigits, decimal_digits}
+use Rattle.pgn_game.proofs.Cells.{same_first}
 use Rattle.pgn_extract.specs.Public.Laws.{NoNotes, NoteNamesTheStop}
 use Rattle.pgn_extract.specs.Public.Notes.{IsLinePlace, NamesByte, indented}
 
@@ -19,10 +20,6 @@ digits_once c other (x ∷ xs) (y ∷ ys) more others a b e =
     let rest : xs ++ c ∷ more ≡ ys ++ c ∷ others = cc in
     let same = digits_once c other xs ys more others a.1 b.1 rest in
     (ap (λ z. z ∷ xs) first ∙ ap (λ zs. y ∷ zs) same.0, same.1)
-
--- two lists that are one begin with one element
-first_same : (x y : ℕ) (xs ys : List ℕ) → x ∷ xs ≡ y ∷ ys → x ≡ y
-first_same x y xs ys e = cc
 
 -- what follows the place of a note
 abbrev rest_of : ℕ → List ℕ → List ℕ
@@ -45,11 +42,11 @@ after_place first second offset other more others (inl none) (inl empty) e =
     sym (ap (λ p. p ++ rest_of offset more) none) ∙ e ∙ ap (λ p. p ++ rest_of other others) empty
 after_place first second offset other more others (inl none) (inr (line, column, is)) e =
     let both = sym (ap (λ p. p ++ rest_of offset more) none) ∙ e ∙ ap (λ p. p ++ rest_of other others) is ∙ placed line column (rest_of other others) in
-    let letters : 98 ≡ 108 = first_same _ _ _ _ both in
+    let letters : 98 ≡ 108 = same_first _ _ _ _ both in
     absurd (omega (arith, letters))
 after_place first second offset other more others (inr (line, column, is)) (inl none) e =
     let both = sym (placed line column (rest_of offset more)) ∙ sym (ap (λ p. p ++ rest_of offset more) is) ∙ e ∙ ap (λ p. p ++ rest_of other others) none in
-    let letters : 108 ≡ 98 = first_same _ _ _ _ both in
+    let letters : 108 ≡ 98 = same_first _ _ _ _ both in
     absurd (omega (arith, letters))
 after_place first second offset other more others (inr (line, column, is)) (inr (row, at, also)) e =
     let both : line_and line column (rest_of offset more) ≡ line_and row at (rest_of other others) =

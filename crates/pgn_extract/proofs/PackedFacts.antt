@@ -1,8 +1,9 @@
 -- A walk over the plies of a packed game shows the positions of its main line.
-use Rattle.std.proofs.Common.{◌≡◌, ◌⊎◌, ℕ, suc, ◌+◌, ◌*◌, ◌≤◌, Bool, inl, inr, false, List, [], ◌∷◌, ◌++◌, length, drop, Some, refl, sym, ap, ◌∙◌, subst, append_assoc, append-nil, length-append, arith}
+use Rattle.std.proofs.Common.{◌≡◌, ◌⊎◌, ℕ, ◌+◌, ◌*◌, ◌≤◌, Bool, inl, inr, false, List, [], ◌∷◌, ◌++◌, length, drop, Some, refl, sym, ap, ◌∙◌, subst, append_assoc, append-nil, length-append, arith}
 use Rattle.std.specs.Prelude.{◌==◌, ◌/◌, ◌%◌}
 use Rattle.std.specs.List.{slice_get}
 use Rattle.std.proofs.Math.ListN.{drop_of_length-le}
+use Rattle.std.proofs.lemmas.Option.{same_Some}
 use Rattle.chess.specs.Public.Moves.{after, IsPseudoLegal}
 use Rattle.chess.specs.Public.Positions.{State}
 use Rattle.chess.specs.declared.moves.Move.{Move}
@@ -17,6 +18,8 @@ use Rattle.pgn_game.specs.declared.replays.replayer.Lines.TheVariants.{Main}
 use Rattle.pgn_game.proofs.HeadFacts.{head_shows}
 use Rattle.pgn_game.proofs.OneReplay.{one_start, line_length}
 use Rattle.pgn_game.proofs.RecordFacts.{plies_size}
+use Rattle.pgn_game.proofs.RecordWriting.{codes_count}
+use Rattle.pgn_game.proofs.Cells.{no_cell, same_first, same_rest}
 use Rattle.pgn_criteria.specs.Public.Meeting.{heading_of}
 use Rattle.pgn_criteria.specs.Public.Walks.{Sight, IsSightOf, stepped}
 use Rattle.pgn_criteria.specs.declared.condition.Condition.{Condition}
@@ -38,9 +41,6 @@ line_begins : (P : State) (words : List (List ℕ)) (positions : List State) (pl
 line_begins P [] positions played line = ([], line.0)
 line_begins P (word ∷ words) positions played line = (line.1, line.3)
 
-pub same_state : (P Q : State) → Some P ≡ Some Q → P ≡ Q
-same_state P Q e = cc
-
 module _ {raw : RawRecord} {game : GameText} {replay : Replay} {packed : PackedGame} (own : IsOfRecord raw game replay packed) where
   -- the start of the replay
   pub begins : (later : List State) × (replay.positions ≡ own.is_replay.start ∷ later)
@@ -50,7 +50,7 @@ module _ {raw : RawRecord} {game : GameText} {replay : Replay} {packed : PackedG
   first_is = ap (λ (ps : List State). slice_get ps 0) begins.1
 
   pub kept_start : own.kept.start ≡ own.is_replay.start
-  kept_start = same_state own.kept.start own.is_replay.start (sym own.kept.first ∙ first_is)
+  kept_start = same_Some own.kept.start own.is_replay.start (sym own.kept.first ∙ first_is)
 
   -- what is seen with the men and the side of the start, and the record's marks, is seen of the start
   pub sight_at_start : (P : State) → IsStart (tag_in fen_tag game.tags) P → (s : Sight) → s.men ≡ P.men → s.turn ≡ P.turn → HasItsMarks raw s
@@ -99,7 +99,7 @@ pub walked_none : {aim : Aim} {number offset : ℕ} {raw : RawRecord} {game : Ga
 walked_none {aim} {number} {offset} {raw} {game} {replay} {packed} {seen} {old} {new} {on} {still} asked own asks off (P, here, sight) goes =
     let start = own.is_replay.start in
     let from = begins own in
-    let same : P ≡ start = same_state P start (sym here ∙ first_is own) in
+    let same : P ≡ start = same_Some P start (sym here ∙ first_is own) in
     record {
       before = [];
       here = start;
@@ -113,15 +113,6 @@ walked_none {aim} {number} {offset} {raw} {game} {replay} {packed} {seen} {old} 
       codes = subst (λ (Q : State). AreCodes Q replay.played packed.plies) (kept_start own) own.kept.plies;
       finds = goes game asks [] start refl (subst (λ (Q : State). IsSightOf Q seen) same sight) old (finds_none aim number offset game asked old on asks off);
     }
-
-no_cell : {A : Type 0} (x : A) (xs : List A) → [] ≡ x ∷ xs → ⊥
-no_cell x xs e = absurd cc
-
-same_rest : {A : Type 0} (x y : A) (xs ys : List A) → x ∷ xs ≡ y ∷ ys → xs ≡ ys
-same_rest x y xs ys e = cc
-
-same_first : {A : Type 0} (x y : A) (xs ys : List A) → x ∷ xs ≡ y ∷ ys → x ≡ y
-same_first x y xs ys e = cc
 
 -- one more ply of the line
 pub record IsNextPly (here : State) (later : List State) (c : PlyCode) (more : List PlyCode) : Type 0 where
@@ -257,15 +248,11 @@ leaves_record raw none packed fits shows game replay text is_replay kept =
 
 -- ---- how many plies
 
-codes_counted : (P : State) (moves : List Move) (codes : List PlyCode) → AreCodes P moves codes → length codes ≡ length moves
-codes_counted P [] codes are = ap length are
-codes_counted P (m ∷ moves) codes (c, more, is, code, are) = ap length is ∙ ap suc (codes_counted (after P m) moves more are)
-
 -- the bytes of the plies are three for each
 pub plies_counted : {raw : RawRecord} {game : GameText} {replay : Replay} {packed : PackedGame} → IsOfRecord raw game replay packed
     → length replay.positions ≡ length raw.plies / 3 + 1
 plies_counted {raw} {game} {replay} {packed} own =
     let size = line_length own.is_replay.start (main_words game.elements 0) replay.positions replay.played own.is_replay.line in
-    let codes = codes_counted own.kept.start replay.played packed.plies own.kept.plies in
+    let codes = codes_count own.kept.start replay.played packed.plies own.kept.plies in
     let bytes : length raw.plies ≡ 3 * length packed.plies = ap (λ (r : RawRecord). length r.plies) (sym own.shows) ∙ plies_size packed.plies in
     omega (arith, size, codes, bytes)

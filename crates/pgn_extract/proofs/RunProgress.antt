@@ -1,17 +1,16 @@
 -- The run over the blocks: what stands at each turn, and what each way out of it gives.
-use Rattle.std.proofs.Common.{◌≡◌, ℕ, ◌+◌, ◌-◌, ◌^◌, ◌<◌, ◌≤◌, Bool, true, false, List, [], ◌∷◌, ◌++◌, length, Option, Some, None, refl, sym, ap, ◌∙◌, subst, arith, append_assoc, length-append, inl, inr, ◌⊎◌}
+use Rattle.std.proofs.Common.{◌≡◌, ℕ, ◌+◌, ◌-◌, ◌^◌, ◌<◌, ◌≤◌, true, false, List, [], ◌∷◌, ◌++◌, length, Option, Some, None, refl, sym, ap, ◌∙◌, subst, arith, append_assoc, length-append, inl, inr, ◌⊎◌}
 use Rattle.std.specs.Prelude.{◌≢◌, count_by, IfSome}
 use Rattle.std.specs.Io.KnownBytes.{Keeps, IsAtEnd}
 use Rattle.std.proofs.lemmas.Bool.{cases_Bool, both_ways}
 use Rattle.std.proofs.lemmas.List.{append-nil}
-use Rattle.pgn_text.specs.Public.Blocks.{IsFirstBlock}
 use Rattle.pgn_text.specs.Public.Marks.{MarkedPiece, AreMarkedPieces}
 use Rattle.pgn_text.specs.Public.Tallies.{Reads}
 use Rattle.pgn_text.specs.Public.Windows.{Window, fresh_window, IsCutOff, FailsAfter}
 use Rattle.pgn_text.specs.declared.io.blocks.ReadError.{ReadError}
 use Rattle.pgn_text.specs.declared.io.blocks.ReadError.TheVariants as cause
 use Rattle.pgn_text.proofs.Joined.{reads_join, reads_none}
-use Rattle.pgn_text.proofs.OneBlocks.{empty_first}
+use Rattle.pgn_text.proofs.BlockSizes.{some_bytes, turns}
 use Rattle.pgn_extract.specs.Private.Blockwise.{WritesBlock, Begins, BeginsBlock, EndsBlocks, BeginsFirst, BreaksOff, StandsOver, run_error_of}
 use Rattle.pgn_extract.specs.Public.Outcomes.{Writes}
 use Rattle.pgn_extract.specs.declared.output.outcome.RunError.{RunError}
@@ -24,11 +23,6 @@ use Rattle.pgn_extract.proofs.BlocksGiven.{Given, none_given, one_given, all_giv
 use Rattle.pgn_extract.proofs.Dropping.{all_read}
 use Rattle.pgn_extract.proofs.VerdictFacts.{count_by-join}
 use Rattle.pgn_extract.proofs.Writing.{appends_none}
-
--- how many turns an ended reader has left at most, and one that goes on
-abbrev pub turns : Bool → ℕ
-turns true = 0
-turns false = 1
 
 -- some blocks are read, and their pieces reported and counted
 pub record Progress (aim : Aim) (limit max_depth number offset : ℕ) (now : Window) (first left : Option (List ℕ)) (moved count : ℕ) (out out' err err' : Option (List ℕ)) (games faulty : ℕ) : Type 0 where
@@ -85,13 +79,9 @@ module _ {aim : Aim} {limit max_depth number offset : ℕ} {now : Window} {first
         | inl ended ↦ let after : turns next.ended ≡ 0 = ap turns ended in omega arith
         | inr going ↦
             let after : turns next.ended ≡ 1 = ap turns going in
-            let some : 0 < length block = some_bytes block (cut.more going) (cut.first [] (λ _. refl)) in
+            let some : 0 < length block = some_bytes next.ahead block (cut.more going) (cut.first [] (λ _. refl)) in
             omega arith
       ]
-    where
-      some_bytes : (b : List ℕ) → next.ahead ≢ [] → IsFirstBlock b (next.ahead ++ []) → 0 < length b
-      some_bytes [] more f = absurd (more (sym (append-nil next.ahead) ∙ empty_first (next.ahead ++ []) f))
-      some_bytes (x ∷ b) more f = omega arith
 
   -- the bytes of a block and those ahead then, after those before
   total : {next : Window} {left' : Option (List ℕ)} {count' : ℕ} {read block : List ℕ} → IsCutOff now next left' read block → Reads left left' count count' read

@@ -1,7 +1,8 @@
 -- Runs over files, one after the other.
-use Rattle.std.proofs.Common.{◌≡◌, ◌≢◌, ◌++◌, ◌||◌, ◌+◌, ◌<◌, ℕ, Bool, true, false, List, [], ◌∷◌, Option, Some, None, IfSome, length, take, map, get_or, refl, sym, ap, subst, ◌∙◌}
+use Rattle.std.proofs.Common.{◌≡◌, ◌≢◌, ◌++◌, ◌||◌, ◌+◌, ◌<◌, ℕ, Bool, false, List, [], ◌∷◌, Option, Some, None, IfSome, length, take, map, get_or, refl, sym, ap, subst, ◌∙◌}
 use Rattle.std.proofs.lemmas.List.{append_assoc, append-nil, get_or-map, length-map, take_more}
 use Rattle.std.proofs.lemmas.List.Folds.{list_any-append}
+use Rattle.std.proofs.Math.Bool.{or-false}
 use Rattle.std.specs.Io.KnownBytes.{Appends}
 use Rattle.std.specs.List.{list_any}
 use Rattle.std.specs.Option.{option_map}
@@ -57,10 +58,6 @@ written_there view all i d order order' known known' orders same within output r
     (subst (λ (o : Order). IsOfPath o path (known path) own own_report) (orders path)
     (subst (λ (at : AtPath). IsOfPath (order' path) path at own own_report) (same path) is)))
 
-or_false : (was : Bool) → was || false ≡ was
-or_false true = refl
-or_false false = refl
-
 -- whether no file can be opened at one of the paths up to it
 pub unopened_there : {P : Type 0} (view : P → List ℕ) (all : List P) (i : ℕ) (d : P) (known known' : List ℕ → AtPath) → ((path : List ℕ) → known' path ≡ known path)
     → i < length all → (was own now : Bool) → now ≡ was || own → was ≡ list_any (λ path. is_no_file (known path)) (take i (map view all))
@@ -69,7 +66,7 @@ pub unopened_there : {P : Type 0} (view : P → List ℕ) (all : List P) (i : �
 unopened_there view all i d known known' same within was own now is before here =
     let path = view (get_or all i d) in
     let test : List ℕ → Bool = λ path. is_no_file (known path) in
-    is ∙ ap (λ b. b || own) before ∙ ap (λ b. list_any test (take i (map view all)) || b) (here ∙ ap is_no_file (same path) ∙ sym (or_false (test path)))
+    is ∙ ap (λ b. b || own) before ∙ ap (λ b. list_any test (take i (map view all)) || b) (here ∙ ap is_no_file (same path) ∙ sym (or-false (test path)))
     ∙ sym (list_any-append test (take i (map view all)) (path ∷ [])) ∙ ap (list_any test) (sym (path_there view all i d within))
 
 -- at a path where a file could not be opened, and memory did not run out, there is none

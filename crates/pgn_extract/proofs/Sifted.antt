@@ -1,5 +1,6 @@
 -- A packed game of which no position can meet criteria has no entries.
-use Rattle.std.proofs.Common.{◌≡◌, ◌∷◌, ℕ, zero, suc, Some, None, List, [], refl, sym, ap, subst, ◌∙◌, append-nil, arith}
+use Rattle.std.proofs.Common.{◌≡◌, ◌∷◌, ℕ, zero, suc, Some, List, [], refl, sym, ap, subst, ◌∙◌, append-nil, arith}
+use Rattle.std.proofs.lemmas.Option.{same_Some, none-some}
 use Rattle.std.specs.Prelude.{IsTrue}
 use Rattle.std.specs.List.{slice_get, flat_map, AllByRecursion}
 use Rattle.chess.specs.Public.Moves.{after}
@@ -20,16 +21,13 @@ use Rattle.pgn_extract.specs.Public.Aims.{Aim, IsEntry}
 use Rattle.pgn_extract.specs.Private.Finding.{AsksFor}
 use Rattle.pgn_extract.specs.Public.Listing.{AreFields}
 use Rattle.pgn_extract.specs.Private.Packed.{EachOfRecord, StartsThere, ListsRecord}
-use Rattle.pgn_extract.proofs.PackedFacts.{begins, first_is, kept_start, same_state, next_ply, line_ended}
+use Rattle.pgn_extract.proofs.PackedFacts.{begins, first_is, kept_start, next_ply, line_ended}
 use Rattle.pgn_extract.proofs.Picks.{leaves_all}
 
 -- the bytes of codes spell these codes
 pub codes_again : (cs : List PlyCode) → AllByRecursion FitsCode cs → codes_in (flat_map code_bytes cs) ≡ cs
 codes_again [] fits = refl
 codes_again (c ∷ cs) fits = ap (λ (d : PlyCode). d ∷ codes_in (flat_map code_bytes cs)) (code_again c fits.0) ∙ ap (λ (ds : List PlyCode). c ∷ ds) (codes_again cs fits.1)
-
-no_position : (P : State) → None ≡ Some P → ⊥
-no_position P e = absurd cc
 
 -- where nothing that is seen along the line meets what is asked, no position of the line does
 module _ (asked : List (List (Condition (List ℕ)))) (heading : Heading) (replay : Replay) where
@@ -41,11 +39,11 @@ module _ (asked : List (List (Condition (List ℕ)))) (heading : Heading) (repla
       → AreCodes here moves codes → IsSightOf here s → IsMetNowhere s codes → (k : ℕ) (P : State) → slice_get (here ∷ later) k ≡ Some P → (ply : ℕ)
       → ¬ SomeHold heading replay ply P asked
   met_nowhere here later words moves [] s line are sight none zero P at ply = λ hold.
-      none (here, sight, heading, replay, ply, subst (λ (Q : State). SomeHold heading replay ply Q asked) (sym (same_state here P at)) hold)
+      none (here, sight, heading, replay, ply, subst (λ (Q : State). SomeHold heading replay ply Q asked) (sym (same_Some here P at)) hold)
   met_nowhere here later words moves [] s line are sight none (suc k) P at ply =
-      absurd (no_position P (sym (ap (λ (ps : List State). slice_get ps k) (line_ended here later words moves line are)) ∙ at))
+      absurd (none-some P (sym (ap (λ (ps : List State). slice_get ps k) (line_ended here later words moves line are)) ∙ at))
   met_nowhere here later words moves (c ∷ codes) s line are sight none zero P at ply = λ hold.
-      none.0 (here, sight, heading, replay, ply, subst (λ (Q : State). SomeHold heading replay ply Q asked) (sym (same_state here P at)) hold)
+      none.0 (here, sight, heading, replay, ply, subst (λ (Q : State). SomeHold heading replay ply Q asked) (sym (same_Some here P at)) hold)
   met_nowhere here later words moves (c ∷ codes) s line are sight none (suc k) P at ply =
       let one = next_ply here later words moves c codes line are in
       met_nowhere (after here one.m) one.rest one.words one.moves codes (stepped s c) one.line one.codes
@@ -61,7 +59,7 @@ lists_nothing aim raw asked sight text asks starts none = (
       let start = own.is_replay.start in
       let from = begins own in
       let first = starts game replay packed own in
-      let seen : IsSightOf start sight = subst (λ (P : State). IsSightOf P sight) (same_state first.0 start (sym first.1 ∙ first_is own)) first.2 in
+      let seen : IsSightOf start sight = subst (λ (P : State). IsSightOf P sight) (same_Some first.0 start (sym first.1 ∙ first_is own)) first.2 in
       let codes : codes_in raw.plies ≡ packed.plies = ap (λ (r : RawRecord). codes_in r.plies) (sym own.shows) ∙ codes_again packed.plies own.fits.plies in
       let line : IsMainLine start (main_words game.elements 0) (start ∷ from.0) replay.played =
       subst (λ (ps : List State). IsMainLine start (main_words game.elements 0) ps replay.played) from.1 own.is_replay.line in

@@ -21,14 +21,11 @@ pub sought_none : (aim : Aim) (game : GameText) → IsFirstWanted aim game [] No
 sought_none aim game replay own rest is n less = absurd (omega arith)
 
 module _ (aim : Aim) (game : GameText) (before : List State) (P : State) where
-  grown : length (before ++ P ∷ []) ≡ length before + 1
-  grown = length-append before (P ∷ [])
-
   -- one more position, where one was found
   pub sought_before : (n : ℕ) → IsFirstWanted aim game before (Some n) → IsFirstWanted aim game (before ++ P ∷ []) (Some n)
   sought_before n so_far replay own rest is =
       let found = so_far replay own (P ∷ rest) (is ∙ append_assoc before (P ∷ []) rest) in
-      let size = grown in
+      let size = length-append before (P ∷ []) in
       (omega (arith, size, found.0), found.1, found.2)
 
   -- one more position, that is wanted
@@ -36,7 +33,7 @@ module _ (aim : Aim) (game : GameText) (before : List State) (P : State) where
       → IsFirstWanted aim game before None → IsFirstWanted aim game (before ++ P ∷ []) (Some (length before))
   sought_here wanted so_far replay own rest is =
       let all = is ∙ append_assoc before (P ∷ []) rest in
-      let size = grown in
+      let size = length-append before (P ∷ []) in
       (omega (arith, size), wanted replay own rest all, so_far replay own (P ∷ rest) all)
 
   -- one more position, that is not
@@ -44,7 +41,7 @@ module _ (aim : Aim) (game : GameText) (before : List State) (P : State) where
       → IsFirstWanted aim game before None → IsFirstWanted aim game (before ++ P ∷ []) None
   sought_on fails so_far replay own rest is n less wanted =
       let all = is ∙ append_assoc before (P ∷ []) rest in
-      let size = grown in
+      let size = length-append before (P ∷ []) in
       elim (cases_lt n (length before)) [
         | inl under ↦ so_far replay own (P ∷ rest) all n under wanted
         | inr over ↦ let here : n ≡ length before = omega (arith, size, less, over) in fails replay own rest all (subst (IsWanted aim (heading_of game) replay) here wanted)

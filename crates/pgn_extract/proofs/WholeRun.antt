@@ -6,6 +6,9 @@ use Rattle.std.proofs.lemmas.Bool.{cases_lt}
 use Rattle.std.proofs.lemmas.List.{append-nil, append_cancel_left, drop_all, drop_at, take_at}
 use Rattle.pgn_text.specs.Public.Complete.{AreCompletePieces}
 use Rattle.pgn_text.specs.Public.Marks.{AreMarkedPieces}
+use Rattle.pgn_text.proofs.OneList.{no_bytes}
+use Rattle.pgn_text.proofs.OneBlocks.{empty_block}
+use Rattle.pgn_text.proofs.ResumedText.{not_nil}
 use Rattle.pgn_extract.specs.Private.Blockwise.{Drops, DropsSome, EndsBlocks, BeginsFirst, BreaksOff, StandsOver}
 use Rattle.pgn_extract.specs.Public.Outcomes.{WritesComplete, BeginsAll}
 use Rattle.pgn_extract.specs.Public.Runs.{Job, Io, Completes, Stops}
@@ -29,25 +32,13 @@ drop_is most dropped rest fits end =
 nothing_left : (whole dropped rest : List ℕ) → whole ≡ dropped ++ rest → whole ≡ dropped → rest ≡ []
 nothing_left whole dropped rest parted is = append_cancel_left dropped rest [] (sym parted ∙ is ∙ sym (append-nil dropped))
 
-no_front : (xs ys : List ℕ) → xs ++ ys ≡ [] → xs ≡ []
-no_front [] ys e = refl
-no_front (x ∷ xs) ys e = cc
-
-some_byte : (xs : List ℕ) (b : ℕ) → xs ++ b ∷ [] ≡ [] → ⊥
-some_byte [] b e = cc
-some_byte (x ∷ xs) b e = cc
-
 -- nothing is reported where no byte is kept
 none_complete : (limit max_depth offset : ℕ) → AreCompletePieces limit max_depth offset [] []
 none_complete limit max_depth offset = record {
   blocks = [];
-  complete = record { last = []; parted = (refl, record { ends = λ some. absurd (some refl); whole = λ x y e some other here. other (nothing x y e) }) };
+  complete = record { last = []; parted = (refl, empty_block) };
   each = refl;
 }
-  where
-    nothing : (x y : List ℕ) → [] ≡ x ++ y → y ≡ []
-    nothing [] y e = sym e
-    nothing (z ∷ x) y e = cc
 
 module _ (job : Job) (io : Io) where
   -- the whole input is reported
@@ -104,7 +95,7 @@ module _ (job : Job) (io : Io) where
       kept = ap (drop job.offset) d.reads.bytes ∙ drop_is job.offset d.dropped rest d.within (λ less. nothing_left whole d.dropped rest d.reads.bytes (d.end less))
 
       none_read : length d.dropped < job.offset → b.read ≡ []
-      none_read less = no_front b.read after (sym b.reads.bytes ∙ nothing_left whole d.dropped rest d.reads.bytes (d.end less))
+      none_read less = no_bytes b.read after (sym b.reads.bytes ∙ nothing_left whole d.dropped rest d.reads.bytes (d.end less))
 
       shape : whole ≡ (d.dropped ++ b.read) ++ after
       shape = d.reads.bytes ∙ ap (λ t. d.dropped ++ t) b.reads.bytes ∙ sym (append_assoc d.dropped b.read after)
@@ -134,7 +125,7 @@ module _ (job : Job) (io : Io) where
       by_kind OutOfMemory s = begun s
       by_kind InputTooLong s =
           elim (cases_lt (length d.dropped) job.offset) [
-            | inl less ↦ absurd (some_byte s.kept s.byte (sym s.parted ∙ none_read less))
+            | inl less ↦ absurd (not_nil s.kept s.byte [] (sym s.parted ∙ none_read less))
             | inr more ↦
                 let front : whole ≡ (d.dropped ++ s.kept) ++ (s.byte ∷ [] ++ after) =
                 d.reads.bytes ∙ ap (λ t. d.dropped ++ t) (b.reads.bytes ∙ ap (λ t. t ++ after) s.parted ∙ append_assoc s.kept (s.byte ∷ []) after)

@@ -1,7 +1,8 @@
 use Rattle.std.proofs.Common.{◌≡◌, ◌+◌, ◌-◌, ◌^◌, false}
 use Rattle.pgn_text.specs.Public.Limits.{block_limit, depth_limit}
+use Rattle.pgn_text.proofs.BlockSizes.{turns}
 use Rattle.pgn_extract.specs.Public.Aims.{aim_of}
-use Rattle.pgn_extract.proofs.RunProgress.{Progress, turns}
+use Rattle.pgn_extract.proofs.RunProgress.{Progress}
 use Rattle.pgn_extract.proofs.engine.run_blocks.Given as goal
 
 abbrev pub invariant-loop-block : goal.invariant-loop-block

@@ -1,17 +1,11 @@
-use Rattle.std.proofs.Common.{◌≡◌, ℕ, List, Option, Some, sym, ap, subst, ◌∙◌}
-use Rattle.std.specs.Prelude.{IfSome}
+use Rattle.std.proofs.Common.{Some, sym, ap, subst, ◌∙◌}
 use Rattle.chess.specs.Public.Positions.{State}
 use Rattle.pgn_text.specs.Public.GameTexts.{tag_in}
-use Rattle.pgn_game.specs.Public.Faults.{Fault, BadStart}
 use Rattle.pgn_game.specs.Public.Starts.{fen_tag, IsStart, IsBadStart}
 use Rattle.pgn_game.proofs.OneReplay.{start_or_bad}
 use Rattle.pgn_criteria.specs.Public.Walks.{Sight}
 use Rattle.pgn_extract.proofs.PackedFacts.{sight_at_start}
 use Rattle.pgn_extract.proofs.packed.begin_at.Goals as goal
-
--- what is reported of a fault that is reported
-at_some : (contents : List ℕ) (o : Option Fault) (own : Fault) → o ≡ Some own → IfSome o (λ reported. IsBadStart (Some contents) × (reported ≡ BadStart)) → IsBadStart (Some contents)
-at_some contents o own is here = (subst (λ (x : Option Fault). IfSome x (λ reported. IsBadStart (Some contents) × (reported ≡ BadStart))) is here).0
 
 pub returns-then-not-is_contents-clause-err : goal.returns-then-not-is_contents-clause-err
 returns-then-not-is_contents-clause-err c is game replay packed own =
@@ -30,6 +24,6 @@ returns-in-Err c = record {
   ok = tt;
   err = λ is game replay packed own.
       let reported = c.start_fault.ensures is in
-      let bad : IsBadStart (Some c.args.contents.now) = at_some c.args.contents.now _ reported.0 reported.1 c.in-Err.ensures in
+      let bad : IsBadStart (Some c.args.contents.now) = (rw reported.1 at c.in-Err.ensures).0 in
       start_or_bad (tag_in fen_tag game.tags) own.is_replay.start own.is_replay.is_start (subst IsBadStart (sym (c.requires game replay packed own)) bad);
 }

@@ -1,21 +1,14 @@
-use Rattle.std.proofs.Common.{◌≡◌, ℕ, Bool, false, true, [], ◌∷◌, ◌++◌, length, refl, sym, subst, inr, not, arith}
-use Rattle.std.specs.Prelude.{◌==◌}
-use Rattle.std.proofs.lemmas.Bool.Decides.{nat_tests}
+use Rattle.std.proofs.Common.{false, true, [], ◌∷◌, ◌++◌, length, refl, sym, subst, not, ◌∙◌}
+use Rattle.std.proofs.lemmas.Bool.{eqb-true, not-false}
 use Rattle.std.proofs.lemmas.Option.{IfSome_then}
 use Rattle.std.proofs.lemmas.Result.{err_from_is_err_and}
 use Rattle.pgn_game.specs.declared.replays.replayer.Lines.TheVariants.{Main}
-use Rattle.pgn_game.specs.Public.Faults.{Fault, IsMoveFault}
 use Rattle.pgn_game.specs.Public.Replays.{Replay}
 use Rattle.pgn_game.specs.Public.PlayedLines.{PlaysWord, HasEnded, HasAdvanced}
 use Rattle.pgn_extract.specs.Public.Aims.{aim_of}
-use Rattle.pgn_extract.specs.Private.Finding.{StopsAtFault}
 use Rattle.pgn_extract.specs.Public.Listing.{listing}
-use Rattle.pgn_extract.proofs.Found.{played_none, played_on, played_all, finds_none, finds_all}
+use Rattle.pgn_extract.proofs.Found.{played_none, played_on, played_all, finds_none, finds_all, stops_moved}
 use Rattle.pgn_extract.proofs.entries.Finder.play.Goals as goal
-
-none_left : (r : Bool) (n : ℕ) → r ≡ (n == 0) → not r ≡ false → n ≡ 0
-none_left true n is off = let empty : (n == 0) ≡ true = sym is in grind (arith, nat_tests)
-none_left false n is off = absurd (cc)
 
 pub loop-text-init : goal.loop-text-init
 loop-text-init c =
@@ -23,18 +16,15 @@ loop-text-init c =
     let text = c.args.text.now.items in
     let to = played_none c.in_ok-line.ensures in
     let start = finds_none (aim_of finder.settings.now) finder.own.number finder.own.offset c.args.game.now finder.search text (not c.is_empty.result) c.requires.asks
-    (none_left c.is_empty.result (length finder.search) c.is_empty.ensures) in
+    (λ off. eqb-true (length finder.search) 0 (sym c.is_empty.ensures ∙ not-false c.is_empty.result off)) in
     ([], [], to, c.in_ok-is_open.ensures c.args.game.now c.requires.asks [] [] text to start)
 
 pub returns-in_err-advance : goal.returns-in_err-advance
 returns-in_err-advance c =
     let at = c.loop-text.invariant in
     let p = err_from_is_err_and c.from_residual-in_err-advance.result c.from_residual-in_err-advance.ensures.1 in
-    let line = c.loop-text.line in
-    let stops : (fault : Fault) → IsMoveFault line.position line.plies line.words fault
-    → StopsAtFault c.args.game.now c.args.text.now.items c.loop-text.text.items fault =
-    λ fault met. (inr (at.2.start, at.2.is_start, at.2.faults fault met), listing c.args.self.now.settings.now.name at.3.found, at.3.written) in
-    rw (p.1, p.2) (IfSome_then _ c.in_err-advance.ensures stops)
+    let found = listing c.args.self.now.settings.now.name at.3.found in
+    rw (p.1, p.2) (IfSome_then _ c.in_err-advance.ensures (stops_moved c.args.game.now at.2 c.args.text.now.items c.loop-text.text.items found at.3.written))
 
 pub loop-text-preserved : goal.loop-text-preserved
 loop-text-preserved c =

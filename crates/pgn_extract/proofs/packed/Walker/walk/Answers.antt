@@ -1,7 +1,6 @@
-use Rattle.std.proofs.Common.{◌≡◌, ◌+◌, ◌*◌, ◌++◌, ℕ, Bool, true, false, List, length, drop, get_or, ◌∷◌, not, sym, ap, append_assoc, ◌∙◌, arith}
-use Rattle.std.specs.Prelude.{◌==◌}
+use Rattle.std.proofs.Common.{◌≡◌, ◌+◌, ◌*◌, ◌++◌, ℕ, true, false, List, length, drop, get_or, ◌∷◌, sym, ap, append_assoc, ◌∙◌, arith}
 use Rattle.std.specs.List.{flat_map}
-use Rattle.std.proofs.lemmas.Bool.Decides.{nat_tests}
+use Rattle.std.proofs.lemmas.Bool.{eqb-true, not-false}
 use Rattle.pgn_game.specs.Public.PackReading.{RawRecord}
 use Rattle.pgn_game.specs.Public.PlyCodes.{PlyCode, code_bytes, code_of}
 use Rattle.pgn_game.proofs.RecordFacts.{plies_size}
@@ -9,15 +8,11 @@ use Rattle.pgn_game.proofs.CodeLineFacts.{code_there}
 use Rattle.pgn_extract.proofs.PackedFacts.{walked_none, walked_on, walked_all, walked_enough}
 use Rattle.pgn_extract.proofs.packed.Walker.walk.Goals as goal
 
-none_left : (r : Bool) (n : ℕ) → r ≡ (n == 0) → not r ≡ false → n ≡ 0
-none_left true n is off = let empty : (n == 0) ≡ true = sym is in grind (arith, nat_tests)
-none_left false n is off = absurd (cc)
-
 pub loop-ply-init : goal.loop-ply-init
 loop-ply-init c = record {
   grown = c.in_ok-is_open.ensures.0;
   walked = λ game replay packed own.
-      walked_none c.args.self.now.search own (c.requires.asks game replay packed own) (none_left c.is_empty.result (length c.args.self.now.search) c.is_empty.ensures)
+      walked_none c.args.self.now.search own (c.requires.asks game replay packed own) (λ off. eqb-true (length c.args.self.now.search) 0 (sym c.is_empty.ensures ∙ not-false c.is_empty.result off))
       (c.requires.starts game replay packed own) c.in_ok-is_open.ensures.1;
 }
 

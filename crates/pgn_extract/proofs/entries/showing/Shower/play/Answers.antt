@@ -1,14 +1,13 @@
-use Rattle.std.proofs.Common.{[], ◌∷◌, ◌++◌, refl, sym, append-nil, subst, inr}
+use Rattle.std.proofs.Common.{[], ◌∷◌, ◌++◌, refl, sym, append-nil, subst}
 use Rattle.std.proofs.lemmas.Option.{IfSome_then}
 use Rattle.std.proofs.lemmas.Result.{err_from_is_err_and}
 use Rattle.pgn_game.specs.declared.replays.replayer.Lines.TheVariants.{Main}
-use Rattle.pgn_game.specs.Public.Faults.{Fault, IsMoveFault}
 use Rattle.pgn_game.specs.Public.Replays.{Replay}
 use Rattle.pgn_game.specs.Public.PlayedLines.{PlaysWord, HasEnded, HasAdvanced}
 use Rattle.pgn_extract.specs.Public.Aims.{aim_of}
-use Rattle.pgn_extract.specs.Private.Finding.{asked_of, StopsAtFault}
+use Rattle.pgn_extract.specs.Private.Finding.{asked_of}
 use Rattle.pgn_extract.specs.Public.Listing.{listing}
-use Rattle.pgn_extract.proofs.Found.{played_none, played_on, played_all, finds_none, finds_all, stops_at}
+use Rattle.pgn_extract.proofs.Found.{played_none, played_on, played_all, finds_none, finds_all, stops_at, stops_moved}
 use Rattle.pgn_extract.proofs.entries.showing.Shower.play.Goals as goal
 
 pub loop-text-init : goal.loop-text-init
@@ -40,11 +39,8 @@ pub returns-in_err-advance : goal.returns-in_err-advance
 returns-in_err-advance c =
     let at = c.loop-text.invariant in
     let p = err_from_is_err_and c.from_residual-in_err-advance.result c.from_residual-in_err-advance.ensures.1 in
-    let line = c.loop-text.line in
-    let stops : (fault : Fault) → IsMoveFault line.position line.plies line.words fault
-    → StopsAtFault c.args.game.now c.args.text.now.items c.loop-text.text.items fault =
-    λ fault met. (inr (at.2.start, at.2.is_start, at.2.faults fault met), listing c.args.self.now.settings.now.name at.3.found, at.3.written) in
-    rw (p.1, p.2) (IfSome_then _ c.in_err-advance.ensures stops)
+    let found = listing c.args.self.now.settings.now.name at.3.found in
+    rw (p.1, p.2) (IfSome_then _ c.in_err-advance.ensures (stops_moved c.args.game.now at.2 c.args.text.now.items c.loop-text.text.items found at.3.written))
 
 pub loop-text-preserved : goal.loop-text-preserved
 loop-text-preserved c =
