@@ -29,7 +29,10 @@ fn is_refused(
 }
 
 /// A block, the lines that are replayed, the word that is refused with its place, and why.
-const REFUSED: [(&[u8], Lines, (usize, &[u8]), Why); 20] = [
+type Row = (&'static [u8], Lines, (usize, &'static [u8]), Why);
+
+/// Words at their places.
+const PLACES: [Row; 9] = [
     (
         b"1. e4 e5 2. Ke3 *",
         Lines::Main,
@@ -84,6 +87,10 @@ const REFUSED: [(&[u8], Lines, (usize, &[u8]), Why); 20] = [
         (3, b"Hello"),
         Why::Illegal(Refusal::NoMoveText),
     ),
+];
+
+/// Words of games, and why they are refused.
+const REASONS: [Row; 11] = [
     (
         b"1. O-O *",
         Lines::Main,
@@ -152,14 +159,27 @@ const REFUSED: [(&[u8], Lines, (usize, &[u8]), Why); 20] = [
     ),
 ];
 
-#[test]
-fn words_are_refused(rt: HostRuntime) -> Result<(), Fail> {
-    for &(block, lines, word, why) in &REFUSED {
-        assert!(rt;
-            is_refused(rt.alloc(), block, lines, word, why)?,
-            "{block:?}"
-        );
+/// The block of the first row that is wrong.
+fn first_wrong(alloc: Global, rows: &[Row]) -> Result<Option<&'static [u8]>, AllocError> {
+    for &(block, lines, word, why) in rows {
+        if !is_refused(alloc, block, lines, word, why)? {
+            return Ok(Some(block));
+        }
     }
+    Ok(None)
+}
+
+#[test]
+fn words_are_refused_at_their_places(rt: HostRuntime) -> Result<(), Fail> {
+    let wrong = first_wrong(rt.alloc(), &PLACES)?;
+    assert!(rt; wrong.is_none(), "{wrong:?}");
+    Ok(())
+}
+
+#[test]
+fn words_are_refused_for_their_reasons(rt: HostRuntime) -> Result<(), Fail> {
+    let wrong = first_wrong(rt.alloc(), &REASONS)?;
+    assert!(rt; wrong.is_none(), "{wrong:?}");
     Ok(())
 }
 

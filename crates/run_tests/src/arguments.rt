@@ -1,5 +1,5 @@
 //! Arguments, refusals and statuses.
-use crate::runs::{FAULT_BETWEEN, LOST_BRACE, Row, Shelf, holds, run_arguments};
+use crate::runs::{FAULT_BETWEEN, LOST_BRACE, Row, Shelf, first_wrong, run_arguments};
 use memchr::memmem;
 use std::alloc::{AllocError, Global};
 use std::test::Fail;
@@ -418,11 +418,23 @@ const SUMMARIES: [Row; 26] = [
 ];
 
 #[test]
-fn rows_give_their_bytes(rt: HostRuntime) -> Result<(), Fail> {
-    let rows = ROWS.iter().chain(STRETCHES.iter()).chain(SUMMARIES.iter());
-    for row in rows {
-        assert!(rt; holds(rt.alloc(), row)?, "{:?} over {:?}", row.0, row.1);
-    }
+fn arguments_give_their_bytes(rt: HostRuntime) -> Result<(), Fail> {
+    let wrong = first_wrong(rt.alloc(), &ROWS)?;
+    assert!(rt; wrong.is_none(), "{wrong:?}");
+    Ok(())
+}
+
+#[test]
+fn stretches_give_their_bytes(rt: HostRuntime) -> Result<(), Fail> {
+    let wrong = first_wrong(rt.alloc(), &STRETCHES)?;
+    assert!(rt; wrong.is_none(), "{wrong:?}");
+    Ok(())
+}
+
+#[test]
+fn summaries_give_their_bytes(rt: HostRuntime) -> Result<(), Fail> {
+    let wrong = first_wrong(rt.alloc(), &SUMMARIES)?;
+    assert!(rt; wrong.is_none(), "{wrong:?}");
     Ok(())
 }
 

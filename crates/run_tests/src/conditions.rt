@@ -279,8 +279,8 @@ const NOT_DENIED: &str = "not: a condition, but neither for nor count";
 
 const DENIED_ALONE: &str = "a condition after not, and no second not";
 
-/// Where lines stop being of the language, and what is expected there.
-const EXPLAINED: [Complaint; 80] = [
+/// Where lines stop being of the language, and what is expected there: words, patterns, men and tags.
+const EXPLAINED: [Complaint; 23] = [
     ("chek", 0, "did you mean check?"),
     ("  stlaemate", 2, "did you mean stalemate?"),
     ("Turn white", 0, "did you mean turn?"),
@@ -316,6 +316,10 @@ const EXPLAINED: [Complaint; 80] = [
     ("tag White = x", 12, "tag: a text between double quotes"),
     ("tag White has x", 14, "tag: a text between double quotes"),
     ("\tturn gray  ", 6, "turn: white or black"),
+];
+
+/// Where lines stop being of the language, and what is expected there: what stands in front of a condition, and plies.
+const EXPLAINED_FRONTS: [Complaint; 17] = [
     ("not", 3, DENIED_ALONE),
     ("not or", 4, DENIED_ALONE),
     ("not not check", 4, DENIED_ALONE),
@@ -345,6 +349,10 @@ const EXPLAINED: [Complaint; 80] = [
         "plies: a number of one to four digits",
     ),
     ("plise < 50", 0, "did you mean plies?"),
+];
+
+/// Where lines stop being of the language, and what is expected there: moves and results.
+const EXPLAINED_MOVES: [Complaint; 18] = [
     ("either plies < 50", 7, MIRRORED),
     ("next", 4, NEXT),
     ("next Nf3+", 5, NEXT),
@@ -363,6 +371,10 @@ const EXPLAINED: [Complaint; 80] = [
     ("result 1/2", 7, RESULT),
     ("result 1-0 or 0-1", 11, RESULT_ALONE),
     ("resutl 1-0", 0, "did you mean result?"),
+];
+
+/// Where lines stop being of the language, and what is expected there: plies that are counted.
+const EXPLAINED_COUNTS: [Complaint; 22] = [
     ("flip next e4", 5, "flip: fen and a pattern"),
     ("for", 3, RUN),
     ("for 0", 4, RUN),
@@ -558,14 +570,39 @@ fn explained(alloc: Global, row: &Complaint) -> Result<Vec<u8>, AllocError> {
     Ok(text)
 }
 
+/// The first line that is explained otherwise, or after games were opened.
+fn first_wrong(alloc: Global, rows: &[Complaint]) -> Result<Option<&'static str>, AllocError> {
+    for row in rows {
+        let arguments = ["--explain", "--list", "--where", row.0];
+        let (end, opened) = run_with(alloc, &arguments, b"", E4_E5)?;
+        if !end.is(b"", &explained(alloc, row)?, 2) || opened != 0 {
+            return Ok(Some(row.0));
+        }
+    }
+    Ok(None)
+}
+
 #[test]
 fn refused_lines_are_explained(rt: HostRuntime) -> Result<(), Fail> {
-    for row in &EXPLAINED {
-        let arguments = ["--explain", "--list", "--where", row.0];
-        let (end, opened) = run_with(rt.alloc(), &arguments, b"", E4_E5)?;
-        let text = explained(rt.alloc(), row)?;
-        assert!(rt; end.is(b"", &text, 2) && opened == 0, "{:?}", row.0);
-    }
+    assert_eq!(rt; first_wrong(rt.alloc(), &EXPLAINED)?, None);
+    Ok(())
+}
+
+#[test]
+fn refused_fronts_are_explained(rt: HostRuntime) -> Result<(), Fail> {
+    assert_eq!(rt; first_wrong(rt.alloc(), &EXPLAINED_FRONTS)?, None);
+    Ok(())
+}
+
+#[test]
+fn refused_moves_are_explained(rt: HostRuntime) -> Result<(), Fail> {
+    assert_eq!(rt; first_wrong(rt.alloc(), &EXPLAINED_MOVES)?, None);
+    Ok(())
+}
+
+#[test]
+fn refused_counts_are_explained(rt: HostRuntime) -> Result<(), Fail> {
+    assert_eq!(rt; first_wrong(rt.alloc(), &EXPLAINED_COUNTS)?, None);
     Ok(())
 }
 

@@ -1,5 +1,5 @@
 //! The moves of each game on a line, with `--moves` and `--uci`.
-use crate::runs::{Row, holds};
+use crate::runs::{Row, first_wrong};
 use std::test::Fail;
 
 /// Four pieces: A and D are sound, no queen takes on h8 at once in B, which begins at 22, and C, at 46, lacks its closing brace. D begins at 73.
@@ -164,8 +164,7 @@ const ROWS: [Row; 26] = [
 
 #[test]
 fn games_have_their_lines(rt: HostRuntime) -> Result<(), Fail> {
-    for row in &ROWS {
-        assert!(rt; holds(rt.alloc(), row)?, "{:?} over {:?}", row.0, row.1);
-    }
+    let wrong = first_wrong(rt.alloc(), &ROWS)?;
+    assert!(rt; wrong.is_none(), "{wrong:?}");
     Ok(())
 }

@@ -184,7 +184,7 @@ pub type Row = (
 const PASSES: [u64; 3] = [0, 1, u64::MAX];
 
 /// Whether the program does what the row says, over inputs of each kind.
-pub fn holds(alloc: Global, row: &Row) -> Result<bool, AllocError> {
+fn holds(alloc: Global, row: &Row) -> Result<bool, AllocError> {
     let (arguments, text, out, err, status) = row;
     for passes in PASSES {
         let mut shelf = Shelf::seeking(text, passes);
@@ -194,4 +194,14 @@ pub fn holds(alloc: Global, row: &Row) -> Result<bool, AllocError> {
         }
     }
     Ok(true)
+}
+
+/// The first row of which the program does something else.
+pub fn first_wrong(alloc: Global, rows: &[Row]) -> Result<Option<Row>, AllocError> {
+    for row in rows {
+        if !holds(alloc, row)? {
+            return Ok(Some(*row));
+        }
+    }
+    Ok(None)
 }

@@ -1,5 +1,5 @@
 //! The search of packs: worked ones and their indexes, bad ones, and what is refused.
-use crate::runs::{Ending, Row, holds, run_arguments};
+use crate::runs::{Ending, Row, first_wrong, run_arguments};
 use pgn_extract::Files;
 use std::alloc::{AllocError, Global};
 use std::io;
@@ -383,41 +383,36 @@ fn run_there(alloc: Global, arguments: &[&str], piece: usize) -> Result<Ending, 
 
 #[test]
 fn lists_what_was_packed(rt: HostRuntime) -> Result<(), Fail> {
-    for row in &SEARCHES {
-        assert!(rt; holds(rt.alloc(), row)?, "{row:?}");
-    }
+    let wrong = first_wrong(rt.alloc(), &SEARCHES)?;
+    assert!(rt; wrong.is_none(), "{wrong:?}");
     Ok(())
 }
 
 #[test]
 fn indexes_what_was_packed(rt: HostRuntime) -> Result<(), Fail> {
-    for row in &INDEXES {
-        assert!(rt; holds(rt.alloc(), row)?, "{row:?}");
-    }
+    let wrong = first_wrong(rt.alloc(), &INDEXES)?;
+    assert!(rt; wrong.is_none(), "{wrong:?}");
     Ok(())
 }
 
 #[test]
 fn lists_by_moves(rt: HostRuntime) -> Result<(), Fail> {
-    for row in &MOVES {
-        assert!(rt; holds(rt.alloc(), row)?, "{row:?}");
-    }
+    let wrong = first_wrong(rt.alloc(), &MOVES)?;
+    assert!(rt; wrong.is_none(), "{wrong:?}");
     Ok(())
 }
 
 #[test]
 fn names_bad_packs(rt: HostRuntime) -> Result<(), Fail> {
-    for row in &BAD {
-        assert!(rt; holds(rt.alloc(), row)?, "{row:?}");
-    }
+    let wrong = first_wrong(rt.alloc(), &BAD)?;
+    assert!(rt; wrong.is_none(), "{wrong:?}");
     Ok(())
 }
 
 #[test]
 fn refuses_what_packs_have_not(rt: HostRuntime) -> Result<(), Fail> {
-    for row in &REFUSED {
-        assert!(rt; holds(rt.alloc(), row)?, "{row:?}");
-    }
+    let wrong = first_wrong(rt.alloc(), &REFUSED)?;
+    assert!(rt; wrong.is_none(), "{wrong:?}");
     Ok(())
 }
 

@@ -1,7 +1,7 @@
 //! The blocks of a reader.
 ghost use Rattle.std.specs.Prelude.{◌^◌, ◌≤◌};
 
-use pgn_text::{Block, Blocks, Body, Tally};
+use pgn_text::{Block, Blocks, Body, ReadError, Tally};
 use std::alloc::{AllocError, Global};
 use std::io::Read;
 use std::test::Fail;
@@ -10,8 +10,55 @@ use test_support::{Pieces, TWO_GAMES};
 /// The most bytes that may be held: a block of the limit, and what one read gives.
 const WINDOW: usize = 16_785_408;
 
-/// Whether the calls of `next`, up to the end and once more, answer this, and no more is held than the window takes: each block as its
-/// offset and its length.
+/// Adds what a call of `next` answered, each block as its offset and its length, and says whether it is the last one.
+fn add_answer(
+    answers: &mut String,
+    answer: Result<Option<Block<'_>>, ReadError>,
+) -> Result<bool, Fail> {
+    match answer {
+        Ok(Some(block)) => {
+            add_block(answers, block)?;
+            return Ok(false);
+        }
+        Ok(None) => answers.push_str("end ")?,
+        Err(error) => write!(answers, "{error:?} ")?,
+    }
+    Ok(true)
+}
+
+fn add_block(answers: &mut String, block: Block<'_>) -> Result<(), Fail> {
+    let offset = block.offset;
+    match block.body {
+        Body::Bytes(bytes) => {
+            let size = bytes.len();
+            write!(answers, "{offset}+{size} ")?;
+        }
+        Body::TooLong(size) => write!(answers, "{offset}+long {size} ")?,
+    }
+    Ok(())
+}
+
+/// Adds what the calls of `next` answer, up to the end and once more, and whether more is held than the window takes.
+fn add_answers<R: Read + Drop>(
+    answers: &mut String,
+    blocks: &mut Blocks,
+    input: &mut Tally<R>,
+) -> Result<(), Fail> {
+    let mut is_over = false;
+    for _ in 0..u64::MAX {
+        let was_over = is_over;
+        is_over = add_answer(answers, blocks.next(input))?;
+        if blocks.held() > WINDOW {
+            answers.push_str("held too much ")?;
+        }
+        if was_over {
+            break;
+        }
+    }
+    Ok(())
+}
+
+/// Whether the calls of `next`, up to the end and once more, answer this, and no more is held than the window takes.
 fn is_answered<R: Read + Drop>(
     alloc: Global,
     reader: R,
@@ -20,48 +67,10 @@ fn is_answered<R: Read + Drop>(
 ) -> Result<bool, Fail>
     requires { offset ≤ 2 ^ 62 }
 {
+    let mut answers = String::new(alloc);
     let mut blocks = Blocks::new(alloc, offset);
     let mut input = Tally::new(reader);
-    let mut answers = String::new(alloc);
-    let mut is_over = false;
-    for _ in 0..u64::MAX {
-        let was_over = is_over;
-        match blocks.next(&mut input) {
-            Ok(
-                Some(
-                    Block {
-                        offset,
-                        body: Body::Bytes(bytes),
-                    },
-                ),
-            ) => {
-                let size = bytes.len();
-                write!(answers, "{offset}+{size} ")?;
-            }
-            Ok(
-                Some(
-                    Block {
-                        offset,
-                        body: Body::TooLong(size),
-                    },
-                ),
-            ) => write!(answers, "{offset}+long {size} ")?,
-            Ok(None) => {
-                answers.push_str("end ")?;
-                is_over = true;
-            }
-            Err(error) => {
-                write!(answers, "{error:?} ")?;
-                is_over = true;
-            }
-        }
-        if blocks.held() > WINDOW {
-            answers.push_str("held too much ")?;
-        }
-        if was_over {
-            break;
-        }
-    }
+    add_answers(&mut answers, &mut blocks, &mut input)?;
     Ok(answers.as_str() == wanted)
 }
 
@@ -99,27 +108,29 @@ fn however_the_reader_cuts(rt: HostRuntime) -> Result<(), Fail> {
     Ok(())
 }
 
+/// How many sound bytes a reader gives, and the blocks before its fault.
+const FAULTS: [(usize, &str); 5] = [
+    (0, "Read Failed "),
+    (21, "Read Failed "),
+    (29, "Read Failed "),
+    (30, "0+22 Read Failed "),
+    (42, "0+22 Read Failed "),
+];
+
+/// Whether a reader that fails after so many bytes gives these answers, also where it would go on: no call is tried again.
+fn fails_after(alloc: Global, sound: usize, size: usize, wanted: &str) -> Result<bool, Fail> {
+    let ends = Pieces::failing(TWO_GAMES.get(..sound).unwrap_or(b""), size);
+    let goes_on = Pieces::failing_once(TWO_GAMES, size, sound);
+    Ok(is_answered(alloc, ends, 0, wanted)? && is_answered(alloc, goes_on, 0, wanted)?)
+}
+
 #[test]
 fn a_fault_comes_after_the_complete_blocks(rt: HostRuntime) -> Result<(), Fail> {
-    let rows = [
-        (0, "Read Failed "),
-        (21, "Read Failed "),
-        (29, "Read Failed "),
-        (30, "0+22 Read Failed "),
-        (42, "0+22 Read Failed "),
-    ];
-    for (sound, wanted) in rows {
+    for (sound, wanted) in FAULTS {
         for size in [1, 5, 8192] {
-            let reader = Pieces::failing(TWO_GAMES.get(..sound).unwrap_or(b""), size);
             assert!(rt;
-                is_answered(rt.alloc(), reader, 0, wanted)?,
+                fails_after(rt.alloc(), sound, size, wanted)?,
                 "{sound} by {size}"
-            );
-            // A reader that would go on changes nothing: no call is tried again.
-            let reader = Pieces::failing_once(TWO_GAMES, size, sound);
-            assert!(rt;
-                is_answered(rt.alloc(), reader, 0, wanted)?,
-                "{sound} by {size}, once"
             );
         }
     }
@@ -164,19 +175,22 @@ fn limit_and_more(alloc: Global) -> Result<Vec<u8>, AllocError> {
     Ok(text)
 }
 
+/// Whether the block of the limit fills the window, and the one after it does not.
+fn is_bounded<R: Read + Drop>(alloc: Global, reader: R) -> bool {
+    let mut blocks = Blocks::new(alloc, 0);
+    let mut input = Tally::new(reader);
+    let is_filled = blocks.next(&mut input).is_ok() && blocks.held() == WINDOW;
+    is_filled && blocks.next(&mut input).is_ok() && blocks.held() < 32_768
+}
+
 #[test]
 fn a_read_keeps_the_bound(rt: HostRuntime) -> Result<(), Fail> {
     let text = limit_and_more(rt.alloc())?;
     let reader = Pieces::new(SEVEN_SPACES, 7).chain(Pieces::new(text.as_slice(), 8192));
     let wanted = "0+16777216 16777216+22785 16800001+10 end end ";
     assert!(rt; is_answered(rt.alloc(), reader, 0, wanted)?);
-    let mut blocks = Blocks::new(rt.alloc(), 0);
     let reader = Pieces::new(SEVEN_SPACES, 7).chain(Pieces::new(text.as_slice(), 8192));
-    let mut input = Tally::new(reader);
-    assert!(rt; blocks.next(&mut input).is_ok());
-    assert!(rt; blocks.held() == WINDOW);
-    assert!(rt; blocks.next(&mut input).is_ok());
-    assert!(rt; blocks.held() < 32_768);
+    assert!(rt; is_bounded(rt.alloc(), reader));
     Ok(())
 }
 

@@ -4,19 +4,23 @@ use std::alloc::{AllocError, Global};
 use std::test::Fail;
 use test_support::first_game;
 
-/// Whether the block has just these pieces, written as `game 0; unreadable 9; `.
+/// Adds a piece, as `game 0; ` or `unreadable 9; `.
+fn add_piece(text: &mut String, piece: &Piece<'_>) -> Result<(), Fail> {
+    match piece {
+        Piece::Game(game) => {
+            let at = game.at();
+            write!(text, "game {at}; ")?;
+        }
+        Piece::Unreadable { at } => write!(text, "unreadable {at}; ")?,
+    }
+    Ok(())
+}
+
+/// Whether the block has just these pieces.
 fn is_cut(alloc: Global, block: &[u8], pieces: &str) -> Result<bool, Fail> {
     let mut text = String::new(alloc);
     for piece in games(alloc, block, true) {
-        match piece? {
-            Piece::Game(game) => text.push_str(format!(in alloc;
-                "game {}; ",
-                game.at()
-            )?.as_str())?,
-            Piece::Unreadable { at } => {
-                text.push_str(format!(in alloc; "unreadable {at}; ")?.as_str())?
-            }
-        }
+        add_piece(&mut text, &piece?)?;
     }
     Ok(text.as_str() == pieces)
 }
@@ -42,31 +46,15 @@ fn games_of_bytes(alloc: Global, front: &[u8], back: &[u8]) -> Result<usize, Fai
     Ok(count)
 }
 
-/// A block, and its pieces with their places.
-const CUTS: [(&[u8], &str); 60] = [
+/// Blocks with gaps and several games, and their pieces with their places.
+const GAPS: [(&[u8], &str); 18] = [
     (b"", ""),
     (b" {x} ; y\n% z\n", ""),
     (b"% note\n; more\n{x} 1. e4 *", "game 18; "),
-    (b"1. e4 $255 *", "game 0; "),
-    (b"1. e4 $256 *", "unreadable 0; "),
-    (b"1. e4 $ *", "unreadable 0; "),
-    (b"1. e4 $0001 *", "unreadable 0; "),
     (b"1. e4 e5 1-0 *", "game 0; game 13; "),
-    (b"(1. e4) *", "unreadable 0; "),
-    (b"1. e4 {a}} *", "unreadable 0; "),
-    (b"1. e4 (1. d4 *)", "unreadable 0; "),
-    (b"1. e4 $25e5 *", "game 0; "),
-    (b"1. e4 $1-0", "unreadable 0; "),
     (b"1. e4 1-0! 1. d4 *", "game 0; game 9; "),
     (b"*1-0", "game 0; game 1; "),
     (b"* *", "game 0; game 2; "),
-    (b". *", "game 0; "),
-    (b"12 *", "game 0; "),
-    (b"1-0", "game 0; "),
-    (b"1. e4", "unreadable 0; "),
-    (b"1. e4!!? *", "game 0; "),
-    (b"[A \"x\\\"y\"]\n1. e4 ()*", "game 0; "),
-    (b"[White \"A \"B\"\"]\n\n1. e4 *", "unreadable 0; "),
     (b" %x *", "unreadable 1; "),
     (b"%x *\n*", "game 5; "),
     (b"\xEF\xBB\xBF%x\n1. e4 *", "game 6; "),
@@ -75,10 +63,24 @@ const CUTS: [(&[u8], &str); 60] = [
     (b"{x\n} %y\n*", "unreadable 5; "),
     (b"1. e4 * {oops", "game 0; unreadable 8; "),
     (b"1. e4 *\x1A", "game 0; unreadable 7; "),
-    (b"e4 (d4)((c4)) *", "unreadable 0; "),
-    (b"e4 (d4) (c4 (d4) d5) e5 *", "game 0; "),
-    (b"[A \"x\"] 1. [B \"y\"] *", "unreadable 0; "),
-    (b"[A \"x\"] {c} ; d\n[B \"y\"] *", "game 0; "),
+    (b"\t\n\x0B\x0C\r {a}*", "game 9; "),
+    (b"1. e4 ; no end", "unreadable 0; "),
+    (b"* ; no end", "game 0; "),
+];
+
+/// Blocks with numbers, glyphs, results and words of moves, and their pieces.
+const WORDS: [(&[u8], &str); 25] = [
+    (b"1. e4 $255 *", "game 0; "),
+    (b"1. e4 $256 *", "unreadable 0; "),
+    (b"1. e4 $ *", "unreadable 0; "),
+    (b"1. e4 $0001 *", "unreadable 0; "),
+    (b"1. e4 $25e5 *", "game 0; "),
+    (b"1. e4 $1-0", "unreadable 0; "),
+    (b". *", "game 0; "),
+    (b"12 *", "game 0; "),
+    (b"1-0", "game 0; "),
+    (b"1. e4", "unreadable 0; "),
+    (b"1. e4!!? *", "game 0; "),
     (b"1.e4 0-0-0+# -- 0-0 *", "game 0; "),
     (b"0-0= *", "unreadable 0; "),
     (b"0-0-0-0 *", "unreadable 0; "),
@@ -93,6 +95,19 @@ const CUTS: [(&[u8], &str); 60] = [
     (b"--+ *", "unreadable 0; "),
     (b"0-0-0= *", "unreadable 0; "),
     (b"O-O= *", "game 0; "),
+];
+
+/// Blocks with tags, comments and variations, and their pieces.
+const VARIATIONS: [(&[u8], &str); 17] = [
+    (b"(1. e4) *", "unreadable 0; "),
+    (b"1. e4 {a}} *", "unreadable 0; "),
+    (b"1. e4 (1. d4 *)", "unreadable 0; "),
+    (b"[A \"x\\\"y\"]\n1. e4 ()*", "game 0; "),
+    (b"[White \"A \"B\"\"]\n\n1. e4 *", "unreadable 0; "),
+    (b"e4 (d4)((c4)) *", "unreadable 0; "),
+    (b"e4 (d4) (c4 (d4) d5) e5 *", "game 0; "),
+    (b"[A \"x\"] 1. [B \"y\"] *", "unreadable 0; "),
+    (b"[A \"x\"] {c} ; d\n[B \"y\"] *", "game 0; "),
     (b"[ \"x\"]\n*", "unreadable 0; "),
     (b"[A{c} \"x\"]\n*", "unreadable 0; "),
     (b"[A \"x\" y]\n*", "unreadable 0; "),
@@ -101,14 +116,27 @@ const CUTS: [(&[u8], &str); 60] = [
     (b"1. e4 (1. d4 *", "unreadable 0; "),
     (b"1. e4 (1. d4 1-0) *", "unreadable 0; "),
     (b"1. (e4) *", "unreadable 0; "),
-    (b"\t\n\x0B\x0C\r {a}*", "game 9; "),
-    (b"1. e4 ; no end", "unreadable 0; "),
-    (b"* ; no end", "game 0; "),
 ];
 
 #[test]
-fn blocks_are_cut(rt: HostRuntime) -> Result<(), Fail> {
-    for &(block, pieces) in &CUTS {
+fn blocks_are_cut_at_gaps(rt: HostRuntime) -> Result<(), Fail> {
+    for &(block, pieces) in &GAPS {
+        assert!(rt; is_cut(rt.alloc(), block, pieces)?, "{block:?}");
+    }
+    Ok(())
+}
+
+#[test]
+fn words_make_games(rt: HostRuntime) -> Result<(), Fail> {
+    for &(block, pieces) in &WORDS {
+        assert!(rt; is_cut(rt.alloc(), block, pieces)?, "{block:?}");
+    }
+    Ok(())
+}
+
+#[test]
+fn tags_and_variations_make_games(rt: HostRuntime) -> Result<(), Fail> {
+    for &(block, pieces) in &VARIATIONS {
         assert!(rt; is_cut(rt.alloc(), block, pieces)?, "{block:?}");
     }
     Ok(())
