@@ -98,27 +98,60 @@ const TURNED: &str = "either: fen, flip fen, material or turn, with or without n
 
 const OTHER_WAY: &str = "not: a condition; either stands in front of not";
 
+/// The words that a condition begins with, or that stand before one.
+#[derive(Clone, Copy, PartialEq, Eq)]
+enum Key {
+    Fen,
+    Tag,
+    Turn,
+    Moves,
+    Plies,
+    Result,
+    Next,
+    Played,
+    Material,
+    Check,
+    Mate,
+    Stalemate,
+    For,
+    Count,
+    Or,
+    Not,
+    Flip,
+    Either,
+}
+
 /// The key words, each with the question whether it was meant.
-const QUESTIONS: [(&[u8], &str); 18] = [
-    (b"fen", "did you mean fen?"),
-    (b"tag", "did you mean tag?"),
-    (b"turn", "did you mean turn?"),
-    (b"moves", "did you mean moves?"),
-    (b"plies", "did you mean plies?"),
-    (b"result", "did you mean result?"),
-    (b"next", "did you mean next?"),
-    (b"played", "did you mean played?"),
-    (b"material", "did you mean material?"),
-    (b"check", "did you mean check?"),
-    (b"mate", "did you mean mate?"),
-    (b"stalemate", "did you mean stalemate?"),
-    (b"for", "did you mean for?"),
-    (b"count", "did you mean count?"),
-    (b"or", "did you mean or?"),
-    (b"not", "did you mean not?"),
-    (b"flip", "did you mean flip?"),
-    (b"either", "did you mean either?"),
+const KEYS: [(&[u8], Key, &str); 18] = [
+    (b"fen", Key::Fen, "did you mean fen?"),
+    (b"tag", Key::Tag, "did you mean tag?"),
+    (b"turn", Key::Turn, "did you mean turn?"),
+    (b"moves", Key::Moves, "did you mean moves?"),
+    (b"plies", Key::Plies, "did you mean plies?"),
+    (b"result", Key::Result, "did you mean result?"),
+    (b"next", Key::Next, "did you mean next?"),
+    (b"played", Key::Played, "did you mean played?"),
+    (b"material", Key::Material, "did you mean material?"),
+    (b"check", Key::Check, "did you mean check?"),
+    (b"mate", Key::Mate, "did you mean mate?"),
+    (b"stalemate", Key::Stalemate, "did you mean stalemate?"),
+    (b"for", Key::For, "did you mean for?"),
+    (b"count", Key::Count, "did you mean count?"),
+    (b"or", Key::Or, "did you mean or?"),
+    (b"not", Key::Not, "did you mean not?"),
+    (b"flip", Key::Flip, "did you mean flip?"),
+    (b"either", Key::Either, "did you mean either?"),
 ];
+
+/// The key word that a word is.
+fn key_of(word: &[u8]) -> Option<Key> {
+    for &(text, key, _) in &KEYS {
+        if text == word {
+            return Some(key);
+        }
+    }
+    None
+}
 
 /// Two words without the bytes that both begin with.
 fn after_common<'a>(one: &'a [u8], other: &'a [u8]) -> (&'a [u8], &'a [u8]) {
@@ -161,7 +194,7 @@ fn is_near(word: &[u8], key: &[u8]) -> bool {
 
 /// What stands right after a key word that a text begins with, if it is a digit or a comparison: a blank is missing.
 fn glued_to_key(text: &[u8]) -> Option<&[u8]> {
-    for &(key, _) in &QUESTIONS {
+    for &(key, _, _) in &KEYS {
         let (rest, missing) = after_common(text, key);
         if missing.is_empty() && (has_digit(rest) || after_signs(rest).len() < rest.len()) {
             return Some(rest);
@@ -172,7 +205,7 @@ fn glued_to_key(text: &[u8]) -> Option<&[u8]> {
 
 /// What is expected in place of a word that is no key word.
 fn expected_for(word: &[u8]) -> &'static str {
-    for &(key, question) in &QUESTIONS {
+    for &(key, _, question) in &KEYS {
         if is_near(word, key) {
             return question;
         }
@@ -318,82 +351,85 @@ fn like_stop(text: &[u8], expected: &'static str) -> Stop {
 
 /// Where a text that is no condition stops being one.
 fn condition_stop(text: &[u8]) -> Stop {
-    let (key, rest) = split_first(text);
-    match key {
-        b"not" => denied_stop(rest),
-        b"either" => either_stop(rest),
-        b"or" => Stop::before(rest, NOTHING),
+    let (word, rest) = split_first(text);
+    match key_of(word) {
+        Some(Key::Not) => denied_stop(rest),
+        Some(Key::Either) => either_stop(rest),
+        Some(Key::Or) => Stop::before(rest, NOTHING),
         _ => claim_stop(text),
     }
 }
 
 /// Where a text that is no condition to be tried at the mirror stops being one.
 fn either_stop(text: &[u8]) -> Stop {
-    let (key, rest) = split_first(text);
-    match key {
-        b"not" => mirrored_stop(rest),
+    let (word, rest) = split_first(text);
+    match key_of(word) {
+        Some(Key::Not) => mirrored_stop(rest),
         _ => mirrored_stop(text),
     }
 }
 
 /// Where a text that is no claim to be made of the mirror stops being one.
 fn mirrored_stop(text: &[u8]) -> Stop {
-    let (key, _) = split_first(text);
-    match key {
-        b"fen" => claim_stop(text),
-        b"flip" => claim_stop(text),
-        b"material" => claim_stop(text),
-        b"turn" => claim_stop(text),
+    let (word, _) = split_first(text);
+    match key_of(word) {
+        Some(Key::Fen | Key::Flip | Key::Material | Key::Turn) => claim_stop(text),
         _ => Stop::before(text, TURNED),
     }
 }
 
 /// Where a text that is no flipped pattern stops being one.
 fn flip_stop(text: &[u8]) -> Stop {
-    let (key, pattern) = split_first(text);
-    match key {
-        b"fen" => pattern_stop(pattern),
+    let (word, pattern) = split_first(text);
+    match key_of(word) {
+        Some(Key::Fen) => pattern_stop(pattern),
         _ => Stop::before(text, FLIPPED),
     }
 }
 
 /// Where a text that is no condition to be denied stops being one.
 fn denied_stop(text: &[u8]) -> Stop {
-    let (key, _) = split_first(text);
-    match key {
-        b"" => Stop::before(text, DENIED),
-        b"or" => Stop::before(text, DENIED),
-        b"not" => Stop::before(text, DENIED),
-        b"either" => Stop::before(text, OTHER_WAY),
-        b"for" => Stop::before(text, NOT_DENIED),
-        b"count" => Stop::before(text, NOT_DENIED),
+    let (word, _) = split_first(text);
+    if word.is_empty() {
+        return Stop::before(text, DENIED);
+    }
+    match key_of(word) {
+        Some(Key::Or | Key::Not) => Stop::before(text, DENIED),
+        Some(Key::Either) => Stop::before(text, OTHER_WAY),
+        Some(Key::For | Key::Count) => Stop::before(text, NOT_DENIED),
         _ => claim_stop(text),
     }
 }
 
 /// Where a text that is no condition stops being one, whether it is denied or not.
 fn claim_stop(text: &[u8]) -> Stop {
-    let (key, rest) = split_first(text);
+    let (word, rest) = split_first(text);
+    let Some(key) = key_of(word) else {
+        return unknown_stop(text, word);
+    };
     match key {
-        b"fen" => pattern_stop(rest),
-        b"flip" => flip_stop(rest),
-        b"moves" => moves_stop(rest),
-        b"material" => material_stop(rest),
-        b"plies" => plies_stop(rest, COMPARISON, COUNT),
-        b"count" => plies_stop(rest, COUNT_COMPARISON, COUNT_PLIES),
-        b"for" => count_stop(rest, RUN),
-        b"result" => result_stop(rest),
-        b"next" => like_stop(rest, NEXT),
-        b"played" => like_stop(rest, PLAYED),
-        b"tag" => tag_stop(rest),
-        b"turn" => Stop::before(rest, SIDE),
-        b"check" => Stop::before(rest, NOTHING),
-        b"mate" => Stop::before(rest, NOTHING),
-        b"stalemate" => Stop::before(rest, NOTHING),
-        _ => match glued_to_key(text) {
-            Some(rest) => Stop::before(rest, BLANK),
-            None => Stop::before(text, expected_for(key)),
-        },
+        Key::Fen => pattern_stop(rest),
+        Key::Flip => flip_stop(rest),
+        Key::Moves => moves_stop(rest),
+        Key::Material => material_stop(rest),
+        Key::Plies => plies_stop(rest, COMPARISON, COUNT),
+        Key::Count => plies_stop(rest, COUNT_COMPARISON, COUNT_PLIES),
+        Key::For => count_stop(rest, RUN),
+        Key::Result => result_stop(rest),
+        Key::Next => like_stop(rest, NEXT),
+        Key::Played => like_stop(rest, PLAYED),
+        Key::Tag => tag_stop(rest),
+        Key::Turn => Stop::before(rest, SIDE),
+        Key::Check | Key::Mate | Key::Stalemate => Stop::before(rest, NOTHING),
+        Key::Or | Key::Not | Key::Either => unknown_stop(text, word),
+    }
+}
+
+/// Where a text stops whose first word begins no condition.
+fn unknown_stop(text: &[u8], word: &[u8]) -> Stop {
+    match glued_to_key(text) {
+        Some(rest) => Stop::before(rest, BLANK),
+        None => Stop::before(text, expected_for(word)),
     }
 }
 
