@@ -73,7 +73,7 @@ pub const VERSION: &str = "1.0.0 (proved with rattle-kit-13f logic dac8208d650f1
 
 const ABOUT: &str =
     "Reads chess games in Portable Game Notation (PGN), plays their moves, and writes\n\
-    each sound game in the standard's form; or lists the positions that are looked\n\
+    each legal game in the standard's form; or lists the positions that are looked\n\
     for, or where each game begins.";
 
 const AFTER_HELP: &str =
@@ -88,20 +88,20 @@ const AFTER_HELP: &str =
     # a comment, or            nothing; between alternatives: one is enough\n\
     \n\
     Examples:\n  \
-    pgn-extract games.pgn > clean.pgn                 # the sound games, cleaned\n  \
+    pgn-extract games.pgn > clean.pgn                 # the legal games, cleaned\n  \
     pgn-extract -CNV --roster games.pgn               # roster, and bare moves\n  \
     pgn-extract --where mate games.pgn                # the games that end in mate\n  \
     pgn-extract --list --where mate games.pgn         # where they do: N@O P\n  \
     pgn-extract --others --where mate games.pgn       # all others\n  \
     pgn-extract --criteria wanted.txt games.pgn       # criteria in a file\n  \
-    pgn-extract --faulty games.pgn > faulty.pgn       # the faulty ones, unchanged\n  \
+    pgn-extract --faulty games.pgn > faulty.pgn       # the bad ones, unchanged\n  \
     pgn-extract --list --first --min-ply 80 games.pgn # games of 80 plies and more\n  \
     pgn-extract --pack games.pgn > all.pack           # a pack, for many searches\n  \
     pgn-extract --list --packed --where mate all.pack # the same list, much sooner\n  \
     gzip -dc games.pgn.gz | pgn-extract --index       # each game's mark: N@O\n\
     \n\
     A game that cannot be read or played is reported on standard error, and is\n\
-    written with --faulty alone. Status: 0 no game was faulty, 1 a game was faulty,\n\
+    written with --faulty alone. Status: 0 no game was bad, 1 a game was bad,\n\
     2 the arguments or the criteria were refused or a file could not be opened,\n\
     3 the run failed. The manual: man pgn-extract.";
 
@@ -202,7 +202,7 @@ fn search_options<'a>(alloc: Global, command: Command<'a>) -> Result<Command<'a>
         .arg(flag(alloc, "first", "List only the first of each game"))
 }
 
-/// The options for which games are written, and whether as they stand.
+/// The options for which games are written, and whether unchanged.
 fn choice_options<'a>(alloc: Global, command: Command<'a>) -> Result<Command<'a>, AllocError> {
     command
         .next_help_heading("Games that are written")
@@ -214,15 +214,15 @@ fn choice_options<'a>(alloc: Global, command: Command<'a>) -> Result<Command<'a>
         .arg(flag(
             alloc,
             "faulty",
-            "The faulty ones, as they stand, not the sound ones",
+            "The bad ones, unchanged, not the legal ones",
         ))?
-        .arg(flag(alloc, "as-is", "Write each as it stands in the input"))
+        .arg(flag(alloc, "as-is", "Write each unchanged, byte for byte"))
 }
 
 /// The options for how games are written.
 fn style_options<'a>(alloc: Global, command: Command<'a>) -> Result<Command<'a>, AllocError> {
     let no_variations = "Leave variations out; then the main line alone\n\
-         must be sound";
+         must be legal";
     let width = text_option(
         alloc,
         "width",
@@ -233,7 +233,7 @@ fn style_options<'a>(alloc: Global, command: Command<'a>) -> Result<Command<'a>,
     command
         .next_help_heading("Games as they are written")
         .arg(flag(alloc, "no-comments", "Leave comments out").short('C'))?
-        .arg(flag(alloc, "no-glyphs", "Leave glyphs ($1, !, ?) out").short('N'))?
+        .arg(flag(alloc, "no-glyphs", "Leave NAGs ($1, !, ?) out").short('N'))?
         .arg(flag(alloc, "no-variations", no_variations).short('V'))?
         .arg(flag(
             alloc,
@@ -255,7 +255,7 @@ fn report_options<'a>(alloc: Global, command: Command<'a>) -> Result<Command<'a>
         .arg(flag(
             alloc,
             "explain",
-            "Say after the line of each faulty game where it stops\n\
+            "Say after the line of each bad game where it stops\n\
              being one, and why; the same of a refused line of\n\
              criteria, and why a file cannot be read",
         ))?
@@ -263,7 +263,7 @@ fn report_options<'a>(alloc: Global, command: Command<'a>) -> Result<Command<'a>
             alloc,
             "summary",
             "Say at the end how many games were read, and how many\n\
-             were faulty",
+             were bad",
         ))?
         .arg(flag(
             alloc,
