@@ -257,6 +257,9 @@ def faults_of_notes(tree, path, notes):
     for note in notes:
         for name in sorted(set(re.findall(r"`([a-z]\w*_\w+)`", re.sub(r"\([^()]*\)", "", note.holders))) - known):
             yield f"{path}:{note.line} says that {name} holds something, which is not there"
+        for name in sorted(set(re.findall(r"`(\w+\.rows)`", note.holders))):
+            if not (tree.top / "tests/rows.d" / name).is_file():
+                yield f"{path}:{note.line} says that {name} holds something, which is not there"
         for name in dict.fromkeys(note.names):
             found = len(meant_by(tree, note, name))
             if found != 1:

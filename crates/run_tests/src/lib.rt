@@ -1,4 +1,5 @@
-//! Tests of the program over arguments and texts in memory, and of its run over readers and writers that fail. This library has nothing but tests.
+//! Tests of the program and of its run over memory: readers and writers that fail, pieces and texts of chosen sizes, calls of the libraries.
+//! Rows of arguments, input and output stand in `tests/rows.d`. This library has nothing but tests.
 #![tactic(auto)]
 
 #[cfg(test)]
@@ -14,8 +15,6 @@ mod examples;
 #[cfg(test)]
 mod explained;
 #[cfg(test)]
-mod export_rows;
-#[cfg(test)]
 mod faults;
 #[cfg(test)]
 mod files;
@@ -23,10 +22,6 @@ mod files;
 mod index;
 #[cfg(test)]
 mod listing;
-#[cfg(test)]
-mod moves;
-#[cfg(test)]
-mod packs;
 #[cfg(test)]
 mod runs;
 #[cfg(test)]

@@ -17,7 +17,7 @@ const PIECE: usize = 8192;
 
 /// A file of games, `games.pgn`, and the same text on standard input; it counts how often one of the two was opened.
 /// Their readers pass over at most `passes` bytes a skip, or fail at it.
-/// Beside it the criteria `wanted.txt`, a `folder` that can be opened and not read, and `huge.pgn`, at which memory runs out.
+/// Beside it the criteria `wanted.txt`, and `huge.pgn`, at which memory runs out.
 #[derive(Drop)]
 pub struct Shelf<'a> {
     text: &'a [u8],
@@ -88,7 +88,6 @@ impl<'a> Files for Shelf<'a> {
         match path {
             "games.pgn" => Ok(self.reader()),
             "wanted.txt" => Ok(Pieces::new(self.criteria, PIECE)),
-            "folder" => Ok(Pieces::failing(b"", PIECE)),
             "huge.pgn" => Err(io::Error::from(ErrorKind::OutOfMemory)),
             _ => Err(io::Error::from(ErrorKind::NotFound)),
         }
