@@ -242,9 +242,13 @@ class Setup:
 
     def library(self, source):
         """The path of a library made from a C file of tests/."""
-        self.has_tool("cc", "gcc", is_needed=True)
         made = Path(source).with_suffix(".so").resolve()
-        built = run(["cc", "-O1", "-shared", "-fPIC", "-o", made, TOP / "tests" / source, "-ldl"])
+        return self.compiled(source, made, "-shared", "-fPIC", "-ldl")
+
+    def compiled(self, source, made, *words):
+        """The path of what cc makes of a C file of tests/ with more arguments."""
+        self.has_tool("cc", "gcc", is_needed=True)
+        built = run(["cc", "-O1", "-o", made, TOP / "tests" / source, *words])
         if built.status:
             raise MissingTool(f"cc does not compile tests/{source} (apt-get install gcc libc6-dev): {shown(built.err)}")
         return made
