@@ -165,10 +165,11 @@ def named_in_statement(tree, source, lemma):
 
 
 def edits_by_name(tree):
-    """For each definition the must-fail edits in a function whose contract names it."""
+    """For each definition the edits in a function whose contract names it."""
     found = {}
     for crate in tree.crates.values():
-        for path in sorted(crate.folder.glob("must-fail/*.edit")):
+        folders = (crate.folder.glob(f"{it}/*.edit") for it in ("must-fail", "refused"))
+        for path in sorted(it for files in folders for it in files):
             for key in named_by_edit(tree, crate, path.read_text(encoding="utf-8")):
                 found.setdefault(key, []).append(path.stem)
     return found
