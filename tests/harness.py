@@ -182,6 +182,19 @@ def difference(found, wanted):
     return f"{shown(found, begin)} in place of {shown(wanted, begin)}"
 
 
+def raw_in(text):
+    """What a terminal would obey in a report: bytes that are no UTF-8, and control characters but line feeds."""
+    try:
+        signs = {it for it in text.decode("utf-8") if it < " " and it != "\n" or "\x7f" <= it <= "\x9f"}
+    except UnicodeDecodeError as fault:
+        return f"{text[fault.start :][:1]} is no UTF-8: {shown(text)}"
+    return f"{sorted(signs)} stand raw in {shown(text)}" if signs else None
+
+
+# A name that a terminal would obey: an escape, a bell, DEL, U+009B, and a byte that is no UTF-8.
+UNSHOWN = b"x\x1b]0;y\x07\x7f\xc2\x9b31m\x9b\xff\r\nz"
+
+
 class MissingTool(Exception):
     """A tool that has to be there is missing."""
 
