@@ -1,18 +1,17 @@
-# Completion of pgn-extract's options in bash.
+# Completion of the options of pgn-extract, and of the commands beside it, in bash.
 _pgn_extract() {
-    local word=${COMP_WORDS[COMP_CWORD]} before=${COMP_WORDS[COMP_CWORD - 1]} options
-    # (bash divides --criteria=FILE into three)
-    if [[ $word == = ]]; then
-        word=
-    elif [[ $before == = ]]; then
-        before=${COMP_WORDS[COMP_CWORD - 2]}
-    fi
+    local word before options
+    _pgn_extract_words
     case $before in
     --criteria)
         mapfile -t COMPREPLY < <(compgen -f -- "$word")
         return
         ;;
-    --where | --min-ply | --max-ply | --from | --until | -w | --width) return ;;
+    --where)
+        _pgn_extract_criteria "$word"
+        return
+        ;;
+    --min-ply | --max-ply | --from | --until | -w | --width) return ;;
     esac
     if [[ $word == -* ]]; then
         mapfile -t COMPREPLY < <(compgen -W '--list --fen --next --packed --index --moves --uci --pack --criteria --where --min-ply --max-ply --first --others --faulty --as-is -C --no-comments -N --no-glyphs
@@ -45,4 +44,63 @@ _pgn_extract_without() {
     done
     COMPREPLY=("${offered[@]}")
 }
+# Sets what is completed, and the option before it.
+_pgn_extract_words() {
+    word=${COMP_WORDS[COMP_CWORD]} before=${COMP_WORDS[COMP_CWORD - 1]}
+    # (bash divides --criteria=FILE into three)
+    if [[ $word == = ]]; then
+        word=
+    elif [[ $before == = ]]; then
+        before=${COMP_WORDS[COMP_CWORD - 2]}
+    fi
+}
+# Offers what a line of criteria, perhaps with its opening quote, may go on with.
+_pgn_extract_criteria() {
+    local line=${1#[\"\']} before='' words conditions='fen flip material moves next played plies result tag turn check mate stalemate'
+    line=${line//\\ / }
+    [[ $line == *' '* ]] && before="${line% *} "
+    case $before in
+    '') words="$conditions for count not either or" ;;
+    'not ') words=$conditions ;;
+    'either ') words='fen flip material turn not' ;;
+    'either not ') words='fen flip material turn' ;;
+    'flip ' | *' flip ') words=fen ;;
+    'turn ' | *' turn ') words='white black' ;;
+    'result ' | *' result ') words='1-0 0-1 1/2-1/2 *' ;;
+    'plies ' | 'not plies ' | 'count ') words='= <> < <= > >=' ;;
+    'tag ' | 'not tag ') words='Event Site Date Round White Black Result ECO WhiteElo BlackElo White|Black' ;;
+    'tag '[!\ ]*' ' | 'not tag '[!\ ]*' ') words='= <> < <= > >= has begins' ;;
+    *) return ;;
+    esac
+    mapfile -t COMPREPLY < <(compgen -W "$words" -- "${line##* }")
+    COMPREPLY=("${COMPREPLY[@]/#/$before}")
+}
+# Offers the options of a command beside the program, or files.
+_pgn_extract_command() {
+    local word before options='-h --help --version'
+    _pgn_extract_words
+    case $before in
+    --where)
+        _pgn_extract_criteria "$word"
+        return
+        ;;
+    --keep)
+        mapfile -t COMPREPLY < <(compgen -W "first longest-tags" -- "$word")
+        return
+        ;;
+    --plies | --least | --jobs | --part | --sshlogin) return ;;
+    esac
+    case ${COMP_WORDS[0]##*/} in
+    pgn-mend) options+=' --dry-run --latin-1' ;;
+    pgn-tree) options+=' --plies --least --criteria --where' ;;
+    pgn-unique) options+=' --keep --report --keep-faulty' ;;
+    pgn-extract-parallel) _pgn_extract && options='--jobs --part --sshlogin' ;;
+    esac
+    if [[ $word == -* ]]; then
+        mapfile -t -O "${#COMPREPLY[@]}" COMPREPLY < <(compgen -W "$options" -- "$word")
+    elif [[ ${#COMPREPLY[@]} == 0 ]]; then
+        mapfile -t COMPREPLY < <(compgen -f -- "$word")
+    fi
+}
 complete -o filenames -F _pgn_extract pgn-extract pgn-extract-proved
+complete -o filenames -F _pgn_extract_command pgn-extract-parallel pgn-games-at pgn-mend pgn-tree pgn-unique
