@@ -134,6 +134,10 @@ impl<'a> Files for RealFiles<'a> {
         self.input(Source::Standard(stdin), messages::STANDARD_INPUT, None)
     }
 
+    fn is_watched(&self) -> bool {
+        self.line.has_terminal()
+    }
+
     fn show_progress(&mut self) {
         self.has_progress = true;
     }

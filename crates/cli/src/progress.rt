@@ -30,8 +30,8 @@ impl StatusLine {
         }
     }
 
-    /// Whether there is a terminal for it.
-    fn has_terminal(&self) -> bool {
+    /// Whether standard error is a terminal.
+    pub fn has_terminal(&self) -> bool {
         self.rt.stderr().is_terminal()
     }
 

@@ -4,6 +4,7 @@ ghost use Rattle.pgn_extract.specs.Public.Listing.{is_plain};
 
 mod command;
 mod conditions;
+mod debians;
 mod endings;
 pub(crate) mod files;
 mod mark;
@@ -14,6 +15,7 @@ pub mod status;
 
 use crate::app::command::{DEFAULT_WIDTH, Request, read_arguments};
 use crate::app::conditions::{is_one_line, push_lines};
+use crate::app::debians::debians_option;
 use crate::app::endings::{
     flush_rest, line_of, put_summary, report_bytes, report_failure, report_line,
 };
@@ -58,10 +60,20 @@ impl From<AllocError> for Refusal {
     }
 }
 
-/// The refusal that `clap` answers.
-fn refused_arguments(alloc: Global, error: &Error) -> Refusal {
+/// The refusal that `clap` answers; of an option of Debian's tool, what to use here.
+fn refused_arguments(alloc: Global, arguments: &[String], error: &Error) -> Refusal {
     if error.kind() == ErrorKind::OutOfMemory {
         return Refusal::OutOfMemory;
+    }
+    if error.kind() == ErrorKind::UnknownArgument
+        && let Some((name, instead)) = debians_option(arguments)
+    {
+        return match format!(in alloc;
+            "error: {name} is an option of Debian's pgn-extract; here {instead}\n\nFor more information, try '--help'.\n"
+        ) {
+            Ok(text) => Refusal::Text(text),
+            Err(_) => Refusal::OutOfMemory,
+        };
     }
     match format!(in alloc; "{error}") {
         Ok(text) if error.use_stderr() => Refusal::Text(text),
@@ -79,15 +91,22 @@ struct Order<'a> {
     form: Form,
     mark: Mark,
     end: u64,
+    /// Whether refusals have notes.
+    noted: bool,
 }
 
 /// Reads the arguments and tests them in the order of the refusals: the arguments, the mode, the choice of games, their form, the names and the
 /// number of files, the marks, the lines of criteria.
-fn read_order<'a>(alloc: Global, arguments: &'a [String]) -> Result<Order<'a>, Refusal> {
+fn read_order<'a>(
+    alloc: Global,
+    arguments: &'a [String],
+    watched: bool,
+) -> Result<Order<'a>, Refusal> {
     let request = match read_arguments(alloc, arguments) {
         Ok(request) => request,
-        Err(error) => return Err(refused_arguments(alloc, &error)),
+        Err(error) => return Err(refused_arguments(alloc, arguments, &error)),
     };
+    let noted = request.explain || watched;
     let mode = match mode_of(&request) {
         Ok(mode) => mode,
         Err(line) => return Err(Refusal::Line(line)),
@@ -110,9 +129,9 @@ fn read_order<'a>(alloc: Global, arguments: &'a [String]) -> Result<Order<'a>, R
         return Err(Refusal::Line(line));
     }
     let Some(mark) = mark_of(&request) else {
-        return Err(Refusal::Line(messages::BAD_MARK));
+        return Err(Refusal::Line(bad_mark(noted)));
     };
-    let end = match end_of(&request, mark) {
+    let end = match end_of(&request, mark, noted) {
         Ok(end) => end,
         Err(line) => return Err(Refusal::Line(line)),
     };
@@ -126,6 +145,7 @@ fn read_order<'a>(alloc: Global, arguments: &'a [String]) -> Result<Order<'a>, R
         form,
         mark,
         end,
+        noted,
     })
 }
 
@@ -277,14 +297,23 @@ fn mark_of(request: &Request<'_>) -> Option<Mark> {
 }
 
 /// The offset that the run ends before: that of the mark after `--until`, and one that no input comes to without it; or the line that refuses it.
-fn end_of(request: &Request<'_>, begin: Mark) -> Result<u64, &'static str> {
+fn end_of(request: &Request<'_>, begin: Mark, noted: bool) -> Result<u64, &'static str> {
     let Some(text) = request.until else {
         return Ok(u64::MAX);
     };
     match read_mark(text.as_bytes()) {
         Some(end) if end.offset > begin.offset => Ok(end.offset),
         Some(_) => Err(messages::NOTHING_BETWEEN),
-        None => Err(messages::BAD_MARK),
+        None => Err(bad_mark(noted)),
+    }
+}
+
+/// The refusal of a text that is no mark, with a note where refusals have them.
+fn bad_mark(noted: bool) -> &'static str {
+    if noted {
+        messages::BAD_MARK_NOTED
+    } else {
+        messages::BAD_MARK
     }
 }
 
@@ -298,12 +327,12 @@ fn refused_file(
     error: &io::Error,
     line: &'static str,
     path: &str,
-    explain: bool,
+    noted: bool,
 ) -> Refusal {
     if error.kind() == io::ErrorKind::OutOfMemory {
         return Refusal::OutOfMemory;
     }
-    if !explain {
+    if !noted {
         return Refusal::Line(line);
     }
     match file_note(alloc, line, path, error) {
@@ -322,22 +351,18 @@ where
 }
 
 /// The bytes of the file of criteria, and none without one.
-fn read_file<F: Files>(
-    alloc: Global,
-    files: &mut F,
-    request: &Request<'_>,
-) -> Result<Vec<u8>, Refusal>
+fn read_file<F: Files>(alloc: Global, files: &mut F, order: &Order<'_>) -> Result<Vec<u8>, Refusal>
 where
     F::Input: Drop,
 {
-    let Some(path) = request.criteria else {
+    let Some(path) = order.request.criteria else {
         return Ok(Vec::new(alloc));
     };
     match read_path(alloc, files, path) {
         Ok(text) => Ok(text),
         Err(error) => {
             let line = messages::CANNOT_READ_CRITERIA;
-            Err(refused_file(alloc, &error, line, path, request.explain))
+            Err(refused_file(alloc, &error, line, path, order.noted))
         }
     }
 }
@@ -346,19 +371,20 @@ where
 fn read_criteria<F: Files>(
     alloc: Global,
     files: &mut F,
-    request: &Request<'_>,
+    order: &Order<'_>,
 ) -> Result<Option<Criteria>, Refusal>
 where
     F::Input: Drop,
 {
+    let request = &order.request;
     if request.criteria.is_none() && request.conditions.is_empty() {
         return Ok(None);
     }
-    let mut text = read_file(alloc, files, request)?;
+    let mut text = read_file(alloc, files, order)?;
     push_lines(&mut text, &request.conditions)?;
     match Criteria::parse(alloc, &text) {
         Ok(criteria) => Ok(Some(criteria)),
-        Err(error) if request.explain => Err(explained_criteria(alloc, &error, &text)),
+        Err(error) if order.noted => Err(explained_criteria(alloc, &error, &text)),
         Err(error) => Err(refused_criteria(alloc, &error)),
     }
 }
@@ -392,16 +418,16 @@ fn refused_criteria(alloc: Global, error: &CriteriaError) -> Refusal {
 fn open_input<'a, F: Files>(
     alloc: Global,
     files: &mut F,
-    request: &Request<'a>,
+    order: &Order<'a>,
 ) -> Result<(&'a str, F::Input), Refusal> {
-    let Some(path) = request.files.get(0).copied() else {
+    let Some(path) = order.request.files.get(0).copied() else {
         return Ok((messages::STANDARD_INPUT, files.standard()));
     };
     match files.open(path) {
         Ok(input) => Ok((path, input)),
         Err(error) => {
             let line = messages::CANNOT_OPEN_INPUT;
-            Err(refused_file(alloc, &error, line, path, request.explain))
+            Err(refused_file(alloc, &error, line, path, order.noted))
         }
     }
 }
@@ -419,9 +445,9 @@ where
     requires { (out.old.faulted ≡ false) × (err.old.faulted ≡ false) }
     ensures { OnErr result (out.new.faulted ≡ false) }
 {
-    let order = read_order(alloc, arguments)?;
+    let order = read_order(alloc, arguments, files.is_watched())?;
     let request = &order.request;
-    let criteria = read_criteria(alloc, files, request)?;
+    let criteria = read_criteria(alloc, files, &order)?;
     if request.progress {
         files.show_progress();
     }
@@ -445,7 +471,7 @@ where
         end: order.end,
     };
     let ended = if request.files.len() < 2 {
-        let (name, input) = open_input(alloc, files, request)?;
+        let (name, input) = open_input(alloc, files, &order)?;
         name_file(&mut task, name)?;
         run_input(&task, input, out, err).map(Total::of)
     } else {

@@ -1,10 +1,10 @@
 //! Why a line is refused: where it stops being of the language, and what is expected there.
-use super::core_of;
 use super::limits::limits_of;
 use super::move_words::{is_move_like, is_move_word};
 use super::plies::{comparison_of, count_of};
 use super::result::is_result;
 use super::tag::{are_names, contents_of, relation_of};
+use super::{core_of, side_of};
 use crate::cut::next_part;
 use crate::rank::next_item;
 use crate::words::{after_blanks, split_first, split_word};
@@ -78,6 +78,14 @@ const PLAYED: &str =
 const SIDE: &str = "turn: white or black";
 
 const NOTHING: &str = "nothing after this word";
+
+const END: &str = "nothing after this";
+
+const COMMENT: &str = "nothing after this; a comment stands on a line of its own";
+
+const FEN_WHITE: &str = "nothing after the men; turn white stands on a line of its own";
+
+const FEN_BLACK: &str = "nothing after the men; turn black stands on a line of its own";
 
 const MOVE_ALONE: &str = "nothing after the move; turn and or stand on lines of their own";
 
@@ -228,14 +236,27 @@ fn rank_stop(rank: &[u8]) -> Option<usize> {
     None
 }
 
+/// What is expected where a right line goes on: a comment is the likeliest slip.
+fn end_stop(rest: &[u8], expected: &'static str) -> Stop {
+    match rest {
+        [b'#', ..] => Stop::before(rest, COMMENT),
+        _ => Stop::before(rest, expected),
+    }
+}
+
 /// Where a pattern that is refused stops.
 fn pattern_stop(pattern: &[u8]) -> Stop {
     let mut rest = pattern;
-    for _ in 0u8..8 {
+    for ranks in 0u8..8 {
         let (rank, after) = next_part(b'/', rest);
         if let Some(left) = rank_stop(rank) {
             let before = rank.len().saturating_sub(left);
-            return item_stop(&rest[before.min(rest.len())..]);
+            let rest = &rest[before.min(rest.len())..];
+            return if ranks == 7 && before > 0 {
+                men_end_stop(rest)
+            } else {
+                item_stop(rest)
+            };
         }
         let Some(after) = after else {
             return Stop::before(b"".as_slice(), FEWER_RANKS);
@@ -243,6 +264,17 @@ fn pattern_stop(pattern: &[u8]) -> Stop {
         rest = after;
     }
     Stop::before(rest, MORE_RANKS)
+}
+
+/// Where no item is after men that may be whole: what follows them is often the rest of a FEN.
+fn men_end_stop(rest: &[u8]) -> Stop {
+    let after = after_blanks(rest);
+    match after {
+        _ if after.len() == rest.len() => item_stop(rest),
+        [b'w'] | [b'w', b' ', ..] => Stop::before(after, FEN_WHITE),
+        [b'b'] | [b'b', b' ', ..] => Stop::before(after, FEN_BLACK),
+        _ => end_stop(after, END),
+    }
 }
 
 /// Where no item is.
@@ -259,7 +291,7 @@ fn moves_stop(words: &[u8]) -> Stop {
     for _ in 0..words.len() {
         let (word, after) = split_word(rest);
         if !is_move_word(word) {
-            return Stop::before(rest, MOVE);
+            return end_stop(rest, MOVE);
         }
         rest = after_blanks(after);
     }
@@ -275,6 +307,10 @@ fn material_stop(text: &[u8]) -> Stop {
     let (word, black) = split_first(rest);
     if word != b"v".as_slice() {
         return Stop::before(rest, VERSUS);
+    }
+    let (men, more) = split_first(black);
+    if limits_of(men).is_some() {
+        return end_stop(more, END);
     }
     Stop::before(black, MEN)
 }
@@ -292,7 +328,23 @@ fn tag_stop(text: &[u8]) -> Stop {
     if contents_of(string).is_some() {
         return Stop::before(string, CONTAINED);
     }
+    let quoted = up_to_quote(string);
+    if contents_of(quoted).is_some() {
+        let rest = &string[quoted.len().min(string.len())..];
+        return end_stop(after_blanks(rest), END);
+    }
     Stop::before(string, CONTENTS)
+}
+
+/// A text up to its last double quote.
+fn up_to_quote(text: &[u8]) -> &[u8] {
+    let mut kept = text;
+    while let [before @ .., last] = kept
+        && *last != b'"'
+    {
+        kept = before;
+    }
+    kept
 }
 
 /// A text without the signs of comparisons that it begins with.
@@ -313,7 +365,7 @@ fn has_digit(text: &[u8]) -> bool {
 fn count_stop(text: &[u8], expected: &'static str) -> Stop {
     let (digits, more) = split_first(text);
     if count_of(digits).is_some() && !more.is_empty() {
-        return Stop::before(more, NOTHING);
+        return end_stop(more, NOTHING);
     }
     Stop::before(text, expected)
 }
@@ -337,7 +389,7 @@ fn result_stop(text: &[u8]) -> Stop {
     if !is_result(result) {
         return Stop::before(text, RESULT);
     }
-    Stop::before(more, RESULT_ALONE)
+    end_stop(more, RESULT_ALONE)
 }
 
 /// Where a condition on one move that is refused stops, with what is expected in place of its word.
@@ -346,7 +398,16 @@ fn like_stop(text: &[u8], expected: &'static str) -> Stop {
     if !is_move_like(word) {
         return Stop::before(text, expected);
     }
-    Stop::before(more, MOVE_ALONE)
+    end_stop(more, MOVE_ALONE)
+}
+
+/// Where a condition on who is to move that is refused stops.
+fn turn_stop(text: &[u8]) -> Stop {
+    let (side, more) = split_first(text);
+    if side_of(side).is_none() {
+        return Stop::before(text, SIDE);
+    }
+    end_stop(more, END)
 }
 
 /// Where a text that is no condition stops being one.
@@ -355,7 +416,7 @@ fn condition_stop(text: &[u8]) -> Stop {
     match key_of(word) {
         Some(Key::Not) => denied_stop(rest),
         Some(Key::Either) => either_stop(rest),
-        Some(Key::Or) => Stop::before(rest, NOTHING),
+        Some(Key::Or) => end_stop(rest, NOTHING),
         _ => claim_stop(text),
     }
 }
@@ -419,8 +480,8 @@ fn claim_stop(text: &[u8]) -> Stop {
         Key::Next => like_stop(rest, NEXT),
         Key::Played => like_stop(rest, PLAYED),
         Key::Tag => tag_stop(rest),
-        Key::Turn => Stop::before(rest, SIDE),
-        Key::Check | Key::Mate | Key::Stalemate => Stop::before(rest, NOTHING),
+        Key::Turn => turn_stop(rest),
+        Key::Check | Key::Mate | Key::Stalemate => end_stop(rest, NOTHING),
         Key::Or | Key::Not | Key::Either => unknown_stop(text, word),
     }
 }

@@ -35,6 +35,11 @@ pub trait Files {
     /// Standard input.
     fn standard(&mut self) -> Self::Input;
 
+    /// Whether a person reads what is reported, so that refusals have notes without being asked for.
+    fn is_watched(&self) -> bool {
+        false
+    }
+
     /// From now on each input shows on a terminal how far it is read. Nothing else changes.
     fn show_progress(&mut self);
 }

@@ -49,6 +49,10 @@ pub const STANDARD_INPUT: &str = "(standard input)";
 /// The text of `--from` or `--until` is no mark.
 pub const BAD_MARK: &str = "pgn-extract: bad mark\n";
 
+/// The same, with a note.
+pub const BAD_MARK_NOTED: &str =
+    "pgn-extract: bad mark\n  a mark is N@O, as --index prints it; 1@0 is the first game's\n";
+
 /// The mark of `--until` does not stand after that of `--from`.
 pub const NOTHING_BETWEEN: &str = "pgn-extract: --until is not after --from\n";
 

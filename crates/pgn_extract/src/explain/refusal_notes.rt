@@ -42,6 +42,9 @@ pub fn file_note(
     note.extend_from_slice(b": ")?;
     push_reason(alloc, &mut note, error)?;
     note.push(b'\n')?;
+    if path == "-" {
+        note.extend_from_slice(b"  without FILE standard input is read\n")?;
+    }
     Ok(note)
 }
 
@@ -100,6 +103,27 @@ fn push_blanks(note: &mut Vec<u8>, bytes: &[u8]) -> Result<(), AllocError> {
     Ok(())
 }
 
+/// Appends the end of what stands before the place: after two dots, where more does. How many columns that takes is answered by the blanks.
+fn push_before(note: &mut Vec<u8>, blanks: &mut Vec<u8>, before: &[u8]) -> Result<(), AllocError> {
+    let shown = &before[before.len().saturating_sub(BEFORE)..];
+    if shown.len() < before.len() {
+        note.extend_from_slice(b"..")?;
+        blanks.extend_from_slice(b"  ")?;
+    }
+    push_shown(note, shown)?;
+    push_blanks(blanks, shown)
+}
+
+/// Appends the beginning of what stands from the place on, with two dots where more does.
+fn push_after(note: &mut Vec<u8>, rest: &[u8]) -> Result<(), AllocError> {
+    let shown = &rest[..rest.len().min(FROM)];
+    push_shown(note, shown)?;
+    if shown.len() < rest.len() {
+        note.extend_from_slice(b"..")?;
+    }
+    Ok(())
+}
+
 /// The refusal of the line of criteria with this number, and below it the line, a mark where it stops being of the language, and what is
 /// expected there.
 pub fn line_note(alloc: Global, text: &[u8], number: usize) -> Result<Vec<u8>, AllocError> {
@@ -107,15 +131,13 @@ pub fn line_note(alloc: Global, text: &[u8], number: usize) -> Result<Vec<u8>, A
     let complaint = complaint_of(line);
     let at = complaint.at.min(line.len());
     let (before, rest) = line.split_at(at);
-    let before = &before[before.len().saturating_sub(BEFORE)..];
-    let rest = &rest[..rest.len().min(FROM)];
     let mut note = Vec::new(alloc);
+    let mut blanks = Vec::from_slice(alloc, b"\n  ")?;
     push_refusal(&mut note, number)?;
     note.extend_from_slice(b"  ")?;
-    push_shown(&mut note, before)?;
-    push_shown(&mut note, rest)?;
-    note.extend_from_slice(b"\n  ")?;
-    push_blanks(&mut note, before)?;
+    push_before(&mut note, &mut blanks, before)?;
+    push_after(&mut note, rest)?;
+    note.extend_from_slice(&blanks)?;
     note.extend_from_slice(b"^ ")?;
     note.extend_from_slice(complaint.expected.as_bytes())?;
     note.push(b'\n')?;

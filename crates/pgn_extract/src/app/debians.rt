@@ -1,0 +1,43 @@
+//! Options of Debian's `pgn-extract` that are none here, with what to use in their place.
+
+/// Each option, and what does its work here. A short one may have its value right after it.
+const OPTIONS: [(&str, &str); 22] = [
+    ("-o", "redirect the output: > FILE"),
+    ("--output", "redirect the output: > FILE"),
+    ("-a", "append to a file: >> FILE"),
+    ("--append", "append to a file: >> FILE"),
+    ("-D", "pgn-unique FILE leaves out duplicates"),
+    ("--noduplicates", "pgn-unique FILE leaves out duplicates"),
+    ("-d", "pgn-unique --report FILE names duplicates"),
+    ("--duplicates", "pgn-unique --report FILE names duplicates"),
+    ("-s", "nothing but bad games is reported: leave it out"),
+    ("--quiet", "nothing but bad games is reported: leave it out"),
+    ("-e", "no ECO codes are added: leave it out"),
+    ("-7", "use --roster"),
+    ("--seven", "use --roster"),
+    ("-W", "use --moves, --uci, or --list --fen"),
+    ("--json", "use --moves or --list --fen, on lines"),
+    (
+        "--fixresulttags",
+        "results are checked, not mended: leave it out",
+    ),
+    ("-t", "use --criteria FILE, or --where LINE"),
+    ("-T", "use --where with a line tag"),
+    ("-x", "use --criteria FILE with a line fen"),
+    ("-y", "use --where with a line material"),
+    ("-r", "use --list > /dev/null"),
+    ("--checkfile", "use pgn-unique FILE.."),
+];
+
+/// The first argument that is such an option or begins with one, and what to use here.
+pub fn debians_option(arguments: &[String]) -> Option<(&'static str, &'static str)> {
+    for argument in arguments {
+        for &(name, instead) in &OPTIONS {
+            let text = argument.as_str();
+            if text == name || (name.len() == 2 && text.starts_with(name)) {
+                return Some((name, instead));
+            }
+        }
+    }
+    None
+}
