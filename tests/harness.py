@@ -32,6 +32,7 @@ import subprocess
 import sys
 import tempfile
 import termios
+import threading
 import time
 import traceback
 from dataclasses import dataclass
@@ -76,6 +77,54 @@ class Ended(NamedTuple):
     err: bytes
 
 
+# The processes that run now, each at the head of its group; none is begun once this script was told
+# to stop, and then each has these seconds to end what it began.
+RUNNING = set()
+STOPPED = threading.Event()
+GRACE = 5
+
+
+def end_group(running, number):
+    """Sends a signal to a process and to all of its group."""
+    try:
+        os.killpg(running.pid, number)
+    except ProcessLookupError:
+        pass
+
+
+def stop(number, _):
+    """Ends what runs, and then this script, which takes its private folder away."""
+    STOPPED.set()
+    for running in list(RUNNING):
+        end_group(running, signal.SIGTERM)
+    sys.exit(128 + number)
+
+
+def stop_by_signals():
+    """Has a signal that ends this script end what it began."""
+    for number in (signal.SIGINT, signal.SIGTERM, signal.SIGHUP):
+        if signal.getsignal(number) != signal.SIG_IGN:
+            signal.signal(number, stop)
+
+
+def end_softly(running):
+    """Ends a process: a script or a tool ends what it began by itself, and what is left is ended."""
+    end_group(running, signal.SIGTERM)
+    try:
+        return running.communicate(timeout=GRACE)
+    except subprocess.TimeoutExpired:
+        end_group(running, signal.SIGKILL)
+        return running.communicate()
+
+
+def output_of(running, text, seconds):
+    """What a process writes to its end, and whether it was ended at the time limit."""
+    try:
+        return *running.communicate(text, seconds), False
+    except subprocess.TimeoutExpired:
+        return *end_softly(running), True
+
+
 def run(command, text=b"", seconds=60, **more):
     """Runs a list of arguments over the bytes on standard input; `more` is what subprocess.Popen takes, as `env`, `stdout` or `preexec_fn`."""
     streams = {"stdin": subprocess.PIPE, "stdout": subprocess.PIPE, "stderr": subprocess.PIPE}
@@ -83,15 +132,19 @@ def run(command, text=b"", seconds=60, **more):
     # (in a session of its own, so that its children end with it at the time limit)
     with subprocess.Popen([os.fspath(it) for it in command], **{**streams, "env": environment, "start_new_session": True, **more}) as running:
         try:
-            out, err = running.communicate(None if "stdin" in more else text, seconds)
-        except subprocess.TimeoutExpired:
-            os.killpg(running.pid, signal.SIGKILL)
-            out, err = running.communicate()
-            return Ended(OVERDUE, out or b"", err or b"")
+            RUNNING.add(running)
+            if STOPPED.is_set():
+                end_group(running, signal.SIGTERM)
+            out, err, is_overdue = output_of(running, None if "stdin" in more else text, seconds)
         except BaseException:
-            os.killpg(running.pid, signal.SIGKILL)
+            end_softly(running)
             raise
-    return Ended(running.returncode, out or b"", err or b"")
+        finally:
+            RUNNING.discard(running)
+    if STOPPED.is_set():
+        # (of a thread too, which would go on with the next run)
+        sys.exit(1)
+    return Ended(OVERDUE if is_overdue else running.returncode, out or b"", err or b"")
 
 
 # A run that comes to a state is waited for no longer than this (seconds).
@@ -436,6 +489,7 @@ def run_sweeps(document, sweeps, add_options=None):
 def main(document, try_all, add_options=None):
     """Runs a script's cases in a private folder, and gives the status that it ends with."""
     options = read_arguments(document, add_options)
+    stop_by_signals()
     setup = Setup(options.program.resolve(), options.few, options)
     came_from = os.getcwd()
     with tempfile.TemporaryDirectory(prefix="pgn-tests-") as folder:
