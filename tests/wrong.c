@@ -150,6 +150,8 @@ int main(int count, char **arguments) {
             _exit(3);
         for (int i = 0; i < 2; i++)
             close(out[i]), close(err[i]);
+        // (PROGRAM may be a command that looks for a program there, and would find this one)
+        unsetenv("PGN_EXTRACT");
         execv(PROGRAM, arguments);
         _exit(3);
     }
