@@ -52,12 +52,22 @@ static size_t line_at(const struct text *text, size_t at) {
     return end ? (size_t)(end - text->bytes) - at + 1 : text->length - at;
 }
 
+// The same where a carriage return ends a line too, as bytes of a pack may be one.
+static size_t row_at(const struct text *text, size_t at) {
+    size_t length = line_at(text, at);
+    char *end = memchr(text->bytes + at, '\r', length);
+    if (!end)
+        return length;
+    size_t here = (size_t)(end - text->bytes) - at + 1;
+    return here < length && end[1] == '\n' ? here + 1 : here;
+}
+
 #ifdef DOUBLED
 static void change(struct text texts[2]) {
     for (int i = 0; i < 2; i++) {
         struct text made = {0};
         for (size_t at = 0, length; at < texts[i].length; at += length) {
-            length = line_at(&texts[i], at);
+            length = row_at(&texts[i], at);
             append(&made, texts[i].bytes + at, length);
             append(&made, texts[i].bytes + at, length);
         }
@@ -105,7 +115,7 @@ static void drop_mark(struct text *text, unsigned long number) {
 
 static void drop_last_line(struct text *text) {
     size_t begin = 0;
-    for (size_t at = 0; at < text->length; at += line_at(text, at))
+    for (size_t at = 0; at < text->length; at += row_at(text, at))
         begin = at;
     text->length = begin;
 }
