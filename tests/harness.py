@@ -108,7 +108,7 @@ def stop_by_signals():
 
 
 def end_softly(running):
-    """Ends a process: a script or a tool ends what it began by itself, and what is left is ended."""
+    """Ends a process: it first ends what it began by itself, and then what is left is ended."""
     end_group(running, signal.SIGTERM)
     try:
         return running.communicate(timeout=GRACE)
@@ -236,9 +236,10 @@ def difference(found, wanted):
 
 
 def raw_in(text):
-    """What a terminal would obey in a report: bytes that are no UTF-8, and control characters but line feeds."""
+    """What a terminal would obey: bytes that are no UTF-8, control characters but line feeds."""
     try:
-        signs = {it for it in text.decode("utf-8") if it < " " and it != "\n" or "\x7f" <= it <= "\x9f"}
+        signs = set(text.decode("utf-8")) - {"\n"}
+        signs = {it for it in signs if it < " " or "\x7f" <= it <= "\x9f"}
     except UnicodeDecodeError as fault:
         return f"{text[fault.start :][:1]} is no UTF-8: {shown(text)}"
     return f"{sorted(signs)} stand raw in {shown(text)}" if signs else None
