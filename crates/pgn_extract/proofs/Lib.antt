@@ -8,6 +8,7 @@ pub mod Chosen
 pub mod Dropping
 pub mod ModeOutputs
 pub mod ExactEntries
+pub mod Examples
 pub mod Exported
 pub mod FieldTexts
 pub mod GameExport
