@@ -12,6 +12,7 @@ pub mod KeptSteps
 pub mod ReachedLines
 pub mod RefusalSearch
 pub mod RefusalExamples
+pub mod LineExamples
 pub mod NamedMoves
 pub mod OneWord
 pub mod OneLine
