@@ -66,6 +66,7 @@ pub mod Settled
 pub mod Searches
 pub mod LegalSettled
 pub mod RefusalFacts
+pub mod RefusalExamples
 pub mod OnBoard
 pub mod NamedSettled
 pub mod MateSettled
