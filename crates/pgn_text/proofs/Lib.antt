@@ -53,6 +53,7 @@ pub mod ResumedText
 pub mod Resumption
 pub mod UncutFailures
 pub mod Rows
+pub mod Examples
 pub mod Runs
 pub mod RunsTo
 pub mod ShorterText
