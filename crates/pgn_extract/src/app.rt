@@ -61,23 +61,23 @@ impl From<AllocError> for Refusal {
 }
 
 /// The refusal that `clap` answers; of an option of Debian's tool, what to use here.
-fn refused_arguments(alloc: Global, arguments: &[String], error: &Error) -> Refusal {
+fn refused_arguments(alloc: Global, error: &Error) -> Refusal {
     if error.kind() == ErrorKind::OutOfMemory {
         return Refusal::OutOfMemory;
     }
-    if error.kind() == ErrorKind::UnknownArgument
-        && let Some((name, instead)) = debians_option(arguments)
-    {
-        return match format!(in alloc;
-            "error: {name} is an option of Debian's pgn-extract; here {instead}\n\nFor more information, try '--help'.\n"
-        ) {
-            Ok(text) => Refusal::Text(text),
-            Err(_) => Refusal::OutOfMemory,
-        };
+    let Ok(text) = format!(in alloc; "{error}") else {
+        return Refusal::OutOfMemory;
+    };
+    if !error.use_stderr() {
+        return Refusal::Help(text);
     }
-    match format!(in alloc; "{error}") {
-        Ok(text) if error.use_stderr() => Refusal::Text(text),
-        Ok(text) => Refusal::Help(text),
+    let Some((name, instead)) = debians_option(text.as_str()) else {
+        return Refusal::Text(text);
+    };
+    match format!(in alloc;
+        "error: {name} is an option of Debian's pgn-extract; here {instead}\n\nFor more information, try '--help'.\n"
+    ) {
+        Ok(text) => Refusal::Text(text),
         Err(_) => Refusal::OutOfMemory,
     }
 }
@@ -104,7 +104,7 @@ fn read_order<'a>(
 ) -> Result<Order<'a>, Refusal> {
     let request = match read_arguments(alloc, arguments) {
         Ok(request) => request,
-        Err(error) => return Err(refused_arguments(alloc, arguments, &error)),
+        Err(error) => return Err(refused_arguments(alloc, &error)),
     };
     let noted = request.explain || watched;
     let mode = match mode_of(&request) {

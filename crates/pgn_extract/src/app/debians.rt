@@ -1,6 +1,6 @@
 //! Options of Debian's `pgn-extract` that are none here, with what to use in their place.
 
-/// Each option, and what does its work here. A short one may have its value right after it.
+/// Each option, and what does its work here.
 const OPTIONS: [(&str, &str); 22] = [
     ("-o", "redirect the output: > FILE"),
     ("--output", "redirect the output: > FILE"),
@@ -29,14 +29,15 @@ const OPTIONS: [(&str, &str); 22] = [
     ("--checkfile", "use pgn-unique FILE.."),
 ];
 
-/// The first argument that is such an option or begins with one, and what to use here.
-pub fn debians_option(arguments: &[String]) -> Option<(&'static str, &'static str)> {
-    for argument in arguments {
-        for &(name, instead) in &OPTIONS {
-            let text = argument.as_str();
-            if text == name || (name.len() == 2 && text.starts_with(name)) {
-                return Some((name, instead));
-            }
+/// What stands before the argument that `clap` does not know, in the text of its error.
+const UNKNOWN: &str = "error: unexpected argument '";
+
+/// The option that this text of an error refuses, and what to use here, if it is one of these.
+pub fn debians_option(text: &str) -> Option<(&'static str, &'static str)> {
+    let (refused, _) = text.strip_prefix(UNKNOWN)?.split_once("' ")?;
+    for &(name, instead) in &OPTIONS {
+        if refused == name {
+            return Some((name, instead));
         }
     }
     None
