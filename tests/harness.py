@@ -13,7 +13,7 @@ A script is a docstring and a function over a Setup that counts its cases:
 
 - The program under test is what `--program` names, else the one that the gate built. No variable of the environment changes it.
 - A tool that looks for a program by PGN_EXTRACT is given the one under test: `setup.run_tool`.
-- With `--few` a script tries little of each kind, for tests/mutants. A script of several sweeps has `--only SWEEP` too: `harness.run_sweeps`.
+- With `--few` a script tries little of each kind, and with `--until-failed` it ends at the first failed case, for tests/mutants. A script of several sweeps has `--only SWEEP` too: `harness.run_sweeps`.
 - The current folder is a private one, which is gone at the end.
 - What a script raises is one failed case more, and no case at all is a failure too.
 - The last line is 'N passed, M failed', with ', K skipped' where a tool is missing. The status is 0 where cases passed and none failed, else 1.
@@ -81,6 +81,8 @@ class Ended(NamedTuple):
 # to stop, and then each has these seconds to end what it began.
 RUNNING = set()
 STOPPED = threading.Event()
+# Set with `--until-failed` at the first failed case: no process is begun after it.
+ENOUGH = threading.Event()
 GRACE = 5
 
 
@@ -127,6 +129,8 @@ def output_of(running, text, seconds):
 
 def run(command, text=b"", seconds=60, **more):
     """Runs a list of arguments over the bytes on standard input; `more` is what subprocess.Popen takes, as `env`, `stdout` or `preexec_fn`."""
+    if ENOUGH.is_set():
+        raise HasFailed
     streams = {"stdin": subprocess.PIPE, "stdout": subprocess.PIPE, "stderr": subprocess.PIPE}
     environment = {name: value for name, value in os.environ.items() if name != TOOL_VARIABLE}
     # (in a session of its own, so that its children end with it at the time limit)
@@ -253,6 +257,10 @@ class MissingTool(Exception):
     """A tool that has to be there is missing."""
 
 
+class HasFailed(BaseException):
+    """A case has failed, and no more is wanted (no handler of faults takes it for one)."""
+
+
 @dataclass
 class Setup:
     """What a script is given: the program under test, whether to try few cases, its own options, and the count."""
@@ -263,6 +271,8 @@ class Setup:
     passed: int = 0
     failed: int = 0
     skipped: int = 0
+    # Whether the first failed case ends the script.
+    is_until_failed: bool = False
 
     def case(self, name, faults=None):
         """Counts one case, which failed where a fault is given (a text, or several), and says whether it passed."""
@@ -272,6 +282,9 @@ class Setup:
         if len(found) > FAULTS_SHOWN:
             print(f"FAILED {name}: and {len(found) - FAULTS_SHOWN} faults more", flush=True)
         self.passed, self.failed = self.passed + (not found), self.failed + bool(found)
+        if found and self.is_until_failed:
+            ENOUGH.set()
+            raise HasFailed
         return not found
 
     def sweep(self, name, cases):
@@ -457,6 +470,7 @@ def read_arguments(document, add_options):
     parser = argparse.ArgumentParser(description=document, formatter_class=argparse.RawDescriptionHelpFormatter)
     parser.add_argument("--program", type=Path, default=BUILT, help="the program under test, in place of the one that the gate built")
     parser.add_argument("--few", action="store_true", help="try little of each kind")
+    parser.add_argument("--until-failed", action="store_true", help="end at the first failed case")
     if add_options:
         add_options(parser)
     return parser.parse_args()
@@ -492,6 +506,7 @@ def main(document, try_all, add_options=None):
     options = read_arguments(document, add_options)
     stop_by_signals()
     setup = Setup(options.program.resolve(), options.few, options)
+    setup.is_until_failed = options.until_failed
     came_from = os.getcwd()
     with tempfile.TemporaryDirectory(prefix="pgn-tests-") as folder:
         os.chdir(folder)
@@ -500,6 +515,8 @@ def main(document, try_all, add_options=None):
                 guarded(setup, lambda: try_all(setup))
             else:
                 setup.case("tools", f"{setup.program} is not there: tools/build")
+        except HasFailed:
+            pass
         finally:
             os.chdir(came_from)
     return setup.tail()
