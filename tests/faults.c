@@ -3,6 +3,7 @@
  *     FAULTS_AT=N              the N-th such call fails, counted from 1; with FAULTS_ONWARD=1 all after it too
  *     FAULTS_ERROR=E           with this error; without it the call moves nothing and answers 0
  *     FAULTS_PIECE=N           each such call moves at most N bytes
+ *     FAULTS_END=N             seeks move nothing, and say that the file ends at byte N
  *     FAULTS_LATE=FILE         at the end three numbers are written to the file: the reads after the fault, the writes of the same file after it,
  *                              and the furthest place that a seek of the file came to */
 #define _GNU_SOURCE
@@ -65,6 +66,8 @@ off_t lseek(int file, off_t offset, int whence) {
     static off_t (*call)(int, off_t, int);
     if (!call) call = (off_t (*)(int, off_t, int))dlsym(RTLD_NEXT, "lseek");
     if (!is_meant("lseek", file)) return call(file, offset, whence);
+    long end = number("FAULTS_END", 0);
+    if (end) return whence == SEEK_END ? end : whence == SEEK_CUR ? 0 : offset;
     off_t place = is_fault() ? -1 : call(file, offset, whence);
     if (place > furthest) furthest = place;
     return place;
