@@ -2,8 +2,6 @@
 #![tactic(auto)]
 
 #[cfg(test)]
-mod exports;
-#[cfg(test)]
 mod memory;
 #[cfg(test)]
 mod refusals;
