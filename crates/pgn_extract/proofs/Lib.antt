@@ -54,3 +54,5 @@ pub mod FirstExports
 pub mod PartsReported
 pub mod Sought
 pub mod TwoFiles
+pub mod RequestFacts
+pub mod RequestExamples

@@ -1,36 +1,34 @@
 //! The program over arguments and files that are handed in.
-ghost use Rattle.std.specs.Prelude.{◌≡◌, ◌≤◌, ◌^◌, false, true, OnErr};
-ghost use Rattle.pgn_extract.specs.Public.Listing.{is_plain};
+ghost use Rattle.std.specs.Prelude.{◌≡◌, false, OnErr};
 
-mod command;
+pub mod command;
 mod conditions;
 mod debians;
 mod endings;
 pub(crate) mod files;
-mod mark;
+pub mod mark;
 pub mod messages;
+pub mod order;
 mod packs;
 mod prefix;
 pub mod status;
 
-use crate::app::command::{DEFAULT_WIDTH, Request, read_arguments};
-use crate::app::conditions::{is_one_line, push_lines};
+use crate::app::command::read_arguments;
+use crate::app::conditions::push_lines;
 use crate::app::debians::debians_option;
 use crate::app::endings::{
     flush_rest, line_of, put_summary, report_bytes, report_failure, report_line,
 };
 use crate::app::files::{Files, Task, Total, name_file, run_files, run_input};
-use crate::app::mark::{Mark, read_mark};
+use crate::app::order::{Order, accept, has_names, packed_settings, settings_of};
 use crate::app::packs::{PackTask, search_packs};
 use crate::app::prefix::read_prefix;
 use crate::app::status::{FAILED, FAULTY, REFUSED, SOUND};
 use crate::explain::refusal_notes::{file_note, line_note};
 use crate::output::write_all::write_all;
-use crate::settings::{Fields, Form, Mode, Select, Settings};
 use clap::Error;
 use clap::error::ErrorKind;
 use pgn_criteria::{Criteria, CriteriaError};
-use pgn_game::{Notation, Style};
 use pgn_text::Tally;
 use std::alloc::{AllocError, Global};
 use std::io;
@@ -82,21 +80,7 @@ fn refused_arguments(alloc: Global, error: &Error) -> Refusal {
     }
 }
 
-/// What the arguments ask for.
-#[derive(Drop)]
-struct Order<'a> {
-    request: Request<'a>,
-    mode: Mode,
-    select: Select,
-    form: Form,
-    mark: Mark,
-    end: u64,
-    /// Whether refusals have notes.
-    noted: bool,
-}
-
-/// Reads the arguments and tests them in the order of the refusals: the arguments, the mode, the choice of games, their form, the names and the
-/// number of files, the marks, the lines of criteria.
+/// Reads the arguments, and tests what they ask for.
 fn read_order<'a>(
     alloc: Global,
     arguments: &'a [String],
@@ -106,214 +90,9 @@ fn read_order<'a>(
         Ok(request) => request,
         Err(error) => return Err(refused_arguments(alloc, &error)),
     };
-    let noted = request.explain || watched;
-    let mode = match mode_of(&request) {
-        Ok(mode) => mode,
-        Err(line) => return Err(Refusal::Line(line)),
-    };
-    if let Some(line) = refused_packs(&request, mode) {
-        return Err(Refusal::Line(line));
-    }
-    if (request.fen || request.next) && mode != Mode::List {
-        return Err(Refusal::Line(messages::NO_ENTRIES_LISTED));
-    }
-    let select = match select_of(&request, mode) {
-        Ok(select) => select,
-        Err(line) => return Err(Refusal::Line(line)),
-    };
-    let form = match form_of(&request, mode) {
-        Ok(form) => form,
-        Err(line) => return Err(Refusal::Line(line)),
-    };
-    if let Some(line) = refused_files(&request) {
-        return Err(Refusal::Line(line));
-    }
-    let Some(mark) = mark_of(&request) else {
-        return Err(Refusal::Line(bad_mark(noted)));
-    };
-    let end = match end_of(&request, mark, noted) {
-        Ok(end) => end,
-        Err(line) => return Err(Refusal::Line(line)),
-    };
-    if !request.conditions.iter().all(|line| is_one_line(line)) {
-        return Err(Refusal::Line(messages::NOT_ONE_LINE));
-    }
-    Ok(Order {
-        request,
-        mode,
-        select,
-        form,
-        mark,
-        end,
-        noted,
-    })
-}
-
-/// The line that refuses what is not done with packs.
-fn refused_packs(request: &Request<'_>, mode: Mode) -> Option<&'static str> {
-    if !request.packed {
-        return None;
-    }
-    if mode == Mode::Export {
-        return Some(messages::PACKS_GIVE_LINES);
-    }
-    let has_fields = request.fen || request.next;
-    let has_mark = request.from.is_some() || request.until.is_some();
-    if has_fields || has_mark || request.with_names || request.no_names {
-        return Some(messages::PACKS_ARE_PLAIN);
-    }
-    None
-}
-
-/// The line that refuses names that are both asked for and refused, or marks of several files.
-fn refused_files(request: &Request<'_>) -> Option<&'static str> {
-    if request.with_names && request.no_names {
-        return Some(messages::BOTH_NAMINGS);
-    }
-    let has_mark = request.from.is_some() || request.until.is_some();
-    if has_mark && request.files.len() > 1 {
-        return Some(messages::MARKS_TAKE_ONE_FILE);
-    }
-    None
-}
-
-/// Whether lines have the names of their files.
-fn has_names(request: &Request<'_>) -> bool {
-    request.with_names || (request.files.len() > 1 && !request.no_names)
-}
-
-/// What the run writes, or the line that refuses it.
-fn mode_of(request: &Request<'_>) -> Result<Mode, &'static str> {
-    match (request.list, request.index) {
-        (true, true) => Err(messages::BOTH_MODES),
-        (true, false) => Ok(Mode::List),
-        (false, true) => Ok(Mode::Index),
-        (false, false) => Ok(Mode::Export),
-    }
-}
-
-/// Which games the export writes, or the line that refuses the choice.
-fn select_of(request: &Request<'_>, mode: Mode) -> Result<Select, &'static str> {
-    let chooses = request.others || request.faulty || request.as_is;
-    if chooses && mode != Mode::Export {
-        return Err(messages::NO_GAMES_WRITTEN);
-    }
-    match (request.others, request.faulty) {
-        (true, true) => Err(messages::BOTH_CHOICES),
-        (true, false) => Ok(Select::Others),
-        (false, true) => Ok(Select::Faulty),
-        (false, false) => Ok(Select::Matching),
-    }
-}
-
-/// How a game that is selected is written, or the line that refuses it.
-fn form_of(request: &Request<'_>, mode: Mode) -> Result<Form, &'static str> {
-    if request.pack {
-        return packed_form(request, mode);
-    }
-    let notation = match (request.moves, request.uci) {
-        (true, true) => return Err(messages::BOTH_NOTATIONS),
-        (true, false) => Notation::San,
-        (false, true) => Notation::Uci,
-        (false, false) if request.as_is => return Ok(Form::AsItStands),
-        (false, false) => return Ok(Form::Standard),
-    };
-    if mode != Mode::Export || request.faulty || request.as_is {
-        return Err(messages::NO_LINES_OF_MOVES);
-    }
-    Ok(Form::Line(notation))
-}
-
-/// Whether an option says how games are written in the standard's form.
-fn is_styled(request: &Request<'_>) -> bool {
-    let leaves_out = request.no_comments || request.no_glyphs || request.no_variations;
-    leaves_out || request.roster || request.width.is_some()
-}
-
-/// The form of the games of a pack, or the line that refuses it.
-fn packed_form(request: &Request<'_>, mode: Mode) -> Result<Form, &'static str> {
-    let has_form = request.moves || request.uci || request.as_is || is_styled(request);
-    if mode != Mode::Export || request.faulty || has_form {
-        return Err(messages::NO_PACK);
-    }
-    Ok(Form::Record)
-}
-
-/// How games are written.
-fn style_of(request: &Request<'_>) -> Style {
-    Style {
-        comments: !request.no_comments,
-        glyphs: !request.no_glyphs,
-        variations: !request.no_variations,
-        roster_only: request.roster,
-        width: request.width.unwrap_or(DEFAULT_WIDTH),
-    }
-}
-
-/// What a run is to write, with no name yet.
-fn settings_of(order: &Order<'_>, criteria: Option<Criteria>) -> Settings
-    ensures number { result.number ≡ order.now.mark.number }
-    ensures offset { result.offset ≡ order.now.mark.offset }
-{
-    let request = &order.request;
-    Settings {
-        name: None,
-        mode: order.mode,
-        criteria,
-        min_ply: request.min_ply,
-        max_ply: request.max_ply,
-        first: request.first,
-        fields: Fields {
-            fen: request.fen,
-            next: request.next,
-        },
-        select: order.select,
-        form: order.form,
-        style: style_of(request),
-        explain: request.explain,
-        number: order.mark.number,
-        offset: order.mark.offset,
-    }
-}
-
-/// What is looked for in packs.
-fn packed_settings(order: &Order<'_>, criteria: Option<Criteria>) -> Settings
-    ensures { is_plain result.fields ≡ true }
-{
-    let mut settings = settings_of(order, criteria);
-    settings.fields = Fields {
-        fen: false,
-        next: false,
-    };
-    settings
-}
-
-/// The mark that the run begins at: that of `--from`, and `1@0` without it. `None` for a bad one.
-fn mark_of(request: &Request<'_>) -> Option<Mark> {
-    match request.from {
-        Some(text) => read_mark(text.as_bytes()),
-        None => Some(Mark::FIRST),
-    }
-}
-
-/// The offset that the run ends before: that of the mark after `--until`, and one that no input comes to without it; or the line that refuses it.
-fn end_of(request: &Request<'_>, begin: Mark, noted: bool) -> Result<u64, &'static str> {
-    let Some(text) = request.until else {
-        return Ok(u64::MAX);
-    };
-    match read_mark(text.as_bytes()) {
-        Some(end) if end.offset > begin.offset => Ok(end.offset),
-        Some(_) => Err(messages::NOTHING_BETWEEN),
-        None => Err(bad_mark(noted)),
-    }
-}
-
-/// The refusal of a text that is no mark, with a note where refusals have them.
-fn bad_mark(noted: bool) -> &'static str {
-    if noted {
-        messages::BAD_MARK_NOTED
-    } else {
-        messages::BAD_MARK
+    match accept(request, watched) {
+        Ok(order) => Ok(order),
+        Err(line) => Err(Refusal::Line(line)),
     }
 }
 

@@ -23,7 +23,10 @@ mod output;
 mod packed;
 mod settings;
 
+pub use app::command::Request;
 pub use app::files::{Files, Task, Total, run_files, run_input};
+pub use app::mark::Mark;
+pub use app::order::{Order, accept, has_names, settings_of};
 pub use app::{messages, program, status};
 pub use engine::{run, run_skipping};
 pub use output::file_name::FileName;

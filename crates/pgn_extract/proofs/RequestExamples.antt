@@ -1,0 +1,252 @@
+-- What the definitions of what is asked for say of some options, and what they refuse.
+use Rattle.std.proofs.Common.{◌≡◌, ◌^◌, ◌-◌, true, false, ℕ, Bool, List, Option, None, Some, codes, refl}
+use Rattle.pgn_game.specs.declared.exports.notation.Notation.TheVariants.{San, Uci}
+use Rattle.pgn_extract.specs.Public.GivenMarks.{GivenMark, mark_in}
+use Rattle.pgn_extract.specs.Public.Requests.{asked, asks_names, begin_of, end_of, first_line, gives_mark, has_several_files, is_one_line, is_stretch, option_refusals}
+use Rattle.pgn_extract.specs.declared.app.command.Request.{Request}
+use Rattle.pgn_extract.specs.declared.settings.Form.TheVariants.{Standard, AsItStands, Line, Record}
+use Rattle.pgn_extract.specs.declared.settings.Mode.TheVariants as modes
+use Rattle.pgn_extract.specs.declared.settings.Select.TheVariants.{Matching, Others, Faulty}
+
+-- ---- marks
+
+marks :
+    (mark_in (codes "1@0") ≡ Some (record { number = 1; offset = 0 }))
+    × (mark_in (codes "007@0120") ≡ Some (record { number = 7; offset = 120 }))
+    × (mark_in (codes "4611686018427387904@4611686018427387904") ≡ Some (record { number = 2 ^ 62; offset = 2 ^ 62 }))
+marks = (refl, refl, refl)
+
+no_marks :
+    (mark_in (codes "0@0") ≡ None) × (mark_in (codes "1@") ≡ None) × (mark_in (codes "@0") ≡ None)
+    × (mark_in (codes "1") ≡ None)
+    × (mark_in (codes "1@0@0") ≡ None) × (mark_in (codes "+1@0") ≡ None)
+    × (mark_in (codes "1@ 0") ≡ None) × (mark_in (codes "1/0") ≡ None)
+    × (mark_in (codes "4611686018427387905@0") ≡ None)
+    × (mark_in (codes "1@00000000000000000000") ≡ None)
+no_marks = (refl, refl, refl, refl, refl, refl, refl, refl, refl, refl)
+
+-- ---- what is refused
+
+-- no option, with the files and the lines of a request, and without its marks
+abbrev plain : Request → Request
+plain request = record request {
+  index = false;
+  list = false;
+  packed = false;
+  moves = false;
+  uci = false;
+  pack = false;
+  no_comments = false;
+  no_glyphs = false;
+  no_variations = false;
+  roster = false;
+  width = None;
+  min_ply = 0;
+  max_ply = 2 ^ 32 - 1;
+  first = false;
+  fen = false;
+  next = false;
+  others = false;
+  faulty = false;
+  as_is = false;
+  explain = false;
+  from = None;
+  until = None;
+  with_names = false;
+  no_names = false;
+}
+
+-- and with its marks
+abbrev marked : Request → Request
+marked request = record (plain request) { from = request.from; until = request.until }
+
+-- the lines of refusals
+abbrev both_modes : List ℕ
+both_modes = codes "pgn-extract: --list and --index exclude each other\n"
+
+abbrev packs_give_lines : List ℕ
+packs_give_lines = codes "pgn-extract: --packed goes with --list or --index\n"
+
+abbrev packs_are_plain : List ℕ
+packs_are_plain =
+    codes "pgn-extract: --packed goes with none of --fen, --next, --from, --until, --with-names and --no-names\n"
+
+abbrev no_entries_listed : List ℕ
+no_entries_listed = codes "pgn-extract: --fen and --next go with --list\n"
+
+abbrev no_games_written : List ℕ
+no_games_written =
+    codes "pgn-extract: --others, --faulty and --as-is go with neither --list nor --index\n"
+
+abbrev both_choices : List ℕ
+both_choices = codes "pgn-extract: --others and --faulty exclude each other\n"
+
+abbrev no_pack : List ℕ
+no_pack =
+    codes "pgn-extract: --pack goes with none of --list, --index, --moves, --uci, --faulty, --as-is, -C, -N, -V, --roster and -w\n"
+
+abbrev both_notations : List ℕ
+both_notations = codes "pgn-extract: --moves and --uci exclude each other\n"
+
+abbrev no_lines_of_moves : List ℕ
+no_lines_of_moves =
+    codes "pgn-extract: --moves and --uci go with none of --list, --index, --faulty and --as-is\n"
+
+abbrev both_namings : List ℕ
+both_namings = codes "pgn-extract: --with-names and --no-names exclude each other\n"
+
+abbrev marks_take_one_file : List ℕ
+marks_take_one_file = codes "pgn-extract: --from and --until take one FILE\n"
+
+-- the options are refused with the line
+abbrev RefusedWith : Request → List ℕ → Type 0
+RefusedWith request line = first_line (option_refusals request) ≡ Some line
+
+-- each pair of options has its line
+each_pair : (request : Request)
+    → RefusedWith (record (plain request) { list = true; index = true }) both_modes
+    × RefusedWith (record (plain request) { packed = true }) packs_give_lines
+    × RefusedWith (record (plain request) { list = true; packed = true; fen = true }) packs_are_plain
+    × RefusedWith (record (plain request) { list = true; packed = true; next = true }) packs_are_plain
+    × RefusedWith (record (plain request) { index = true; packed = true; with_names = true }) packs_are_plain
+    × RefusedWith (record (plain request) { list = true; packed = true; no_names = true }) packs_are_plain
+    × RefusedWith (record (plain request) { fen = true }) no_entries_listed
+    × RefusedWith (record (plain request) { index = true; next = true }) no_entries_listed
+    × RefusedWith (record (plain request) { list = true; others = true }) no_games_written
+    × RefusedWith (record (plain request) { index = true; faulty = true }) no_games_written
+    × RefusedWith (record (plain request) { index = true; as_is = true }) no_games_written
+    × RefusedWith (record (plain request) { others = true; faulty = true }) both_choices
+    × RefusedWith (record (plain request) { pack = true; list = true }) no_pack
+    × RefusedWith (record (plain request) { pack = true; index = true }) no_pack
+    × RefusedWith (record (plain request) { pack = true; moves = true }) no_pack
+    × RefusedWith (record (plain request) { pack = true; uci = true }) no_pack
+    × RefusedWith (record (plain request) { pack = true; faulty = true }) no_pack
+    × RefusedWith (record (plain request) { pack = true; as_is = true }) no_pack
+    × RefusedWith (record (plain request) { pack = true; no_comments = true }) no_pack
+    × RefusedWith (record (plain request) { pack = true; no_glyphs = true }) no_pack
+    × RefusedWith (record (plain request) { pack = true; no_variations = true }) no_pack
+    × RefusedWith (record (plain request) { pack = true; roster = true }) no_pack
+    × RefusedWith (record (plain request) { moves = true; uci = true }) both_notations
+    × RefusedWith (record (plain request) { moves = true; list = true }) no_lines_of_moves
+    × RefusedWith (record (plain request) { uci = true; index = true }) no_lines_of_moves
+    × RefusedWith (record (plain request) { uci = true; faulty = true }) no_lines_of_moves
+    × RefusedWith (record (plain request) { moves = true; as_is = true }) no_lines_of_moves
+    × RefusedWith (record (plain request) { with_names = true; no_names = true }) both_namings
+each_pair request = (
+  refl,
+  refl,
+  refl,
+  refl,
+  refl,
+  refl,
+  refl,
+  refl,
+  refl,
+  refl,
+  refl,
+  refl,
+  refl,
+  refl,
+  refl,
+  refl,
+  refl,
+  refl,
+  refl,
+  refl,
+  refl,
+  refl,
+  refl,
+  refl,
+  refl,
+  refl,
+  refl,
+  refl,
+)
+
+-- of two pairs the first of the table has its line
+the_first_pair : (request : Request)
+    → RefusedWith (record (plain request) { list = true; index = true; packed = true; fen = true }) both_modes
+    × RefusedWith (record (plain request) { packed = true; fen = true }) packs_give_lines
+    × RefusedWith (record (plain request) { index = true; packed = true; fen = true }) packs_are_plain
+    × RefusedWith (record (plain request) { index = true; packed = true; no_names = true; others = true }) packs_are_plain
+    × RefusedWith (record (plain request) { index = true; fen = true; others = true }) no_entries_listed
+    × RefusedWith (record (plain request) { list = true; others = true; faulty = true }) no_games_written
+    × RefusedWith (record (plain request) { others = true; faulty = true; pack = true }) both_choices
+    × RefusedWith (record (plain request) { pack = true; moves = true; uci = true }) no_pack
+    × RefusedWith (record (plain request) { moves = true; uci = true; as_is = true }) both_notations
+    × RefusedWith (record (plain request) { moves = true; as_is = true; with_names = true; no_names = true }) no_lines_of_moves
+the_first_pair request = (refl, refl, refl, refl, refl, refl, refl, refl, refl, refl)
+
+-- names come before marks of several files, and one file has marks
+several_files : (request : Request) → has_several_files request ≡ true → gives_mark request ≡ true
+    → RefusedWith (marked request) marks_take_one_file
+    × RefusedWith (record (marked request) { with_names = true; no_names = true }) both_namings
+several_files request several mark = (rw (mark, several) refl, refl)
+
+nothing_refused : (request : Request) → first_line (option_refusals (plain request)) ≡ None
+nothing_refused request = refl
+
+one_file : (request : Request)
+    → has_several_files request ≡ false → gives_mark request ≡ true
+    → first_line (option_refusals (marked request)) ≡ None
+one_file request one mark = rw (mark, one) refl
+
+-- a run ends after it begins, and a line is one
+stretches :
+    (is_stretch (Some (record { number = 1; offset = 4 })) (Some 5) ≡ true)
+    × (is_stretch (Some (record { number = 1; offset = 5 })) (Some 5) ≡ false)
+stretches = (refl, refl)
+
+lines :
+    (is_one_line (codes "mate") ≡ true) × (is_one_line (codes "mate\n") ≡ false)
+    × (is_one_line (codes "\rmate") ≡ false)
+lines = (refl, refl, refl)
+
+-- ---- what is asked for
+
+nothing_asked : (request : Request) → let aim = asked (plain request) None in
+    (aim.mode ≡ modes.Export) × (aim.select ≡ Matching) × (aim.form ≡ Standard) × (aim.min_ply ≡ 0)
+    × (aim.max_ply ≡ 4294967295) × (aim.first ≡ false)
+    × (aim.fields ≡ record { fen = false; next = false }) × (aim.explain ≡ false)
+    × (aim.style ≡ record { comments = true; glyphs = true; variations = true; roster_only = false; width = 79 })
+nothing_asked request = (refl, refl, refl, refl, refl, refl, refl, refl, refl)
+
+each_asked : (request : Request)
+    → ((asked (record (plain request) { list = true }) None).mode ≡ modes.List)
+    × ((asked (record (plain request) { index = true }) None).mode ≡ modes.Index)
+    × ((asked (record (plain request) { others = true }) None).select ≡ Others)
+    × ((asked (record (plain request) { faulty = true }) None).select ≡ Faulty)
+    × ((asked (record (plain request) { as_is = true }) None).form ≡ AsItStands)
+    × ((asked (record (plain request) { moves = true }) None).form ≡ Line San)
+    × ((asked (record (plain request) { uci = true }) None).form ≡ Line Uci)
+    × ((asked (record (plain request) { pack = true }) None).form ≡ Record)
+    × ((asked (record (plain request) { min_ply = 7 }) None).min_ply ≡ 7)
+    × ((asked (record (plain request) { max_ply = 7 }) None).max_ply ≡ 7)
+    × ((asked (record (plain request) { first = true }) None).first ≡ true)
+    × ((asked (record (plain request) { fen = true }) None).fields ≡ record { fen = true; next = false })
+    × ((asked (record (plain request) { next = true }) None).fields ≡ record { fen = false; next = true })
+    × ((asked (record (plain request) { explain = true }) None).explain ≡ true)
+each_asked request =
+    (refl, refl, refl, refl, refl, refl, refl, refl, refl, refl, refl, refl, refl, refl)
+
+each_style : (request : Request)
+    → ((asked (record (plain request) { no_comments = true }) None).style.comments ≡ false)
+    × ((asked (record (plain request) { no_glyphs = true }) None).style.glyphs ≡ false)
+    × ((asked (record (plain request) { no_variations = true }) None).style.variations ≡ false)
+    × ((asked (record (plain request) { roster = true }) None).style.roster_only ≡ true)
+    × ((asked (record (plain request) { width = Some 40 }) None).style.width ≡ 40)
+each_style request = (refl, refl, refl, refl, refl)
+
+without_marks : (request : Request)
+    → (begin_of (plain request) ≡ Some (record { number = 1; offset = 0 })) × (end_of (plain request) ≡ Some (2 ^ 64 - 1))
+without_marks request = (refl, refl)
+
+names : (request : Request) → has_several_files request ≡ true
+    → (asks_names (plain request) ≡ true)
+    × (asks_names (record (plain request) { no_names = true }) ≡ false)
+names request several = (rw several refl, rw several refl)
+
+names_of_one : (request : Request) → has_several_files request ≡ false
+    → (asks_names (plain request) ≡ false)
+    × (asks_names (record (plain request) { with_names = true }) ≡ true)
+names_of_one request one = (rw one refl, refl)

@@ -1,0 +1,181 @@
+-- What the options of the command line ask for, and which of them are refused.
+use Rattle.std.specs.Prelude.{Bool, false, true, not, ◌&&◌, ◌||◌, if◌then◌else◌, is_some, is_none, ◌==◌, ℕ, ◌-◌, ◌^◌, nat_lt, length, List, [], ◌∷◌, ◌++◌, Option, Some, None, codes, option_map, unwrap_or}
+use Rattle.std.specs.List.{list_all}
+use Rattle.pgn_game.specs.declared.exports.notation.Notation.TheVariants.{San, Uci}
+use Rattle.pgn_game.specs.declared.exports.style.Style.{Style}
+use Rattle.pgn_criteria.specs.declared.condition.Condition.{Condition}
+use Rattle.pgn_extract.specs.Public.Aims.{Aim}
+use Rattle.pgn_extract.specs.Public.GivenMarks.{GivenMark, mark_in}
+use Rattle.pgn_extract.specs.declared.app.command.Request.{Request}
+use Rattle.pgn_extract.specs.declared.settings.Form.{Form}
+use Rattle.pgn_extract.specs.declared.settings.Form.TheVariants.{Standard, AsItStands, Line, Record}
+use Rattle.pgn_extract.specs.declared.settings.Mode.{Mode}
+use Rattle.pgn_extract.specs.declared.settings.Mode.TheVariants as modes
+use Rattle.pgn_extract.specs.declared.settings.Select.{Select}
+use Rattle.pgn_extract.specs.declared.settings.Select.TheVariants.{Matching, Others, Faulty}
+
+-- What is asked for.
+
+-- what is written: a list, an index, or games
+abbrev pub asked_mode : Request → Mode
+asked_mode request = if request.list then modes.List else (if request.index then modes.Index else modes.Export)
+
+-- which games are written
+abbrev pub asked_select : Request → Select
+asked_select request = if request.others then Others else (if request.faulty then Faulty else Matching)
+
+-- how a game is written: as a record, on a line with its moves, as it stands, or in the standard's form
+abbrev pub asked_form : Request → Form
+asked_form request =
+    if request.pack then Record else
+    (if request.moves then Line San else
+    (if request.uci then Line Uci else
+    (if request.as_is then AsItStands else Standard)))
+
+-- what is kept of a game in the standard's form, in lines of 79 bytes where no width is given
+abbrev pub asked_style : Request → Style
+asked_style request = record {
+  comments = not request.no_comments;
+  glyphs = not request.no_glyphs;
+  variations = not request.no_variations;
+  roster_only = request.roster;
+  width = unwrap_or request.width 79;
+}
+
+-- all that a run is to do, with these criteria; its lines have no name yet
+abbrev pub asked : Request → Option (List (List (Condition (List ℕ)))) → Aim
+asked request criteria = record {
+  name = None;
+  mode = asked_mode request;
+  criteria = criteria;
+  min_ply = request.min_ply;
+  max_ply = request.max_ply;
+  first = request.first;
+  fields = record { fen = request.fen; next = request.next };
+  select = asked_select request;
+  form = asked_form request;
+  style = asked_style request;
+  explain = request.explain;
+}
+
+-- two FILEs or more are given
+abbrev pub has_several_files : Request → Bool
+has_several_files request = nat_lt 1 (length request.files.items)
+
+-- lines have the names of their files
+abbrev pub asks_names : Request → Bool
+asks_names request = request.with_names || has_several_files request && not request.no_names
+
+-- where the run begins: at the mark of `--from`, and at the first game without it; nowhere where its text is no mark
+abbrev pub begin_of : Request → Option GivenMark
+begin_of request = elim request.from [
+  | None ↦ Some (record { number = 1; offset = 0 })
+  | Some text ↦ mark_in text.now
+]
+
+-- the offset that it ends before: that of the mark of `--until`, and one that no input comes to without it
+abbrev pub end_of : Request → Option ℕ
+end_of request = elim request.until [
+  | None ↦ Some (2 ^ 64 - 1)
+  | Some text ↦ option_map (λ mark. mark.offset) (mark_in text.now)
+]
+
+-- What is refused.
+
+-- a list or an index is asked for
+abbrev pub has_mode : Request → Bool
+has_mode request = request.list || request.index
+
+-- something is to be shown beside each ply
+abbrev pub has_fields : Request → Bool
+has_fields request = request.fen || request.next
+
+-- the run is to begin or to end at a mark
+abbrev pub gives_mark : Request → Bool
+gives_mark request = is_some request.from || is_some request.until
+
+-- moves are to stand on a line
+abbrev pub has_moves : Request → Bool
+has_moves request = request.moves || request.uci
+
+-- something says how games are written in the standard's form
+abbrev pub has_style : Request → Bool
+has_style request = request.no_comments || request.no_glyphs || request.no_variations || request.roster || is_some request.width
+
+-- the run ends after it begins
+abbrev pub is_stretch : Option GivenMark → Option ℕ → Bool
+is_stretch None end = false
+is_stretch (Some begin) None = false
+is_stretch (Some begin) (Some end) = nat_lt begin.offset end
+
+-- a text is one line: it has neither a line feed nor a carriage return
+abbrev pub is_one_line : List ℕ → Bool
+is_one_line text = list_all (λ byte. not (byte == 10) && not (byte == 13)) text
+
+-- the line of a text that is no mark; where refusals have notes, with what a mark is
+abbrev pub bad_mark : Bool → List ℕ
+bad_mark false = codes "pgn-extract: bad mark\n"
+bad_mark true = codes "pgn-extract: bad mark\n  a mark is N@O, as --index prints it; 1@0 is the first game's\n"
+
+-- a refusal: whether it applies, and its line
+pub record Refusal : Type 0 where
+  pub applies : Bool
+  pub line : List ℕ
+
+-- the refusals of files: of names that are asked for and left out, and of marks of several files
+abbrev pub file_refusals : Request → List Refusal
+file_refusals request =
+    record { applies = request.with_names && request.no_names; line = codes "pgn-extract: --with-names and --no-names exclude each other\n" }
+    ∷ record { applies = gives_mark request && has_several_files request; line = codes "pgn-extract: --from and --until take one FILE\n" }
+    ∷ []
+
+-- the refusals of options that exclude each other, and those of files
+abbrev pub option_refusals : Request → List Refusal
+option_refusals request =
+    record { applies = request.list && request.index; line = codes "pgn-extract: --list and --index exclude each other\n" }
+    ∷ record { applies = request.packed && not (has_mode request); line = codes "pgn-extract: --packed goes with --list or --index\n" }
+    ∷ record {
+      applies = request.packed && (has_fields request || gives_mark request || request.with_names || request.no_names);
+      line = codes "pgn-extract: --packed goes with none of --fen, --next, --from, --until, --with-names and --no-names\n";
+    }
+    ∷ record { applies = has_fields request && not request.list; line = codes "pgn-extract: --fen and --next go with --list\n" }
+    ∷ record {
+      applies = (request.others || request.faulty || request.as_is) && has_mode request;
+      line = codes "pgn-extract: --others, --faulty and --as-is go with neither --list nor --index\n";
+    }
+    ∷ record { applies = request.others && request.faulty; line = codes "pgn-extract: --others and --faulty exclude each other\n" }
+    ∷ record {
+      applies = request.pack && (has_mode request || has_moves request || request.faulty || request.as_is || has_style request);
+      line = codes "pgn-extract: --pack goes with none of --list, --index, --moves, --uci, --faulty, --as-is, -C, -N, -V, --roster and -w\n";
+    }
+    ∷ record { applies = request.moves && request.uci; line = codes "pgn-extract: --moves and --uci exclude each other\n" }
+    ∷ record {
+      applies = has_moves request && (has_mode request || request.faulty || request.as_is);
+      line = codes "pgn-extract: --moves and --uci go with none of --list, --index, --faulty and --as-is\n";
+    }
+    ∷ file_refusals request
+
+-- the refusals of marks and of lines of criteria
+abbrev pub text_refusals : Bool → Request → List Refusal
+text_refusals noted request =
+    record { applies = is_none (begin_of request); line = bad_mark noted }
+    ∷ record { applies = is_none (end_of request); line = bad_mark noted }
+    ∷ record { applies = not (is_stretch (begin_of request) (end_of request)); line = codes "pgn-extract: --until is not after --from\n" }
+    ∷ record {
+      applies = not (list_all (λ condition. is_one_line condition.now) request.conditions.items);
+      line = codes "pgn-extract: --where takes one line\n";
+    }
+    ∷ []
+
+-- all refusals, in the order in which they are tested
+abbrev pub refusals : Bool → Request → List Refusal
+refusals noted request = option_refusals request ++ text_refusals noted request
+
+-- the line of the first that applies
+abbrev pub first_line : List Refusal → Option (List ℕ)
+first_line [] = None
+first_line (refusal ∷ more) = if refusal.applies then Some refusal.line else first_line more
+
+-- the line that refuses what is asked for, if one does; where refusals have notes, with its note
+abbrev pub refused : Bool → Request → Option (List ℕ)
+refused noted request = first_line (refusals noted request)

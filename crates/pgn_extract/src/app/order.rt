@@ -1,0 +1,269 @@
+//! What is asked for: which of it is refused, and the settings of a run.
+ghost use Rattle.std.specs.Prelude.{◌≡◌, ◌||◌, true, option_map, IfErr, IfOk, OnOk};
+ghost use Rattle.pgn_extract.specs.Public.Aims.{aim_of};
+ghost use Rattle.pgn_extract.specs.Public.Listing.{is_plain};
+ghost use Rattle.pgn_extract.specs.Public.Requests.{asked, asked_form, asked_mode, asked_select, asked_style, asks_names};
+ghost use Rattle.pgn_extract.specs.Public.Requests.{bad_mark, begin_of, end_of, file_refusals, first_line, gives_mark, has_style, option_refusals, refused};
+
+use crate::app::command::{DEFAULT_WIDTH, Request};
+use crate::app::conditions::are_lines;
+use crate::app::mark::{Mark, read_mark};
+use crate::app::messages;
+use crate::settings::{Fields, Form, Mode, Select, Settings};
+use pgn_criteria::Criteria;
+use pgn_game::{Notation, Style};
+
+/// What the arguments ask for.
+#[derive(Drop)]
+pub struct Order<'a> {
+    /// The options.
+    pub request: Request<'a>,
+    /// Where the run begins.
+    pub mark: Mark,
+    /// The offset before which it ends.
+    pub end: u64,
+    /// Whether refusals have notes.
+    pub noted: bool,
+}
+
+/// Tests what is asked for, or answers the line that refuses it: of the options, of the marks, or of
+/// the lines of criteria.
+pub fn accept(request: Request<'_>, watched: bool) -> Result<Order<'_>, &'static str>
+    ensures refused { IfErr result (λ line. refused (request.entry.explain || watched) request.entry
+        ≡ Some line.now) }
+    ensures taken { OnOk result (refused (request.entry.explain || watched) request.entry ≡ None) }
+    ensures request { IfOk result (λ order. order.request ≡ request.entry) }
+    ensures begin { IfOk result (λ order. begin_of request.entry
+        ≡ Some (record { number = order.mark.number; offset = order.mark.offset })) }
+    ensures end { IfOk result (λ order. end_of request.entry ≡ Some order.end) }
+    ensures noted { IfOk result (λ order. order.noted ≡ (request.entry.explain || watched)) }
+{
+    let noted = request.explain | watched;
+    if let Some(line) = refused_line(&request) {
+        return Err(line);
+    }
+    let Some(mark) = mark_of(&request) else {
+        return Err(bad_mark(noted));
+    };
+    let Some(end) = end_of(&request) else {
+        return Err(bad_mark(noted));
+    };
+    if mark.offset >= end {
+        return Err(messages::NOTHING_BETWEEN);
+    }
+    if !are_lines(&request.conditions) {
+        return Err(messages::NOT_ONE_LINE);
+    }
+    Ok(Order {
+        request,
+        mark,
+        end,
+        noted,
+    })
+}
+
+/// The line that refuses the options, the first of those that apply.
+fn refused_line(request: &Request<'_>) -> Option<&'static str>
+    ensures { option_map (λ line. line.now) result ≡ first_line (option_refusals request.now) }
+{
+    let has_mode = request.list | request.index;
+    let has_fields = request.fen | request.next;
+    let has_moves = request.moves | request.uci;
+    let unstyled = request.faulty | request.as_is;
+    if request.list & request.index {
+        return Some(messages::BOTH_MODES);
+    }
+    if request.packed & !has_mode {
+        return Some(messages::PACKS_GIVE_LINES);
+    }
+    if request.packed & (has_fields | has_mark(request) | request.with_names | request.no_names) {
+        return Some(messages::PACKS_ARE_PLAIN);
+    }
+    if has_fields & !request.list {
+        return Some(messages::NO_ENTRIES_LISTED);
+    }
+    if (request.others | unstyled) & has_mode {
+        return Some(messages::NO_GAMES_WRITTEN);
+    }
+    if request.others & request.faulty {
+        return Some(messages::BOTH_CHOICES);
+    }
+    if request.pack & (has_mode | has_moves | unstyled | is_styled(request)) {
+        return Some(messages::NO_PACK);
+    }
+    if request.moves & request.uci {
+        return Some(messages::BOTH_NOTATIONS);
+    }
+    if has_moves & (has_mode | unstyled) {
+        return Some(messages::NO_LINES_OF_MOVES);
+    }
+    refused_files(request)
+}
+
+/// The line that refuses names that are both asked for and left out, or marks of several files.
+fn refused_files(request: &Request<'_>) -> Option<&'static str>
+    ensures { option_map (λ line. line.now) result ≡ first_line (file_refusals request.now) }
+{
+    if request.with_names & request.no_names {
+        return Some(messages::BOTH_NAMINGS);
+    }
+    if has_mark(request) & (request.files.len() > 1) {
+        return Some(messages::MARKS_TAKE_ONE_FILE);
+    }
+    None
+}
+
+/// Whether the run is to begin or to end at a mark.
+fn has_mark(request: &Request<'_>) -> bool
+    ensures { result ≡ gives_mark request.now }
+{
+    request.from.is_some() || request.until.is_some()
+}
+
+/// Whether an option says how games are written in the standard's form.
+fn is_styled(request: &Request<'_>) -> bool
+    ensures { result ≡ has_style request.now }
+{
+    let leaves_out = request.no_comments || request.no_glyphs || request.no_variations;
+    leaves_out || request.roster || request.width.is_some()
+}
+
+/// Whether lines have the names of their files.
+pub fn has_names(request: &Request<'_>) -> bool
+    ensures { result ≡ asks_names request.now }
+{
+    request.with_names || (request.files.len() > 1 && !request.no_names)
+}
+
+/// What the run writes.
+fn mode_of(request: &Request<'_>) -> Mode
+    ensures { result ≡ asked_mode request.now }
+{
+    if request.list {
+        Mode::List
+    } else if request.index {
+        Mode::Index
+    } else {
+        Mode::Export
+    }
+}
+
+/// Which games the export writes.
+fn select_of(request: &Request<'_>) -> Select
+    ensures { result ≡ asked_select request.now }
+{
+    if request.others {
+        Select::Others
+    } else if request.faulty {
+        Select::Faulty
+    } else {
+        Select::Matching
+    }
+}
+
+/// How a game that is selected is written.
+fn form_of(request: &Request<'_>) -> Form
+    ensures { result ≡ asked_form request.now }
+{
+    if request.pack {
+        Form::Record
+    } else if request.moves {
+        Form::Line(Notation::San)
+    } else if request.uci {
+        Form::Line(Notation::Uci)
+    } else if request.as_is {
+        Form::AsItStands
+    } else {
+        Form::Standard
+    }
+}
+
+/// How games are written.
+fn style_of(request: &Request<'_>) -> Style
+    ensures { result ≡ asked_style request.now }
+{
+    Style {
+        comments: !request.no_comments,
+        glyphs: !request.no_glyphs,
+        variations: !request.no_variations,
+        roster_only: request.roster,
+        width: request.width.unwrap_or(DEFAULT_WIDTH),
+    }
+}
+
+/// What a run is to write, with no name yet.
+pub fn settings_of(order: &Order<'_>, criteria: Option<Criteria>) -> Settings
+    ensures asked { aim_of result ≡ asked order.now.request criteria }
+    ensures number { result.number ≡ order.now.mark.number }
+    ensures offset { result.offset ≡ order.now.mark.offset }
+{
+    let request = &order.request;
+    Settings {
+        name: None,
+        mode: mode_of(request),
+        criteria,
+        min_ply: request.min_ply,
+        max_ply: request.max_ply,
+        first: request.first,
+        fields: Fields {
+            fen: request.fen,
+            next: request.next,
+        },
+        select: select_of(request),
+        form: form_of(request),
+        style: style_of(request),
+        explain: request.explain,
+        number: order.mark.number,
+        offset: order.mark.offset,
+    }
+}
+
+/// What is looked for in packs.
+pub fn packed_settings(order: &Order<'_>, criteria: Option<Criteria>) -> Settings
+    ensures asked { aim_of result
+        ≡ record (asked order.now.request criteria) { fields = result.fields } }
+    ensures plain { is_plain result.fields ≡ true }
+{
+    let mut settings = settings_of(order, criteria);
+    settings.fields = Fields {
+        fen: false,
+        next: false,
+    };
+    settings
+}
+
+/// The mark that the run begins at: that of `--from`, and `1@0` without it. `None` for a bad one.
+fn mark_of(request: &Request<'_>) -> Option<Mark>
+    ensures { option_map (λ mark. record { number = mark.number; offset = mark.offset }) result
+        ≡ begin_of request.now }
+{
+    match request.from {
+        Some(text) => read_mark(text.as_bytes()),
+        None => Some(Mark::FIRST),
+    }
+}
+
+/// The offset that the run ends before: that of the mark of `--until`, and one that no input comes to
+/// without it. `None` for a bad mark.
+fn end_of(request: &Request<'_>) -> Option<u64>
+    ensures { result ≡ end_of request.now }
+{
+    match request.until {
+        Some(text) => match read_mark(text.as_bytes()) {
+            Some(mark) => Some(mark.offset),
+            None => None,
+        },
+        None => Some(u64::MAX),
+    }
+}
+
+/// The refusal of a text that is no mark, with a note where refusals have them.
+fn bad_mark(noted: bool) -> &'static str
+    ensures { result.now ≡ bad_mark noted }
+{
+    if noted {
+        messages::BAD_MARK_NOTED
+    } else {
+        messages::BAD_MARK
+    }
+}
