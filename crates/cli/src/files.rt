@@ -5,7 +5,7 @@ use crate::progress::{Progress, StatusLine};
 use pgn_extract::{Files, messages};
 use pgn_text::Skip;
 use std::fs::File;
-use std::io::{Read, Seek, SeekFrom, Stdin};
+use std::io::{Read, Seek, SeekFrom, Stdin, Write};
 use std::{fs, io};
 
 /// Where bytes come from: a file, or standard input.
@@ -136,6 +136,10 @@ impl<'a> Files for RealFiles<'a> {
 
     fn is_watched(&self) -> bool {
         self.line.has_terminal()
+    }
+
+    fn show_notes(&mut self, notes: &[u8]) {
+        let _ = self.rt.stderr().write_all(notes);
     }
 
     fn show_progress(&mut self) {

@@ -24,7 +24,7 @@ use crate::app::order::{Order, accept, has_names, packed_settings, settings_of};
 use crate::app::packs::{PackTask, search_packs};
 use crate::app::prefix::read_prefix;
 use crate::app::status::{FAILED, FAULTY, REFUSED, SOUND};
-use crate::explain::refusal_notes::{file_note, line_note};
+use crate::explain::refusal_notes::{doubt_notes, file_note, line_note};
 use crate::output::write_all::write_all;
 use clap::Error;
 use clap::error::ErrorKind;
@@ -162,9 +162,21 @@ where
     let mut text = read_file(alloc, files, order)?;
     push_lines(&mut text, &request.conditions)?;
     match Criteria::parse(alloc, &text) {
-        Ok(criteria) => Ok(Some(criteria)),
+        Ok(criteria) => {
+            if order.noted {
+                show_doubts(alloc, files, &criteria, &text);
+            }
+            Ok(Some(criteria))
+        }
         Err(error) if order.noted => Err(explained_criteria(alloc, &error, &text)),
         Err(error) => Err(refused_criteria(alloc, &error)),
+    }
+}
+
+/// Shows a note for each line of criteria that misleads. Where memory is refused there is none: the run is the same with notes and without.
+fn show_doubts<F: Files>(alloc: Global, files: &mut F, criteria: &Criteria, text: &[u8]) {
+    if let Ok(notes) = doubt_notes(alloc, criteria, text) {
+        files.show_notes(&notes);
     }
 }
 
@@ -227,6 +239,9 @@ where
     let order = read_order(alloc, arguments, files.is_watched())?;
     let request = &order.request;
     let criteria = read_criteria(alloc, files, &order)?;
+    if order.noted && request.min_ply > request.max_ply {
+        files.show_notes(messages::NO_PLY_BETWEEN.as_bytes());
+    }
     if request.progress {
         files.show_progress();
     }

@@ -40,6 +40,9 @@ pub trait Files {
         false
     }
 
+    /// Shows notes to the person who reads what is reported. A fault in that is ignored, and nothing else changes.
+    fn show_notes(&mut self, _notes: &[u8]) {}
+
     /// From now on each input shows on a terminal how far it is read. Nothing else changes.
     fn show_progress(&mut self);
 }

@@ -56,6 +56,9 @@ pub const BAD_MARK_NOTED: &str =
 /// The mark of `--until` does not stand after that of `--from`.
 pub const NOTHING_BETWEEN: &str = "pgn-extract: --until is not after --from\n";
 
+/// The note where the least ply is above the greatest.
+pub const NO_PLY_BETWEEN: &str = "  --min-ply is above --max-ply, so no position is between\n";
+
 /// The text of `--where` has a line feed or a carriage return.
 pub const NOT_ONE_LINE: &str = "pgn-extract: --where takes one line\n";
 

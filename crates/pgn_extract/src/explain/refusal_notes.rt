@@ -1,10 +1,11 @@
-//! What `--explain` adds to a refusal before the run: the line of criteria and its place, or the name of a file and the system's reason.
+//! What `--explain` adds before the run to a refusal: the line of criteria and its place, or the name of a file and the system's reason; and
+//! its notes of lines of criteria that mislead.
 ghost use Rattle.std.specs.Prelude.{◌≡◌, ◌++◌, ℕ, List, OnOk};
 
 use crate::output::file_name::{FileName, shown_byte_of};
 use crate::output::texts::push_number;
 use memchr::memchr;
-use pgn_criteria::complaint_of;
+use pgn_criteria::{Criteria, complaint_of};
 use std::alloc::{AllocError, Global};
 use std::io;
 
@@ -142,4 +143,17 @@ pub fn line_note(alloc: Global, text: &[u8], number: usize) -> Result<Vec<u8>, A
     note.extend_from_slice(complaint.expected.as_bytes())?;
     note.push(b'\n')?;
     Ok(note)
+}
+
+/// A line for each line of these criteria that misleads, with its number and why. The criteria were read from the text.
+pub fn doubt_notes(alloc: Global, criteria: &Criteria, text: &[u8]) -> Result<Vec<u8>, AllocError> {
+    let mut notes = Vec::new(alloc);
+    for doubt in &criteria.doubts(alloc, text)? {
+        notes.extend_from_slice(b"  criteria line ")?;
+        push_number(&mut notes, doubt.line)?;
+        notes.extend_from_slice(b": ")?;
+        notes.extend_from_slice(doubt.why.as_bytes())?;
+        notes.push(b'\n')?;
+    }
+    Ok(notes)
 }
