@@ -2,10 +2,11 @@
 ghost use Rattle.std.specs.Prelude.{◌≤◌, IfOk};
 
 use crate::progress::{Progress, StatusLine};
-use pgn_extract::{Files, messages};
+use pgn_extract::{Files, Stream, messages};
 use pgn_text::Skip;
 use std::fs::File;
 use std::io::{Read, Seek, SeekFrom, Stdin, Write};
+use std::os::unix::fs::MetadataExt;
 use std::{fs, io};
 
 /// Where bytes come from: a file, or standard input.
@@ -116,6 +117,14 @@ fn size_of(file: &File) -> Option<u64> {
     }
 }
 
+/// The device and the number of the regular file at the path, if there is one.
+fn node_of(rt: &HostRuntime, path: &str) -> Option<(u64, u64)> {
+    match fs::metadata(rt, path) {
+        Ok(metadata) if metadata.is_file() => Some((metadata.dev(), metadata.ino())),
+        _ => None,
+    }
+}
+
 impl<'a> Files for RealFiles<'a> {
     type Input = Input<'a>;
 
@@ -132,6 +141,17 @@ impl<'a> Files for RealFiles<'a> {
     fn standard(&mut self) -> Input<'a> {
         let stdin = self.rt.stdin();
         self.input(Source::Standard(stdin), messages::STANDARD_INPUT, None)
+    }
+
+    fn is_written(&self, stream: Stream, path: Option<&str>) -> bool {
+        let written = match stream {
+            Stream::Output => "/proc/self/fd/1",
+            Stream::Reports => "/proc/self/fd/2",
+        };
+        match node_of(&self.rt, written) {
+            Some(node) => node_of(&self.rt, path.unwrap_or("/proc/self/fd/0")) == Some(node),
+            None => false,
+        }
     }
 
     fn is_watched(&self) -> bool {

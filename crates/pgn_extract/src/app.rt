@@ -9,6 +9,7 @@ pub(crate) mod files;
 pub mod mark;
 pub mod messages;
 pub mod order;
+mod outputs;
 mod packs;
 mod prefix;
 pub mod status;
@@ -21,6 +22,7 @@ use crate::app::endings::{
 };
 use crate::app::files::{Files, Task, Total, name_file, run_files, run_input};
 use crate::app::order::{Order, accept, has_names, packed_settings, settings_of};
+use crate::app::outputs::refuse_outputs;
 use crate::app::packs::{PackTask, search_packs};
 use crate::app::prefix::read_prefix;
 use crate::app::status::{FAILED, FAULTY, REFUSED, SOUND};
@@ -238,6 +240,7 @@ where
 {
     let order = read_order(alloc, arguments, files.is_watched())?;
     let request = &order.request;
+    refuse_outputs(alloc, files, request)?;
     let criteria = read_criteria(alloc, files, &order)?;
     if order.noted && request.min_ply > request.max_ply {
         files.show_notes(messages::NO_PLY_BETWEEN.as_bytes());

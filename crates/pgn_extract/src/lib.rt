@@ -24,7 +24,7 @@ mod packed;
 mod settings;
 
 pub use app::command::Request;
-pub use app::files::{Files, Task, Total, run_files, run_input};
+pub use app::files::{Files, Stream, Task, Total, run_files, run_input};
 pub use app::mark::Mark;
 pub use app::order::{Order, accept, has_names, settings_of};
 pub use app::{messages, program, status};

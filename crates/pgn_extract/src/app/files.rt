@@ -19,6 +19,15 @@ use std::alloc::{AllocError, Global};
 use std::io;
 use std::io::{ErrorKind, Read, Write};
 
+/// A stream that the program writes.
+#[derive(Clone, Copy, Debug, PartialEq, Eq)]
+pub enum Stream {
+    /// Standard output.
+    Output,
+    /// Standard error.
+    Reports,
+}
+
 /// Where the program's input comes from: files by their paths, and standard input.
 pub trait Files {
     type Input: Skip;
@@ -34,6 +43,12 @@ pub trait Files {
 
     /// Standard input.
     fn standard(&mut self) -> Self::Input;
+
+    /// Whether the stream is the file at the path, or without one that of standard input: what is
+    /// written would be read.
+    fn is_written(&self, _stream: Stream, _path: Option<&str>) -> bool {
+        false
+    }
 
     /// Whether a person reads what is reported, so that refusals have notes without being asked for.
     fn is_watched(&self) -> bool {

@@ -62,6 +62,9 @@ pub const NO_PLY_BETWEEN: &str = "  --min-ply is above --max-ply, so no position
 /// The text of `--where` has a line feed or a carriage return.
 pub const NOT_ONE_LINE: &str = "pgn-extract: --where takes one line\n";
 
+/// Standard output is one of the files that are to be read; its name follows.
+pub const OUTPUT_IS_READ: &str = "pgn-extract: the output is one of the files: ";
+
 /// The file of criteria could not be opened, or a read of it failed.
 pub const CANNOT_READ_CRITERIA: &str = "pgn-extract: cannot read criteria\n";
 

@@ -2,6 +2,7 @@
 //! its notes of lines of criteria that mislead.
 ghost use Rattle.std.specs.Prelude.{◌≡◌, ◌++◌, ℕ, List, OnOk};
 
+use crate::app::messages;
 use crate::output::file_name::{FileName, shown_byte_of};
 use crate::output::texts::push_number;
 use memchr::memchr;
@@ -46,6 +47,15 @@ pub fn file_note(
     if path == "-" {
         note.extend_from_slice(b"  without FILE standard input is read\n")?;
     }
+    Ok(note)
+}
+
+/// The line that refuses an output that is one of the files that are to be read.
+pub fn written_note(alloc: Global, path: &str) -> Result<Vec<u8>, AllocError> {
+    let name = FileName::of_path(alloc, path)?;
+    let mut note = Vec::from_slice(alloc, messages::OUTPUT_IS_READ.as_bytes())?;
+    note.extend_from_slice(name.bytes())?;
+    note.push(b'\n')?;
     Ok(note)
 }
 
