@@ -27,6 +27,7 @@ use crate::app::packs::{PackTask, search_packs};
 use crate::app::prefix::read_prefix;
 use crate::app::status::{FAILED, FAULTY, REFUSED, SOUND};
 use crate::explain::refusal_notes::{doubt_notes, file_note, line_note};
+use crate::output::file_name::shown_lines;
 use crate::output::write_all::write_all;
 use clap::Error;
 use clap::error::ErrorKind;
@@ -72,7 +73,10 @@ fn refused_arguments(alloc: Global, error: &Error) -> Refusal {
         return Refusal::Help(text);
     }
     let Some((name, instead)) = debians_option(text.as_str()) else {
-        return Refusal::Text(text);
+        return match shown_lines(alloc, text.as_str()) {
+            Ok(shown) => Refusal::Text(shown),
+            Err(AllocError) => Refusal::OutOfMemory,
+        };
     };
     match format!(in alloc;
         "error: {name} is an option of Debian's pgn-extract; here {instead}\n\nFor more information, try '--help'.\n"

@@ -1,14 +1,18 @@
 -- Marks, the index of a text, and the lines that report faulty games.
-use Rattle.std.specs.Prelude.{ℕ, ◌+◌, List, [], ◌∷◌, ◌++◌, Option, Some, None, codes, decimal, nat_lt, ◌==◌, ◌||◌, if◌then◌else◌}
+use Rattle.std.specs.Prelude.{ℕ, ◌+◌, List, [], ◌∷◌, ◌++◌, Option, Some, None, map, codes, chars, encode_utf8_all, decimal, nat_lt, ◌&&◌, ◌||◌, if◌then◌else◌}
 use Rattle.pgn_text.specs.Public.Marks.{ReadableGame, UnreadableRest, TooLongBlock, MarkedPiece}
 
 -- a mark, `N@O`: the number of a piece and the offset of its first byte, both in decimal
 abbrev pub mark : ℕ → ℕ → List ℕ
 mark number offset = decimal number ++ 64 ∷ decimal offset
 
--- a byte of the name of a file, as lines show it: a question mark for a control byte
-abbrev pub shown_byte : ℕ → ℕ
-shown_byte byte = if nat_lt byte 32 || byte == 127 then 63 else byte
+-- a character of the name of a file, as lines show it: a question mark for a control character
+abbrev pub shown_char : ℕ → ℕ
+shown_char c = if nat_lt c 32 || (nat_lt 126 c && nat_lt c 160) then 63 else c
+
+-- the name of a file, as lines show it
+abbrev pub shown_name : List ℕ → List ℕ
+shown_name path = encode_utf8_all (map shown_char (chars path))
 
 -- the name of a file and what parts it from the text after it, and nothing where lines have no name
 abbrev pub titled : List ℕ → Option (List ℕ) → List ℕ

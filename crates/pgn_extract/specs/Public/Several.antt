@@ -4,7 +4,7 @@ use Rattle.std.specs.declared.io.ErrorKind.{ErrorKind}
 use Rattle.std.specs.declared.io.ErrorKind.TheVariants.{OutOfMemory}
 use Rattle.pgn_text.specs.Public.Marks.{MarkedPiece}
 use Rattle.pgn_extract.specs.Public.Aims.{aim_of}
-use Rattle.pgn_extract.specs.Public.Index.{shown_byte}
+use Rattle.pgn_extract.specs.Public.Index.{shown_name}
 use Rattle.pgn_extract.specs.Public.Runs.{Adds, Job, ArePieces, Passage, job_of}
 use Rattle.pgn_extract.specs.Public.Verdicts.{Verdict, AreVerdicts, fault_lines, output_text}
 use Rattle.pgn_extract.specs.declared.app.files.Task.{Task}
@@ -50,7 +50,7 @@ pub record Order : Type 0 where
 -- the name of its lines: their own; or where lines have the name of their file, its path, as lines show it
 abbrev pub name_at : Bool → List ℕ → Option (List ℕ) → Option (List ℕ)
 name_at false path own = own
-name_at true path own = Some (map shown_byte path)
+name_at true path own = Some (shown_name path)
 
 -- with the name that the settings have
 abbrev pub order_of : Task → Order
@@ -82,7 +82,7 @@ pub record IsReport (job : Job) (text output faults : List ℕ) : Type 0 where
 -- the line that names a file that cannot be opened, with the system's reason
 pub record NamesUnopened (path line : List ℕ) : Type 0 where
   pub reason : List ℕ
-  pub is : line ≡ codes "pgn-extract: cannot open input: " ++ map shown_byte path ++ codes ": " ++ reason ++ 10 ∷ []
+  pub is : line ≡ codes "pgn-extract: cannot open input: " ++ shown_name path ++ codes ": " ++ reason ++ 10 ∷ []
 
 -- of a file: its report up to the end, and then a line with its summary where that is asked for
 pub record IsRead (order : Order) (text output report : List ℕ) : Type 0 where

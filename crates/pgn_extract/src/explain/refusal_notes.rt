@@ -3,7 +3,7 @@
 ghost use Rattle.std.specs.Prelude.{◌≡◌, ◌++◌, ℕ, List, OnOk};
 
 use crate::app::messages;
-use crate::output::file_name::{FileName, shown_byte_of};
+use crate::output::file_name::{FileName, shown_bytes};
 use crate::output::texts::push_number;
 use memchr::memchr;
 use pgn_criteria::{Criteria, complaint_of};
@@ -96,40 +96,31 @@ fn line_at(text: &[u8], number: usize) -> &[u8] {
     first_line(rest)
 }
 
-/// Appends bytes as lines show them.
-fn push_shown(note: &mut Vec<u8>, bytes: &[u8]) -> Result<(), AllocError> {
-    for &byte in bytes {
-        note.push(shown_byte_of(byte))?;
-    }
-    Ok(())
-}
-
-/// Appends a blank for each character of UTF-8 that begins among the bytes.
-fn push_blanks(note: &mut Vec<u8>, bytes: &[u8]) -> Result<(), AllocError> {
-    for byte in bytes {
-        if !(0x80..0xC0).contains(byte) {
-            note.push(b' ')?;
-        }
-    }
-    Ok(())
-}
-
 /// Appends the end of what stands before the place: after two dots, where more does. How many columns that takes is answered by the blanks.
-fn push_before(note: &mut Vec<u8>, blanks: &mut Vec<u8>, before: &[u8]) -> Result<(), AllocError> {
-    let shown = &before[before.len().saturating_sub(BEFORE)..];
-    if shown.len() < before.len() {
+fn push_before(
+    alloc: Global,
+    note: &mut Vec<u8>,
+    blanks: &mut Vec<u8>,
+    before: &[u8],
+) -> Result<(), AllocError> {
+    let end = &before[before.len().saturating_sub(BEFORE)..];
+    if end.len() < before.len() {
         note.extend_from_slice(b"..")?;
         blanks.extend_from_slice(b"  ")?;
     }
-    push_shown(note, shown)?;
-    push_blanks(blanks, shown)
+    let shown = shown_bytes(alloc, end)?;
+    note.extend_from_slice(shown.as_bytes())?;
+    for _ in shown.chars() {
+        blanks.push(b' ')?;
+    }
+    Ok(())
 }
 
 /// Appends the beginning of what stands from the place on, with two dots where more does.
-fn push_after(note: &mut Vec<u8>, rest: &[u8]) -> Result<(), AllocError> {
-    let shown = &rest[..rest.len().min(FROM)];
-    push_shown(note, shown)?;
-    if shown.len() < rest.len() {
+fn push_after(alloc: Global, note: &mut Vec<u8>, rest: &[u8]) -> Result<(), AllocError> {
+    let begin = &rest[..rest.len().min(FROM)];
+    note.extend_from_slice(shown_bytes(alloc, begin)?.as_bytes())?;
+    if begin.len() < rest.len() {
         note.extend_from_slice(b"..")?;
     }
     Ok(())
@@ -146,8 +137,8 @@ pub fn line_note(alloc: Global, text: &[u8], number: usize) -> Result<Vec<u8>, A
     let mut blanks = Vec::from_slice(alloc, b"\n  ")?;
     push_refusal(&mut note, number)?;
     note.extend_from_slice(b"  ")?;
-    push_before(&mut note, &mut blanks, before)?;
-    push_after(&mut note, rest)?;
+    push_before(alloc, &mut note, &mut blanks, before)?;
+    push_after(alloc, &mut note, rest)?;
     note.extend_from_slice(&blanks)?;
     note.extend_from_slice(b"^ ")?;
     note.extend_from_slice(complaint.expected.as_bytes())?;

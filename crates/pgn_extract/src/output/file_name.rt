@@ -1,49 +1,85 @@
-//! The name of a file, as lines show it.
-ghost use Rattle.std.specs.Prelude.{◌≡◌, ℕ, List, map, IfOk};
-ghost use Rattle.pgn_extract.specs.Public.Index.{shown_byte};
+//! The name of a file, and other texts, as lines show them.
+ghost use Rattle.std.specs.Prelude.{◌≡◌, ℕ, List, IfOk, string_bytes};
+ghost use Rattle.pgn_extract.specs.Public.Index.{shown_char, shown_name};
 
 use std::alloc::{AllocError, Global};
 use std::marker::Model;
 
-/// The name of a file, as lines show it: without a control byte, so no name is two lines or moves a terminal's cursor.
+/// The name of a file, as lines show it: without a control character, so no name is two lines or moves a terminal's cursor.
 #[derive(Drop)]
 pub struct FileName {
-    shown: Vec<u8>,
+    shown: String,
 }
 
 impl Model for FileName {
+    ghost use Rattle.std.specs.Prelude.{ℕ, List, string_bytes};
+
     ghost Value = { List ℕ };
 
-    ghost view = { λ name. name.shown.items };
+    ghost view = { λ name. string_bytes name.shown };
 }
 
-/// A byte as lines show it: `?` for a control byte.
-pub(crate) fn shown_byte_of(byte: u8) -> u8
-    ensures { result ≡ shown_byte byte }
+/// A character as lines show it: `?` for a control character.
+fn shown_char_of(character: char) -> char
+    ensures { result ≡ shown_char character }
 {
-    if byte < b' ' || byte == 127 {
-        b'?'
+    if character < ' ' || ('\x7F' <= character && character <= '\u{9F}') {
+        '?'
     } else {
-        byte
+        character
     }
 }
 
-impl FileName {
-    /// The name for a path: the path, with `?` for each control byte.
-    pub fn of_path(alloc: Global, path: &str) -> Result<FileName, AllocError>
-        ensures { IfOk result (λ name. name ≡ map shown_byte path.now) }
-    {
-        let mut shown = Vec::with_capacity(alloc, path.len())?;
-        for &byte in path.as_bytes() {
-            shown.push(shown_byte_of(byte))?;
+/// A text as a line shows it.
+fn shown_text(alloc: Global, text: &str) -> Result<String, AllocError>
+    ensures { IfOk result (λ shown. string_bytes shown ≡ shown_name text.now) }
+{
+    let mut shown = String::new(alloc);
+    for character in text.chars() {
+        shown.push(shown_char_of(character))?;
+    }
+    Ok(shown)
+}
+
+/// A text of lines as a terminal shows them.
+pub(crate) fn shown_lines(alloc: Global, text: &str) -> Result<String, AllocError> {
+    let mut shown = String::new(alloc);
+    for character in text.chars() {
+        shown.push(if character == '\n' {
+            character
+        } else {
+            shown_char_of(character)
+        })?;
+    }
+    Ok(shown)
+}
+
+/// Bytes as a line shows them: with `?` for each byte that is none of UTF-8, too.
+pub(crate) fn shown_bytes(alloc: Global, bytes: &[u8]) -> Result<String, AllocError> {
+    let mut shown = String::new(alloc);
+    for chunk in bytes.utf8_chunks() {
+        shown.push_str(shown_text(alloc, chunk.valid())?.as_str())?;
+        for _ in chunk.invalid() {
+            shown.push('?')?;
         }
-        Ok(FileName { shown })
+    }
+    Ok(shown)
+}
+
+impl FileName {
+    /// The name for a path: the path, with `?` for each control character.
+    pub fn of_path(alloc: Global, path: &str) -> Result<FileName, AllocError>
+        ensures { IfOk result (λ name. name ≡ shown_name path.now) }
+    {
+        Ok(FileName {
+            shown: shown_text(alloc, path)?,
+        })
     }
 
     /// Its bytes.
     pub fn bytes(&self) -> &[u8]
         ensures { result.now ≡ self.now }
     {
-        &self.shown
+        self.shown.as_bytes()
     }
 }
