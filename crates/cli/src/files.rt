@@ -1,7 +1,8 @@
 //! The files of the machine that the program runs on.
 ghost use Rattle.std.specs.Prelude.{◌≤◌, IfOk};
 
-use crate::progress::{Progress, StatusLine};
+use crate::head::Head;
+use crate::progress::{Pace, Progress, StatusLine};
 use pgn_extract::{Files, Stream, messages};
 use pgn_text::Skip;
 use std::fs::File;
@@ -52,16 +53,22 @@ impl Skip for Source {
     }
 }
 
-/// An input, and how far it is read where that is shown.
+/// An input, with its first bytes until they say what it is, and how far it is read where that is shown.
 #[derive(Drop)]
 pub struct Input<'a> {
     source: Source,
+    head: Option<Head<'a>>,
     progress: Option<Progress<'a>>,
 }
 
 impl<'a> Read for Input<'a> {
     fn read(&mut self, buf: &mut [u8]) -> io::Result<usize> {
         let count = self.source.read(buf)?;
+        if let Some(head) = &mut self.head
+            && !head.add(&buf[..count])
+        {
+            self.head = None;
+        }
         if let Some(progress) = &mut self.progress {
             progress.add(&buf[..count]);
         }
@@ -72,6 +79,9 @@ impl<'a> Read for Input<'a> {
 impl<'a> Skip for Input<'a> {
     fn skip(&mut self, most: u64) -> io::Result<u64> {
         let count = self.source.skip(most)?;
+        if count > 0 {
+            self.head = None;
+        }
         if let Some(progress) = &mut self.progress {
             progress.pass(count);
         }
@@ -79,33 +89,53 @@ impl<'a> Skip for Input<'a> {
     }
 }
 
+/// What the notes on inputs say.
+#[derive(Clone, Copy)]
+enum Notes {
+    None,
+    /// What is no text of games.
+    Texts,
+    /// What is no pack.
+    Packs,
+}
+
 /// Opens real files through the runtime.
 #[derive(Drop)]
 pub struct RealFiles<'a> {
     rt: HostRuntime,
     line: &'a StatusLine,
-    has_progress: bool,
+    notes: Notes,
+    pace: Option<Pace>,
 }
 
 impl<'a> RealFiles<'a> {
-    /// Those of the machine, with the line on which progress is shown once it is asked for.
+    /// Those of the machine, with the line on which progress is shown.
     pub fn new(rt: HostRuntime, line: &'a StatusLine) -> Self {
         RealFiles {
             rt,
             line,
-            has_progress: false,
+            notes: Notes::None,
+            pace: None,
         }
     }
 
-    /// The input from a source with this name and size.
-    fn input(&self, source: Source, name: &str, size: Option<u64>) -> Input<'a> {
-        let mut progress = None;
-        if self.has_progress
-            && let Ok(begun) = Progress::new(self.rt.alloc(), self.line, name, size)
-        {
-            progress = begun;
+    /// The first bytes of an input with this name, or of standard input, where notes speak of them.
+    fn head(&self, name: Option<String>) -> Option<Head<'a>> {
+        let packed = match self.notes {
+            Notes::None => return None,
+            Notes::Texts => false,
+            Notes::Packs => true,
+        };
+        Some(Head::new(self.rt.alloc(), self.line, name, packed))
+    }
+
+    /// How far an input with this name and size is read, where that is shown.
+    fn progress(&self, name: &str, size: Option<u64>) -> Option<Progress<'a>> {
+        let pace = self.pace?;
+        match Progress::new(self.rt.alloc(), self.line, name, size, pace) {
+            Ok(progress) => Some(progress),
+            Err(_) => None,
         }
-        Input { source, progress }
     }
 }
 
@@ -130,17 +160,21 @@ impl<'a> Files for RealFiles<'a> {
 
     fn open(&mut self, path: &str) -> io::Result<Input<'a>> {
         let file = fs::open(&self.rt, path)?;
-        let size = if self.has_progress {
-            size_of(&file)
-        } else {
-            None
-        };
-        Ok(self.input(Source::File(file), path, size))
+        let name = String::from_str(self.rt.alloc(), path)?;
+        let size = size_of(&file);
+        Ok(Input {
+            source: Source::File(file),
+            head: self.head(Some(name)),
+            progress: self.progress(path, size),
+        })
     }
 
     fn standard(&mut self) -> Input<'a> {
-        let stdin = self.rt.stdin();
-        self.input(Source::Standard(stdin), messages::STANDARD_INPUT, None)
+        Input {
+            source: Source::Standard(self.rt.stdin()),
+            head: self.head(None),
+            progress: self.progress(messages::STANDARD_INPUT, None),
+        }
     }
 
     fn is_written(&self, stream: Stream, path: Option<&str>) -> bool {
@@ -162,7 +196,15 @@ impl<'a> Files for RealFiles<'a> {
         let _ = self.rt.stderr().write_all(notes);
     }
 
-    fn show_progress(&mut self) {
-        self.has_progress = true;
+    fn note_kinds(&mut self, packed: bool) {
+        self.notes = if packed { Notes::Packs } else { Notes::Texts };
+    }
+
+    fn show_progress(&mut self, asked: bool) {
+        self.pace = if self.line.has_terminal() {
+            Pace::new(&self.rt, asked)
+        } else {
+            None
+        };
     }
 }

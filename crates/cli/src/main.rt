@@ -3,6 +3,7 @@
 #![tactic(auto)]
 
 mod files;
+mod head;
 mod progress;
 
 use files::RealFiles;

@@ -1,4 +1,5 @@
 //! How far an input is read, on a terminal.
+use memchr::memchr_iter;
 use std::alloc::{AllocError, Global};
 use std::cell::Cell;
 use std::io::{IsTerminal, Write};
@@ -7,6 +8,9 @@ use std::{fmt, io};
 
 /// How many milliseconds pass at least from one line to the next.
 const PAUSE: u64 = 250;
+
+/// After how many milliseconds of a run it is drawn where nobody asked for it.
+const PATIENCE: u64 = 2_000;
 
 /// How each game begins.
 const EVENT: &[u8] = b"[Event ";
@@ -39,6 +43,12 @@ impl StatusLine {
     fn draw(&self, text: &str) {
         let _ = self.rt.eprint(text);
         self.is_drawn.set(true);
+    }
+
+    /// Writes bytes to standard error in its place. A fault in that is ignored.
+    pub fn report(&self, bytes: &[u8]) {
+        self.clear();
+        let _ = self.rt.stderr().write_all(bytes);
     }
 
     /// Takes it away, if it is drawn.
@@ -93,16 +103,24 @@ struct Beginnings {
 impl Beginnings {
     /// Looks at the next piece.
     fn add(&mut self, bytes: &[u8]) {
-        for &byte in bytes {
-            if EVENT.get(self.matched) == Some(&byte) {
-                self.matched = self.matched.saturating_add(1);
-            } else {
-                self.matched = usize::from(byte == b'[');
+        if self.matched > 0 {
+            self.go_on(self.matched, bytes);
+        }
+        for at in memchr_iter(b'[', bytes) {
+            if let Some(rest) = bytes.get(at.saturating_add(1)..) {
+                self.go_on(1, rest);
             }
-            if self.matched == EVENT.len() {
-                self.count = self.count.saturating_add(1);
-                self.matched = 0;
-            }
+        }
+    }
+
+    /// Looks whether these bytes go on with a beginning of which so many bytes came.
+    fn go_on(&mut self, matched: usize, bytes: &[u8]) {
+        let wanted = &EVENT[matched.min(EVENT.len())..];
+        self.matched = 0;
+        if bytes.starts_with(wanted) {
+            self.count = self.count.saturating_add(1);
+        } else if wanted.starts_with(bytes) {
+            self.matched = matched.saturating_add(bytes.len());
         }
     }
 }
@@ -131,6 +149,22 @@ impl fmt::Display for Games {
     }
 }
 
+/// When a run began, and after how many milliseconds of it lines are drawn.
+#[derive(Clone, Copy)]
+pub struct Pace {
+    begun: Instant,
+    wait: u64,
+}
+
+impl Pace {
+    /// That of a run that begins now, where progress is asked for or not; none where the clock gives no time.
+    pub fn new(rt: &HostRuntime, asked: bool) -> Option<Self> {
+        let begun = Instant::now(rt).ok()?;
+        let wait = if asked { 0 } else { PATIENCE };
+        Some(Pace { begun, wait })
+    }
+}
+
 /// How far one input is read.
 #[derive(Drop)]
 pub struct Progress<'a> {
@@ -142,6 +176,7 @@ pub struct Progress<'a> {
     size: Option<u64>,
     read: u64,
     games: Beginnings,
+    pace: Pace,
     begun: Instant,
     drawn: Instant,
 }
@@ -168,18 +203,16 @@ fn millis(from: Instant, to: Instant) -> u64 {
 }
 
 impl<'a> Progress<'a> {
-    /// That of an input with this name of which nothing is read, where there is a terminal for it.
+    /// That of an input with this name of which nothing is read.
     pub fn new(
         alloc: Global,
         line: &'a StatusLine,
         name: &str,
         size: Option<u64>,
-    ) -> io::Result<Option<Self>> {
-        if !line.has_terminal() {
-            return Ok(None);
-        }
+        pace: Pace,
+    ) -> io::Result<Self> {
         let now = Instant::now(&line.rt)?;
-        Ok(Some(Progress {
+        Ok(Progress {
             line,
             alloc,
             name: shown_name(alloc, name)?,
@@ -189,9 +222,10 @@ impl<'a> Progress<'a> {
                 count: 0,
                 matched: 0,
             },
+            pace,
             begun: now,
             drawn: now,
-        }))
+        })
     }
 
     /// Counts bytes that were read.
@@ -206,7 +240,7 @@ impl<'a> Progress<'a> {
         let Ok(now) = Instant::now(&self.line.rt) else {
             return;
         };
-        if millis(self.drawn, now) < PAUSE {
+        if millis(self.drawn, now) < PAUSE || millis(self.pace.begun, now) < self.pace.wait {
             return;
         }
         self.drawn = now;

@@ -1,6 +1,6 @@
 -- Notes are lines: no text of theirs holds a line feed.
 use Rattle.std.proofs.Common.{◌≡◌, ℕ, ◌+◌, ◌/◌, ◌%◌, ◌<◌, ◌≤◌, Bool, true, false, ◌&&◌, List, [], ◌∷◌, ◌++◌, take, drop, length, refl, sym, ap, ◌∙◌, subst, arith, inl, inr, codes, decimal, append_assoc, Option, Some, None}
-use Rattle.std.specs.Prelude.{IsTrue, ◌==◌, nat_le, nat_lt, bytes_eq, slice_index, if◌then◌else◌}
+use Rattle.std.specs.Prelude.{IsTrue, ◌==◌, nat_le, nat_lt, slice_index, if◌then◌else◌}
 use Rattle.std.specs.List.{list_all}
 use Rattle.std.proofs.lemmas.Bool.{and_from, and_parts, cases_eq}
 use Rattle.std.proofs.lemmas.Bool.Decides.{nat_tests}
@@ -16,7 +16,7 @@ use Rattle.pgn_text.proofs.Fronts.{list_all-run}
 use Rattle.pgn_game.proofs.PlainTokens.{AreDigits, decimal_digits}
 use Rattle.pgn_extract.specs.Private.Blockwise.{NamesBlockStop}
 use Rattle.pgn_extract.specs.Public.Notes.{IsNote, NamesByte, NamesStop, AreLines, indented}
-use Rattle.pgn_extract.specs.Private.NoteTexts.{line_feeds, column_after, position_text, place_in, place_text, begin_in, begin_text, hex_digit, byte_text, stopper_text, context_text, stop_line, hints, IsStopNote, too_long_text}
+use Rattle.pgn_extract.specs.Private.NoteTexts.{line_feeds, column_after, position_text, place_in, place_text, begin_in, begin_text, hex_digit, byte_text, stopper_text, context_text, stop_line, IsStopNote, too_long_text}
 use Rattle.pgn_extract.specs.declared.explain.notes.Origin.{Origin}
 use Rattle.pgn_extract.proofs.StopNotes.{stops_within}
 
@@ -137,19 +137,12 @@ stop_line_line origin block place within =
     (place_line origin.line (origin.offset + length (take place block)) (take place block))
     (stopper_line block place) (context_line origin block (place == length block) within)
 
-hints_lines : (offset : ℕ) (block : List ℕ) → AreLines (hints offset block)
-hints_lines offset block = by ((offset == 0) && bytes_eq (take 2 block) (31 ∷ 139 ∷ []))
-  where
-    by : (is : Bool) → AreLines (if is then codes "this looks like a compressed file: zcat FILE | pgn-extract .." ∷ [] else [])
-    by true = (refl, tt)
-    by false = tt
-
 -- a note on bytes that are no game
 pub stop_note : (explain : Bool) → explain ≡ true → (origin : Origin) (block : List ℕ) (begin : ℕ) (note : List ℕ) → IsStopNote origin block begin note → IsNote explain note
 stop_note explain asked origin block begin note is =
     subst (λ e. IsNote e note) (sym asked) (
-      stop_line origin block is.place is.within ∷ hints origin.offset block,
-      (stop_line_line origin block is.place is.within, hints_lines origin.offset block),
+      stop_line origin block is.place is.within ∷ [],
+      (stop_line_line origin block is.place is.within, tt),
       is.says,
     )
 
@@ -224,7 +217,7 @@ names_stop true origin block begin note fits is =
     let inside = stops_within depth_limit (origin.offset == 0) block begin is.stops.0 fits is.stops.2 in
     let size : length (take is.place block) ≡ is.place = length-take-le is.place block (omega (arith, inside, is.stops.1)) in
     let context = context_text origin block (is.place == length block) is.within in
-    let tail = 10 ∷ indented (hints origin.offset block) in
+    let tail = 10 ∷ [] in
     let names = names_place origin.line (origin.offset + length (take is.place block)) (take is.place block) said.0 context tail in
     let shaped = 32 ∷ 32 ∷ (((place_text origin (take is.place block) ++ (codes ": " ++ said.0)) ++ context) ++ tail) in
     let whole : note ≡ shaped =

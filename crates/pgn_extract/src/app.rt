@@ -249,8 +249,11 @@ where
     if order.noted && request.min_ply > request.max_ply {
         files.show_notes(messages::NO_PLY_BETWEEN.as_bytes());
     }
-    if request.progress {
-        files.show_progress();
+    if order.noted {
+        files.note_kinds(request.packed);
+    }
+    if !request.no_progress {
+        files.show_progress(request.progress);
     }
     if request.packed {
         let settings = packed_settings(&order, criteria);

@@ -1,5 +1,6 @@
-//! What `--explain` adds: notes on faulty games, and on refusals.
+//! What `--explain` adds: notes on faulty games, on refusals, and on what an input is.
 
+pub(crate) mod kinds;
 pub(crate) mod move_notes;
 pub(crate) mod notes;
 pub(crate) mod refusal_notes;

@@ -58,7 +58,7 @@ impl<'a> Files for TwoFiles<'a> {
         b""
     }
 
-    fn show_progress(&mut self) {}
+    fn show_progress(&mut self, _asked: bool) {}
 }
 
 /// The index of a text.

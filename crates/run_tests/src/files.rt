@@ -34,7 +34,7 @@ impl Files for Folder {
         Pieces::new(FAULT_BETWEEN, PIECE)
     }
 
-    fn show_progress(&mut self) {}
+    fn show_progress(&mut self, _asked: bool) {}
 }
 
 /// The arguments, the output, standard error and the status.

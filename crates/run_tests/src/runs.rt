@@ -97,7 +97,7 @@ impl<'a> Files for Shelf<'a> {
         self.reader()
     }
 
-    fn show_progress(&mut self) {}
+    fn show_progress(&mut self, _asked: bool) {}
 }
 
 /// What a run of the program ended with.

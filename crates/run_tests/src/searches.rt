@@ -36,7 +36,7 @@ impl Files for Parcels {
         Pieces::new(PACK, self.piece)
     }
 
-    fn show_progress(&mut self) {}
+    fn show_progress(&mut self, _asked: bool) {}
 }
 
 fn run_there(alloc: Global, arguments: &[&str], piece: usize) -> Result<Ending, AllocError> {

@@ -1,5 +1,5 @@
 -- The words of notes on bytes that are no game and on blocks over the limit: what the functions of `notes` write.
-use Rattle.std.specs.Prelude.{◌≡◌, ℕ, ◌+◌, ◌/◌, ◌%◌, ◌<◌, ◌==◌, ◌&&◌, nat_le, nat_lt, Bool, List, [], ◌∷◌, ◌++◌, length, take, drop, fold, count_by, slice_index, Option, Some, None, codes, decimal, bytes_eq, if◌then◌else◌}
+use Rattle.std.specs.Prelude.{◌≡◌, ℕ, ◌+◌, ◌/◌, ◌%◌, ◌<◌, ◌==◌, ◌&&◌, nat_le, nat_lt, Bool, List, [], ◌∷◌, ◌++◌, length, take, drop, fold, count_by, slice_index, Option, Some, None, codes, decimal, if◌then◌else◌}
 use Rattle.pgn_text.specs.Public.Limits.{depth_limit}
 use Rattle.pgn_text.specs.Public.StopPlaces.{StandsWithin, tag_name_of}
 use Rattle.pgn_text.specs.Public.Stops.{IsErrorPosition}
@@ -66,18 +66,13 @@ abbrev pub stop_line : Origin → List ℕ → ℕ → Within → List ℕ
 stop_line origin block place within =
     place_text origin (take place block) ++ stopper_text block place ++ context_text origin block (place == length block) within
 
--- a further line where the file begins as `gzip` begins its files
-abbrev pub hints : ℕ → List ℕ → List (List ℕ)
-hints offset block =
-    if (offset == 0) && bytes_eq (take 2 block) (31 ∷ 139 ∷ []) then codes "this looks like a compressed file: zcat FILE | pgn-extract .." ∷ [] else []
-
 -- the note on the bytes of a block from `begin` on, which are no game: where they stop agreeing with games, and what that place stands in
 pub record IsStopNote (origin : Origin) (block : List ℕ) (begin : ℕ) (note : List ℕ) : Type 0 where
   pub place : ℕ
   pub within : Within
   pub stops : IsErrorPosition depth_limit (origin.offset == 0) block begin place
   pub stands : StandsWithin (origin.offset == 0) block begin place within
-  pub says : note ≡ indented (stop_line origin block place within ∷ hints origin.offset block)
+  pub says : note ≡ indented (stop_line origin block place within ∷ [])
 
 -- what is said of a block of this size over the limit
 abbrev pub too_long_text : ℕ → ℕ → List ℕ

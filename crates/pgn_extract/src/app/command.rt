@@ -53,6 +53,8 @@ pub struct Request<'a> {
     pub summary: bool,
     /// `--progress` was given.
     pub progress: bool,
+    /// `--no-progress` was given.
+    pub no_progress: bool,
     /// The text after `--from`.
     pub from: Option<&'a str>,
     /// The text after `--until`.
@@ -257,7 +259,7 @@ fn report_options<'a>(alloc: Global, command: Command<'a>) -> Result<Command<'a>
             "explain",
             "Say after the line of each bad game where it stops\n\
              being one, and why; the same of a refused line of\n\
-             criteria, and why a file cannot be read",
+             criteria; why a file cannot be read, or is no PGN",
         ))?
         .arg(flag(
             alloc,
@@ -268,8 +270,10 @@ fn report_options<'a>(alloc: Global, command: Command<'a>) -> Result<Command<'a>
         .arg(flag(
             alloc,
             "progress",
-            "Show on a terminal how far the input is read",
-        ))
+            "Show on a terminal how far the input is read, not\n\
+             only once a run has lasted two seconds",
+        ))?
+        .arg(flag(alloc, "no-progress", "Never show that"))
 }
 
 /// The options for where the input begins and ends, and for its name.
@@ -365,6 +369,7 @@ pub fn read_arguments<'a>(alloc: Global, arguments: &'a [String]) -> Result<Requ
         explain: matches.get_flag("explain"),
         summary: matches.get_flag("summary"),
         progress: matches.get_flag("progress"),
+        no_progress: matches.get_flag("no-progress"),
         from: matches.get_str("from"),
         until: matches.get_str("until"),
         with_names: matches.get_flag("with-names"),

@@ -58,8 +58,13 @@ pub trait Files {
     /// Shows notes to the person who reads what is reported. A fault in that is ignored, and nothing else changes.
     fn show_notes(&mut self, _notes: &[u8]) {}
 
-    /// From now on each input shows on a terminal how far it is read. Nothing else changes.
-    fn show_progress(&mut self);
+    /// From now on each input has a note on standard error, where its first bytes say that it is no
+    /// text of games, or no pack where packs are read. Nothing else changes.
+    fn note_kinds(&mut self, _packed: bool) {}
+
+    /// From now on each input shows on a terminal how far it is read: at once where that is asked for,
+    /// else after two seconds. Nothing else changes.
+    fn show_progress(&mut self, asked: bool);
 }
 
 /// What is to be done with each file.

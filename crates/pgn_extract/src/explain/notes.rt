@@ -3,7 +3,7 @@ ghost use Rattle.std.specs.Prelude.{◌≡◌, ℕ, List, ◌+◌, ◌^◌, ◌<
 ghost use Rattle.pgn_text.specs.Public.Limits.{block_limit};
 ghost use Rattle.pgn_extract.specs.Private.MoveNotes.{KeepsLine};
 ghost use Rattle.pgn_extract.specs.Public.Notes.{indented};
-ghost use Rattle.pgn_extract.specs.Private.NoteTexts.{line_feeds as line_feeds_of, column_after, position_text, place_text, begin_text, hex_digit as hex_digit_of, byte_text, stopper_text, context_text, hints, too_long_text, IsStopNote, IsWithinBlock};
+ghost use Rattle.pgn_extract.specs.Private.NoteTexts.{line_feeds as line_feeds_of, column_after, position_text, place_text, begin_text, hex_digit as hex_digit_of, byte_text, stopper_text, context_text, too_long_text, IsStopNote, IsWithinBlock};
 
 use crate::settings::Settings;
 use itoa::Buffer;
@@ -247,21 +247,6 @@ fn push_context(
     }
 }
 
-/// How a file begins that `gzip` wrote.
-const GZIP: [u8; 2] = [0x1F, 0x8B];
-
-/// Appends a hint where the file is no text.
-fn push_hints(text: &mut Vec<u8>, offset: u64, block: &[u8]) -> Result<(), AllocError>
-    ensures { OnOk result (text.new.items ≡ text.old.items ++ indented (hints offset block.now)) }
-{
-    if offset == 0 && block.starts_with(&GZIP) {
-        return text.extend_from_slice(
-            b"  this looks like a compressed file: zcat FILE | pgn-extract ..\n",
-        );
-    }
-    Ok(())
-}
-
 /// Appends the note on bytes that are no game, from the place of the block on: where they stop agreeing with games, and what stands there.
 pub fn push_stop_note(
     text: &mut Vec<u8>,
@@ -279,7 +264,7 @@ pub fn push_stop_note(
     push_stopper(text, block, stop.place)?;
     push_context(text, origin, block, stop)?;
     text.push(b'\n')?;
-    push_hints(text, origin.offset, block)
+    Ok(())
 }
 
 /// Appends the note on a block of this size, over the limit.
