@@ -45,3 +45,10 @@ pub size_more : (b : List ℕ) (n : ℕ) (items : List (List ℕ)) (rest : ℕ) 
 size_more b n items rest sized all own split =
     let whole : length own ≡ length (split.0 ++ split.1) = ap length split.2 in
     omega (arith, whole, length-append split.0 split.1, sized split.0 split.3, all split.1 split.4)
+
+-- how many squares the items take at least, with one more
+pub least_more : (b : List ℕ) (n : ℕ) (items : List (List ℕ)) (rest : ℕ) → ((own : List (Option Man)) → IsStretch b own → n ≤ length own)
+    → ((own : List (Option Man)) → CanBeSplit items own → rest ≤ length own) → (own : List (Option Man)) → CanBeSplit (b ∷ items) own → n + rest ≤ length own
+least_more b n items rest low all own split =
+    let whole : length own ≡ length (split.0 ++ split.1) = ap length split.2 in
+    omega (arith, whole, length-append split.0 split.1, low split.0 split.3, all split.1 split.4)

@@ -1,4 +1,8 @@
 //! Why lines of criteria that are accepted mislead: what they say is never so, or they compare bytes where a number or a date is meant.
+ghost use Rattle.std.specs.Prelude.{IfSome};
+ghost use Rattle.pgn_criteria.specs.Public.Doubts.{IsNever};
+ghost use Rattle.pgn_criteria.specs.Private.Stages.{claim_seen};
+
 use crate::condition::{Claim, Condition};
 use crate::cut::next_part;
 use crate::line::{core_of, is_nothing};
@@ -9,7 +13,7 @@ mod men;
 mod tags;
 mod words;
 
-use men::{has_misfit, lets_one_king};
+use men::{has_misfit, let_no_kings};
 use tags::tag_doubt;
 use words::{can_be_move, can_be_moves};
 
@@ -41,13 +45,13 @@ const ROW: &str =
     "for: each move changes who is to move, so turn holds at no two positions in a row";
 
 /// Why what a claim says of men is never so, where that is seen.
-fn men_doubt(claim: &Claim<Vec<u8>>) -> Option<&'static str> {
+fn men_doubt(claim: &Claim<Vec<u8>>) -> Option<&'static str>
+    ensures { IfSome result (λ why. IsNever (claim_seen (λ text. text.items) claim.now)) }
+{
     match claim {
         Claim::Fen(pattern) if has_misfit(pattern) => Some(RANK),
         Claim::Flip(pattern) if has_misfit(pattern) => Some(RANK),
-        Claim::Material { white, black } if !lets_one_king(white) || !lets_one_king(black) => {
-            Some(KINGS)
-        }
+        Claim::Material { white, black } if let_no_kings(white, black) => Some(KINGS),
         _ => None,
     }
 }

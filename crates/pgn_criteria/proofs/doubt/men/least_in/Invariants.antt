@@ -1,0 +1,13 @@
+use Rattle.std.proofs.Common.{◌≤◌, ◌+◌, ℕ, List, Option, length}
+use Rattle.chess.specs.declared.board.man.Man.{Man}
+use Rattle.pgn_criteria.specs.Public.Patterns.{CanBeSplit}
+use Rattle.pgn_criteria.specs.Private.Items.{items_of}
+use Rattle.pgn_criteria.proofs.doubt.men.least_in.Given as goal
+
+abbrev pub invariant-loop-rest : goal.invariant-loop-rest
+invariant-loop-rest l =
+    (left : ℕ) → ((own : List (Option Man)) → CanBeSplit (items_of l.rest) own → left ≤ length own)
+    → (own : List (Option Man)) → CanBeSplit (items_of l.items) own → l.least + left ≤ length own
+
+abbrev pub decreases-loop-rest : goal.decreases-loop-rest
+decreases-loop-rest l = length l.rest
