@@ -53,7 +53,8 @@ impl Skip for Source {
     }
 }
 
-/// An input, with its first bytes until they say what it is, and how far it is read where that is shown.
+/// An input, with its first bytes until they say what it is, and how far it is read where that is
+/// shown.
 #[derive(Drop)]
 pub struct Input<'a> {
     source: Source,

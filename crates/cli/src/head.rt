@@ -29,8 +29,9 @@ impl<'a> Head<'a> {
         }
     }
 
-    /// Looks at bytes that were read, and answers whether more are wanted. The note goes to standard
-    /// error at once; a fault in that is ignored, since the note is no part of what is reported.
+    /// Looks at bytes that were read, and answers whether more are wanted. The note goes to
+    /// standard error at once; a fault in that is ignored, since the note is no part of what is
+    /// reported.
     pub fn add(&mut self, bytes: &[u8]) -> bool {
         for &byte in bytes {
             let Some(place) = self.first.get_mut(self.held) else {

@@ -24,8 +24,8 @@ fn written_file<'a, F: Files>(files: &F, request: &Request<'a>, stream: Stream) 
     None
 }
 
-/// Refuses to run where an output is one of the files that are to be read, which would be lost. What
-/// were said of standard error would stand in the file.
+/// Refuses to run where an output is one of the files that are to be read, which would be lost.
+/// What were said of standard error would stand in the file.
 pub fn refuse_outputs<F: Files>(
     alloc: Global,
     files: &F,

@@ -82,7 +82,8 @@ fn is_text(first: &[u8]) -> bool {
     }
 }
 
-/// What is said of an input with these first bytes that is no text of games, or no pack where packs are read.
+/// What is said of an input with these first bytes that is no text of games, or no pack where packs
+/// are read.
 fn kind_of(first: &[u8], packed: bool) -> Option<&'static str> {
     for &(beginning, said) in &KINDS {
         if first.starts_with(beginning) {
@@ -99,7 +100,8 @@ fn kind_of(first: &[u8], packed: bool) -> Option<&'static str> {
     }
 }
 
-/// The note on an input with this name and these first bytes, where they say that it is no text of games, or no pack where packs are read.
+/// The note on an input with this name and these first bytes, where they say that it is no text of
+/// games, or no pack where packs are read.
 pub fn kind_note(
     alloc: Global,
     name: &str,

@@ -5,7 +5,8 @@ ghost use Rattle.pgn_extract.specs.Public.Index.{shown_char, shown_name};
 use std::alloc::{AllocError, Global};
 use std::marker::Model;
 
-/// The name of a file, as lines show it: without a control character, so no name is two lines or moves a terminal's cursor.
+/// The name of a file, as lines show it: without a control character, so no name is two lines or
+/// moves a terminal's cursor.
 #[derive(Drop)]
 pub struct FileName {
     shown: String,

@@ -1,5 +1,5 @@
 use Rattle.std.proofs.Common.{◌≡◌, ◌++◌, IsUtf8, string_bytes}
-use Rattle.core.specs.Str.Iter.{chars_rest}
+use Rattle.std.specs.Str.Iter.{chars_rest}
 use Rattle.pgn_extract.specs.Public.Index.{shown_name}
 use Rattle.pgn_extract.proofs.output.file_name.shown_text.Given as goal
 
