@@ -1,4 +1,5 @@
 -- What proofs alone speak of: how the code goes about it.
+pub mod Doubts
 pub mod Items
 pub mod Counting
 pub mod Layouts

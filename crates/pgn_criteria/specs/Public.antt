@@ -7,7 +7,6 @@ pub mod MoveTexts
 pub mod Comparing
 pub mod Mirrors
 pub mod Meeting
-pub mod Doubts
 pub mod Walks
 pub mod Sieves
 pub mod ByMarks

@@ -1,6 +1,6 @@
 //! Why lines of criteria that are accepted mislead: what they say is never so, or they compare bytes where a number or a date is meant.
 ghost use Rattle.std.specs.Prelude.{IfSome};
-ghost use Rattle.pgn_criteria.specs.Public.Doubts.{IsNever};
+ghost use Rattle.pgn_criteria.specs.Private.Doubts.{IsNever};
 ghost use Rattle.pgn_criteria.specs.Private.Stages.{claim_seen};
 
 use crate::condition::{Claim, Condition};
