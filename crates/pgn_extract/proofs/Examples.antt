@@ -1,6 +1,9 @@
 -- What the definitions refuse: of a search of a pack, of an index, of files, of marks and of exports.
-use Rattle.std.proofs.Common.{◌≡◌, ◌+◌, ◌<◌, ◌==◌, ℕ, true, false, List, [], ◌∷◌, ◌++◌, length, Option, codes, get_or, ap, subst, refl, arith}
+use Rattle.std.proofs.Common.{◌≡◌, ◌+◌, ◌<◌, ◌==◌, ◌∙◌, ℕ, true, false, List, [], ◌∷◌, ◌++◌, length, map, Option, codes, encode_utf8_all, get_or, ap, sym, subst, refl, arith}
 use Rattle.std.proofs.lemmas.List.{length-append}
+use Rattle.std.proofs.lemmas.Str.{chars-IsAscii, encodes-IsAscii}
+use Rattle.std.proofs.lemmas.Str.Ascii.{IsAscii-from_all}
+use Rattle.std.specs.Str.{IsAscii}
 use Rattle.pgn_text.specs.Public.GameTexts.{GameText, IsGameText, tag_in}
 use Rattle.pgn_text.specs.Public.Limits.{largest_offset}
 use Rattle.pgn_text.specs.Public.Marks.{MarkedPiece}
@@ -10,7 +13,7 @@ use Rattle.pgn_game.specs.Public.Starts.{fen_tag}
 use Rattle.pgn_game.specs.declared.replays.replayer.Lines.TheVariants.{Main}
 use Rattle.pgn_game.proofs.PackStreamFacts.{record_size}
 use Rattle.pgn_extract.specs.Public.Aims.{Aim}
-use Rattle.pgn_extract.specs.Public.Index.{mark, mark_line, titled}
+use Rattle.pgn_extract.specs.Public.Index.{mark, mark_line, shown_char, shown_name, titled}
 use Rattle.pgn_extract.specs.Public.Laws.{IsInOneOf, in_first, in_second, in_third, HasAMark}
 use Rattle.pgn_extract.specs.Public.Searching.{IsOfNoGame, HasNoGame, IsIndexOfSoundGames, none, keep, leave, IsSoundPiece, StopsAtLimit}
 use Rattle.pgn_extract.specs.Public.Several.{NamesUnopened}
@@ -61,15 +64,33 @@ no_other_piece name number piece unsound index = of_text (mark_line name number 
 
 -- ---- files that cannot be opened
 
+-- a name of ASCII without control characters is shown as it is
+is_ascii : IsAscii (codes "a")
+is_ascii = IsAscii-from_all (codes "a") within
+  where
+    within : (k d : ℕ) → k < 1 → get_or (codes "a") k d < 128
+    within k d less =
+        let zero : k ≡ 0 = omega (arith, less) in
+        let first : get_or (codes "a") 0 d < 128 = omega arith in subst (λ at. get_or (codes "a") at d < 128) (sym zero) first
+
+a_shown : shown_name (codes "a") ≡ codes "a"
+a_shown = ap (λ cs. encode_utf8_all (map shown_char cs)) (chars-IsAscii (codes "a") is_ascii) ∙ encodes-IsAscii (codes "a") is_ascii
+
 -- the line is not just any, and it gives the name of the file
 named_a : NamesUnopened (codes "a") (codes "pgn-extract: cannot open input: a: gone" ++ 10 ∷ [])
-named_a = record { reason = codes "gone"; is = refl }
+named_a = record {
+  reason = codes "gone";
+  is = ap (λ name. codes "pgn-extract: cannot open input: " ++ name ++ codes ": " ++ codes "gone" ++ 10 ∷ []) (sym a_shown);
+}
 
 not_any_line : NamesUnopened (codes "a") (codes "x") → ⊥
 not_any_line names = let is = names.is in cc
 
 not_another_name : NamesUnopened (codes "a") (codes "pgn-extract: cannot open input: b: gone" ++ 10 ∷ []) → ⊥
-not_another_name names = let clash : false ≡ true = ap (λ bytes. get_or bytes 32 0 == 97) names.is in cc
+not_another_name names =
+    let is = subst (λ name. codes "pgn-extract: cannot open input: b: gone" ++ 10 ∷ []
+        ≡ codes "pgn-extract: cannot open input: " ++ name ++ codes ": " ++ names.reason ++ 10 ∷ []) a_shown names.is in
+    let clash : false ≡ true = ap (λ bytes. get_or bytes 32 0 == 97) is in cc
 
 -- ---- marks
 
