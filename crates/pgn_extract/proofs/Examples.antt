@@ -89,7 +89,7 @@ not_any_line names = let is = names.is in cc
 not_another_name : NamesUnopened (codes "a") (codes "pgn-extract: cannot open input: b: gone" ++ 10 ∷ []) → ⊥
 not_another_name names =
     let is = subst (λ name. codes "pgn-extract: cannot open input: b: gone" ++ 10 ∷ []
-        ≡ codes "pgn-extract: cannot open input: " ++ name ++ codes ": " ++ names.reason ++ 10 ∷ []) a_shown names.is in
+    ≡ codes "pgn-extract: cannot open input: " ++ name ++ codes ": " ++ names.reason ++ 10 ∷ []) a_shown names.is in
     let clash : false ≡ true = ap (λ bytes. get_or bytes 32 0 == 97) is in cc
 
 -- ---- marks
