@@ -1,15 +1,18 @@
-//! Readers and writers in memory that give few bytes at a time or fail, and what else the tests of several crates share.
+//! Readers and writers in memory that give few bytes at a time or fail, tables of rows, and what
+//! else the tests of several crates share.
 #![tactic(auto)]
 
 mod fails;
 mod page;
 mod pieces;
+mod tables;
 
 pub use fails::{Calls, Fails};
 pub use page::Page;
 use pgn_text::{Piece, RawGame, games};
 pub use pieces::Pieces;
 use std::alloc::{AllocError, Global};
+pub use tables::{Rows, bytes_of, wrong_row};
 
 /// 43 bytes; the second event line begins at 22 and is whole at 30.
 pub const TWO_GAMES: &[u8] = b"[Event \"A\"]\n\n1. e4 *\n\n[Event \"B\"]\n\n1. d4 *\n";
