@@ -1,81 +1,70 @@
 //! Squares, sets of squares, both boards, and the calls that ask a position for its parts.
-use crate::rows::{move_of, played, position, square, square_at};
+use crate::rows::{Says, has_just, kind_of, move_of, played, position, square, square_at};
 use chess::{Bits, Board, Kind, Mailbox, Man, Position, Side, Square, resolve};
 use std::test::Fail;
+use test_support::wrong_row;
 
-const fn white(kind: Kind) -> Man {
-    Man {
-        side: Side::White,
-        kind,
+/// The man of a side and a letter, as `white r`.
+fn man_of(text: &str) -> Option<Man> {
+    let (name, letter) = text.split_once(' ')?;
+    let kind = kind_of(letter.as_bytes().first())?;
+    match name {
+        "white" => Some(Man {
+            side: Side::White,
+            kind,
+        }),
+        "black" => Some(Man {
+            side: Side::Black,
+            kind,
+        }),
+        _ => None,
     }
 }
 
-const fn black(kind: Kind) -> Man {
-    Man {
-        side: Side::Black,
-        kind,
+/// Puts black knights on the squares of the names.
+fn put_knights<B: Board>(board: &mut B, names: &str) -> Option<()> {
+    for name in names.split_whitespace() {
+        board.put(square(name)?, man_of("black n"));
     }
+    Some(())
 }
 
-/// A man on a square, other men, and the squares that the man attacks.
-type Reach = (
-    Man,
-    &'static [u8; 2],
-    &'static [&'static [u8; 2]],
-    &'static [&'static [u8; 2]],
-);
-
-/// Whether the man attacks just the squares of the names, and so does its side.
-fn reaches<B: Board>(row: &Reach) -> Result<bool, Fail> {
-    let (man, name, others, names) = *row;
-    let mut board = B::empty();
-    let from = square(name[0], name[1])?;
-    board.put(from, Some(man));
-    for other in others {
-        board.put(square(other[0], other[1])?, Some(black(Kind::Knight)));
-    }
-    let reach = board.reach(from);
-    for name in names {
-        let to = square(name[0], name[1])?;
-        if !reach.has(to) || !board.attacked(to, man.side) {
-            return Ok(false);
+/// Whether each square of the names is attacked by the side.
+fn are_attacked<B: Board>(board: &B, names: &str, side: Side) -> Option<bool> {
+    for name in names.split_whitespace() {
+        if !board.attacked(square(name)?, side) {
+            return Some(false);
         }
     }
-    Ok(reach.count() as usize == names.len() && board.at(from) == Some(man))
+    Some(true)
 }
 
+/// Whether the man on the square, among black knights on others, attacks just the squares of the
+/// names, and so does its side.
+pub fn reaches<B: Board>(man: &str, name: &str, others: &str, names: &str) -> Option<bool> {
+    let man = man_of(man)?;
+    let from = square(name)?;
+    let mut board = B::empty();
+    board.put(from, Some(man));
+    put_knights(&mut board, others)?;
+    let is_reach = has_just(&board.reach(from), names)? && are_attacked(&board, names, man.side)?;
+    Some(is_reach && board.at(from) == Some(man))
+}
+
+/// A man, its square, other men, and the squares that the man attacks.
+const REACHES: &str = "
+white r | h4 |  | a4 b4 c4 d4 e4 f4 g4 h1 h2 h3 h5 h6 h7 h8
+white k | a1 |  | a2 b1 b2
+white n | h1 |  | f2 g3
+white p | a4 |  | b5
+black p | h4 |  | g3
+white r | a1 | a3 c1 | a2 a3 b1 c1
+";
+
 #[test]
-fn men_reach_the_squares_of_the_laws(rt: HostRuntime) -> Result<(), Fail> {
-    let rows: [Reach; 6] = [
-        (
-            white(Kind::Rook),
-            b"h4",
-            &[],
-            &[
-                b"a4", b"b4", b"c4", b"d4", b"e4", b"f4", b"g4", b"h1", b"h2", b"h3", b"h5", b"h6",
-                b"h7", b"h8",
-            ],
-        ),
-        (white(Kind::King), b"a1", &[], &[b"a2", b"b1", b"b2"]),
-        (white(Kind::Knight), b"h1", &[], &[b"f2", b"g3"]),
-        (white(Kind::Pawn), b"a4", &[], &[b"b5"]),
-        (black(Kind::Pawn), b"h4", &[], &[b"g3"]),
-        (
-            white(Kind::Rook),
-            b"a1",
-            &[b"a3", b"c1"],
-            &[b"a2", b"a3", b"b1", b"c1"],
-        ),
-    ];
-    for row in rows {
-        assert!(rt;
-            reaches::<Mailbox>(&row)? && reaches::<Bits>(&row)?,
-            "{:?} on {:?}",
-            row.0,
-            row.1
-        );
-    }
-    Ok(())
+fn men_reach_the_squares_of_the_laws(rt: HostRuntime) {
+    let wrong = wrong_row(&Says::Reaches, REACHES, 6);
+    assert!(rt; wrong.is_none(), "{wrong:?}");
 }
 
 /// Whether a square is where both numbers are 1 to 8, and gives them back.
@@ -93,7 +82,10 @@ fn squares_have_numbers() -> bool {
 
 /// Whether an empty board has no men, and men that are put and taken away are counted.
 fn men_are_put_and_taken<B: Board>(a1: Square, h4: Square) -> bool {
-    let queen = black(Kind::Queen);
+    let queen = Man {
+        side: Side::Black,
+        kind: Kind::Queen,
+    };
     let mut board = B::empty();
     let is_bare = board.squares_of(queen).is_empty()
         && board.reach(h4).is_empty()
@@ -110,7 +102,10 @@ fn men_are_put_and_taken<B: Board>(a1: Square, h4: Square) -> bool {
 /// Whether the position after 1. e4 reports its parts, and so does its copy.
 fn parts_are_reported<B: Board>(first: &Position<B>, e4: Square) -> bool {
     let copy = first.copy();
-    let pawn = Some(white(Kind::Pawn));
+    let pawn = Some(Man {
+        side: Side::White,
+        kind: Kind::Pawn,
+    });
     first.side() == Side::Black
         && first.number() == 1
         && first.at(e4) == pawn
@@ -121,23 +116,22 @@ fn parts_are_reported<B: Board>(first: &Position<B>, e4: Square) -> bool {
 }
 
 /// Whether squares, a board, a position and the starting position report their parts.
-fn report_parts<B: Board>() -> Result<[bool; 4], Fail> {
+fn report_parts<B: Board>() -> Option<[bool; 4]> {
     let start: Position<B> = Position::start();
-    let first = played(&start, &move_of(&start, b"e2e4")?).ok_or("an illegal move")?;
-    let text = b"rnbqkbnr/pppppppp/8/8/8/8/PPPPPPPP/RNBQKBNR w KQkq - 0 1";
-    Ok([
+    let first = played(&start, &move_of(&start, "e2e4")?)?;
+    let text = "rnbqkbnr/pppppppp/8/8/8/8/PPPPPPPP/RNBQKBNR w KQkq - 0 1";
+    Some([
         squares_have_numbers(),
-        men_are_put_and_taken::<B>(square(b'a', b'1')?, square(b'h', b'4')?),
-        parts_are_reported(&first, square(b'e', b'4')?),
+        men_are_put_and_taken::<B>(square("a1")?, square("h4")?),
+        parts_are_reported(&first, square("e4")?),
         start.fen() == position::<B>(text)?.fen(),
     ])
 }
 
 #[test]
-fn calls_that_ask_for_parts(rt: HostRuntime) -> Result<(), Fail> {
-    assert_eq!(rt; report_parts::<Mailbox>()?, [true; 4]);
-    assert_eq!(rt; report_parts::<Bits>()?, [true; 4]);
-    Ok(())
+fn calls_that_ask_for_parts(rt: HostRuntime) {
+    assert_eq!(rt; report_parts::<Mailbox>(), Some([true; 4]));
+    assert_eq!(rt; report_parts::<Bits>(), Some([true; 4]));
 }
 
 /// Whether both boards have the same man on the square, attacks on it, and squares that are attacked from it.
@@ -173,54 +167,49 @@ fn agree(position: &Position<Bits>, plain: &mut Mailbox, words: &mut Bits) -> bo
     true
 }
 
-/// The ply from which the boards no longer agree, if there is one, in a game from the starting position.
-fn first_difference(game: &[&str]) -> Result<Option<usize>, Fail> {
+/// The move of a game from the starting position before which the boards do not agree, or which is
+/// illegal; `the end` where they do not agree after the last.
+fn first_difference<'a>(game: &'a str) -> Option<&'a str> {
     let mut position: Position<Bits> = Position::start();
     let (mut plain, mut words) = (Mailbox::empty(), Bits::empty());
-    for ply in 0..game.len() {
+    for word in game.split_whitespace() {
         if !agree(&position, &mut plain, &mut words) {
-            return Ok(Some(ply));
+            return Some(word);
         }
-        match resolve(&position, game[ply].as_bytes()) {
+        match resolve(&position, word.as_bytes()) {
             Ok(m) => position = position.play(m),
-            Err(_) => return Err("an illegal move")?,
+            Err(_) => return Some(word),
         }
     }
     if agree(&position, &mut plain, &mut words) {
-        return Ok(None);
+        None
+    } else {
+        Some("the end")
     }
-    Ok(Some(game.len()))
 }
 
 #[test]
-fn both_boards_agree_along_games(rt: HostRuntime) -> Result<(), Fail> {
-    let games: [&[&str]; 2] = [
-        &["f4", "e5", "fxe5", "d6", "exd6", "Bxd6"],
-        &[
-            "e4", "e5", "Nf3", "d6", "d4", "Bg4", "dxe5", "Bxf3", "Qxf3", "dxe5", "Bc4", "Nf6",
-            "Qb3", "Qe7", "Nc3", "c6", "Bg5", "b5", "Nxb5", "cxb5", "Bxb5+", "Nbd7", "O-O-O",
-            "Rd8", "Rxd7", "Rxd7", "Rd1", "Qe6", "Bxd7+", "Nxd7", "Qb8+", "Nxb8", "Rd8#",
-        ],
+fn both_boards_agree_along_games(rt: HostRuntime) {
+    let games = [
+        "f4 e5 fxe5 d6 exd6 Bxd6",
+        "e4 e5 Nf3 d6 d4 Bg4 dxe5 Bxf3 Qxf3 dxe5 Bc4 Nf6 Qb3 Qe7 Nc3 c6 Bg5 b5 Nxb5 cxb5 Bxb5+ \
+         Nbd7 O-O-O Rd8 Rxd7 Rxd7 Rd1 Qe6 Bxd7+ Nxd7 Qb8+ Nxb8 Rd8#",
     ];
     for game in games {
-        assert_eq!(rt; first_difference(game)?, None);
+        assert_eq!(rt; first_difference(game), None);
     }
-    Ok(())
 }
 
 #[test]
 fn bits_is_twelve_words(rt: HostRuntime) -> Result<(), Fail> {
-    // White's kinds from the king to the pawn, then Black's; a field that is added would be shown too
-    let start = format!(in rt.alloc(); "{:?}", Bits::initial())?;
-    let words =
-        "[16, 8, 129, 36, 66, 65280, 1152921504606846976, 576460752303423488, 9295429630892703744, 2594073385365405696, 4755801206503243776, 71776119061217280]";
-    let shown = format!(in rt.alloc(); "Bits {{ words: {words} }}")?;
-    assert_eq!(rt; start.as_str(), shown.as_str());
-    let empty = format!(in rt.alloc(); "{:?}", Bits::empty())?;
-    assert_eq!(rt;
-        empty.as_str(),
-        "Bits { words: [0, 0, 0, 0, 0, 0, 0, 0, 0, 0, 0, 0] }"
-    );
+    // White's kinds from the king to the pawn, then Black's; a field that is added would be shown
+    // too
+    let found = format!(in rt.alloc(); "{:?} {:?}", Bits::initial(), Bits::empty())?;
+    let wanted = "Bits { words: [16, 8, 129, 36, 66, 65280, \
+        1152921504606846976, 576460752303423488, 9295429630892703744, \
+        2594073385365405696, 4755801206503243776, 71776119061217280] } \
+        Bits { words: [0, 0, 0, 0, 0, 0, 0, 0, 0, 0, 0, 0] }";
+    assert_eq!(rt; found.as_str(), wanted);
     assert_eq!(rt; size_of::<Bits>(), 96);
     Ok(())
 }

@@ -1,7 +1,8 @@
-//! How many games of so many moves there are: published counts of legal move sequences. The longest are counted over the board of words alone.
+//! How many games of so many moves there are: published counts of legal move sequences. The longest
+//! are counted over the board of words alone.
 use crate::rows::{played, position, square_at};
 use chess::{Bits, Board, Kind, Mailbox, Move, Position, Square, Wing};
-use std::test::Fail;
+use test_support::{Rows, wrong_row};
 
 /// What a pawn may become, and the wings: each way in which a move may go between two squares.
 const WAYS: [(Option<Kind>, Option<Wing>); 7] = [
@@ -69,59 +70,53 @@ fn count_between<B: Board>(position: &Position<B>, from: Square, to: Square, dep
 }
 
 /// Whether so many games of each length, from one move on, begin in the position.
-fn has_counts<B: Board>(fen: &str, counts: &[u32]) -> Result<bool, Fail> {
-    let position = position::<B>(fen.as_bytes())?;
+fn has_counts<B: Board>(fen: &str, counts: &str) -> Option<bool> {
+    let position = position::<B>(fen)?;
     let mut depth = 0u8;
-    for games in counts {
+    for games in counts.split_whitespace() {
         depth = depth.saturating_add(1);
-        if count(&position, depth) != *games {
-            return Ok(false);
+        if count(&position, depth) != games.parse::<u32>().ok()? {
+            return Some(false);
         }
     }
-    Ok(true)
+    Some(depth > 0)
 }
 
-#[test]
-fn counts_from_the_start(rt: HostRuntime) -> Result<(), Fail> {
-    let start = "rnbqkbnr/pppppppp/8/8/8/8/PPPPPPPP/RNBQKBNR w KQkq - 0 1";
-    assert!(rt; has_counts::<Mailbox>(start, &[20, 400, 8902])?);
-    assert!(rt; has_counts::<Bits>(start, &[20, 400, 8902, 197_281])?);
-    Ok(())
-}
+/// Rows of a position, the counts over the plain board, and those over the board of words.
+struct Counts;
 
-#[test]
-fn counts_with_castling_and_pins(rt: HostRuntime) -> Result<(), Fail> {
-    let text = "r3k2r/p1ppqpb1/bn2pnp1/3PN3/1p2P3/2N2Q1p/PPPBBPPP/R3K2R w KQkq - 0 1";
-    assert!(rt; has_counts::<Mailbox>(text, &[48, 2039])?);
-    assert!(rt; has_counts::<Bits>(text, &[48, 2039, 97_862])?);
-    Ok(())
-}
-
-#[test]
-fn counts_with_captures_en_passant(rt: HostRuntime) -> Result<(), Fail> {
-    let text = "8/2p5/3p4/KP5r/1R3p1k/8/4P1P1/8 w - - 0 1";
-    assert!(rt; has_counts::<Mailbox>(text, &[14, 191, 2812])?);
-    assert!(rt; has_counts::<Bits>(text, &[14, 191, 2812, 43_238])?);
-    Ok(())
-}
-
-#[test]
-fn counts_with_promotions(rt: HostRuntime) -> Result<(), Fail> {
-    let rows: [(&str, &[u32]); 2] = [
-        (
-            "r3k2r/Pppp1ppp/1b3nbN/nP6/BBP1P3/q4N2/Pp1P2PP/R2Q1RK1 w kq - 0 1",
-            &[6, 264, 9467],
-        ),
-        (
-            "rnbq1k1r/pp1Pbppp/2p5/8/2B5/8/PPP1NnPP/RNBQK2R w KQ - 1 8",
-            &[44, 1486],
-        ),
-    ];
-    for (fen, counts) in rows {
-        assert!(rt;
-            has_counts::<Mailbox>(fen, counts)? && has_counts::<Bits>(fen, counts)?,
-            "{fen}"
-        );
+impl Rows for Counts {
+    fn is_so(&self, columns: [&str; 5]) -> bool {
+        let [fen, plain, words, ..] = columns;
+        has_counts::<Mailbox>(fen, plain) == Some(true)
+            && has_counts::<Bits>(fen, words) == Some(true)
     }
-    Ok(())
+}
+
+/// A position, and how many games of one move, of two and so on begin there, over either board.
+const COUNTS: &str = "
+# with castling and pins
+r3k2r/p1ppqpb1/bn2pnp1/3PN3/1p2P3/2N2Q1p/PPPBBPPP/R3K2R w KQkq - 0 1 | 48 2039 | 48 2039 97862
+# with captures en passant
+8/2p5/3p4/KP5r/1R3p1k/8/4P1P1/8 w - - 0 1 | 14 191 2812 | 14 191 2812 43238
+# with promotions
+r3k2r/Pppp1ppp/1b3nbN/nP6/BBP1P3/q4N2/Pp1P2PP/R2Q1RK1 w kq - 0 1 | 6 264 9467 | 6 264 9467
+rnbq1k1r/pp1Pbppp/2p5/8/2B5/8/PPP1NnPP/RNBQK2R w KQ - 1 8 | 44 1486 | 44 1486
+";
+
+/// The same from the start.
+const FROM_THE_START: &str = "
+rnbqkbnr/pppppppp/8/8/8/8/PPPPPPPP/RNBQKBNR w KQkq - 0 1 | 20 400 8902 | 20 400 8902 197281
+";
+
+#[test]
+fn games_are_counted(rt: HostRuntime) {
+    let wrong = wrong_row(&Counts, COUNTS, 4);
+    assert!(rt; wrong.is_none(), "{wrong:?}");
+}
+
+#[test]
+fn counts_from_the_start(rt: HostRuntime) {
+    let wrong = wrong_row(&Counts, FROM_THE_START, 1);
+    assert!(rt; wrong.is_none(), "{wrong:?}");
 }
