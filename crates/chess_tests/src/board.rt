@@ -2,7 +2,7 @@
 use crate::rows::{Says, has_just, kind_of, move_of, played, position, square, square_at};
 use chess::{Bits, Board, Kind, Mailbox, Man, Position, Side, Square, resolve};
 use std::test::Fail;
-use test_support::wrong_row;
+use test_support::rows_hold;
 
 /// The man of a side and a letter, as `white r`.
 fn man_of(text: &str) -> Option<Man> {
@@ -62,9 +62,8 @@ white r | a1 | a3 c1 | a2 a3 b1 c1
 ";
 
 #[test]
-fn men_reach_the_squares_of_the_laws(rt: HostRuntime) {
-    let wrong = wrong_row(&Says::Reaches, REACHES, 6);
-    assert!(rt; wrong.is_none(), "{wrong:?}");
+fn men_reach_the_squares_of_the_laws() -> Result<(), Fail> {
+    rows_hold(&Says::Reaches, REACHES, 6)
 }
 
 /// Whether a square is where both numbers are 1 to 8, and gives them back.

@@ -2,7 +2,8 @@
 //! are counted over the board of words alone.
 use crate::rows::{played, position, square_at};
 use chess::{Bits, Board, Kind, Mailbox, Move, Position, Square, Wing};
-use test_support::{Rows, wrong_row};
+use std::test::Fail;
+use test_support::{Rows, rows_hold};
 
 /// What a pawn may become, and the wings: each way in which a move may go between two squares.
 const WAYS: [(Option<Kind>, Option<Wing>); 7] = [
@@ -110,13 +111,11 @@ rnbqkbnr/pppppppp/8/8/8/8/PPPPPPPP/RNBQKBNR w KQkq - 0 1 | 20 400 8902 | 20 400 
 ";
 
 #[test]
-fn games_are_counted(rt: HostRuntime) {
-    let wrong = wrong_row(&Counts, COUNTS, 4);
-    assert!(rt; wrong.is_none(), "{wrong:?}");
+fn games_are_counted() -> Result<(), Fail> {
+    rows_hold(&Counts, COUNTS, 4)
 }
 
 #[test]
-fn counts_from_the_start(rt: HostRuntime) {
-    let wrong = wrong_row(&Counts, FROM_THE_START, 1);
-    assert!(rt; wrong.is_none(), "{wrong:?}");
+fn counts_from_the_start() -> Result<(), Fail> {
+    rows_hold(&Counts, FROM_THE_START, 1)
 }

@@ -2,7 +2,8 @@
 //! 16.1).
 use crate::rows::{Says, has_fen, position};
 use chess::{Board, FenError, Position};
-use test_support::wrong_row;
+use std::test::Fail;
+use test_support::rows_hold;
 
 /// Whether the text is read, and written so.
 pub fn is_written<B: Board>(given: &str, written: &str) -> Option<bool> {
@@ -60,9 +61,8 @@ r3k2r/8/8/8/8/8/8/4K2R b Kkq - 0 0 | r3k2r/8/8/8/8/8/8/4K2R b Kkq - 0 0
 ";
 
 #[test]
-fn texts_are_read_and_written(rt: HostRuntime) {
-    let wrong = wrong_row(&Says::Written, WRITTEN, 30);
-    assert!(rt; wrong.is_none(), "{wrong:?}");
+fn texts_are_read_and_written() -> Result<(), Fail> {
+    rows_hold(&Says::Written, WRITTEN, 30)
 }
 
 /// Whether the text is refused for that.
@@ -129,9 +129,8 @@ r3k2r/8/8/8/8/8/8/R3K2R w KQkqA - 0 1 | Syntax
 ";
 
 #[test]
-fn texts_of_another_form_are_refused(rt: HostRuntime) {
-    let wrong = wrong_row(&Says::Refused, OF_ANOTHER_FORM, 40);
-    assert!(rt; wrong.is_none(), "{wrong:?}");
+fn texts_of_another_form_are_refused() -> Result<(), Fail> {
+    rows_hold(&Says::Refused, OF_ANOTHER_FORM, 40)
 }
 
 /// A text of a position that can not be, and why.
@@ -160,7 +159,6 @@ p3k3/8/8/8/8/8/8/4K3 b - - 0 1 | Pawns
 ";
 
 #[test]
-fn positions_that_can_not_be_are_refused(rt: HostRuntime) {
-    let wrong = wrong_row(&Says::Refused, IMPOSSIBLE, 17);
-    assert!(rt; wrong.is_none(), "{wrong:?}");
+fn positions_that_can_not_be_are_refused() -> Result<(), Fail> {
+    rows_hold(&Says::Refused, IMPOSSIBLE, 17)
 }

@@ -1,7 +1,8 @@
 //! Legal moves and the positions after them (Laws 3.1 to 3.9; PGN 16.1.3).
 use crate::rows::{Says, has_fen, has_just, move_of, played, position, square};
 use chess::Board;
-use test_support::wrong_row;
+use std::test::Fail;
+use test_support::rows_hold;
 
 /// Whether the move is legal in the position, and leads to that one.
 pub fn leads<B: Board>(fen: &str, tried: &str, after: &str) -> Option<bool> {
@@ -57,9 +58,8 @@ rnbqkbnr/pppp1ppp/4p3/8/7P/7R/PPPPPPP1/RNBQKBN1 b Qkq - 1 2 | e8e7 | \
 ";
 
 #[test]
-fn moves_lead_to_these_positions(rt: HostRuntime) {
-    let wrong = wrong_row(&Says::Leads, POSITIONS_AFTER, 33);
-    assert!(rt; wrong.is_none(), "{wrong:?}");
+fn moves_lead_to_these_positions() -> Result<(), Fail> {
+    rows_hold(&Says::Leads, POSITIONS_AFTER, 33)
 }
 
 /// Whether the move is illegal in the position.
@@ -121,9 +121,8 @@ rn2k3/8/8/8/8/8/8/4K3 b q - 0 1 | e8c8
 ";
 
 #[test]
-fn moves_against_the_laws_are_illegal(rt: HostRuntime) {
-    let wrong = wrong_row(&Says::Illegal, ILLEGAL, 40);
-    assert!(rt; wrong.is_none(), "{wrong:?}");
+fn moves_against_the_laws_are_illegal() -> Result<(), Fail> {
+    rows_hold(&Says::Illegal, ILLEGAL, 40)
 }
 
 /// Whether the side to move is in check, and whether it has a legal move.
@@ -182,9 +181,8 @@ rnbqkbnr/pppppppp/8/8/8/8/PPPPPPPP/RNBQKBNR w KQkq - 0 1 | no check | moves
 ";
 
 #[test]
-fn check_mate_and_stalemate(rt: HostRuntime) {
-    let wrong = wrong_row(&Says::Stands, STANDINGS, 30);
-    assert!(rt; wrong.is_none(), "{wrong:?}");
+fn check_mate_and_stalemate() -> Result<(), Fail> {
+    rows_hold(&Says::Stands, STANDINGS, 30)
 }
 
 /// Whether the targets of the square are as many, and the set is empty exactly where there is none.
@@ -218,9 +216,8 @@ const TARGETS: &str = "
 ";
 
 #[test]
-fn targets_are_counted(rt: HostRuntime) {
-    let wrong = wrong_row(&Says::Counts, TARGETS, 17);
-    assert!(rt; wrong.is_none(), "{wrong:?}");
+fn targets_are_counted() -> Result<(), Fail> {
+    rows_hold(&Says::Counts, TARGETS, 17)
 }
 
 /// Whether the targets of the square are just these squares.
@@ -239,7 +236,6 @@ const AIMS: &str = "
 ";
 
 #[test]
-fn targets_are_these_squares(rt: HostRuntime) {
-    let wrong = wrong_row(&Says::Aims, AIMS, 3);
-    assert!(rt; wrong.is_none(), "{wrong:?}");
+fn targets_are_these_squares() -> Result<(), Fail> {
+    rows_hold(&Says::Aims, AIMS, 3)
 }

@@ -1,7 +1,8 @@
 //! Positions with the one that a pass leads to: the other side is to move, and nobody took a step.
 use crate::rows::{Says, has_fen, position};
 use chess::Board;
-use test_support::wrong_row;
+use std::test::Fail;
+use test_support::rows_hold;
 
 /// Whether a pass in the position leads to the other one; `in check` where the side to move is so.
 pub fn passes_to<B: Board>(from: &str, to: &str) -> Option<bool> {
@@ -26,7 +27,6 @@ rnb1kbnr/pppp1ppp/8/4p3/6Pq/5P2/PPPPP2P/RNBQKBNR w KQkq - 1 3 | in check
 ";
 
 #[test]
-fn a_pass_leads_to_its_position(rt: HostRuntime) {
-    let wrong = wrong_row(&Says::Passes, PASSES, 9);
-    assert!(rt; wrong.is_none(), "{wrong:?}");
+fn a_pass_leads_to_its_position() -> Result<(), Fail> {
+    rows_hold(&Says::Passes, PASSES, 9)
 }

@@ -2,7 +2,8 @@
 use crate::rows::{Says, has_fen, move_of, position};
 use arrayvec::ArrayString;
 use chess::{Board, Move, Position, SanError, play_san, play_word, play_word_san, resolve, san};
-use test_support::wrong_row;
+use std::test::Fail;
+use test_support::rows_hold;
 
 /// Whether the text names the move, and no other.
 pub fn names<B: Board>(fen: &str, text: &str, named: &str) -> Option<bool> {
@@ -65,9 +66,8 @@ rnbqkbnr/pppppppp/8/8/8/8/PPPPPPPP/RNBQKBNR w KQkq - 0 1 | Ng1f3 | g1f3
 ";
 
 #[test]
-fn texts_name_these_moves(rt: HostRuntime) {
-    let wrong = wrong_row(&Says::Names, NAMED, 43);
-    assert!(rt; wrong.is_none(), "{wrong:?}");
+fn texts_name_these_moves() -> Result<(), Fail> {
+    rows_hold(&Says::Names, NAMED, 43)
 }
 
 /// Why a text names no move, if the column says that: `none`, or `several`.
@@ -130,9 +130,8 @@ rnbqkbnr/pppppppp/8/8/8/8/PPPPPPPP/RNBQKBNR w KQkq - 0 1 | Kx | none
 ";
 
 #[test]
-fn texts_name_no_move_or_several(rt: HostRuntime) {
-    let wrong = wrong_row(&Says::NamesNone, NAMING_NONE, 36);
-    assert!(rt; wrong.is_none(), "{wrong:?}");
+fn texts_name_no_move_or_several() -> Result<(), Fail> {
+    rows_hold(&Says::NamesNone, NAMING_NONE, 36)
 }
 
 /// Whether playing the text, with its standard text written or not, reports that, a move by its
@@ -178,9 +177,8 @@ r3k2r/8/8/8/8/8/8/R3K2R w KQkq - 0 1 | O-O | e1g1 | r3k2r/8/8/8/8/8/8/R4RK1 b kq
 ";
 
 #[test]
-fn texts_are_played_or_change_nothing(rt: HostRuntime) {
-    let wrong = wrong_row(&Says::Plays, PLAYED, 18);
-    assert!(rt; wrong.is_none(), "{wrong:?}");
+fn texts_are_played_or_change_nothing() -> Result<(), Fail> {
+    rows_hold(&Says::Plays, PLAYED, 18)
 }
 
 /// Whether the text, played, is the move with that text, over whatever text was written before, and
@@ -244,7 +242,6 @@ rnbqkbnr/pppp1ppp/8/4p3/6P1/5P2/PPPPP2P/RNBQKBNR b KQkq - 0 2 | d8h4 | Qh4#
 ";
 
 #[test]
-fn moves_have_these_texts(rt: HostRuntime) {
-    let wrong = wrong_row(&Says::Text, WRITTEN, 23);
-    assert!(rt; wrong.is_none(), "{wrong:?}");
+fn moves_have_these_texts() -> Result<(), Fail> {
+    rows_hold(&Says::Text, WRITTEN, 23)
 }

@@ -12,7 +12,7 @@ pub use page::Page;
 use pgn_text::{Piece, RawGame, games};
 pub use pieces::Pieces;
 use std::alloc::{AllocError, Global};
-pub use tables::{Rows, bytes_of, wrong_row};
+pub use tables::{Rows, bytes_of, rows_hold};
 
 /// 43 bytes; the second event line begins at 22 and is whole at 30.
 pub const TWO_GAMES: &[u8] = b"[Event \"A\"]\n\n1. e4 *\n\n[Event \"B\"]\n\n1. d4 *\n";

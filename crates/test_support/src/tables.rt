@@ -1,6 +1,8 @@
 //! Tables as texts: a row a line, its columns parted by ` | `. Empty lines and lines with `#` at
-//! their beginning are no rows.
+//! their beginning are no rows. They are texts since the proof of a function that borrows an array
+//! of tuples grows with the square of its rows.
 use std::alloc::Global;
+use std::test::Fail;
 
 /// What stands in the place of a column that a row lacks.
 const NO_COLUMN: &str = "(no column)";
@@ -37,7 +39,7 @@ fn columns(line: &str) -> [&str; 5] {
 }
 
 /// The first row of the table that is not so; or a note, where the table has not so many rows.
-pub fn wrong_row<'a, R: Rows>(rows: &R, table: &'a str, count: usize) -> Option<&'a str> {
+fn wrong_row<'a, R: Rows>(rows: &R, table: &'a str, count: usize) -> Option<&'a str> {
     let mut found = 0usize;
     for line in table.lines() {
         if is_row(line) {
@@ -51,6 +53,14 @@ pub fn wrong_row<'a, R: Rows>(rows: &R, table: &'a str, count: usize) -> Option<
         None
     } else {
         Some("another number of rows")
+    }
+}
+
+/// Fails with the first row of the table that is not so, or where the table has not so many rows.
+pub fn rows_hold<R: Rows>(rows: &R, table: &str, count: usize) -> Result<(), Fail> {
+    match wrong_row(rows, table, count) {
+        Some(row) => Err(Fail::new(row)),
+        None => Ok(()),
     }
 }
 
