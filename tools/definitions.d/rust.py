@@ -3,7 +3,7 @@ import re
 from dataclasses import dataclass, field
 from pathlib import Path
 
-HIDDEN = re.compile(r'//[^\n]*|b?"(?:\\.|[^"\\])*"|(?<![\w\'])b?\'(?:\\[^\']+|[^\'\\])\'', re.DOTALL)
+HIDDEN = re.compile(r'//[^\n]*|\bb?r(#*)".*?"\1|b?"(?:\\.|[^"\\])*"|(?<![\w\'])b?\'(?:\\[^\']+|[^\'\\])\'', re.DOTALL)
 VISIBILITY = re.compile(r"pub(?:\([a-z]+\))?\s+")
 KEYWORD = re.compile(r"(?:(?:const|unsafe|async)\s+(?=(?:unsafe\s+)?fn\b))*(ghost use|ghost|use|mod|const|static|type|struct|enum|trait|impl|fn|macro_rules!)(?=\W)")
 CLAUSE = re.compile(r"(requires|ensures)\*?\s*(\w*)\s*$")
