@@ -5,8 +5,6 @@
 #[cfg(test)]
 mod arguments;
 #[cfg(test)]
-mod choices;
-#[cfg(test)]
 mod conditions;
 #[cfg(test)]
 mod criteria;

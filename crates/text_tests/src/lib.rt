@@ -6,6 +6,8 @@ mod blocks;
 #[cfg(test)]
 mod pieces;
 #[cfg(test)]
+mod rows;
+#[cfg(test)]
 mod stops;
 #[cfg(test)]
 mod tallies;
