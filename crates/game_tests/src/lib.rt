@@ -1,4 +1,5 @@
-//! Tests of `pgn_game`, as worked rows over its public calls, and what is left after a refusal of memory. This library has nothing but tests.
+//! Tests of `pgn_game`, as worked rows over its public calls, and what is left after a refusal of
+//! memory. This library has nothing but tests.
 #![tactic(auto)]
 
 #[cfg(test)]
@@ -7,3 +8,5 @@ mod memory;
 mod refusals;
 #[cfg(test)]
 mod replays;
+#[cfg(test)]
+mod rows;
