@@ -3,12 +3,12 @@ ghost use Rattle.std.specs.Prelude.{◌≤◌, IfOk};
 
 use crate::head::Head;
 use crate::progress::{Pace, Progress, StatusLine};
-use pgn_extract::{Files, Stream, messages};
+use pgn_extract::{Files, Stream, folder_note, messages};
 use pgn_text::Skip;
 use std::fs::File;
-use std::io::{Read, Seek, SeekFrom, Stdin, Write};
+use std::io::{ErrorKind, Read, Seek, SeekFrom, Stdin, Write};
 use std::os::unix::fs::MetadataExt;
-use std::{fs, io};
+use std::{env, fs, io};
 
 /// Where bytes come from: a file, or standard input.
 #[derive(Drop)]
@@ -90,6 +90,14 @@ impl<'a> Skip for Input<'a> {
     }
 }
 
+/// Where examples of criteria stand, from the folder of the program: where it is installed, and
+/// where it was built.
+const EXAMPLES: [&str; 3] = [
+    "../share/pgn-extract/criteria",
+    "../../../examples",
+    "../../../../examples",
+];
+
 /// What the notes on inputs say.
 #[derive(Clone, Copy)]
 enum Notes {
@@ -117,6 +125,32 @@ impl<'a> RealFiles<'a> {
             line,
             notes: Notes::None,
             pace: None,
+        }
+    }
+
+    /// The example of criteria with this name.
+    fn open_example(&mut self, name: &str) -> io::Result<Input<'a>> {
+        let alloc = self.rt.alloc();
+        let program = env::current_exe(&self.rt)?;
+        let (folder, _) = program.as_str().rsplit_once('/').unwrap_or(("", ""));
+        for place in EXAMPLES {
+            let Ok(path) = format!(in alloc; "{folder}/{place}/{name}.txt") else {
+                return Err(io::Error::from(ErrorKind::OutOfMemory));
+            };
+            match self.open(path.as_str()) {
+                Err(error) if error.kind() == ErrorKind::NotFound => {}
+                other => return other,
+            }
+        }
+        Err(io::Error::from(ErrorKind::NotFound))
+    }
+
+    /// Notes that an input with this name is a folder, where notes say what inputs are.
+    fn note_folder(&self, name: &str) {
+        if !matches!(self.notes, Notes::None)
+            && let Ok(note) = folder_note(self.rt.alloc(), name)
+        {
+            self.line.report(&note);
         }
     }
 
@@ -148,6 +182,14 @@ fn size_of(file: &File) -> Option<u64> {
     }
 }
 
+/// Whether it is a folder, which can be opened but not read.
+fn is_folder(file: &File) -> bool {
+    match file.metadata() {
+        Ok(metadata) => metadata.is_dir(),
+        Err(_) => false,
+    }
+}
+
 /// The device and the number of the regular file at the path, if there is one.
 fn node_of(rt: &HostRuntime, path: &str) -> Option<(u64, u64)> {
     match fs::metadata(rt, path) {
@@ -161,6 +203,9 @@ impl<'a> Files for RealFiles<'a> {
 
     fn open(&mut self, path: &str) -> io::Result<Input<'a>> {
         let file = fs::open(&self.rt, path)?;
+        if is_folder(&file) {
+            self.note_folder(path);
+        }
         let name = String::from_str(self.rt.alloc(), path)?;
         let size = size_of(&file);
         Ok(Input {
@@ -168,6 +213,18 @@ impl<'a> Files for RealFiles<'a> {
             head: self.head(Some(name)),
             progress: self.progress(path, size),
         })
+    }
+
+    fn open_criteria(&mut self, path: &str) -> io::Result<Input<'a>> {
+        match self.open(path) {
+            Err(error) if error.kind() == ErrorKind::NotFound && !path.contains('/') => {
+                match self.open_example(path) {
+                    Err(other) if other.kind() == ErrorKind::NotFound => Err(error),
+                    other => other,
+                }
+            }
+            other => other,
+        }
     }
 
     fn standard(&mut self) -> Input<'a> {

@@ -126,12 +126,12 @@ fn refused_file(
     }
 }
 
-/// The first bytes of the file at the path.
+/// The first bytes of the criteria at the path.
 fn read_path<F: Files>(alloc: Global, files: &mut F, path: &str) -> io::Result<Vec<u8>>
 where
     F::Input: Drop,
 {
-    let mut input = files.open(path)?;
+    let mut input = files.open_criteria(path)?;
     read_prefix(alloc, &mut input, CRITERIA_READ)
 }
 

@@ -29,7 +29,7 @@ pub use app::mark::Mark;
 pub use app::order::{Order, accept, has_names, settings_of};
 pub use app::{messages, program, status};
 pub use engine::{run, run_skipping};
-pub use explain::kinds::{HEAD, kind_note};
+pub use explain::kinds::{HEAD, folder_note, kind_note};
 pub use output::file_name::FileName;
 pub use output::outcome::{RunError, Summary};
 pub use packed::searching::{SearchError, Searched, search};

@@ -183,7 +183,8 @@ fn search_options<'a>(alloc: Global, command: Command<'a>) -> Result<Command<'a>
             alloc,
             "criteria",
             "FILE",
-            "Only those that meet the criteria in FILE\n\
+            "Only those that meet the criteria in FILE, or\n\
+             of an example (carlsbad)\n\
              [default: all]",
         ))?
         .arg(text_option(

@@ -43,6 +43,12 @@ pub trait Files {
 
     /// Standard input.
     fn standard(&mut self) -> Self::Input;
+    /// Opens a file of criteria, by its path or, of an example, by its name. Errors are those of
+    /// `open`.
+    fn open_criteria(&mut self, path: &str) -> io::Result<Self::Input> {
+        self.open(path)
+    }
+
 
     /// Whether the stream is the file at the path, or without one that of standard input: what is
     /// written would be read.

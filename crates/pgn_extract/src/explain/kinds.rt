@@ -51,6 +51,8 @@ const HTML: &str = "a page of HTML; get the PGN file that it speaks of";
 
 const PACK: &str = "a pack; read it with --list --packed or --index --packed";
 
+const FOLDER: &str = "a folder; give the files in it, as FOLDER/*.pgn";
+
 const NO_PACK: &str = "no pack; read it without --packed, or write a pack with --pack";
 
 /// Whether a text begins like this one, whatever the case of its letters.
@@ -100,6 +102,17 @@ fn kind_of(first: &[u8], packed: bool) -> Option<&'static str> {
     }
 }
 
+/// A line that says so of an input with this name.
+fn note_line(alloc: Global, name: &str, said: &str) -> Result<Vec<u8>, AllocError> {
+    let name = FileName::of_path(alloc, name)?;
+    let mut note = Vec::from_slice(alloc, b"  ")?;
+    note.extend_from_slice(name.bytes())?;
+    note.extend_from_slice(b": ")?;
+    note.extend_from_slice(said.as_bytes())?;
+    note.push(b'\n')?;
+    Ok(note)
+}
+
 /// The note on an input with this name and these first bytes, where they say that it is no text of
 /// games, or no pack where packs are read.
 pub fn kind_note(
@@ -108,14 +121,13 @@ pub fn kind_note(
     first: &[u8],
     packed: bool,
 ) -> Result<Option<Vec<u8>>, AllocError> {
-    let Some(said) = kind_of(first, packed) else {
-        return Ok(None);
-    };
-    let name = FileName::of_path(alloc, name)?;
-    let mut note = Vec::from_slice(alloc, b"  ")?;
-    note.extend_from_slice(name.bytes())?;
-    note.extend_from_slice(b": ")?;
-    note.extend_from_slice(said.as_bytes())?;
-    note.push(b'\n')?;
-    Ok(Some(note))
+    match kind_of(first, packed) {
+        Some(said) => Ok(Some(note_line(alloc, name, said)?)),
+        None => Ok(None),
+    }
+}
+
+/// The note on an input with this name that is a folder.
+pub fn folder_note(alloc: Global, name: &str) -> Result<Vec<u8>, AllocError> {
+    note_line(alloc, name, FOLDER)
 }
