@@ -17,7 +17,7 @@ front_join old mid new xs ys whole front =
     (length xs + front.0, subst (Appends old new) (sym (take-append-add xs ys front.0)) (appends_join old mid new xs (take front.0 ys) whole front.1))
 
 -- all of the bytes are a beginning of them
-front_all : (old new : Option (List ℕ)) (xs : List ℕ) → Appends old new xs → AppendsFront old new xs
+pub front_all : (old new : Option (List ℕ)) (xs : List ℕ) → Appends old new xs → AppendsFront old new xs
 front_all old new xs whole = (length xs, subst (Appends old new) (sym (take_all (length xs) xs (omega arith))) whole)
 
 module _ {aim : Aim} {out out' err err' : Option (List ℕ)} {number : ℕ} {pieces : List MarkedPiece} {verdicts : List Verdict}

@@ -15,7 +15,7 @@ take_front (suc n) [] ys = refl
 take_front (suc n) (x ∷ xs) ys = ap (λ t. x ∷ t) (take_front n xs ys)
 
 -- a beginning of some bytes is one of more
-front_longer : (old new : Option (List ℕ)) (xs ys : List ℕ) → AppendsFront old new xs → AppendsFront old new (xs ++ ys)
+pub front_longer : (old new : Option (List ℕ)) (xs ys : List ℕ) → AppendsFront old new xs → AppendsFront old new (xs ++ ys)
 front_longer old new xs ys front =
     (length (take front.0 xs), subst (Appends old new) (take_front front.0 xs ys) front.1)
 

@@ -1,8 +1,11 @@
--- What the definitions refuse: of a search of a pack, of an index, of files, of marks and of exports.
-use Rattle.std.proofs.Common.{◌≡◌, ◌+◌, ◌<◌, ◌==◌, ◌∙◌, ℕ, true, false, List, [], ◌∷◌, ◌++◌, length, map, Option, codes, encode_utf8_all, get_or, ap, sym, subst, refl, arith}
+-- What the definitions refuse: of a search of a pack, of an index, of files, of marks and of
+-- exports.
+use Rattle.std.proofs.Common.{◌≡◌, ◌+◌, ◌<◌, ◌==◌, ◌∙◌, ℕ, true, false, List, [], ◌∷◌, ◌++◌, length, decimal, drop, map, take, zero, suc, Option, Some, None, codes, encode_utf8_all, get_or, ap, sym, subst, refl, arith}
+use Rattle.std.proofs.lemmas.Fmt.{decimal_digit}
 use Rattle.std.proofs.lemmas.List.{length-append}
 use Rattle.std.proofs.lemmas.Str.{chars-IsAscii, encodes-IsAscii}
 use Rattle.std.proofs.lemmas.Str.Ascii.{IsAscii-from_all}
+use Rattle.std.specs.Io.KnownBytes.{Appends}
 use Rattle.std.specs.Str.{IsAscii}
 use Rattle.pgn_text.specs.Public.GameTexts.{GameText, IsGameText, tag_in}
 use Rattle.pgn_text.specs.Public.Limits.{largest_offset}
@@ -15,18 +18,25 @@ use Rattle.pgn_game.proofs.PackStreamFacts.{record_size}
 use Rattle.pgn_extract.specs.Public.Aims.{Aim}
 use Rattle.pgn_extract.specs.Public.Index.{mark, mark_line, shown_char, shown_name, titled}
 use Rattle.pgn_extract.specs.Public.Laws.{IsInOneOf, in_first, in_second, in_third, HasAMark}
+use Rattle.pgn_extract.specs.Public.Runs.{Passage}
 use Rattle.pgn_extract.specs.Public.Searching.{IsOfNoGame, HasNoGame, IsIndexOfSoundGames, none, keep, leave, IsSoundPiece, StopsAtLimit}
-use Rattle.pgn_extract.specs.Public.Several.{NamesUnopened}
+use Rattle.pgn_extract.specs.Public.Several.{AtPath, BeginsPath, NamesUnopened, NoFile, Order, StopsAmong, StopsAtPath, WritesPaths, own_summary, summary_text}
+use Rattle.pgn_extract.specs.declared.output.outcome.RunError.{RunError}
+use Rattle.pgn_extract.specs.declared.output.outcome.RunError.TheVariants.{InputTooLong, Read}
+use Rattle.pgn_extract.specs.declared.output.outcome.Summary.{Summary}
 
 -- ---- a pack
 
 -- the record of a game is not that of none, whatever stands after it
-its_own_record : (game : GameText) (replay : Replay) (packed : PackedGame) → IsGameText game → IsReplay Main (tag_in fen_tag game.tags) game.elements replay
+its_own_record : (game : GameText) (replay : Replay) (packed : PackedGame) → IsGameText game
+    → IsReplay Main (tag_in fen_tag game.tags) game.elements replay
     → IsPacked packed.name packed.number packed.offset game replay packed → IsOfNoGame packed → ⊥
 its_own_record game replay packed text is kept bad = bad game replay text is kept
 
-a_record_of_a_game : (game : GameText) (replay : Replay) (packed : PackedGame) (rest : List ℕ) → IsGameText game
-    → IsReplay Main (tag_in fen_tag game.tags) game.elements replay → IsPacked packed.name packed.number packed.offset game replay packed → FitsRecord packed
+a_record_of_a_game : (game : GameText) (replay : Replay) (packed : PackedGame) (rest : List ℕ)
+    → IsGameText game
+    → IsReplay Main (tag_in fen_tag game.tags) game.elements replay
+    → IsPacked packed.name packed.number packed.offset game replay packed → FitsRecord packed
     → HasNoGame (record_bytes packed ++ rest) → ⊥
 a_record_of_a_game game replay packed rest text is kept fits bad = its_own_record game replay packed text is kept (bad packed rest fits refl)
 
@@ -38,27 +48,31 @@ no_first_record_is_too_long aim whole out out' stops first =
 
 -- ---- an index of the sound games
 
-no_empty_line : (name : Option (List ℕ)) (number offset : ℕ) (text : List ℕ) → mark_line name number offset ++ text ≡ [] → ⊥
+no_empty_line : (name : Option (List ℕ)) (number offset : ℕ) (text : List ℕ)
+    → mark_line name number offset ++ text ≡ [] → ⊥
 no_empty_line name number offset text is =
     let long : length (mark_line name number offset ++ text) ≡ 0 = ap length is in
     omega (arith, long, length-append (mark_line name number offset) text, length-append (titled (codes ":") name ++ mark number offset) (10 ∷ []))
 
 -- a sound game is not left out, and no other piece has a mark
-no_game_left_out : (name : Option (List ℕ)) (number : ℕ) (piece : MarkedPiece) → IsSoundPiece piece.kind → IsIndexOfSoundGames name number (piece ∷ []) [] → ⊥
+no_game_left_out : (name : Option (List ℕ)) (number : ℕ) (piece : MarkedPiece)
+    → IsSoundPiece piece.kind → IsIndexOfSoundGames name number (piece ∷ []) [] → ⊥
 no_game_left_out name number piece sound index = of_text [] refl index
   where
     of_text : (text : List ℕ) → text ≡ [] → IsIndexOfSoundGames name number (piece ∷ []) text → ⊥
     of_text text empty (keep number piece more rest is after) = no_empty_line name number piece.offset rest empty
     of_text text empty (leave number piece more rest unsound after) = unsound sound
 
-no_other_piece : (name : Option (List ℕ)) (number : ℕ) (piece : MarkedPiece) → (IsSoundPiece piece.kind → ⊥)
+no_other_piece : (name : Option (List ℕ)) (number : ℕ) (piece : MarkedPiece)
+    → (IsSoundPiece piece.kind → ⊥)
     → IsIndexOfSoundGames name number (piece ∷ []) (mark_line name number piece.offset) → ⊥
 no_other_piece name number piece unsound index = of_text (mark_line name number piece.offset) (no_empty_line name number piece.offset []) index
   where
     of_rest : (number : ℕ) (text : List ℕ) → IsIndexOfSoundGames name number [] text → text ≡ []
     of_rest number text (none same) = refl
 
-    of_text : (text : List ℕ) → (text ++ [] ≡ [] → ⊥) → IsIndexOfSoundGames name number (piece ∷ []) text → ⊥
+    of_text : (text : List ℕ) → (text ++ [] ≡ [] → ⊥)
+        → IsIndexOfSoundGames name number (piece ∷ []) text → ⊥
     of_text text some (keep number piece more rest is after) = unsound is
     of_text text some (leave number piece more rest left after) = some (ap (λ bytes. bytes ++ []) (of_rest (number + 1) text after))
 
@@ -74,7 +88,8 @@ is_ascii = IsAscii-from_all (codes "a") within
         let first : get_or (codes "a") 0 d < 128 = omega arith in subst (λ at. get_or (codes "a") at d < 128) (sym zero) first
 
 a_shown : shown_name (codes "a") ≡ codes "a"
-a_shown = ap (λ cs. encode_utf8_all (map shown_char cs)) (chars-IsAscii (codes "a") is_ascii) ∙ encodes-IsAscii (codes "a") is_ascii
+a_shown = ap (λ cs. encode_utf8_all (map shown_char cs)) (chars-IsAscii (codes "a") is_ascii)
+    ∙ encodes-IsAscii (codes "a") is_ascii
 
 -- the line is not just any, and it gives the name of the file
 named_a : NamesUnopened (codes "a") (codes "pgn-extract: cannot open input: a: gone" ++ 10 ∷ [])
@@ -89,19 +104,111 @@ not_any_line names = let is = names.is in cc
 not_another_name : NamesUnopened (codes "a") (codes "pgn-extract: cannot open input: b: gone" ++ 10 ∷ []) → ⊥
 not_another_name names =
     let is = subst (λ name. codes "pgn-extract: cannot open input: b: gone" ++ 10 ∷ []
-    ≡ codes "pgn-extract: cannot open input: " ++ name ++ codes ": " ++ names.reason ++ 10 ∷ []) a_shown names.is in
+    ≡ codes "pgn-extract: cannot open input: " ++ name ++ codes ": " ++ names.reason
+    ++ 10 ∷ []) a_shown names.is in
     let clash : false ≡ true = ap (λ bytes. get_or bytes 32 0 == 97) is in cc
+
+-- ---- summaries
+
+-- one game, and several, of which the second number is that of the faulty ones
+one_game : summary_text None (record { games = 1; faulty = 0 })
+    ≡ codes "pgn-extract: 1 game, 0 of them faulty" ++ 10 ∷ []
+one_game =
+    ap (λ d. codes "pgn-extract: " ++ d ++ codes " game, " ++ decimal 0 ++ codes " of them faulty" ++ 10 ∷ [])
+    (decimal_digit 1 (omega arith))
+    ∙ ap (λ d. codes "pgn-extract: 1 game, " ++ d ++ codes " of them faulty" ++ 10 ∷ [])
+    (decimal_digit 0 (omega arith))
+
+games_of_a_file : summary_text (Some (codes "a")) (record { games = 3; faulty = 2 })
+    ≡ codes "pgn-extract: a: 3 games, 2 of them faulty" ++ 10 ∷ []
+games_of_a_file =
+    ap (λ d. codes "pgn-extract: a: " ++ d ++ codes " games, " ++ decimal 2 ++ codes " of them faulty" ++ 10 ∷ [])
+    (decimal_digit 3 (omega arith))
+    ∙ ap (λ d. codes "pgn-extract: a: 3 games, " ++ d ++ codes " of them faulty" ++ 10 ∷ [])
+    (decimal_digit 2 (omega arith))
+
+-- a file has a line where it is asked for and lines have names
+own_summaries : (name : List ℕ) (summary : Summary) → (own_summary false (Some name) summary ≡ [])
+    × (own_summary true None summary ≡ [])
+    × (own_summary true (Some name) summary ≡ summary_text (Some name) summary)
+own_summaries name summary = (refl, refl, refl)
+
+-- ---- where runs over files end early
+
+-- at one of the paths
+not_at_no_path : (order : List ℕ → Order) (known : List ℕ → AtPath) (error : RunError) (out err : Passage)
+    → StopsAmong order known [] error out err → ⊥
+not_at_no_path order known error out err stops = no_cons stops.before stops.parted
+  where
+    no_cons : (before : List (List ℕ)) → [] ≡ before ++ stops.path ∷ stops.after → ⊥
+    no_cons [] is = cc
+    no_cons (first ∷ more) is = cc
+
+-- no read fails where there is no file, and no input is too long
+not_without_a_file : (order : Order) (path : List ℕ) (out err : Passage)
+    → (StopsAtPath Read order path NoFile out err → ⊥)
+    × (StopsAtPath InputTooLong order path NoFile out err → ⊥)
+not_without_a_file order path out err = (λ stops. stops, λ stops. stops)
+
+-- nothing goes to the output there
+no_output_there : (order : Order) (path : List ℕ) (out err : Passage) → out.old.bytes ≡ Some []
+    → out.new.bytes ≡ Some (codes "x") → BeginsPath order path NoFile out err → ⊥
+no_output_there order path out err before after begins =
+    nothing begins.outputs.0
+    (subst (λ text. codes "x" ≡ take begins.outputs.0 text) begins.is.0
+    (subst (λ (old : Option (List ℕ)). Appends old (Some (codes "x")) (take begins.outputs.0 begins.output)) before
+    (subst (λ (new : Option (List ℕ)). Appends out.old.bytes new (take begins.outputs.0 begins.output)) after begins.outputs.1)))
+  where
+    nothing : (size : ℕ) → codes "x" ≡ take size [] → ⊥
+    nothing zero is = cc
+    nothing (suc size) is = cc
+
+-- of a file that is not there no other line is begun
+no_other_line : (order : Order) (path : List ℕ) (out err : Passage) → err.old.bytes ≡ Some []
+    → err.new.bytes ≡ Some (codes "x") → BeginsPath order path NoFile out err → ⊥
+no_other_line order path out err before after begins =
+    other begins.reports.0
+    (subst (λ text. codes "x" ≡ take begins.reports.0 text) begins.is.1.is
+    (subst (λ (old : Option (List ℕ)). Appends old (Some (codes "x")) (take begins.reports.0 begins.report)) before
+    (subst (λ (new : Option (List ℕ)). Appends err.old.bytes new (take begins.reports.0 begins.report)) after begins.reports.1)))
+  where
+    line : List ℕ
+    line = codes "pgn-extract: cannot open input: " ++ shown_name path ++ codes ": "
+        ++ begins.is.1.reason ++ 10 ∷ []
+
+    other : (size : ℕ) → codes "x" ≡ take size line → ⊥
+    other zero is = cc
+    other (suc size) is = let clash : false ≡ true = ap (λ bytes. get_or bytes 0 0 == 112) is in cc
+
+-- before the first path nothing is written
+nothing_before : (order : List ℕ → Order) (known : List ℕ → AtPath) (path : List ℕ) (error : RunError) (out err : Passage)
+    → (stops : StopsAmong order known (path ∷ []) error out err)
+    → Appends out.old.bytes stops.out_there.bytes []
+nothing_before order known path error out err stops = none stops.before stops.parted stops.whole
+  where
+    no_more : (more : List (List ℕ)) → [] ≡ more ++ stops.path ∷ stops.after → ⊥
+    no_more [] is = cc
+    no_more (first ∷ more) is = cc
+
+    none : (before : List (List ℕ)) → path ∷ [] ≡ before ++ stops.path ∷ stops.after
+        → WritesPaths order known before (record { old = out.old; new = stops.out_there })
+        (record { old = err.old; new = stops.err_there })
+        → Appends out.old.bytes stops.out_there.bytes []
+    none [] is whole = subst (λ text. Appends out.old.bytes stops.out_there.bytes text) whole.2.0 whole.3
+    none (first ∷ more) is whole = absurd (no_more more (ap (drop 1) is))
 
 -- ---- marks
 
 -- a piece after another does not begin at the first byte
-not_at_the_first_byte : (text : List ℕ) (first piece : MarkedPiece) (after : List MarkedPiece) → piece.offset ≡ 0 → HasAMark text (first ∷ []) piece after → ⊥
+not_at_the_first_byte : (text : List ℕ) (first piece : MarkedPiece) (after : List MarkedPiece)
+    → piece.offset ≡ 0 → HasAMark text (first ∷ []) piece after → ⊥
 not_at_the_first_byte text first piece after is has = absurd (omega (arith, is, has.few))
 
 -- ---- one of three exports
 
 -- two do not have the text, and the one that has it has no other
-not_in_two : (IsInOneOf (codes "a") (codes "a") (codes "a") [] → ⊥) × (IsInOneOf (codes "a") (codes "a") [] (codes "a") → ⊥)
+not_in_two : (IsInOneOf (codes "a") (codes "a") (codes "a") [] → ⊥)
+    × (IsInOneOf (codes "a") (codes "a") [] (codes "a") → ⊥)
     × (IsInOneOf (codes "a") [] (codes "a") (codes "a") → ⊥)
 not_in_two = (two_first, two_outer, two_last)
   where
@@ -120,7 +227,9 @@ not_in_two = (two_first, two_outer, two_last)
     two_last (in_second first text third) = cc
     two_last (in_third first second text) = cc
 
-not_another_text : (IsInOneOf (codes "a") (codes "aa") [] [] → ⊥) × (IsInOneOf (codes "a") [] (codes "aa") [] → ⊥) × (IsInOneOf (codes "a") [] [] (codes "aa") → ⊥)
+not_another_text : (IsInOneOf (codes "a") (codes "aa") [] [] → ⊥)
+    × (IsInOneOf (codes "a") [] (codes "aa") [] → ⊥)
+    × (IsInOneOf (codes "a") [] [] (codes "aa") → ⊥)
 not_another_text = (in_front, between, at_the_end)
   where
     in_front : IsInOneOf (codes "a") (codes "aa") [] [] → ⊥

@@ -9,6 +9,7 @@ pub mod Dropping
 pub mod ModeOutputs
 pub mod ExactEntries
 pub mod Examples
+pub mod ReportExamples
 pub mod Exported
 pub mod FieldTexts
 pub mod GameExport
@@ -38,6 +39,7 @@ pub mod Resumed
 pub mod RunProgress
 pub mod SameTags
 pub mod SeveralFacts
+pub mod StoppedFiles
 pub mod Decided
 pub mod SomeReport
 pub mod StopNotes

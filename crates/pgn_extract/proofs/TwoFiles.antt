@@ -1,15 +1,18 @@
 -- Runs over two files in memory, with a path between them at which there is none.
-use Rattle.std.proofs.Common.{◌≡◌, ◌≢◌, ◌++◌, ℕ, Bool, true, false, List, [], ◌∷◌, codes, if◌then◌else◌, get_or, take, sym, ap, ◌∙◌}
+use Rattle.std.proofs.Common.{◌≡◌, ◌≢◌, ◌⊎◌, ◌++◌, ◌<◌, ℕ, Bool, true, false, List, [], ◌∷◌, codes, if◌then◌else◌, get_or, length, take, sym, subst, ap, inl, inr, ◌∙◌}
 use Rattle.std.proofs.lemmas.List.{append_assoc, append-nil}
 use Rattle.std.specs.Str.{bytes_eq}
 use Rattle.pgn_extract.proofs.ExactEntries.{are_entries}
 use Rattle.pgn_extract.proofs.ModeOutputs.{of_pieces}
+use Rattle.pgn_text.specs.Public.Limits.{largest_offset}
 use Rattle.pgn_text.specs.Public.Marks.{MarkedPiece}
 use Rattle.pgn_extract.specs.Public.Listing.{AreEntries, Entry, listing}
-use Rattle.pgn_extract.specs.Public.Runs.{ArePieces, Job}
+use Rattle.pgn_extract.specs.Public.Runs.{ArePieces, Job, Passage}
 use Rattle.pgn_extract.specs.Private.TwoFiles.{known_of_two}
+use Rattle.pgn_extract.specs.declared.output.outcome.RunError.{RunError}
+use Rattle.pgn_extract.specs.declared.output.outcome.RunError.TheVariants.{InputTooLong}
 use Rattle.pgn_extract.specs.declared.settings.Mode.TheVariants as modes
-use Rattle.pgn_extract.specs.Public.Several.{AreKnown, AreOfPaths, FileOf, IsRead, IsReport, NamesUnopened, NoFile, Order, Unknown}
+use Rattle.pgn_extract.specs.Public.Several.{AreKnown, AreOfPaths, FileOf, IsRead, IsReport, NamesUnopened, NoFile, Order, StopsAmong, StopsAtPath, Unknown, own_summary}
 
 abbrev pub three_paths : List (List ℕ)
 three_paths = codes "first.pgn" ∷ codes "none.pgn" ∷ codes "second.pgn" ∷ []
@@ -28,8 +31,9 @@ pub all_known : (first second : List ℕ) → AreKnown (known_of_two first secon
 all_known first second = λ i d within. two_known first second (get_or three_paths i d)
 
 -- without a summary what is written of a file is its report
-plain : (order : Order) (text output report : List ℕ) → order.summary ≡ false → (read : IsRead order text output report) → report ≡ read.faults
-plain order text output report off read = read.is ∙ ap (λ line. read.faults ++ line) (read.unasked off) ∙ append-nil read.faults
+pub plain : (order : Order) (text output report : List ℕ) → order.summary ≡ false → (read : IsRead order text output report) → report ≡ read.faults
+plain order text output report off read =
+    read.is ∙ ap (λ asked. read.faults ++ own_summary asked order.job.aim.name read.summary) off ∙ append-nil read.faults
 
 -- an empty writer that grew by some bytes has just those
 pub grown : (items now old bytes : List ℕ) → items ≡ now → now ≡ old ++ bytes → old ≡ [] → items ≡ bytes
@@ -67,3 +71,21 @@ pub listed_alone : (job : Job) (text output faults : List ℕ) → job.aim.mode 
 listed_alone job text output faults lists is =
     let rows = of_pieces job.aim lists job.number is.pieces is.verdicts is.reported in
     (is.pieces, rows.0, is.each, are_entries job.aim job.number is.pieces rows.0 rows.1, is.outputs ∙ rows.2)
+
+too_long_at : (order : Order) (path : List ℕ) (here there : Bool) (first second : List ℕ) (out err : Passage)
+    → StopsAtPath InputTooLong order path (if here then FileOf first else (if there then FileOf second else NoFile)) out err
+    → (largest_offset < length (take order.end first)) ⊎ (largest_offset < length (take order.end second))
+too_long_at order path true there first second out err stops = inl stops.1.0
+too_long_at order path false true first second out err stops = inr stops.1.0
+too_long_at order path false false first second out err stops = absurd stops
+
+-- runs over them end as too long only where one of the two texts is
+pub two_too_long : (error : RunError) → error ≡ InputTooLong → (order : Order) (first second : List ℕ) (out err : Passage)
+    → StopsAmong (λ path. order) (known_of_two first second) three_paths error out err
+    → (largest_offset < length (take order.end first)) ⊎ (largest_offset < length (take order.end second))
+two_too_long error is order first second out err stops =
+    let now_out : Passage = record { old = stops.out_there; new = out.new } in
+    let now_err : Passage = record { old = stops.err_there; new = err.new } in
+    too_long_at order stops.path (bytes_eq stops.path (codes "first.pgn")) (bytes_eq stops.path (codes "second.pgn"))
+    first second now_out now_err
+    (subst (λ (e : RunError). StopsAtPath e order stops.path (known_of_two first second stops.path) now_out now_err) is stops.there)

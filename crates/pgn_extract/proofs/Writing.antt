@@ -18,10 +18,12 @@ appends_join (Some xs) None new front back a b = absurd a
 appends_join (Some xs) (Some ys) None front back a b = absurd b
 appends_join (Some xs) (Some ys) (Some zs) front back a b = b ∙ ap (λ t. t ++ back) a ∙ append_assoc xs front back
 
--- four pieces
-pub appends_four : (a b c d e : Option (List ℕ)) (w x y z : List ℕ) → Appends a b w → Appends b c x → Appends c d y → Appends d e z → (all : List ℕ) × Appends a e all
-appends_four a b c d e w x y z first second third last =
-    (((w ++ x) ++ y) ++ z, appends_join a d e ((w ++ x) ++ y) z (appends_join a c d (w ++ x) y (appends_join a b c w x first second) third) last)
+-- four pieces, of which the second and the third are a title
+pub appends_titled : (a b c d e : Option (List ℕ)) (front title name gap back : List ℕ) → title ≡ name ++ gap
+    → Appends a b front → Appends b c name → Appends c d gap → Appends d e back → Appends a e (front ++ (title ++ back))
+appends_titled a b c d e front title name gap back parted first second third last =
+    appends_join a b e front (title ++ back) first
+    (appends_join b d e title back (subst (Appends b d) (sym parted) (appends_join b c d name gap second third)) last)
 
 -- what stays adds nothing
 pub appends_kept : (old mid new : Option (List ℕ)) (front : List ℕ) → Appends old mid front → Keeps mid new → Appends old new front

@@ -265,10 +265,12 @@ pub fn report_files(
 ) -> Result<Written, RunError>
     requires number { (1 ≤ settings.number) × (settings.number ≤ 2 ^ 62) }
     requires offset { settings.offset ≤ largest_offset }
-    ensures { IfOk result (λ written. (one : List ℕ) × (faults : List ℕ) × (line : List ℕ) × (two : List ℕ) × (others : List ℕ)
+    ensures written { IfOk result (λ written. (one : List ℕ) × (faults : List ℕ) × (line : List ℕ) × (two : List ℕ) × (others : List ℕ)
         × IsReport (job_of settings) (take end files.old.first.now) one faults × NamesUnopened (codes "none.pgn") line
         × IsReport (job_of settings) (take end files.old.second.now) two others
         × (written.out.items ≡ one ++ two) × (written.err.items ≡ faults ++ line ++ others)) }
+    ensures too_long { IfErr result (λ error. error ≡ RunError.InputTooLong
+        → (largest_offset < length (take end files.old.first.now)) ⊎ (largest_offset < length (take end files.old.second.now))) }
 {
     let mut out = Tally::new(Vec::new(alloc));
     let mut err = Tally::new(Vec::new(alloc));

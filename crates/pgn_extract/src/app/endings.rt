@@ -1,13 +1,18 @@
 //! What stands on standard error of a whole run: its summary, or why it failed.
-ghost use Rattle.std.specs.Prelude.{◌≡◌, ◌↔◌, ℕ, List, false, true, IsErrOf, OnOk, OnErr};
+ghost use Rattle.std.specs.Prelude.{◌≡◌, ◌↔◌, ◌⊎◌, ◌++◌, false, true, codes, IfErr, IfOk, IsErrOf, OnErr, OnOk};
 ghost use Rattle.std.specs.Io.KnownBytes.{Appends};
+ghost use Rattle.pgn_extract.specs.Public.Index.{titled};
+ghost use Rattle.pgn_extract.specs.Public.Outcomes.{AppendsFront};
+ghost use Rattle.pgn_extract.specs.Public.Several.{games_word, summary_text};
 
 use crate::app::messages;
 use crate::output::file_name::FileName;
 use crate::output::outcome::{RunError, Summary};
+use crate::output::texts::push_title;
 use crate::output::write_all::{finish, write_all};
+use itoa::Buffer;
 use pgn_text::Tally;
-use std::alloc::Global;
+use std::alloc::{AllocError, Global};
 use std::io::Write;
 
 /// The line that reports a failed run.
@@ -34,35 +39,69 @@ pub fn report_line<E: Write>(err: &mut Tally<E>, text: &str) {
     report_bytes(err, text.as_bytes());
 }
 
-/// Writes a line, with the name of a file after that of the program where there is one. No memory is needed.
-pub fn put_line<E: Write>(
-    err: &mut Tally<E>,
-    name: &Option<FileName>,
-    line: &str,
-) -> Result<(), RunError>
-    requires { err.old.faulted ≡ false }
-    ensures line { OnOk result ((written : List ℕ) × Appends (E.contents err.old.inner) (E.contents err.new.inner) written) }
-    ensures fault { IsErrOf result RunError.Write ↔ (err.new.faulted ≡ true) }
+/// The name of a file, and what parts it from the text after it, where there is one.
+fn title_of(name: &Option<FileName>) -> (&[u8], &[u8])
+    ensures { titled (codes ": ") name.now ≡ result.0.now ++ result.1.now }
 {
-    let Some(name) = name else {
-        return write_all(err, line.as_bytes());
-    };
-    let Some(rest) = line.strip_prefix(messages::PROGRAM) else {
-        return write_all(err, line.as_bytes());
-    };
-    write_all(err, messages::PROGRAM.as_bytes())?;
-    write_all(err, name.bytes())?;
-    write_all(err, b": ")?;
-    write_all(err, rest.as_bytes())
+    match name {
+        Some(name) => (name.bytes(), b": "),
+        None => (b"", b""),
+    }
 }
 
-/// Reports why a run failed, with the name of its file where there is one. A fault in that is ignored.
+/// Writes a line of the program, with the name of a file before this text where there is one. No
+/// memory is needed.
+fn put_line<E: Write>(
+    err: &mut Tally<E>,
+    name: &Option<FileName>,
+    text: &[u8],
+) -> Result<(), RunError>
+    requires { err.old.faulted ≡ false }
+    ensures { OnOk result (Appends (E.contents err.old.inner) (E.contents err.new.inner)
+        (codes "pgn-extract: " ++ titled (codes ": ") name.now ++ text.now)) }
+{
+    let (title, gap) = title_of(name);
+    write_all(err, b"pgn-extract: ")?;
+    write_all(err, title)?;
+    write_all(err, gap)?;
+    write_all(err, text)
+}
+
+/// Reports why a run failed, with the name of its file where there is one. A fault in that is
+/// ignored.
 pub fn report_failure<E: Write>(err: &mut Tally<E>, name: &Option<FileName>, error: RunError) {
     if err.faulted() {
         return;
     }
-    let _ = put_line(err, name, line_of(error));
+    let line = line_of(error);
+    let text = line.strip_prefix(messages::PROGRAM).unwrap_or(line);
+    let _ = put_line(err, name, text.as_bytes());
     let _ = err.flush();
+}
+
+/// What stands between the two numbers of a summary.
+fn word_after(games: u64) -> &'static [u8]
+    ensures { result.now ≡ games_word games }
+{
+    if games == 1 { b" game, " } else { b" games, " }
+}
+
+/// The line that says how many games were read, and how many of them were faulty.
+fn summary_line(
+    alloc: Global,
+    name: &Option<FileName>,
+    summary: &Summary,
+) -> Result<Vec<u8>, AllocError>
+    ensures { IfOk result (λ line. line.items ≡ summary_text name.now summary.now) }
+{
+    let mut number = Buffer::new();
+    let mut line = Vec::from_slice(alloc, messages::PROGRAM.as_bytes())?;
+    push_title(&mut line, name, b": ")?;
+    line.extend_from_slice(number.format(summary.games).as_bytes())?;
+    line.extend_from_slice(word_after(summary.games))?;
+    line.extend_from_slice(number.format(summary.faulty).as_bytes())?;
+    line.extend_from_slice(b" of them faulty\n")?;
+    Ok(line)
 }
 
 /// Writes how many games were read, and how many of them were faulty.
@@ -73,18 +112,16 @@ pub fn put_summary<E: Write>(
     summary: &Summary,
 ) -> Result<(), RunError>
     requires { err.old.faulted ≡ false }
-    ensures line { OnOk result ((written : List ℕ) × Appends (E.contents err.old.inner) (E.contents err.new.inner) written) }
+    ensures line { OnOk result (Appends (E.contents err.old.inner) (E.contents err.new.inner)
+        (summary_text name.now summary.now)) }
+    ensures left { OnErr result (AppendsFront (E.contents err.old.inner) (E.contents err.new.inner)
+        (summary_text name.now summary.now)) }
+    ensures only { IfErr result (λ error. (error ≡ RunError.Write) ⊎ (error ≡ RunError.OutOfMemory)) }
     ensures fault { IsErrOf result RunError.Write ↔ (err.new.faulted ≡ true) }
 {
-    let Summary { games, faulty } = *summary;
-    let noun = if games == 1 { "game" } else { "games" };
-    match format!(in alloc; "pgn-extract: {games} {noun}, {faulty} of them faulty\n") {
-        Ok(line) => {
-            put_line(err, name, line.as_str())?;
-            finish(err)
-        }
-        Err(_) => Err(RunError::OutOfMemory),
-    }
+    let line = summary_line(alloc, name, summary)?;
+    write_all(err, &line)?;
+    finish(err)
 }
 
 /// Writes what was gathered before a run failed. After a write that failed nothing is written.

@@ -1,11 +1,13 @@
 //! The files of the command line, each of which is read as if it were the only one.
-ghost use Rattle.std.specs.Prelude.{◌≡◌, ◌≢◌, ◌↔◌, ◌⊎◌, ◌≤◌, ◌^◌, ◌||◌, ℕ, List, [], false, true, is_none, IfErr, IfOk, IfSome, OnOk, IsErrOf};
+ghost use Rattle.std.specs.Prelude.{◌≡◌, ◌≢◌, ◌↔◌, ◌⊎◌, ◌≤◌, ◌^◌, ◌||◌, ℕ, List, [], false, true, is_none, IfErr, IfOk, IfSome, OnErr, OnOk, IsErrOf};
+ghost use Rattle.std.specs.Io.KnownBytes.{Keeps};
 ghost use Rattle.std.specs.List.{list_any};
 ghost use Rattle.std.specs.IoError.{error_kind};
 ghost use Rattle.pgn_text.specs.Public.Limits.{largest_offset};
 ghost use Rattle.pgn_extract.specs.Private.RunParts.{WritesPath};
+ghost use Rattle.pgn_extract.specs.Public.Outcomes.{AppendsFront};
 ghost use Rattle.pgn_extract.specs.Public.Runs.{Adds, passage};
-ghost use Rattle.pgn_extract.specs.Public.Several.{AtPath, Unknown, AreKnown, IsOpened, IsRefused, NamesUnopened, WritesPaths, WritesRead, is_no_file, order_at, order_of, paths_of};
+ghost use Rattle.pgn_extract.specs.Public.Several.{AtPath, FileOf, Unknown, AreKnown, IsOpened, IsRefused, NamesUnopened, StopsAmong, StopsAtPath, WritesPaths, WritesRead, is_no_file, order_at, order_of, own_summary, paths_of};
 
 use crate::app::endings::put_summary;
 use crate::engine::run_skipping;
@@ -41,14 +43,14 @@ pub trait Files {
         ensures refused { IfErr result (λ error. IsRefused (known self.old path.now) (error_kind error)) }
         ensures kept { (own : List ℕ) → known self.new own ≡ known self.old own };
 
-    /// Standard input.
-    fn standard(&mut self) -> Self::Input;
     /// Opens a file of criteria, by its path or, of an example, by its name. Errors are those of
     /// `open`.
     fn open_criteria(&mut self, path: &str) -> io::Result<Self::Input> {
         self.open(path)
     }
 
+    /// Standard input.
+    fn standard(&mut self) -> Self::Input;
 
     /// Whether the stream is the file at the path, or without one that of standard input: what is
     /// written would be read.
@@ -56,19 +58,22 @@ pub trait Files {
         false
     }
 
-    /// Whether a person reads what is reported, so that refusals have notes without being asked for.
+    /// Whether a person reads what is reported, so that refusals have notes without being asked
+    /// for.
     fn is_watched(&self) -> bool {
         false
     }
 
-    /// Shows notes to the person who reads what is reported. A fault in that is ignored, and nothing else changes.
+    /// Shows notes to the person who reads what is reported. A fault in that is ignored, and
+    /// nothing else changes.
     fn show_notes(&mut self, _notes: &[u8]) {}
 
     /// From now on each input has a note on standard error, where its first bytes say that it is no
     /// text of games, or no pack where packs are read. Nothing else changes.
     fn note_kinds(&mut self, _packed: bool) {}
 
-    /// From now on each input shows on a terminal how far it is read: at once where that is asked for,
+    /// From now on each input shows on a terminal how far it is read: at once where that is asked
+    /// for,
     /// else after two seconds. Nothing else changes.
     fn show_progress(&mut self, asked: bool);
 }
@@ -150,7 +155,11 @@ fn put_own_summary<E: Write>(
     own: &Summary,
 ) -> Result<(), RunError>
     requires { err.old.faulted ≡ false }
-    ensures line { OnOk result ((line : List ℕ) × (task.now.summary ≡ false → line ≡ []) × Adds (passage E.contents err.old err.new) line) }
+    ensures line { OnOk result (Adds (passage E.contents err.old err.new)
+        (own_summary task.now.summary task.now.settings.name own.now)) }
+    ensures left { OnErr result (AppendsFront (E.contents err.old.inner) (E.contents err.new.inner)
+        (own_summary task.now.summary task.now.settings.name own.now)) }
+    ensures only { IfErr result (λ error. (error ≡ RunError.Write) ⊎ (error ≡ RunError.OutOfMemory)) }
     ensures fault { IsErrOf result RunError.Write ↔ (err.new.faulted ≡ true) }
 {
     if task.summary && task.settings.name.is_some() {
@@ -173,6 +182,9 @@ where
     requires offset { task.now.settings.offset ≤ largest_offset }
     ensures read { OnOk result (IfSome (I.remaining input)
         (λ text. WritesRead (order_of task.now) text (passage O.contents out.old out.new) (passage E.contents err.old err.new))) }
+    ensures stopped { IfErr result (λ error. IfSome (I.remaining input) (λ text. (path : List ℕ)
+        → StopsAtPath error (order_of task.now) path (FileOf text)
+        (passage O.contents out.old out.new) (passage E.contents err.old err.new))) }
     ensures faults { IsErrOf result RunError.Write ↔ ((out.new.faulted ≡ true) ⊎ (err.new.faulted ≡ true)) }
 {
     let mut input = Tally::new(input.take(task.end));
@@ -191,6 +203,11 @@ pub(crate) fn put_unopened<E: Write>(
     requires { err.old.faulted ≡ false }
     ensures memory { OnOk result (error_kind error.now ≢ ErrorKind.OutOfMemory) }
     ensures line { OnOk result ((line : List ℕ) × NamesUnopened path.now line × Adds (passage E.contents err.old err.new) line) }
+    ensures left { OnErr result ((line : List ℕ) × NamesUnopened path.now line
+        × AppendsFront (E.contents err.old.inner) (E.contents err.new.inner) line) }
+    ensures kept { error_kind error.now ≡ ErrorKind.OutOfMemory
+        → Keeps (E.contents err.old.inner) (E.contents err.new.inner) }
+    ensures only { IfErr result (λ error. (error ≡ RunError.Write) ⊎ (error ≡ RunError.OutOfMemory)) }
     ensures fault { IsErrOf result RunError.Write ↔ (err.new.faulted ≡ true) }
 {
     if error.kind() == ErrorKind::OutOfMemory {
@@ -230,6 +247,9 @@ where
     ensures written { OnOk result (F.known files.old path.now ≢ Unknown → WritesPath (order_at task.old path.now) path.now (F.known files.old path.now)
         (passage O.contents out.old out.new) (passage E.contents err.old err.new)) }
     ensures unopened { IfOk result (λ ran. F.known files.old path.now ≢ Unknown → is_none ran ≡ is_no_file (F.known files.old path.now)) }
+    ensures stopped { IfErr result (λ error. F.known files.old path.now ≢ Unknown
+        → StopsAtPath error (order_at task.old path.now) path.now (F.known files.old path.now)
+        (passage O.contents out.old out.new) (passage E.contents err.old err.new)) }
     ensures known { (own : List ℕ) → F.known files.new own ≡ F.known files.old own }
     ensures orders { (own : List ℕ) → order_at task.new own ≡ order_at task.old own }
     ensures number { task.new.settings.number ≡ task.old.settings.number }
@@ -249,7 +269,8 @@ where
     }
 }
 
-/// Runs over the files in their order, each by itself. One that cannot be opened is named, and the others are read.
+/// Runs over the files in their order, each by itself. One that cannot be opened is named, and the
+/// others are read.
 pub fn run_files<F: Files, O: Write, E: Write>(
     task: &mut Task<'_>,
     files: &mut F,
@@ -265,6 +286,9 @@ where
         → WritesPaths (order_at task.old) (F.known files.old) (paths_of task.old) (passage O.contents out.old out.new) (passage E.contents err.old err.new)) }
     ensures unopened { IfOk result (λ total. AreKnown (F.known files.old) (paths_of task.old)
         → total.unopened ≡ list_any (λ path. is_no_file (F.known files.old path)) (paths_of task.old)) }
+    ensures stopped { IfErr result (λ error. AreKnown (F.known files.old) (paths_of task.old)
+        → StopsAmong (order_at task.old) (F.known files.old) (paths_of task.old) error
+        (passage O.contents out.old out.new) (passage E.contents err.old err.new)) }
     ensures faults { IsErrOf result RunError.Write ↔ ((out.new.faulted ≡ true) ⊎ (err.new.faulted ≡ true)) }
 {
     let mut total = Total::NONE;

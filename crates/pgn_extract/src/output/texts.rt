@@ -35,7 +35,7 @@ pub fn push_mark(text: &mut Vec<u8>, number: u64, offset: u64) -> Result<(), All
 
 /// Appends the name of a file and what parts it from the text after it, and nothing where lines have no name.
 #[inline(always)]
-fn push_title(text: &mut Vec<u8>, name: &Option<FileName>, gap: &[u8]) -> Result<(), AllocError>
+pub fn push_title(text: &mut Vec<u8>, name: &Option<FileName>, gap: &[u8]) -> Result<(), AllocError>
     ensures { OnOk result (text.new.items ≡ text.old.items ++ titled gap.now name.now) }
 {
     let Some(name) = name else {

@@ -1,5 +1,7 @@
 use Rattle.std.proofs.Common.{◌++◌, ◌<◌, ◌∙◌, ℕ, Bor, List, [], arith, length, rules}
+use Rattle.std.proofs.lemmas.Result.{err_from_is_err_and}
 use Rattle.pgn_extract.proofs.SeveralFacts.{known_there, unopened_there, written_there}
+use Rattle.pgn_extract.proofs.StoppedFiles.{stops_there}
 use Rattle.pgn_extract.proofs.Writing.{appends_join}
 use Rattle.pgn_extract.specs.Public.Several.{order_at}
 use Rattle.pgn_extract.proofs.app.files.run_files.Goals as goal
@@ -33,3 +35,18 @@ loop-path-preserved g c =
           unopened_there (λ path. path.now) all i none (files c.args.files.now) (files c.loop-path.files) c.loop-path.invariant.known within _ _ _
           c.add.ensures (c.loop-path.invariant.unopened known) (c.in_ok-run_path.ensures.unopened there);
     }
+
+pub returns-in_err-run_path-clause-stopped : goal.returns-in_err-run_path-clause-stopped
+returns-in_err-run_path-clause-stopped g c =
+    let all = c.args.task.now.paths.now in
+    let i = c.loop-path.path-index in
+    let within : i < length all = omega arith in
+    let files = g.F.Files.known in
+    let none : Bor (List ℕ) = record { ref_ptr = (0, 0); now = [] } in
+    let p = err_from_is_err_and c.from_residual.result c.from_residual.ensures.1 in
+    rw p.1
+    (rw p.2
+    (λ known.
+    let there = known_there (λ path. path.now) all i none (files c.args.files.now) (files c.loop-path.files) c.loop-path.invariant.known within known in
+    stops_there (λ path. path.now) all i none (order_at c.args.task.now) (order_at c.loop-path.task) (files c.args.files.now) (files c.loop-path.files)
+    c.loop-path.invariant.orders c.loop-path.invariant.known within _ _ _ _ _ (c.loop-path.invariant.written known) (c.in_err-run_path.ensures.stopped there)))

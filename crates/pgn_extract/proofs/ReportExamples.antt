@@ -1,0 +1,168 @@
+-- What the definitions of a report refuse, and what they make of small texts.
+use Rattle.std.proofs.Common.{◌≡◌, ◌++◌, ℕ, true, false, List, [], ◌∷◌, Option, Some, None, arith, codes, count_by, decimal, length, ap, subst, refl, ◌∙◌}
+use Rattle.std.proofs.lemmas.Fmt.{decimal_digit}
+use Rattle.std.specs.declared.io.ErrorKind.TheVariants.{NotFound}
+use Rattle.chess.specs.Public.Positions.{State}
+use Rattle.pgn_text.specs.Public.Marks.{MarkedPiece, ReadableGame, TooLongBlock, UnreadableRest}
+use Rattle.pgn_text.specs.Public.Parts.{Part}
+use Rattle.pgn_game.specs.Public.Faults.{AmbiguousMove, BadStart, IllegalMove}
+use Rattle.pgn_game.specs.Public.Replays.{Replay}
+use Rattle.pgn_game.specs.declared.exports.style.Style.{Style}
+use Rattle.pgn_game.specs.declared.replays.replayer.Lines.TheVariants.{All, Main}
+use Rattle.pgn_extract.specs.Public.Aims.{Aim}
+use Rattle.pgn_extract.specs.Public.Exports.{HasEntry, IsPieceExport, IsSelected, IsWritten, faulty_text, lines_in, selected, unselected}
+use Rattle.pgn_extract.specs.Public.GameReports.{cause_text}
+use Rattle.pgn_extract.specs.Public.Index.{fault_text, index, mark, mark_line}
+use Rattle.pgn_extract.specs.Public.Listing.{AreFields, IsFenField, heading_in, IsNextField, IsNextMove}
+use Rattle.pgn_extract.specs.Public.Outcomes.{Writes}
+use Rattle.pgn_extract.specs.Public.Several.{AreOfPaths, AtPath, FileOf, IsOfPath, IsOpened, IsRead, IsRefused, NoFile, Order, name_at, own_summary, summary_text}
+use Rattle.pgn_extract.specs.Public.Verdicts.{FaultyGame, IsExported, IsListed, IsVerdict, SoundGame, Verdict, is_faulty, output_text}
+use Rattle.pgn_extract.proofs.TwoFiles.{plain}
+use Rattle.pgn_extract.specs.declared.settings.Form.TheVariants.{AsItStands, Record, Standard}
+use Rattle.pgn_extract.specs.declared.settings.Mode.TheVariants as modes
+use Rattle.pgn_extract.specs.declared.settings.Select.TheVariants.{Faulty, Matching}
+
+-- ---- lines
+
+fault_line_is : fault_text None 2 5 (codes "unreadable")
+    ≡ codes "pgn-extract: game 2@5: unreadable" ++ 10 ∷ []
+fault_line_is =
+    ap (λ d. codes "pgn-extract: game " ++ (d ++ 64 ∷ decimal 5) ++ codes ": " ++ codes "unreadable" ++ 10 ∷ [])
+    (decimal_digit 2 (omega arith))
+    ∙ ap (λ d. codes "pgn-extract: game 2@" ++ d ++ codes ": " ++ codes "unreadable" ++ 10 ∷ [])
+    (decimal_digit 5 (omega arith))
+
+-- in a run over several files it has the name of the file
+named_fault_line : (number offset : ℕ) (cause : List ℕ)
+    → fault_text (Some (codes "a.pgn")) number offset cause
+    ≡ codes "pgn-extract: a.pgn: game " ++ mark number offset ++ codes ": " ++ cause ++ 10 ∷ []
+named_fault_line number offset cause = refl
+
+causes_are : (cause_text BadStart ≡ codes "bad position")
+    × (cause_text (IllegalMove (codes "Qxh8") 1) ≡ codes "illegal move Qxh8 at ply 1")
+    × (cause_text (AmbiguousMove (codes "Nd2") 3) ≡ codes "ambiguous move Nd2 at ply 3")
+causes_are = (
+  refl,
+  ap (λ d. codes "illegal move Qxh8 at ply " ++ d) (decimal_digit 1 (omega arith)),
+  ap (λ d. codes "ambiguous move Nd2 at ply " ++ d) (decimal_digit 3 (omega arith)),
+)
+
+-- games that can be read are in the index, each under its own number and offset, and nothing else
+index_is : (name : Option (List ℕ)) (parts : List Part) (bytes : List ℕ)
+    → index name 1 (record { offset = 0; kind = UnreadableRest bytes }
+    ∷ record { offset = 9; kind = ReadableGame parts } ∷ record { offset = 20; kind = TooLongBlock }
+    ∷ record { offset = 31; kind = ReadableGame parts } ∷ [])
+    ≡ mark_line name 2 9 ++ (mark_line name 4 31 ++ [])
+index_is name parts bytes = refl
+
+-- ---- what a line of a list shows
+
+-- the position and the move stand after a blank where they are asked for, and nowhere else
+no_fen_unasked : (replay : Replay) (ply : ℕ) → IsFenField false replay ply (codes " x") → ⊥
+no_fen_unasked replay ply is = cc
+
+no_empty_fen : (replay : Replay) (ply : ℕ) → IsFenField true replay ply [] → ⊥
+no_empty_fen replay ply (position, text, there, fen, is) = cc
+
+no_next_unasked : (replay : Replay) (ply : ℕ) → IsNextField false replay ply (codes " -") → ⊥
+no_next_unasked replay ply is = cc
+
+no_empty_next : (replay : Replay) (ply : ℕ) → IsNextField true replay ply [] → ⊥
+no_empty_next replay ply (text, next, is) = cc
+
+-- no move is shown where none is played
+no_move_at_the_end : (positions : List State) → IsNextMove positions [] 0 (codes "e4") → ⊥
+no_move_at_the_end positions is = cc
+
+no_fields_unasked : (replay : Replay) (ply : ℕ)
+    → AreFields (record { fen = false; next = false }) replay ply (codes " x") → ⊥
+no_fields_unasked replay ply (fen, next, no_fen, no_next, is) =
+    let none : codes " x" ≡ [] = is ∙ ap (λ text. text ++ next) no_fen ∙ no_next in cc
+
+-- ---- what is written
+
+-- a line and a record are of the main line; a game in another form is sound in the lines that are
+-- kept
+lines_are : (style : Style) → (lines_in Record style ≡ Main)
+    × (lines_in Standard (record style { variations = true }) ≡ All)
+    × (lines_in AsItStands (record style { variations = false }) ≡ Main)
+lines_are style = (refl, refl, refl)
+
+-- no sound game is written among the faulty ones, and no faulty one among those that are sought
+no_sound_game : (aim : Aim) (number offset : ℕ) (parts : List Part) (replay : Replay)
+    → aim.select ≡ Faulty → IsWritten aim number offset parts replay (codes "x") → ⊥
+no_sound_game aim number offset parts replay faulty (selected is text) =
+    subst (λ select. IsSelected select (HasEntry aim (heading_in parts) replay)) faulty is
+no_sound_game aim number offset parts replay faulty (unselected is none) = cc
+
+no_faulty_bytes : (aim : Aim) (number offset : ℕ) (bytes : List ℕ) → aim.select ≡ Matching
+    → IsPieceExport aim number offset (UnreadableRest bytes) (codes "x") → ⊥
+no_faulty_bytes aim number offset bytes matching is =
+    let none : codes "x" ≡ [] = is
+    ∙ ap (λ select. faulty_text modes.Export select bytes) matching in cc
+
+-- ---- what is reported
+
+-- nothing is listed of a faulty game, and its line is not empty
+nothing_listed : (aim : Aim) (number offset : ℕ) (parts : List Part) (line note : List ℕ)
+    → IsListed aim (FaultyGame (codes "x") line note) number offset parts → ⊥
+nothing_listed aim number offset parts line note (fault, first, is, noted, none) = cc
+
+no_fault_unsaid : (aim : Aim) (number offset : ℕ) (parts : List Part) (text note : List ℕ)
+    → IsExported aim (FaultyGame text [] note) number offset parts → ⊥
+no_fault_unsaid aim number offset parts text note (fault, first, is, noted, written) = cc
+
+-- bytes that are no game are not sound
+not_sound : (aim : Aim) (number offset : ℕ) (bytes text : List ℕ)
+    → IsVerdict aim number (record { offset = offset; kind = UnreadableRest bytes }) (SoundGame text) → ⊥
+not_sound aim number offset bytes text (note, noted, names, is) = cc
+
+-- nothing is written of no piece
+nothing_of_none : (aim : Aim) (err err' : Option (List ℕ)) (number : ℕ) (verdicts : List Verdict)
+    → Writes aim (Some []) (Some (codes "x")) err err' number [] verdicts → ⊥
+nothing_of_none aim err err' number verdicts written =
+    let none : codes "x" ≡ [] = written.output ∙ ap output_text written.each in cc
+
+-- ---- files
+
+-- a file is opened with all its bytes, and refused for want of memory alone
+not_opened_in_part : (IsOpened (FileOf (codes "ab")) (Some (codes "b")) → ⊥)
+    × (IsOpened NoFile (Some []) → ⊥)
+not_opened_in_part = (λ is. cc, λ is. is)
+
+not_refused : (text : List ℕ) → IsRefused (FileOf text) NotFound → ⊥
+not_refused text is = cc
+
+-- lines are named after the path where they have names
+names_are : (own : Option (List ℕ)) → name_at false (codes "a") own ≡ own
+names_are own = refl
+
+-- nothing is written of no path, and nothing goes to the output where there is no file
+not_of_no_path : (order : List ℕ → Order) (known : List ℕ → AtPath)
+    → AreOfPaths order known [] (codes "x") [] → ⊥
+not_of_no_path order known (output, report) = cc
+
+no_output_without_a_file : (order : Order) (path report : List ℕ)
+    → IsOfPath order path NoFile (codes "x") report → ⊥
+no_output_without_a_file order path report (output, names) = cc
+
+-- without a summary nothing stands after the report
+just_the_report : (order : Order) (text output report : List ℕ) → order.summary ≡ false
+    → (read : IsRead order text output report) → report ≡ read.faults
+just_the_report = plain
+
+-- with one and a name, the line after it counts the pieces of the report and the faulty ones
+summary_counts : (order : Order) (name text output report : List ℕ) → order.summary ≡ true
+    → order.job.aim.name ≡ Some name → (read : IsRead order text output report)
+    → report ≡ read.faults ++ summary_text (Some name) (record {
+      games = length read.reported.pieces;
+      faulty = count_by is_faulty read.reported.verdicts;
+    })
+summary_counts order name text output report asked named read =
+    read.is
+    ∙ ap (λ asked. read.faults ++ own_summary asked order.job.aim.name read.summary) asked
+    ∙ ap (λ name. read.faults ++ own_summary true name read.summary) named
+    ∙ ap (λ games. read.faults ++ summary_text (Some name)
+    (record { games = games; faulty = read.summary.faulty })) read.games
+    ∙ ap (λ faulty. read.faults ++ summary_text (Some name)
+    (record { games = length read.reported.pieces; faulty = faulty })) read.faulty
