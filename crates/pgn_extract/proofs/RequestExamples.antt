@@ -238,7 +238,8 @@ each_style : (request : Request)
 each_style request = (refl, refl, refl, refl, refl)
 
 without_marks : (request : Request)
-    → (begin_of (plain request) ≡ Some (record { number = 1; offset = 0 })) × (end_of (plain request) ≡ Some (2 ^ 64 - 1))
+    → (begin_of (plain request) ≡ Some (record { number = 1; offset = 0 }))
+    × (end_of (plain request) ≡ Some (2 ^ 64 - 1))
 without_marks request = (refl, refl)
 
 names : (request : Request) → has_several_files request ≡ true

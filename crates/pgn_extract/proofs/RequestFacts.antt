@@ -7,7 +7,8 @@ use Rattle.pgn_extract.specs.Public.GivenMarks.{GivenMark}
 use Rattle.pgn_extract.specs.Public.Requests.{Refusal, first_line, option_refusals, text_refusals, refused, begin_of, end_of, is_one_line, bad_mark}
 use Rattle.pgn_extract.specs.declared.app.command.Request.{Request}
 
-first_of_two : (first second : List Refusal) → first_line (first ++ second) ≡ option_or (first_line first) (first_line second)
+first_of_two : (first second : List Refusal)
+    → first_line (first ++ second) ≡ option_or (first_line first) (first_line second)
 first_of_two [] second = refl
 first_of_two (refusal ∷ more) second =
     elim refusal.applies as (λ applies. cond applies (Some refusal.line) (first_line (more ++ second)) ≡ option_or (cond applies (Some refusal.line) (first_line more)) (first_line second)) [
@@ -16,32 +17,42 @@ first_of_two (refusal ∷ more) second =
     ]
 
 -- that of the options
-pub by_options : (noted : Bool) (request : Request) (line : List ℕ) → first_line (option_refusals request) ≡ Some line → refused noted request ≡ Some line
+pub by_options : (noted : Bool) (request : Request) (line : List ℕ)
+    → first_line (option_refusals request) ≡ Some line → refused noted request ≡ Some line
 by_options noted request line is =
-    first_of_two (option_refusals request) (text_refusals noted request) ∙ ap (λ found. option_or found (first_line (text_refusals noted request))) is
+    first_of_two (option_refusals request) (text_refusals noted request)
+    ∙ ap (λ found. option_or found (first_line (text_refusals noted request))) is
 
 -- and without one that of the texts
-by_texts : (noted : Bool) (request : Request) (found : Option (List ℕ)) → first_line (option_refusals request) ≡ None
+by_texts : (noted : Bool) (request : Request) (found : Option (List ℕ))
+    → first_line (option_refusals request) ≡ None
     → first_line (text_refusals noted request) ≡ found → refused noted request ≡ found
 by_texts noted request found none is =
     first_of_two (option_refusals request) (text_refusals noted request)
     ∙ ap (λ first. option_or first (first_line (text_refusals noted request))) none ∙ is
 
-pub by_begin : (noted : Bool) (request : Request) → first_line (option_refusals request) ≡ None → begin_of request ≡ None → refused noted request ≡ Some (bad_mark noted)
+pub by_begin : (noted : Bool) (request : Request) → first_line (option_refusals request) ≡ None
+    → begin_of request ≡ None → refused noted request ≡ Some (bad_mark noted)
 by_begin noted request none begin = by_texts noted request (Some (bad_mark noted)) none (rw begin refl)
 
-pub by_end : (noted : Bool) (request : Request) (begin : GivenMark) → first_line (option_refusals request) ≡ None → begin_of request ≡ Some begin → end_of request ≡ None
+pub by_end : (noted : Bool) (request : Request) (begin : GivenMark)
+    → first_line (option_refusals request) ≡ None → begin_of request ≡ Some begin
+    → end_of request ≡ None
     → refused noted request ≡ Some (bad_mark noted)
 by_end noted request begin none begins ends = by_texts noted request (Some (bad_mark noted)) none (rw (begins, ends) refl)
 
-pub by_stretch : (noted : Bool) (request : Request) (begin : GivenMark) (end : ℕ) → first_line (option_refusals request) ≡ None → begin_of request ≡ Some begin
-    → end_of request ≡ Some end → end ≤ begin.offset → refused noted request ≡ Some (codes "pgn-extract: --until is not after --from\n")
+pub by_stretch : (noted : Bool) (request : Request) (begin : GivenMark) (end : ℕ)
+    → first_line (option_refusals request) ≡ None → begin_of request ≡ Some begin
+    → end_of request ≡ Some end → end ≤ begin.offset
+    → refused noted request ≡ Some (codes "pgn-extract: --until is not after --from\n")
 by_stretch noted request begin end none begins ends within =
     let short : nat_lt begin.offset end ≡ false = grind (arith, nat_tests) in
     by_texts noted request (Some (codes "pgn-extract: --until is not after --from\n")) none (rw (begins, ends, short) refl)
 
-pub by_lines : (noted : Bool) (request : Request) (begin : GivenMark) (end : ℕ) → first_line (option_refusals request) ≡ None → begin_of request ≡ Some begin
-    → end_of request ≡ Some end → begin.offset < end → list_all (λ condition. is_one_line condition.now) request.conditions.items ≡ false
+pub by_lines : (noted : Bool) (request : Request) (begin : GivenMark) (end : ℕ)
+    → first_line (option_refusals request) ≡ None → begin_of request ≡ Some begin
+    → end_of request ≡ Some end → begin.offset < end
+    → list_all (λ condition. is_one_line condition.now) request.conditions.items ≡ false
     → refused noted request ≡ Some (codes "pgn-extract: --where takes one line\n")
 by_lines noted request begin end none begins ends above lines =
     let long : nat_lt begin.offset end ≡ true = grind (arith, nat_tests) in

@@ -105,7 +105,8 @@ fn read_order<'a>(
 /// The most bytes that are read of a file of criteria: one more than it may have.
 const CRITERIA_READ: usize = 65_537;
 
-/// The refusal of a file that could not be opened or read: with this line, unless memory ran out; where it is to be explained, with the
+/// The refusal of a file that could not be opened or read: with this line, unless memory ran out;
+/// where it is to be explained, with the
 /// file's name and the system's reason.
 fn refused_file(
     alloc: Global,
@@ -179,7 +180,8 @@ where
     }
 }
 
-/// Shows a note for each line of criteria that misleads. Where memory is refused there is none: the run is the same with notes and without.
+/// Shows a note for each line of criteria that misleads. Where memory is refused there is none: the
+/// run is the same with notes and without.
 fn show_doubts<F: Files>(alloc: Global, files: &mut F, criteria: &Criteria, text: &[u8]) {
     if let Ok(notes) = doubt_notes(alloc, criteria, text) {
         files.show_notes(&notes);
@@ -229,7 +231,8 @@ fn open_input<'a, F: Files>(
     }
 }
 
-/// Reads the arguments and the criteria, opens the input and runs: the status, or what the program ends with before its run.
+/// Reads the arguments and the criteria, opens the input and runs: the status, or what the program
+/// ends with before its run.
 fn start<F: Files, O: Write, E: Write>(
     alloc: Global,
     arguments: &[String],
@@ -291,7 +294,8 @@ where
     })
 }
 
-/// Ends runs that came to the ends of their inputs, with a summary where it is asked for: the status.
+/// Ends runs that came to the ends of their inputs, with a summary where it is asked for: the
+/// status.
 pub(crate) fn end_runs<E: Write>(
     alloc: Global,
     err: &mut Tally<E>,
@@ -350,9 +354,10 @@ fn help<O: Write, E: Write>(text: &str, out: &mut Tally<O>, err: &mut Tally<E>) 
     FAILED
 }
 
-/// Does what the arguments ask for, of which the first is the program's name, and answers the exit status:
-/// 0 where no game was faulty (or the help was asked for), 1 where a game was faulty, 2 where the
-/// arguments or the criteria were refused or a file could not be opened, 3 where the run failed.
+/// Does what the arguments ask for, of which the first is the program's name, and answers the exit
+/// status: 0 where no game was faulty (or the help was asked for), 1 where a game was faulty, 2
+/// where the arguments or the criteria were refused or a file could not be opened, 3 where the run
+/// failed.
 pub fn program<F: Files, O: Write, E: Write>(
     alloc: Global,
     arguments: Vec<String>,

@@ -24,7 +24,8 @@ asked_mode request = if request.list then modes.List else (if request.index then
 abbrev pub asked_select : Request → Select
 asked_select request = if request.others then Others else (if request.faulty then Faulty else Matching)
 
--- how a game is written: as a record, on a line with its moves, as it stands, or in the standard's form
+-- how a game is written: as a record, on a line with its moves, as it stands, or in the standard's
+-- form
 abbrev pub asked_form : Request → Form
 asked_form request =
     if request.pack then Record else
@@ -66,14 +67,16 @@ has_several_files request = nat_lt 1 (length request.files.items)
 abbrev pub asks_names : Request → Bool
 asks_names request = request.with_names || has_several_files request && not request.no_names
 
--- where the run begins: at the mark of `--from`, and at the first game without it; nowhere where its text is no mark
+-- where the run begins: at the mark of `--from`, and at the first game without it; nowhere where
+-- its text is no mark
 abbrev pub begin_of : Request → Option GivenMark
 begin_of request = elim request.from [
   | None ↦ Some (record { number = 1; offset = 0 })
   | Some text ↦ mark_in text.now
 ]
 
--- the offset that it ends before: that of the mark of `--until`, and one that no input comes to without it
+-- the offset that it ends before: that of the mark of `--until`, and one that no input comes to
+-- without it
 abbrev pub end_of : Request → Option ℕ
 end_of request = elim request.until [
   | None ↦ Some (2 ^ 64 - 1)
@@ -100,7 +103,8 @@ has_moves request = request.moves || request.uci
 
 -- something says how games are written in the standard's form
 abbrev pub has_style : Request → Bool
-has_style request = request.no_comments || request.no_glyphs || request.no_variations || request.roster || is_some request.width
+has_style request = request.no_comments || request.no_glyphs || request.no_variations
+    || request.roster || is_some request.width
 
 -- the run ends after it begins
 abbrev pub is_stretch : Option GivenMark → Option ℕ → Bool
@@ -125,30 +129,53 @@ pub record Refusal : Type 0 where
 -- the refusals of files: of names that are asked for and left out, and of marks of several files
 abbrev pub file_refusals : Request → List Refusal
 file_refusals request =
-    record { applies = request.with_names && request.no_names; line = codes "pgn-extract: --with-names and --no-names exclude each other\n" }
-    ∷ record { applies = gives_mark request && has_several_files request; line = codes "pgn-extract: --from and --until take one FILE\n" }
+    record {
+      applies = request.with_names && request.no_names;
+      line = codes "pgn-extract: --with-names and --no-names exclude each other\n";
+    }
+    ∷ record {
+      applies = gives_mark request && has_several_files request;
+      line = codes "pgn-extract: --from and --until take one FILE\n";
+    }
     ∷ []
 
 -- the refusals of options that exclude each other, and those of files
 abbrev pub option_refusals : Request → List Refusal
 option_refusals request =
-    record { applies = request.list && request.index; line = codes "pgn-extract: --list and --index exclude each other\n" }
-    ∷ record { applies = request.packed && not (has_mode request); line = codes "pgn-extract: --packed goes with --list or --index\n" }
+    record {
+      applies = request.list && request.index;
+      line = codes "pgn-extract: --list and --index exclude each other\n";
+    }
     ∷ record {
-      applies = request.packed && (has_fields request || gives_mark request || request.with_names || request.no_names);
+      applies = request.packed && not (has_mode request);
+      line = codes "pgn-extract: --packed goes with --list or --index\n";
+    }
+    ∷ record {
+      applies = request.packed
+          && (has_fields request || gives_mark request || request.with_names || request.no_names);
       line = codes "pgn-extract: --packed goes with none of --fen, --next, --from, --until, --with-names and --no-names\n";
     }
-    ∷ record { applies = has_fields request && not request.list; line = codes "pgn-extract: --fen and --next go with --list\n" }
+    ∷ record {
+      applies = has_fields request && not request.list;
+      line = codes "pgn-extract: --fen and --next go with --list\n";
+    }
     ∷ record {
       applies = (request.others || request.faulty || request.as_is) && has_mode request;
       line = codes "pgn-extract: --others, --faulty and --as-is go with neither --list nor --index\n";
     }
-    ∷ record { applies = request.others && request.faulty; line = codes "pgn-extract: --others and --faulty exclude each other\n" }
     ∷ record {
-      applies = request.pack && (has_mode request || has_moves request || request.faulty || request.as_is || has_style request);
+      applies = request.others && request.faulty;
+      line = codes "pgn-extract: --others and --faulty exclude each other\n";
+    }
+    ∷ record {
+      applies = request.pack
+          && (has_mode request || has_moves request || request.faulty || request.as_is || has_style request);
       line = codes "pgn-extract: --pack goes with none of --list, --index, --moves, --uci, --faulty, --as-is, -C, -N, -V, --roster and -w\n";
     }
-    ∷ record { applies = request.moves && request.uci; line = codes "pgn-extract: --moves and --uci exclude each other\n" }
+    ∷ record {
+      applies = request.moves && request.uci;
+      line = codes "pgn-extract: --moves and --uci exclude each other\n";
+    }
     ∷ record {
       applies = has_moves request && (has_mode request || request.faulty || request.as_is);
       line = codes "pgn-extract: --moves and --uci go with none of --list, --index, --faulty and --as-is\n";
@@ -160,7 +187,10 @@ abbrev pub text_refusals : Bool → Request → List Refusal
 text_refusals noted request =
     record { applies = is_none (begin_of request); line = bad_mark noted }
     ∷ record { applies = is_none (end_of request); line = bad_mark noted }
-    ∷ record { applies = not (is_stretch (begin_of request) (end_of request)); line = codes "pgn-extract: --until is not after --from\n" }
+    ∷ record {
+      applies = not (is_stretch (begin_of request) (end_of request));
+      line = codes "pgn-extract: --until is not after --from\n";
+    }
     ∷ record {
       applies = not (list_all (λ condition. is_one_line condition.now) request.conditions.items);
       line = codes "pgn-extract: --where takes one line\n";

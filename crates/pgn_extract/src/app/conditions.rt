@@ -22,7 +22,8 @@ pub fn are_lines(arguments: &[&str]) -> bool
     arguments.iter().all(|argument| is_one_line(argument))
 }
 
-/// Appends arguments as lines, each with a line feed at its end. The last line of the text gets one too, where it lacks it.
+/// Appends arguments as lines, each with a line feed at its end. The last line of the text gets one
+/// too, where it lacks it.
 pub fn push_lines(text: &mut Vec<u8>, arguments: &[&str]) -> Result<(), AllocError> {
     if !arguments.is_empty() && !text.is_empty() && !text.ends_with(b"\n") {
         text.push(b'\n')?;

@@ -73,8 +73,7 @@ pub trait Files {
     fn note_kinds(&mut self, _packed: bool) {}
 
     /// From now on each input shows on a terminal how far it is read: at once where that is asked
-    /// for,
-    /// else after two seconds. Nothing else changes.
+    /// for, else after two seconds. Nothing else changes.
     fn show_progress(&mut self, asked: bool);
 }
 

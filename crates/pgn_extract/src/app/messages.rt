@@ -33,7 +33,8 @@ pub const BOTH_NAMINGS: &str = "pgn-extract: --with-names and --no-names exclude
 /// A pack is listed or indexed, and nothing else is done with it.
 pub const PACKS_GIVE_LINES: &str = "pgn-extract: --packed goes with --list or --index\n";
 
-/// The lines of a pack have the names that were packed, and end after the ply; and a pack is searched as a whole.
+/// The lines of a pack have the names that were packed, and end after the ply; and a pack is
+/// searched as a whole.
 pub const PACKS_ARE_PLAIN: &str =
     "pgn-extract: --packed goes with none of --fen, --next, --from, --until, --with-names and --no-names\n";
 

@@ -26,8 +26,8 @@ pub struct Order<'a> {
     pub noted: bool,
 }
 
-/// Tests what is asked for, or answers the line that refuses it: of the options, of the marks, or of
-/// the lines of criteria.
+/// Tests what is asked for, or answers the line that refuses it: of the options, of the marks, or
+/// of the lines of criteria.
 pub fn accept(request: Request<'_>, watched: bool) -> Result<Order<'_>, &'static str>
     ensures refused { IfErr result (λ line. refused (request.entry.explain || watched) request.entry
         ≡ Some line.now) }
@@ -243,8 +243,8 @@ fn mark_of(request: &Request<'_>) -> Option<Mark>
     }
 }
 
-/// The offset that the run ends before: that of the mark of `--until`, and one that no input comes to
-/// without it. `None` for a bad mark.
+/// The offset that the run ends before: that of the mark of `--until`, and one that no input comes
+/// to without it. `None` for a bad mark.
 fn end_of(request: &Request<'_>) -> Option<u64>
     ensures { result ≡ end_of request.now }
 {

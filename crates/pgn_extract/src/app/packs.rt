@@ -94,7 +94,8 @@ where
     }
 }
 
-/// Searches the packs in their order. One that cannot be opened is named, and the others are searched.
+/// Searches the packs in their order. One that cannot be opened is named, and the others are
+/// searched.
 fn search_paths<'a, F: Files, O: Write, E: Write>(
     task: &PackTask<'a>,
     files: &mut F,
@@ -169,7 +170,8 @@ fn line_of_search(error: SearchError) -> &'static str {
     }
 }
 
-/// The line of a pack in which something is the record of no game, and below it, where that is to be explained, after how many bytes.
+/// The line of a pack in which something is the record of no game, and below it, where that is to
+/// be explained, after how many bytes.
 fn bad_pack(alloc: Global, name: &str, at: u64, explain: bool) -> Result<Vec<u8>, AllocError> {
     let name = FileName::of_path(alloc, name)?;
     let mut note = Vec::from_slice(alloc, messages::BAD_PACK.as_bytes())?;

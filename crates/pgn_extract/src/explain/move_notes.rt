@@ -140,7 +140,8 @@ fn push_refused_note(
     push_line(text, line.as_slice())
 }
 
-/// Appends the note on a FEN tag that gives no position, of the game that begins at the place of the block.
+/// Appends the note on a FEN tag that gives no position, of the game that begins at the place of
+/// the block.
 fn push_start_note(
     alloc: Global,
     text: &mut Vec<u8>,
@@ -163,7 +164,8 @@ fn push_start_note(
     push_line(text, line.as_slice())
 }
 
-/// Appends the note on a game of which these lines cannot be replayed: at which word or tag, and why. The game is replayed once more.
+/// Appends the note on a game of which these lines cannot be replayed: at which word or tag, and
+/// why. The game is replayed once more.
 pub fn push_game_note(
     alloc: Global,
     text: &mut Vec<u8>,

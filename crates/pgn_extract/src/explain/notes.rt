@@ -19,7 +19,8 @@ pub struct Origin {
     pub line: Option<u32>,
 }
 
-/// The line on which a run begins, where notes are asked for: known is that of the file's first byte.
+/// The line on which a run begins, where notes are asked for: known is that of the file's first
+/// byte.
 pub fn first_line(settings: &Settings) -> Option<u32> {
     if settings.explain && settings.offset == 0 {
         Some(1)
@@ -28,7 +29,8 @@ pub fn first_line(settings: &Settings) -> Option<u32> {
     }
 }
 
-/// The line on which the next block begins, where this one begins on the line. After a block over the limit, and past the largest number, lines are not known.
+/// The line on which the next block begins, where this one begins on the line. After a block over
+/// the limit, and past the largest number, lines are not known.
 pub fn line_after(line: Option<u32>, block: Block<'_>) -> Option<u32> {
     let Some(first) = line else {
         return None;
@@ -60,7 +62,8 @@ impl Spot {
         }
     }
 
-    /// A place of the block, found by going on from this one, or anew where it stands before this one.
+    /// A place of the block, found by going on from this one, or anew where it stands before this
+    /// one.
     pub fn go_on(self, block: &[u8], to: usize) -> Spot
         requires { to ≤ length block.now }
     {
@@ -247,7 +250,8 @@ fn push_context(
     }
 }
 
-/// Appends the note on bytes that are no game, from the place of the block on: where they stop agreeing with games, and what stands there.
+/// Appends the note on bytes that are no game, from the place of the block on: where they stop
+/// agreeing with games, and what stands there.
 pub fn push_stop_note(
     text: &mut Vec<u8>,
     origin: Origin,

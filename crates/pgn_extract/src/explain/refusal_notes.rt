@@ -1,4 +1,5 @@
-//! What `--explain` adds before the run to a refusal: the line of criteria and its place, or the name of a file and the system's reason; and
+//! What `--explain` adds before the run to a refusal: the line of criteria and its place, or the
+//! name of a file and the system's reason; and
 //! its notes of lines of criteria that mislead.
 ghost use Rattle.std.specs.Prelude.{◌≡◌, ◌++◌, ℕ, List, OnOk};
 
@@ -96,7 +97,8 @@ fn line_at(text: &[u8], number: usize) -> &[u8] {
     first_line(rest)
 }
 
-/// Appends the end of what stands before the place: after two dots, where more does. How many columns that takes is answered by the blanks.
+/// Appends the end of what stands before the place: after two dots, where more does. How many
+/// columns that takes is answered by the blanks.
 fn push_before(
     alloc: Global,
     note: &mut Vec<u8>,
@@ -126,7 +128,8 @@ fn push_after(alloc: Global, note: &mut Vec<u8>, rest: &[u8]) -> Result<(), Allo
     Ok(())
 }
 
-/// The refusal of the line of criteria with this number, and below it the line, a mark where it stops being of the language, and what is
+/// The refusal of the line of criteria with this number, and below it the line, a mark where it
+/// stops being of the language, and what is
 /// expected there.
 pub fn line_note(alloc: Global, text: &[u8], number: usize) -> Result<Vec<u8>, AllocError> {
     let line = line_at(text, number);
@@ -146,7 +149,8 @@ pub fn line_note(alloc: Global, text: &[u8], number: usize) -> Result<Vec<u8>, A
     Ok(note)
 }
 
-/// A line for each line of these criteria that misleads, with its number and why. The criteria were read from the text.
+/// A line for each line of these criteria that misleads, with its number and why. The criteria were
+/// read from the text.
 pub fn doubt_notes(alloc: Global, criteria: &Criteria, text: &[u8]) -> Result<Vec<u8>, AllocError> {
     let mut notes = Vec::new(alloc);
     for doubt in &criteria.doubts(alloc, text)? {
