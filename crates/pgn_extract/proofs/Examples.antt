@@ -38,12 +38,15 @@ a_record_of_a_game : (game : GameText) (replay : Replay) (packed : PackedGame) (
     → IsReplay Main (tag_in fen_tag game.tags) game.elements replay
     → IsPacked packed.name packed.number packed.offset game replay packed → FitsRecord packed
     → HasNoGame (record_bytes packed ++ rest) → ⊥
-a_record_of_a_game game replay packed rest text is kept fits bad = its_own_record game replay packed text is kept (bad packed rest fits refl)
+a_record_of_a_game game replay packed rest text is kept fits bad = its_own_record game replay packed
+    text is kept (bad packed rest fits refl)
 
 -- a search does not stop at the limit before the first record, since no record is that long
-no_first_record_is_too_long : (aim : Aim) (whole : List ℕ) (out out' : Option (List ℕ)) (stops : StopsAtLimit aim whole out out') → stops.before ≡ [] → ⊥
+no_first_record_is_too_long : (aim : Aim) (whole : List ℕ) (out out' : Option (List ℕ))
+    (stops : StopsAtLimit aim whole out out') → stops.before ≡ [] → ⊥
 no_first_record_is_too_long aim whole out out' stops first =
-    let far = subst (λ before. largest_offset < length (pack_bytes before) + length (record_bytes stops.next)) first stops.far in
+    let far = subst (λ before. largest_offset < length (pack_bytes before) + length
+    (record_bytes stops.next)) first stops.far in
     absurd (omega (arith, far, record_size stops.next, stops.fits.size))
 
 -- ---- an index of the sound games
@@ -52,7 +55,13 @@ no_empty_line : (name : Option (List ℕ)) (number offset : ℕ) (text : List �
     → mark_line name number offset ++ text ≡ [] → ⊥
 no_empty_line name number offset text is =
     let long : length (mark_line name number offset ++ text) ≡ 0 = ap length is in
-    omega (arith, long, length-append (mark_line name number offset) text, length-append (titled (codes ":") name ++ mark number offset) (10 ∷ []))
+    omega (
+      arith,
+      long,
+      length-append (mark_line name number offset) text,
+      length-append
+          (titled (codes ":") name ++ mark number offset) (10 ∷ []),
+    )
 
 -- a sound game is not left out, and no other piece has a mark
 no_game_left_out : (name : Option (List ℕ)) (number : ℕ) (piece : MarkedPiece)
@@ -60,13 +69,15 @@ no_game_left_out : (name : Option (List ℕ)) (number : ℕ) (piece : MarkedPiec
 no_game_left_out name number piece sound index = of_text [] refl index
   where
     of_text : (text : List ℕ) → text ≡ [] → IsIndexOfSoundGames name number (piece ∷ []) text → ⊥
-    of_text text empty (keep number piece more rest is after) = no_empty_line name number piece.offset rest empty
+    of_text text empty (keep number piece more rest is after) = no_empty_line name number
+        piece.offset rest empty
     of_text text empty (leave number piece more rest unsound after) = unsound sound
 
 no_other_piece : (name : Option (List ℕ)) (number : ℕ) (piece : MarkedPiece)
     → (IsSoundPiece piece.kind → ⊥)
     → IsIndexOfSoundGames name number (piece ∷ []) (mark_line name number piece.offset) → ⊥
-no_other_piece name number piece unsound index = of_text (mark_line name number piece.offset) (no_empty_line name number piece.offset []) index
+no_other_piece name number piece unsound index = of_text (mark_line name number piece.offset)
+    (no_empty_line name number piece.offset []) index
   where
     of_rest : (number : ℕ) (text : List ℕ) → IsIndexOfSoundGames name number [] text → text ≡ []
     of_rest number text (none same) = refl
@@ -74,7 +85,8 @@ no_other_piece name number piece unsound index = of_text (mark_line name number 
     of_text : (text : List ℕ) → (text ++ [] ≡ [] → ⊥)
         → IsIndexOfSoundGames name number (piece ∷ []) text → ⊥
     of_text text some (keep number piece more rest is after) = unsound is
-    of_text text some (leave number piece more rest left after) = some (ap (λ bytes. bytes ++ []) (of_rest (number + 1) text after))
+    of_text text some (leave number piece more rest left after) = some
+        (ap (λ bytes. bytes ++ []) (of_rest (number + 1) text after))
 
 -- ---- files that cannot be opened
 
@@ -85,7 +97,8 @@ is_ascii = IsAscii-from_all (codes "a") within
     within : (k d : ℕ) → k < 1 → get_or (codes "a") k d < 128
     within k d less =
         let zero : k ≡ 0 = omega (arith, less) in
-        let first : get_or (codes "a") 0 d < 128 = omega arith in subst (λ at. get_or (codes "a") at d < 128) (sym zero) first
+        let first : get_or (codes "a") 0 d < 128 = omega arith in subst
+        (λ at. get_or (codes "a") at d < 128) (sym zero) first
 
 a_shown : shown_name (codes "a") ≡ codes "a"
 a_shown = ap (λ cs. encode_utf8_all (map shown_char cs)) (chars-IsAscii (codes "a") is_ascii)
@@ -95,13 +108,15 @@ a_shown = ap (λ cs. encode_utf8_all (map shown_char cs)) (chars-IsAscii (codes 
 named_a : NamesUnopened (codes "a") (codes "pgn-extract: cannot open input: a: gone" ++ 10 ∷ [])
 named_a = record {
   reason = codes "gone";
-  is = ap (λ name. codes "pgn-extract: cannot open input: " ++ name ++ codes ": " ++ codes "gone" ++ 10 ∷ []) (sym a_shown);
+  is = ap (λ name. codes "pgn-extract: cannot open input: " ++ name ++ codes ": " ++ codes "gone" ++
+      10 ∷ []) (sym a_shown);
 }
 
 not_any_line : NamesUnopened (codes "a") (codes "x") → ⊥
 not_any_line names = let is = names.is in cc
 
-not_another_name : NamesUnopened (codes "a") (codes "pgn-extract: cannot open input: b: gone" ++ 10 ∷ []) → ⊥
+not_another_name : NamesUnopened (codes "a") (codes "pgn-extract: cannot open input: b: gone" ++ 10
+    ∷ []) → ⊥
 not_another_name names =
     let is = subst (λ name. codes "pgn-extract: cannot open input: b: gone" ++ 10 ∷ []
     ≡ codes "pgn-extract: cannot open input: " ++ name ++ codes ": " ++ names.reason
@@ -114,7 +129,8 @@ not_another_name names =
 one_game : summary_text None (record { games = 1; faulty = 0 })
     ≡ codes "pgn-extract: 1 game, 0 of them faulty" ++ 10 ∷ []
 one_game =
-    ap (λ d. codes "pgn-extract: " ++ d ++ codes " game, " ++ decimal 0 ++ codes " of them faulty" ++ 10 ∷ [])
+    ap (λ d. codes "pgn-extract: " ++ d ++ codes " game, " ++ decimal 0 ++ codes " of them faulty"
+    ++ 10 ∷ [])
     (decimal_digit 1 (omega arith))
     ∙ ap (λ d. codes "pgn-extract: 1 game, " ++ d ++ codes " of them faulty" ++ 10 ∷ [])
     (decimal_digit 0 (omega arith))
@@ -122,7 +138,8 @@ one_game =
 games_of_a_file : summary_text (Some (codes "a")) (record { games = 3; faulty = 2 })
     ≡ codes "pgn-extract: a: 3 games, 2 of them faulty" ++ 10 ∷ []
 games_of_a_file =
-    ap (λ d. codes "pgn-extract: a: " ++ d ++ codes " games, " ++ decimal 2 ++ codes " of them faulty" ++ 10 ∷ [])
+    ap (λ d. codes "pgn-extract: a: " ++ d ++ codes " games, " ++ decimal 2 ++ codes
+    " of them faulty" ++ 10 ∷ [])
     (decimal_digit 3 (omega arith))
     ∙ ap (λ d. codes "pgn-extract: a: 3 games, " ++ d ++ codes " of them faulty" ++ 10 ∷ [])
     (decimal_digit 2 (omega arith))
@@ -136,7 +153,8 @@ own_summaries name summary = (refl, refl, refl)
 -- ---- where runs over files end early
 
 -- at one of the paths
-not_at_no_path : (order : List ℕ → Order) (known : List ℕ → AtPath) (error : RunError) (out err : Passage)
+not_at_no_path : (order : List ℕ → Order) (known : List ℕ → AtPath) (error : RunError)
+    (out err : Passage)
     → StopsAmong order known [] error out err → ⊥
 not_at_no_path order known error out err stops = no_cons stops.before stops.parted
   where
@@ -156,8 +174,10 @@ no_output_there : (order : Order) (path : List ℕ) (out err : Passage) → out.
 no_output_there order path out err before after begins =
     nothing begins.outputs.0
     (subst (λ text. codes "x" ≡ take begins.outputs.0 text) begins.is.0
-    (subst (λ (old : Option (List ℕ)). Appends old (Some (codes "x")) (take begins.outputs.0 begins.output)) before
-    (subst (λ (new : Option (List ℕ)). Appends out.old.bytes new (take begins.outputs.0 begins.output)) after begins.outputs.1)))
+    (subst (λ (old : Option (List ℕ)). Appends old (Some (codes "x"))
+    (take begins.outputs.0 begins.output)) before
+    (subst (λ (new : Option (List ℕ)). Appends out.old.bytes new
+    (take begins.outputs.0 begins.output)) after begins.outputs.1)))
   where
     nothing : (size : ℕ) → codes "x" ≡ take size [] → ⊥
     nothing zero is = cc
@@ -169,8 +189,10 @@ no_other_line : (order : Order) (path : List ℕ) (out err : Passage) → err.ol
 no_other_line order path out err before after begins =
     other begins.reports.0
     (subst (λ text. codes "x" ≡ take begins.reports.0 text) begins.is.1.is
-    (subst (λ (old : Option (List ℕ)). Appends old (Some (codes "x")) (take begins.reports.0 begins.report)) before
-    (subst (λ (new : Option (List ℕ)). Appends err.old.bytes new (take begins.reports.0 begins.report)) after begins.reports.1)))
+    (subst (λ (old : Option (List ℕ)). Appends old (Some (codes "x"))
+    (take begins.reports.0 begins.report)) before
+    (subst (λ (new : Option (List ℕ)). Appends err.old.bytes new
+    (take begins.reports.0 begins.report)) after begins.reports.1)))
   where
     line : List ℕ
     line = codes "pgn-extract: cannot open input: " ++ shown_name path ++ codes ": "
@@ -181,7 +203,8 @@ no_other_line order path out err before after begins =
     other (suc size) is = let clash : false ≡ true = ap (λ bytes. get_or bytes 0 0 == 112) is in cc
 
 -- before the first path nothing is written
-nothing_before : (order : List ℕ → Order) (known : List ℕ → AtPath) (path : List ℕ) (error : RunError) (out err : Passage)
+nothing_before : (order : List ℕ → Order) (known : List ℕ → AtPath) (path : List ℕ)
+    (error : RunError) (out err : Passage)
     → (stops : StopsAmong order known (path ∷ []) error out err)
     → Appends out.old.bytes stops.out_there.bytes []
 nothing_before order known path error out err stops = none stops.before stops.parted stops.whole
@@ -194,7 +217,8 @@ nothing_before order known path error out err stops = none stops.before stops.pa
         → WritesPaths order known before (record { old = out.old; new = stops.out_there })
         (record { old = err.old; new = stops.err_there })
         → Appends out.old.bytes stops.out_there.bytes []
-    none [] is whole = subst (λ text. Appends out.old.bytes stops.out_there.bytes text) whole.2.0 whole.3
+    none [] is whole = subst (λ text. Appends out.old.bytes stops.out_there.bytes text) whole.2.0
+        whole.3
     none (first ∷ more) is whole = absurd (no_more more (ap (drop 1) is))
 
 -- ---- marks

@@ -27,7 +27,8 @@ use Rattle.pgn_extract.specs.declared.settings.Select.TheVariants.{Faulty, Match
 fault_line_is : fault_text None 2 5 (codes "unreadable")
     ≡ codes "pgn-extract: game 2@5: unreadable" ++ 10 ∷ []
 fault_line_is =
-    ap (λ d. codes "pgn-extract: game " ++ (d ++ 64 ∷ decimal 5) ++ codes ": " ++ codes "unreadable" ++ 10 ∷ [])
+    ap (λ d. codes "pgn-extract: game " ++ (d ++ 64 ∷ decimal 5) ++ codes ": " ++ codes "unreadable"
+    ++ 10 ∷ [])
     (decimal_digit 2 (omega arith))
     ∙ ap (λ d. codes "pgn-extract: game 2@" ++ d ++ codes ": " ++ codes "unreadable" ++ 10 ∷ [])
     (decimal_digit 5 (omega arith))
@@ -114,7 +115,8 @@ no_fault_unsaid aim number offset parts text note (fault, first, is, noted, writ
 
 -- bytes that are no game are not sound
 not_sound : (aim : Aim) (number offset : ℕ) (bytes text : List ℕ)
-    → IsVerdict aim number (record { offset = offset; kind = UnreadableRest bytes }) (SoundGame text) → ⊥
+    → IsVerdict aim number (record { offset = offset; kind = UnreadableRest bytes })
+    (SoundGame text) → ⊥
 not_sound aim number offset bytes text (note, noted, names, is) = cc
 
 -- nothing is written of no piece

@@ -15,12 +15,22 @@ use Rattle.pgn_extract.specs.Public.Verdicts.{fault_lines, output_text}
 use Rattle.pgn_extract.specs.declared.output.outcome.Summary.{Summary}
 
 -- what is written of one path more
-pub paths_more : (order : List ℕ → Order) (known : List ℕ → AtPath) (before : List (List ℕ)) (path output report own own_report : List ℕ)
+pub paths_more : (order : List ℕ → Order) (known : List ℕ → AtPath) (before : List (List ℕ))
+    (path output report own own_report : List ℕ)
     → AreOfPaths order known before output report
     → IsOfPath (order path) path (known path) own own_report
     → AreOfPaths order known (before ++ path ∷ []) (output ++ own) (report ++ own_report)
-paths_more order known [] path output report own own_report are is =
-    (own, own_report, [], [], is, (refl, refl), ap (λ o. o ++ own) are.0 ∙ sym (append-nil own), ap (λ r. r ++ own_report) are.1 ∙ sym (append-nil own_report))
+paths_more order known [] path output report own own_report are is = (
+  own,
+  own_report,
+  [],
+  [],
+  is,
+  (refl, refl),
+  ap (λ o. o ++ own) are.0 ∙ sym (append-nil own),
+  ap
+      (λ r. r ++ own_report) are.1 ∙ sym (append-nil own_report),
+)
 paths_more order known (first ∷ more) path output report own own_report are is = (
   are.0,
   are.1,
@@ -41,29 +51,36 @@ path_there view all i d within =
     ∙ ap (λ path. take i (map view all) ++ path ∷ []) (get_or-map view all i d [] within)
 
 -- something is known of it
-pub known_there : {P : Type 0} (view : P → List ℕ) (all : List P) (i : ℕ) (d : P) (known now : List ℕ → AtPath) → ((path : List ℕ) → now path ≡ known path)
+pub known_there : {P : Type 0} (view : P → List ℕ) (all : List P) (i : ℕ) (d : P)
+    (known now : List ℕ → AtPath) → ((path : List ℕ) → now path ≡ known path)
     → i < length all → AreKnown known (map view all) → now (view (get_or all i d)) ≢ Unknown
 known_there view all i d known now same within are = λ unknown.
     let e : i < length (map view all) = subst (λ n. i < n) (sym (length-map all view)) within in
-    are i [] e (ap known (get_or-map view all i d [] within) ∙ sym (same (view (get_or all i d))) ∙ unknown)
+    are i [] e (ap known (get_or-map view all i d [] within) ∙ sym (same (view (get_or all i d))) ∙
+    unknown)
 
 -- what is written of it, after what is written of those before it
-pub written_there : {P : Type 0} (view : P → List ℕ) (all : List P) (i : ℕ) (d : P) (order order' : List ℕ → Order) (known known' : List ℕ → AtPath)
+pub written_there : {P : Type 0} (view : P → List ℕ) (all : List P) (i : ℕ) (d : P)
+    (order order' : List ℕ → Order) (known known' : List ℕ → AtPath)
     → ((path : List ℕ) → order' path ≡ order path) → ((path : List ℕ) → known' path ≡ known path)
     → i < length all
     → (output report own own_report : List ℕ)
     → AreOfPaths order known (take i (map view all)) output report
-    → IsOfPath (order' (view (get_or all i d))) (view (get_or all i d)) (known' (view (get_or all i d))) own own_report
+    → IsOfPath (order' (view (get_or all i d))) (view (get_or all i d))
+    (known' (view (get_or all i d))) own own_report
     → AreOfPaths order known (take (i + 1) (map view all)) (output ++ own) (report ++ own_report)
-written_there view all i d order order' known known' orders same within output report own own_report are is =
+written_there view all i d order order' known known' orders same within output report own own_report
+    are is =
     let path = view (get_or all i d) in
-    subst (λ paths. AreOfPaths order known paths (output ++ own) (report ++ own_report)) (sym (path_there view all i d within))
+    subst (λ paths. AreOfPaths order known paths (output ++ own) (report ++ own_report))
+    (sym (path_there view all i d within))
     (paths_more order known (take i (map view all)) path output report own own_report are
     (subst (λ (o : Order). IsOfPath o path (known path) own own_report) (orders path)
     (subst (λ (at : AtPath). IsOfPath (order' path) path at own own_report) (same path) is)))
 
 -- whether no file can be opened at one of the paths up to it
-pub unopened_there : {P : Type 0} (view : P → List ℕ) (all : List P) (i : ℕ) (d : P) (known known' : List ℕ → AtPath) → ((path : List ℕ) → known' path ≡ known path)
+pub unopened_there : {P : Type 0} (view : P → List ℕ) (all : List P) (i : ℕ) (d : P)
+    (known known' : List ℕ → AtPath) → ((path : List ℕ) → known' path ≡ known path)
     → i < length all → (was own now : Bool) → now ≡ was || own
     → was ≡ list_any (λ path. is_no_file (known path)) (take i (map view all))
     → own ≡ is_no_file (known' (view (get_or all i d)))
@@ -72,7 +89,8 @@ unopened_there view all i d known known' same within was own now is before here 
     let path = view (get_or all i d) in
     let test : List ℕ → Bool = λ path. is_no_file (known path) in
     is ∙ ap (λ b. b || own) before
-    ∙ ap (λ b. list_any test (take i (map view all)) || b) (here ∙ ap is_no_file (same path) ∙ sym (or-false (test path)))
+    ∙ ap (λ b. list_any test (take i (map view all)) || b)
+    (here ∙ ap is_no_file (same path) ∙ sym (or-false (test path)))
     ∙ sym (list_any-append test (take i (map view all)) (path ∷ []))
     ∙ ap (list_any test) (sym (path_there view all i d within))
 
@@ -113,7 +131,8 @@ taken_to end left taken limit P at same is =
     subst (λ n. IfSome (option_map (take n) left) P) at
     (subst (λ (bytes : Option (List ℕ)). IfSome (option_map (take limit) bytes) P) same is)
 
-read_out : (order : Order) (left : Option (List ℕ)) (io : Io) (summary : Summary) (err : Option (List ℕ))
+read_out : (order : Order) (left : Option (List ℕ)) (io : Io) (summary : Summary)
+    (err : Option (List ℕ))
     → IfSome (option_map (take order.end) left) (λ whole. Completes order.job io whole summary)
     → Appends io.err.new.bytes err (own_summary order.summary order.job.aim.name summary)
     → IfSome left (λ text. (output : List ℕ) × (report : List ℕ) × IsRead order text output report
@@ -124,11 +143,13 @@ read_out order (Some text) io summary err done after = (
   fault_lines done.verdicts ++ own_summary order.summary order.job.aim.name summary,
   read_of order text io summary done,
   done.written.output,
-  appends_join io.err.old.bytes io.err.new.bytes err (fault_lines done.verdicts) _ done.written.faults after,
+  appends_join io.err.old.bytes io.err.new.bytes err (fault_lines done.verdicts) _
+      done.written.faults after,
 )
 
 -- a run that came to the end of what an input gives before an end, and then its line
-pub read_to_end : (order : Order) (left taken : Option (List ℕ)) (limit : ℕ) (io : Io) (summary : Summary) (err : Option (List ℕ))
+pub read_to_end : (order : Order) (left taken : Option (List ℕ)) (limit : ℕ) (io : Io)
+    (summary : Summary) (err : Option (List ℕ))
     → limit ≡ order.end → taken ≡ left
     → IfSome (option_map (take limit) taken) (λ whole. Completes order.job io whole summary)
     → Appends io.err.new.bytes err (own_summary order.summary order.job.aim.name summary)
@@ -136,4 +157,5 @@ pub read_to_end : (order : Order) (left taken : Option (List ℕ)) (limit : ℕ)
     × Appends io.out.old.bytes io.out.new.bytes output × Appends io.err.old.bytes err report)
 read_to_end order left taken limit io summary err at same done after =
     read_out order left io summary err
-    (taken_to order.end left taken limit (λ whole. Completes order.job io whole summary) at same done) after
+    (taken_to order.end left taken limit (λ whole. Completes order.job io whole summary) at same
+    done) after

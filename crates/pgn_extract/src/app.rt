@@ -106,8 +106,7 @@ fn read_order<'a>(
 const CRITERIA_READ: usize = 65_537;
 
 /// The refusal of a file that could not be opened or read: with this line, unless memory ran out;
-/// where it is to be explained, with the
-/// file's name and the system's reason.
+/// where it is to be explained, with the file's name and the system's reason.
 fn refused_file(
     alloc: Global,
     error: &io::Error,
