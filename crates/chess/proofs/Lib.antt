@@ -67,6 +67,7 @@ pub mod Searches
 pub mod LegalSettled
 pub mod RefusalFacts
 pub mod RefusalExamples
+pub mod GoingExamples
 pub mod OnBoard
 pub mod NamedSettled
 pub mod MateSettled

@@ -1,8 +1,10 @@
--- What the definitions refuse: a reason that is not why a text names no legal move. Each clause of each reason is needed here.
-use Rattle.std.proofs.Common.{ℕ, List, Option, subst}
+-- What the definitions refuse: a reason that is not why a text names no legal move. Each clause of
+-- each reason is needed here. So a text is refused for one reason.
+use Rattle.std.proofs.Common.{ℕ, List, Option, inl, inr, refl, subst}
 use Rattle.chess.specs.Public.Positions.{State}
 use Rattle.chess.specs.Public.Refusals.{IsMeant, IsSomeCastlingText, becoming, CanGoAs, IsRefusal}
-use Rattle.chess.specs.Public.San.{Said, Spells, IsNamed}
+use Rattle.chess.specs.Public.Laws.{TextHasOneRefusal}
+use Rattle.chess.specs.Public.San.{Agrees, Said, Spells, IsNamed}
 use Rattle.chess.specs.declared.board.man.Kind.{Kind}
 use Rattle.chess.specs.declared.move_text.refusal.Refusal.TheVariants.{NoMoveText, NoCastling, CastlingAttacked, WrongPromotion, NoneCan, LeavesKingAttacked}
 use Rattle.chess.specs.declared.moves.Move.{Move}
@@ -61,3 +63,60 @@ no_legal_move_leaves P x m named (said, spells, meant, each) = named.legal.safe 
 
 no_king_left_by_none : (P : State) (x : List ℕ) → ((m : Move) → IsMeant P x m → ⊥) → IsRefusal P x LeavesKingAttacked → ⊥
 no_king_left_by_none P x none (said, spells, (m, meant), each) = none m meant
+
+-- where some man can go there, one can go as is said
+goes_as_said : (P : State) (x : List ℕ) (said : Said) → Spells x said
+    → ((m : Move) × IsMeant P x m) → CanGoAs P said
+goes_as_said P x said spells (m, (pseudo, inl (wing, castles, is))) =
+    absurd (not_both x wing said castles spells)
+goes_as_said P x said spells (m, (pseudo, inr (own, its, agrees))) =
+    (m, pseudo, subst (λ says. Agrees P says m) (one_said x own said its spells) agrees)
+
+-- so a text is refused for one reason
+pub one_reason : TextHasOneRefusal
+one_reason P x NoMoveText NoMoveText one other = refl
+one_reason P x NoMoveText NoCastling one other = absurd (one.0 other.0)
+one_reason P x NoMoveText CastlingAttacked one other = absurd (one.0 other.0)
+one_reason P x NoMoveText WrongPromotion one other = absurd (one.1 other.0 other.1)
+one_reason P x NoMoveText NoneCan one other = absurd (one.1 other.0 other.1)
+one_reason P x NoMoveText LeavesKingAttacked one other = absurd (one.1 other.0 other.1)
+one_reason P x NoCastling NoMoveText one other = absurd (other.0 one.0)
+one_reason P x NoCastling NoCastling one other = refl
+one_reason P x NoCastling CastlingAttacked one other = absurd (one.1 other.1.0 other.1.1)
+one_reason P x NoCastling WrongPromotion one other = absurd (no_promotion_castling P x one.0 other)
+one_reason P x NoCastling NoneCan one other = absurd (no_man_castling P x one.0 other)
+one_reason P x NoCastling LeavesKingAttacked one other = absurd (no_king_castling P x one.0 other)
+one_reason P x CastlingAttacked NoMoveText one other = absurd (other.0 one.0)
+one_reason P x CastlingAttacked NoCastling one other = absurd (other.1 one.1.0 one.1.1)
+one_reason P x CastlingAttacked CastlingAttacked one other = refl
+one_reason P x CastlingAttacked WrongPromotion one other =
+    absurd (no_promotion_castling P x one.0 other)
+one_reason P x CastlingAttacked NoneCan one other = absurd (no_man_castling P x one.0 other)
+one_reason P x CastlingAttacked LeavesKingAttacked one other =
+    absurd (no_king_castling P x one.0 other)
+one_reason P x WrongPromotion NoMoveText one other = absurd (other.1 one.0 one.1)
+one_reason P x WrongPromotion NoCastling one other = absurd (no_promotion_castling P x other.0 one)
+one_reason P x WrongPromotion CastlingAttacked one other =
+    absurd (no_promotion_castling P x other.0 one)
+one_reason P x WrongPromotion WrongPromotion one other = refl
+one_reason P x WrongPromotion NoneCan one other =
+    absurd (no_promotion_helps P x other.0 other.1 other.2 one)
+one_reason P x WrongPromotion LeavesKingAttacked one other =
+    absurd (no_right_promotion P x other.0 other.1 (goes_as_said P x other.0 other.1 other.2) one)
+one_reason P x NoneCan NoMoveText one other = absurd (other.1 one.0 one.1)
+one_reason P x NoneCan NoCastling one other = absurd (no_man_castling P x other.0 one)
+one_reason P x NoneCan CastlingAttacked one other = absurd (no_man_castling P x other.0 one)
+one_reason P x NoneCan WrongPromotion one other =
+    absurd (no_promotion_helps P x one.0 one.1 one.2 other)
+one_reason P x NoneCan NoneCan one other = refl
+one_reason P x NoneCan LeavesKingAttacked one other =
+    absurd (no_man_that_goes P x other.0 other.0.promote other.1 (goes_as_said P x other.0 other.1 other.2) one)
+one_reason P x LeavesKingAttacked NoMoveText one other = absurd (other.1 one.0 one.1)
+one_reason P x LeavesKingAttacked NoCastling one other = absurd (no_king_castling P x other.0 one)
+one_reason P x LeavesKingAttacked CastlingAttacked one other =
+    absurd (no_king_castling P x other.0 one)
+one_reason P x LeavesKingAttacked WrongPromotion one other =
+    absurd (no_right_promotion P x one.0 one.1 (goes_as_said P x one.0 one.1 one.2) other)
+one_reason P x LeavesKingAttacked NoneCan one other =
+    absurd (no_man_that_goes P x one.0 one.0.promote one.1 (goes_as_said P x one.0 one.1 one.2) other)
+one_reason P x LeavesKingAttacked LeavesKingAttacked one other = refl

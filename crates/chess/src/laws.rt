@@ -1,6 +1,7 @@
-//! What holds of every text and position, whatever reads it. Each law is the contract of a function that does nothing.
+//! What holds of every text and position, whatever reads it. Each law is the contract of a function
+//! that does nothing.
 
-ghost use Rattle.chess.specs.Public.Laws.{TextSpellsOnePosition, TextHasOneAnswer, SoundPositionsAreRead, FenIsReadBack, PositionHasOneText, EachPositionHasAText, InitialPositionIsOne, InitialPositionIsSound, MovesKeepPositionsSound, SanNamesItsMove, MoveHasOneText, EachMoveHasAText, EachTextNamesOneNoneOrSeveral, SpelledMenAreOnBoard, MenStayOnBoard, EachTextIsReadOrRefused};
+ghost use Rattle.chess.specs.Public.Laws.{TextSpellsOnePosition, TextHasOneAnswer, SoundPositionsAreRead, FenIsReadBack, PositionHasOneText, EachPositionHasAText, InitialPositionIsOne, InitialPositionIsSound, MovesKeepPositionsSound, SanNamesItsMove, MoveHasOneText, EachMoveHasAText, EachTextNamesOneNoneOrSeveral, SpelledMenAreOnBoard, MenStayOnBoard, EachTextIsReadOrRefused, TextHasOneRefusal};
 
 /// A text spells at most one position in FEN, and none that is refused.
 pub fn one_position()
@@ -8,8 +9,9 @@ pub fn one_position()
     ensures apart { TextHasOneAnswer }
 {}
 
-/// A position has one text in FEN: the one that `fen` writes. Of a sound position it is read back, so that `from_fen` answers
-/// the position that `fen` has written; and a text is read exactly where the position that it spells is sound.
+/// A position has one text in FEN: the one that `fen` writes. Of a sound position it is read back,
+/// so that `from_fen` answers the position that `fen` has written; and a text is read exactly where
+/// the position that it spells is sound.
 pub fn fen_is_read_back()
     ensures one { PositionHasOneText }
     ensures some { EachPositionHasAText }
@@ -28,7 +30,8 @@ pub fn positions_are_sound()
     ensures after { MovesKeepPositionsSound }
 {}
 
-/// The text of a legal move in standard algebraic notation names that move and no other, so that `resolve` reads what `san` writes.
+/// The text of a legal move in standard algebraic notation names that move and no other, so that
+/// `resolve` reads what `san` writes.
 pub fn san_is_read_back()
     ensures { SanNamesItsMove }
 {}
@@ -38,16 +41,20 @@ pub fn one_text()
     ensures { MoveHasOneText }
 {}
 
-/// A legal move has a text in standard algebraic notation, in each position whose men stand on the board alone.
+/// A legal move has a text in standard algebraic notation, in each position whose men stand on the
+/// board alone.
 pub fn a_text()
     ensures { EachMoveHasAText }
 {}
 
-/// Each text names one legal move alone, or none, or several, in each position whose men stand on the board alone, as they do in each sound
-/// position, in each that FEN spells, and after each legal move in such a position. And each text is read as FEN, or refused.
+/// Each text names one legal move alone, or none, or several, in each position whose men stand on
+/// the board alone, as they do in each sound position, in each that FEN spells, and after each
+/// legal move in such a position. A text that names none is refused for one reason. And each text
+/// is read as FEN, or refused.
 pub fn an_answer()
     ensures word { EachTextNamesOneNoneOrSeveral }
     ensures spelled { SpelledMenAreOnBoard }
     ensures after { MenStayOnBoard }
+    ensures refusal { TextHasOneRefusal }
     ensures fen { EachTextIsReadOrRefused }
 {}

@@ -5,8 +5,10 @@ use Rattle.chess.specs.Public.Positions.{State, IsSound}
 use Rattle.chess.specs.Public.Moves.{IsLegal, after}
 use Rattle.chess.specs.Public.Start.{initial, IsInitial}
 use Rattle.chess.specs.Public.San.{IsSan, IsNamed, IsOnlyNamed}
+use Rattle.chess.specs.Public.Refusals.{IsRefusal}
 use Rattle.chess.specs.Public.Fen.{SpellsPosition, ReadsFen, IsRefused, IsFen}
 use Rattle.chess.specs.declared.fen.FenError.{FenError}
+use Rattle.chess.specs.declared.move_text.refusal.Refusal.{Refusal}
 use Rattle.chess.specs.declared.moves.Move.{Move}
 
 -- a text spells at most one position
@@ -80,3 +82,9 @@ MenStayOnBoard = (P : State) (m : Move) → AreOnBoard P.men → IsLegal P m →
 -- each text is read as a position in FEN, or refused
 abbrev pub EachTextIsReadOrRefused : Type 0
 EachTextIsReadOrRefused = (x : List ℕ) → ((P : State) × ReadsFen x P) ⊎ ((error : FenError) × IsRefused x error)
+
+-- a text that names no legal move is refused for one reason
+abbrev pub TextHasOneRefusal : Type 0
+TextHasOneRefusal =
+    (P : State) (x : List ℕ) (refusal other : Refusal) → IsRefusal P x refusal → IsRefusal P x other
+    → refusal ≡ other
