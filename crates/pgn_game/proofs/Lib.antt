@@ -48,3 +48,5 @@ pub mod RecordWriting
 pub mod SomeRecord
 pub mod PackRoom
 pub mod PackExamples
+pub mod ExportRows
+pub mod PackRows

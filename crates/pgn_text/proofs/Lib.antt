@@ -2,6 +2,7 @@ pub mod BlockCuts
 pub mod BlockSizes
 pub mod Braces
 pub mod ByteFronts
+pub mod ByteRows
 pub mod Classes
 pub mod Contents
 pub mod CutOff
@@ -18,6 +19,7 @@ pub mod Fronts
 pub mod Furthest
 pub mod GameFronts
 pub mod GameLeads
+pub mod GameRows
 pub mod Gaps
 pub mod Gives
 pub mod GivesMarks

@@ -1,0 +1,143 @@
+-- Worked rows of lines, values, marks and men of criteria; and what these definitions refuse.
+use Rattle.std.proofs.Common.{◌≡◌, ◌+◌, ◌∙◌, ℕ, zero, suc, true, false, List, [], ◌∷◌, codes, None, Some, inl, inr, refl, sym, subst, arith}
+use Rattle.std.specs.List.{filter, slice_get}
+use Rattle.std.specs.declared.cmp.Ordering.TheVariants as order
+use Rattle.chess.specs.Public.Fen.{row}
+use Rattle.chess.specs.Public.Placements.{Placement}
+use Rattle.chess.specs.Public.Positions.{State, king_of, pawn_of}
+use Rattle.chess.specs.declared.board.man.Kind.{Kind}
+use Rattle.chess.specs.declared.board.man.Side.{Side}
+use Rattle.chess.specs.declared.board.man.Side.TheVariants.{White, Black}
+use Rattle.pgn_game.specs.Public.Replays.{Replay}
+use Rattle.pgn_criteria.specs.Public.ByMarks.{first_place, place_of_marks}
+use Rattle.pgn_criteria.specs.Public.Comparing.{is_number, order_by}
+use Rattle.pgn_criteria.specs.Public.Lines.{AreBlanks, side_text, comparison_text, is_move_byte, Spells, onto_first}
+use Rattle.pgn_criteria.specs.Public.Materials.{Allows, FitsSide, FitsMaterial, count_of, limit_of, squares_to}
+use Rattle.pgn_criteria.specs.Public.Meeting.{Heading, Holds, IsSo, Taken}
+use Rattle.pgn_criteria.specs.Public.Mirrors.{FitsEitherWay, flipped_men, other_man}
+use Rattle.pgn_criteria.specs.Public.MoveTexts.{FitsMove}
+use Rattle.pgn_criteria.specs.Public.Patterns.{AreRanks, FitRanks, FitsPattern, IsPattern}
+use Rattle.pgn_criteria.specs.declared.compare.Comparison.TheVariants as compared
+use Rattle.pgn_criteria.specs.declared.condition.Condition.{Condition}
+use Rattle.pgn_criteria.specs.declared.line.Meaning.TheVariants.{Nothing, Or}
+use Rattle.pgn_criteria.specs.declared.material.Limits.{Limits}
+
+-- Lines.
+
+no_letter_is_blank : AreBlanks (codes " a") → ⊥
+no_letter_is_blank are = cc
+
+names_of_sides : side_text White ∷ side_text Black ∷ [] ≡ codes "white" ∷ codes "black" ∷ []
+names_of_sides = refl
+
+signs_of_comparisons :
+    comparison_text compared.Equal ∷ comparison_text compared.Unequal
+    ∷ comparison_text compared.Less
+    ∷ comparison_text compared.LessOrEqual ∷ comparison_text compared.Greater
+    ∷ comparison_text compared.GreaterOrEqual ∷ []
+    ≡ codes "=" ∷ codes "<>" ∷ codes "<" ∷ codes "<=" ∷ codes ">" ∷ codes ">=" ∷ []
+signs_of_comparisons = refl
+
+-- so many numbers in a row
+abbrev numbers : ℕ → ℕ → List ℕ
+numbers first zero = []
+numbers first (suc count) = first ∷ numbers (first + 1) count
+
+bytes_of_moves :
+    filter is_move_byte (numbers 0 256)
+    ≡ codes "-0123456789=ABCDEFGHIJKLMNOPQRSTUVWXYZabcdefghijklmnopqrstuvwxyz"
+bytes_of_moves = refl
+
+no_word_is_nothing : Spells (codes "x") Nothing → ⊥
+no_word_is_nothing spells = elim spells [ inl none ↦ cc | inr comment ↦ let is = comment.1 in cc ]
+
+no_or_of_nothing : Spells [] Or → ⊥
+no_or_of_nothing spells = cc
+
+condition_begins : (condition : Condition (List ℕ)) → onto_first condition [] ≡ (condition ∷ [])
+    ∷ []
+condition_begins condition = refl
+
+condition_comes_first : (first second : Condition (List ℕ))
+    → onto_first first ((second ∷ []) ∷ [] ∷ []) ≡ (first ∷ second ∷ []) ∷ [] ∷ []
+condition_comes_first first second = refl
+
+-- Values.
+
+digits_are_a_number : is_number (codes "007") ≡ true
+digits_are_a_number = refl
+
+no_number_of_other_bytes : is_number (codes "1.0") ∷ is_number [] ∷ [] ≡ false ∷ false ∷ []
+no_number_of_other_bytes = refl
+
+numbers_are_ordered : order_by (Some 9) (Some 10) order.Greater ≡ order.Less
+numbers_are_ordered = refl
+
+bytes_are_ordered :
+    order_by (Some 9) None order.Greater ∷ order_by None (Some 9) order.Less ∷ []
+    ≡ order.Greater ∷ order.Less ∷ []
+bytes_are_ordered = refl
+
+-- Marks.
+
+places_of_sides : first_place White ∷ first_place Black ∷ [] ≡ 0 ∷ 4 ∷ []
+places_of_sides = refl
+
+places_of_marks :
+    place_of_marks White true false ∷ place_of_marks White false true
+    ∷ place_of_marks Black true true
+    ∷ [] ≡ 1 ∷ 2 ∷ 7 ∷ []
+places_of_marks = refl
+
+-- Men.
+
+king_of_the_other_side : other_man (king_of White) ∷ other_man (pawn_of Black) ∷ []
+    ≡ king_of Black ∷ pawn_of White ∷ []
+king_of_the_other_side = refl
+
+squares_of_a_rank : (men : Placement) → squares_to men 1 ≡ row men 1
+unfolding squares_to
+squares_of_a_rank men = refl
+
+no_more_men_of_a_side : (men : Placement) (side : Side) (limits : Limits) (kind : Kind)
+    → (Allows (limit_of limits kind) (count_of men (record { side = side; kind = kind })) → ⊥)
+    → FitsSide men side limits → ⊥
+no_more_men_of_a_side men side limits kind many fits = many (fits kind)
+
+no_side_is_free : (men : Placement) (white black : Limits) → (FitsSide men Black black → ⊥)
+    → FitsMaterial men white black → ⊥
+no_side_is_free men white black many fits = many fits.1
+
+no_rank_left_out : (men : Placement) → FitRanks men 1 [] → ⊥
+no_rank_left_out men fits = omega (arith, fits)
+
+no_position_of_one_rank : (men : Placement) → FitsPattern men (codes "8") → ⊥
+no_position_of_one_rank men fits = omega (arith, fits.2)
+
+no_ranks_missing : AreRanks 1 [] → ⊥
+no_ranks_missing are = omega (arith, are)
+
+no_pattern_of_one_rank : IsPattern (codes "8") → ⊥
+no_pattern_of_one_rank is = omega (arith, is.2)
+
+no_third_way : (men : Placement) (pattern : List ℕ) → (FitsPattern men pattern → ⊥)
+    → (FitsPattern (flipped_men men) pattern → ⊥) → FitsEitherWay men pattern → ⊥
+no_third_way men pattern other flipped fits =
+    elim fits [ inl own ↦ other own | inr turned ↦ flipped turned ]
+
+-- Games.
+
+no_move_after_the_last : (replay : Replay) (plies : ℕ) (word : List ℕ)
+    → slice_get replay.played plies ≡ None
+    → FitsMove replay plies word → ⊥
+no_move_after_the_last replay plies word none fits = let both : Some fits.move
+    ≡ None = sym fits.played ∙ none in cc
+
+no_fact_is_denied : (fact : Type 0) → fact → Taken true fact → ⊥
+no_fact_is_denied fact so denied = denied so
+
+no_claim_is_left_out : (heading : Heading) (replay : Replay) (ply : ℕ) (P : State)
+    (condition : Condition (List ℕ)) → condition.is_denied ≡ false
+    → (IsSo heading replay ply P condition.claim → ⊥) → Holds heading replay ply P condition → ⊥
+no_claim_is_left_out heading replay ply P condition own wrong holds =
+    wrong (subst (λ denied. Taken denied (IsSo heading replay ply P condition.claim)) own holds)

@@ -1,0 +1,265 @@
+-- Worked rows of exports: tags, comments, tokens in lines, and games on a line; and what these
+-- definitions refuse.
+use Rattle.std.proofs.Common.{◌≡◌, ◌≢◌, ◌<◌, ◌+◌, ◌-◌, ◌∙◌, ℕ, decimal, flat_map, Bool, true, false, List, [], ◌∷◌, ◌++◌, length, codes, Option, None, Some, ap, refl, sym, arith}
+use Rattle.chess.specs.Public.Positions.{State, IsCheck}
+use Rattle.chess.specs.Public.Start.{initial}
+use Rattle.chess.specs.declared.board.man.Kind.TheVariants.{Knight}
+use Rattle.chess.specs.declared.board.man.Side.TheVariants.{White, Black}
+use Rattle.chess.specs.declared.moves.Move.{Move}
+use Rattle.pgn_text.specs.Public.Games.{Item, MoveText, CommentText, VariationOpen, VariationClose}
+use Rattle.pgn_text.specs.Public.Strings.{Sign, Single, Escaped, spelled_sign, value_of_sign}
+use Rattle.pgn_game.specs.Public.AllLines.{LineEnd, ThenGlyph, SaysTurn}
+use Rattle.pgn_game.specs.Public.Comments.{in_first, cut_at_white, words_in, closed, braced, comment_tokens}
+use Rattle.pgn_game.specs.Public.Exports.{number_tokens, IsTurnText, kept, AreTokens}
+use Rattle.pgn_game.specs.Public.GameLines.{unspaced, IsStartText, promotion_letter, uci_text, IsMoveText, AreMoveTexts}
+use Rattle.pgn_game.specs.Public.GameLines.IsStartText.{as_initial, as_fen}
+use Rattle.pgn_game.specs.Public.Openings.{IsBeginning}
+use Rattle.pgn_game.specs.Public.PlayedLines as played
+use Rattle.pgn_game.specs.Public.Refusals.{PlayedLine, played_items, after_move, in_its_place, is_variation, LeadTo, IsPlayedThere}
+use Rattle.pgn_game.specs.Public.Replays.{Replay, IsMainReplay}
+use Rattle.pgn_game.specs.Public.TagLines.{roster, missing_text, escaped, IsValueText, IsTagText, tag_line, IsLineOf, AreLinesOf}
+use Rattle.pgn_game.specs.Public.TextLines.{joined, tokens_of, text_of, IsLine, IsFull, AreLines}
+use Rattle.pgn_game.specs.declared.exports.notation.Notation.{Notation}
+use Rattle.pgn_game.specs.declared.exports.notation.Notation.TheVariants.{Uci}
+use Rattle.pgn_game.specs.declared.exports.style.Style.{Style}
+use Rattle.pgn_game.specs.declared.replays.replayer.Lines.TheVariants.{Main, All}
+use Rattle.pgn_game.specs.declared.turns.line_move.LineMove.{LineMove}
+use Rattle.pgn_game.specs.declared.turns.line_move.LineMove.TheVariants.{Played, Passed}
+
+-- Lines that are played.
+
+no_pass_in_check : (now : State) (word : List ℕ) → IsCheck now.men now.turn
+    → SaysTurn true now word Passed → ⊥
+no_pass_in_check now word check says = says check
+
+no_pass_outside : (now : State) (word : List ℕ) → SaysTurn false now word Passed → ⊥
+no_pass_outside now word says = says
+
+no_move_of_a_pass : (now : State) (word : List ℕ) (m : Move) → SaysTurn true now word (Played m) → ⊥
+no_move_of_a_pass now word m says = says
+
+no_turns_of_main_lines : (fen : Option (List ℕ)) (items : List Item) (replay : Replay)
+    → replay.turns ≢ [] → IsMainReplay fen items replay → ⊥
+no_turns_of_main_lines fen items replay some is = some is.turns
+
+no_word_where_none_is : (old new : played.PlayedLine) → old.words ≡ []
+    → played.PlaysWord old new → ⊥
+no_word_where_none_is old new none plays = let both = sym none ∙ plays.words in cc
+
+no_ply_uncounted : (old new : played.PlayedLine) → new.plies ≡ old.plies
+    → played.PlaysWord old new → ⊥
+no_ply_uncounted old new same plays = omega (arith, same, plays.plies)
+
+no_ply_past_the_most : (start : State) (words : List (List ℕ)) (most : ℕ) (opening : Replay)
+    → most < length opening.played → IsBeginning start words most opening → ⊥
+no_ply_past_the_most start words most opening more is = omega (arith, more, is.few)
+
+-- Words that are refused: which are played before them.
+
+-- e4 e5 (d5) with a comment
+abbrev some_items : List Item
+some_items =
+    MoveText (codes "e4") ∷ MoveText (codes "e5") ∷ VariationOpen ∷ MoveText (codes "d5")
+    ∷ VariationClose ∷ CommentText (codes "x") ∷ []
+
+main_line_is_played : played_items Main some_items 0 ≡ MoveText (codes "e4")
+    ∷ MoveText (codes "e5") ∷ []
+main_line_is_played = refl
+
+all_lines_are_played : played_items All some_items 0 ≡ some_items
+all_lines_are_played = refl
+
+line_goes_on : (line : PlayedLine) (turn : LineMove) → (after_move line turn).before ≡ line.now
+line_goes_on line turn = refl
+
+ply_is_counted : (line : PlayedLine) (turn : LineMove) → (after_move line turn).plies
+    ≡ line.plies + 1
+ply_is_counted line turn = refl
+
+variation_goes_back : (line : PlayedLine)
+    → in_its_place line ≡ record { before = line.before; now = line.before; plies = line.plies - 1 }
+variation_goes_back line = refl
+
+main_line_is_no_variation : is_variation [] ≡ false
+main_line_is_no_variation = refl
+
+line_in_another_is_one : (line : PlayedLine) → is_variation (line ∷ []) ≡ true
+line_in_another_is_one line = refl
+
+no_variation_of_none : (line last : PlayedLine) → LeadTo [] line [] true last → ⊥
+no_variation_of_none line last lead = let inside = lead.0 in cc
+
+no_other_line : (line last : PlayedLine) → last ≢ line → LeadTo [] line [] false last → ⊥
+no_other_line line last other lead = other lead.1
+
+no_word_of_a_variation : IsPlayedThere Main (VariationOpen ∷ []) 1 → ⊥
+no_word_of_a_variation there = let played = there (codes "e4") in cc
+
+-- Tags.
+
+names_of_the_roster : roster ≡ codes "Event" ∷ codes "Site" ∷ codes "Date" ∷ codes "Round"
+    ∷ codes "White"
+    ∷ codes "Black" ∷ codes "Result" ∷ []
+names_of_the_roster = refl
+
+result_stands_for_itself : missing_text (codes "1-0") (codes "Result") ≡ codes "1-0"
+result_stands_for_itself = refl
+
+date_is_unknown : missing_text (codes "1-0") (codes "Date") ≡ codes "????.??.??"
+date_is_unknown = refl
+
+player_is_unknown : missing_text (codes "1-0") (codes "White") ≡ codes "?"
+player_is_unknown = refl
+
+line_of_a_tag : tag_line (codes "Round") (codes "3") ≡ codes "[Round " ++ 34 ∷ 51 ∷ 34 ∷ 93 ∷ 10
+    ∷ []
+line_of_a_tag = refl
+
+no_text_for_a_missing_tag : IsTagText None (codes "?") (codes "x") → ⊥
+no_text_for_a_missing_tag is = cc
+
+no_value_of_no_contents : IsValueText [] (codes "x") → ⊥
+no_value_of_no_contents (value, (signs, is), text) = none signs is.spells is.gives text
+  where
+    none : (signs : List Sign) → [] ≡ flat_map spelled_sign signs → value
+        ≡ flat_map value_of_sign signs
+        → codes "x" ≡ flat_map escaped value → ⊥
+    none [] spells gives text = let same = ap (flat_map escaped) gives in cc
+    none (Single b ∷ more) spells gives text = cc
+    none (Escaped b ∷ more) spells gives text = cc
+
+no_line_without_a_bracket : IsLineOf (codes "*") (codes "Event") None (codes "x") → ⊥
+no_line_without_a_bracket (text, is, line) = cc
+
+no_line_of_no_tag : AreLinesOf [] (codes "*") [] (codes "x") → ⊥
+no_line_of_no_tag are = cc
+
+-- Comments.
+
+byte_before_a_word : in_first 97 (codes "b" ∷ codes "c" ∷ []) ≡ codes "ab" ∷ codes "c" ∷ []
+byte_before_a_word = refl
+
+text_is_cut : cut_at_white (codes "a  b") ≡ codes "a" ∷ [] ∷ codes "b" ∷ []
+text_is_cut = refl
+
+words_of_a_text : words_in (codes " ab  c ") ≡ codes "ab" ∷ codes "c" ∷ []
+words_of_a_text = refl
+
+brace_is_closed : closed (codes "a" ∷ codes "b" ∷ []) ≡ codes "a" ∷ codes "b}" ∷ []
+brace_is_closed = refl
+
+empty_comment : braced [] ≡ codes "{}" ∷ []
+empty_comment = refl
+
+words_in_braces : braced (codes "a}" ∷ codes "b" ∷ []) ≡ codes "{a)" ∷ codes "b}" ∷ []
+words_in_braces = refl
+
+-- no later word begins an event line or an escape
+tokens_of_a_comment : comment_tokens (codes "%a [Event %b [Events") ≡ codes "{%a"
+    ∷ codes "(Event" ∷ codes "(%b"
+    ∷ codes "[Events}" ∷ []
+tokens_of_a_comment = refl
+
+-- Tokens in lines.
+
+tokens_with_spaces : joined (codes "1." ∷ codes "e4" ∷ codes "*" ∷ []) ≡ codes "1. e4 *"
+tokens_with_spaces = refl
+
+tokens_of_lines : tokens_of ((codes "1." ∷ codes "e4" ∷ []) ∷ (codes "*" ∷ []) ∷ [])
+    ≡ codes "1." ∷ codes "e4"
+    ∷ codes "*" ∷ []
+tokens_of_lines = refl
+
+lines_one_below_another :
+    text_of ((codes "1." ∷ codes "e4" ∷ []) ∷ (codes "*" ∷ []) ∷ []) ≡ codes "1. e4" ++ 10 ∷ 42
+    ∷ 10 ∷ []
+lines_one_below_another = refl
+
+no_empty_line : (width : ℕ) → IsLine width [] → ⊥
+no_empty_line width line = line
+
+no_line_past_the_width : IsLine 4 (codes "1." ∷ codes "e4" ∷ []) → ⊥
+no_line_past_the_width line = omega (arith, line)
+
+no_line_that_takes_more : IsFull 5 (codes "1." ∷ []) ((codes "e4" ∷ []) ∷ []) → ⊥
+no_line_that_takes_more full = omega (arith, full)
+
+no_lines_past_the_width : AreLines 4 ((codes "1." ∷ codes "e4" ∷ []) ∷ []) → ⊥
+no_lines_past_the_width are = omega (arith, are.0)
+
+no_lines_that_take_more : AreLines 5 ((codes "1." ∷ []) ∷ (codes "e4" ∷ []) ∷ []) → ⊥
+no_lines_that_take_more are = omega (arith, are.1)
+
+-- The movetext.
+
+number_of_white : number_tokens White 12 false ≡ (decimal 12 ++ codes ".") ∷ []
+number_of_white = refl
+
+number_of_black_apart : number_tokens Black 12 true ≡ (decimal 12 ++ codes "...") ∷ []
+number_of_black_apart = refl
+
+no_number_of_black : number_tokens Black 12 false ≡ []
+no_number_of_black = refl
+
+no_text_of_a_pass : (now : State) → IsTurnText now Passed (codes "x") → ⊥
+no_text_of_a_pass now is = cc
+
+tokens_are_kept : kept true (codes "a" ∷ []) ≡ codes "a" ∷ []
+tokens_are_kept = refl
+
+tokens_are_left_out : kept false (codes "a" ∷ []) ≡ []
+tokens_are_left_out = refl
+
+no_token_of_no_line : (style : Style) (now : State)
+    → AreTokens style false now now true LineEnd (codes "x" ∷ []) → ⊥
+no_token_of_no_line style now are = cc
+
+no_glyph_is_lost : (style : Style) (now : State) → style.glyphs ≡ true
+    → AreTokens style false now now true (ThenGlyph 1 LineEnd) [] → ⊥
+no_glyph_is_lost style now keeps (more, tokens, rest) = by style.glyphs keeps tokens
+  where
+    by : (glyphs : Bool) → glyphs ≡ true → [] ≡ kept glyphs ((36 ∷ decimal 1) ∷ []) ++ more → ⊥
+    by true keeps tokens = cc
+    by false keeps tokens = cc
+
+-- Games on a line.
+
+spaces_of_positions : unspaced 32 ∷ unspaced 47 ∷ [] ≡ codes "_/"
+spaces_of_positions = refl
+
+no_text_of_the_first_position : (start : State) → start ≡ initial
+    → IsStartText start (codes "x") → ⊥
+no_text_of_the_first_position start first of = none of
+  where
+    no_dash : codes "x" ≡ codes "-" → ⊥
+    no_dash text = cc
+
+    none : IsStartText start (codes "x") → ⊥
+    none (as_initial is text) = no_dash text
+    none (as_fen other fen is text) = other first
+
+knight_in_lower_case : promotion_letter (Some Knight) ≡ codes "n"
+knight_in_lower_case = refl
+
+nothing_becomes_nothing : promotion_letter None ≡ []
+nothing_becomes_nothing = refl
+
+-- e7 to e8, where the pawn becomes a knight
+abbrev some_promotion : Move
+some_promotion =
+    record {
+      from = record { file = 5; rank = 7 };
+      to = record { file = 5; rank = 8 };
+      promote = Some Knight;
+      castle = None;
+    }
+
+squares_and_letter : uci_text some_promotion ≡ codes "e7e8n"
+squares_and_letter = refl
+
+no_other_text_of_it : (now : State) → IsMoveText Uci now some_promotion (codes "e7e8") → ⊥
+no_other_text_of_it now is = cc
+
+no_text_of_no_move : (notation : Notation) (now : State)
+    → AreMoveTexts notation now [] (codes "x") → ⊥
+no_text_of_no_move notation now are = cc

@@ -1,0 +1,187 @@
+-- Worked rows of the parts of codes and of records; and what these definitions refuse.
+use Rattle.std.proofs.Common.{◌≡◌, ◌≤◌, ◌+◌, ◌^◌, ◌∙◌, ℕ, true, false, List, [], ◌∷◌, ◌++◌, length, codes, Option, None, Some, Ok, Err, ap, refl, sym, arith}
+use Rattle.std.proofs.lemmas.List.{append-nil, length-append}
+use Rattle.std.specs.Int.{w32}
+use Rattle.chess.specs.Public.Moves.{IsLegal, after}
+use Rattle.chess.specs.Public.Positions.{State, king_of, pawn_of}
+use Rattle.chess.specs.declared.board.man.Kind.TheVariants.{King, Queen, Rook, Bishop, Knight, Pawn}
+use Rattle.chess.specs.declared.board.man.Side.TheVariants.{White, Black}
+use Rattle.chess.specs.declared.board.man.Wing.TheVariants.{KingSide, QueenSide}
+use Rattle.chess.specs.declared.moves.Move.{Move}
+use Rattle.pgn_text.specs.Public.Limits.{largest_offset}
+use Rattle.pgn_game.specs.Public.CodeLines.{AreLegalMoves, positions_from}
+use Rattle.pgn_game.specs.Public.PackReading.{and_then, number_at, text_at, name_at, tag_at, after_tag, after_tags, body_at}
+use Rattle.pgn_game.specs.Public.PackStreams.{Window, HasNoRecord, PassesOn, BreaksOff, IsPastEnd}
+use Rattle.pgn_game.specs.Public.PackedGames.{Tag, PackedGame, FitsRecord, FitsTag, record_bytes, with_length, tag_bytes, named_number, name_bytes, tail_bytes, body_bytes, name_size, tags_size}
+use Rattle.pgn_game.specs.Public.PlyCodes.{PlyCode, AreCodes, bit, marks_number, kind_number, side_number, castle_number, man_number, numbered_kind}
+use Rattle.pgn_game.specs.declared.pack.error.RecordError.TheVariants.{CutShort, PartOfPly}
+
+-- Codes.
+
+marks_as_bits : bit false ∷ bit true ∷ [] ≡ 0 ∷ 1 ∷ []
+marks_as_bits = refl
+
+marks_together : marks_number true false ∷ marks_number false true ∷ marks_number true true ∷ []
+    ≡ 1 ∷ 2 ∷ 3 ∷ []
+marks_together = refl
+
+kinds_in_order :
+    kind_number King ∷ kind_number Queen ∷ kind_number Rook ∷ kind_number Bishop
+    ∷ kind_number Knight
+    ∷ kind_number Pawn ∷ [] ≡ 0 ∷ 1 ∷ 2 ∷ 3 ∷ 4 ∷ 5 ∷ []
+kinds_in_order = refl
+
+numbers_of_kinds :
+    numbered_kind 0 ∷ numbered_kind 1 ∷ numbered_kind 2 ∷ numbered_kind 3 ∷ numbered_kind 4
+    ∷ numbered_kind 5 ∷ [] ≡ King ∷ Queen ∷ Rook ∷ Bishop ∷ Knight ∷ Pawn ∷ []
+numbers_of_kinds = refl
+
+sides_in_order : side_number White ∷ side_number Black ∷ [] ≡ 0 ∷ 6 ∷ []
+sides_in_order = refl
+
+kings_that_castle :
+    castle_number White KingSide ∷ castle_number White QueenSide ∷ castle_number Black KingSide
+    ∷ castle_number Black QueenSide ∷ [] ≡ 12 ∷ 13 ∷ 14 ∷ 15 ∷ []
+kings_that_castle = refl
+
+men_and_kings :
+    man_number (pawn_of Black) None ∷ man_number (king_of Black) (Some QueenSide) ∷ [] ≡ 11 ∷ 15
+    ∷ []
+men_and_kings = refl
+
+no_code_of_no_move : (P : State) (c : PlyCode) → AreCodes P [] (c ∷ []) → ⊥
+no_code_of_no_move P c are = cc
+
+no_illegal_move : (P : State) (m : Move) → (IsLegal P m → ⊥) → AreLegalMoves P (m ∷ []) → ⊥
+no_illegal_move P m illegal legal = illegal legal.0
+
+positions_of_a_move : (P : State) (m : Move) → positions_from P (m ∷ []) ≡ P ∷ after P m ∷ []
+positions_of_a_move P m = refl
+
+-- Records.
+
+-- the tag `A` with the contents `bc`
+abbrev one_tag : Tag
+one_tag = (codes "A", codes "bc")
+
+length_in_front : with_length (codes "ab") ≡ 0 ∷ 0 ∷ 0 ∷ 2 ∷ codes "ab"
+length_in_front = refl
+
+bytes_of_one_tag : tag_bytes one_tag ≡ 0 ∷ 0 ∷ 0 ∷ 1 ∷ 65 ∷ 0 ∷ 0 ∷ 0 ∷ 2 ∷ codes "bc"
+bytes_of_one_tag = refl
+
+names_as_numbers : named_number None ∷ named_number (Some (codes "a")) ∷ [] ≡ 0 ∷ 1 ∷ []
+names_as_numbers = refl
+
+bytes_of_a_name : name_bytes (Some (codes "a")) ≡ 0 ∷ 0 ∷ 0 ∷ 1 ∷ 97 ∷ []
+bytes_of_a_name = refl
+
+no_bytes_of_no_name : name_bytes None ≡ []
+no_bytes_of_no_name = refl
+
+sizes_of_names : name_size None ∷ name_size (Some (codes "abc")) ∷ [] ≡ 0 ∷ 7 ∷ []
+sizes_of_names = refl
+
+size_of_tags : tags_size (one_tag ∷ one_tag ∷ []) ≡ 22
+size_of_tags = refl
+
+-- the first game of the file `a`, at byte 5, with that tag and no ply
+abbrev one_game : PackedGame
+one_game =
+    record {
+      number = 1;
+      offset = 5;
+      name = Some (codes "a");
+      tags = one_tag ∷ [];
+      result = codes "*";
+      check = false;
+      stuck = false;
+      plies = [];
+    }
+
+tags_and_plies : tail_bytes one_game ≡ tag_bytes one_tag
+tags_and_plies = refl
+
+-- the head has one tag, and 16 for the name
+body_of_one_game :
+    body_bytes one_game
+    ≡ (0 ∷ 0 ∷ 0 ∷ 0 ∷ 0 ∷ 0 ∷ 0 ∷ 1 ∷ []) ++ (0 ∷ 0 ∷ 0 ∷ 0 ∷ 0 ∷ 0 ∷ 0 ∷ 5 ∷ [])
+    ++ (0 ∷ 0 ∷ 0 ∷ 48 ∷ []) ++ (0 ∷ 0 ∷ 0 ∷ 1 ∷ 97 ∷ []) ++ tag_bytes one_tag
+body_of_one_game = refl
+
+no_long_name_of_a_tag : (tag : Tag) → 2 ^ 32 ≤ length tag.0 → FitsTag tag → ⊥
+no_long_name_of_a_tag tag long fits = omega (arith, long, fits.name)
+
+no_long_contents_of_a_tag : (tag : Tag) → 2 ^ 32 ≤ length tag.1 → FitsTag tag → ⊥
+no_long_contents_of_a_tag tag long fits = omega (arith, long, fits.contents)
+
+-- Reading: each part from the front, and the first fault.
+
+next_step_is_taken : and_then (Ok 1) (λ n. Ok (n + 1)) ≡ Ok 2
+next_step_is_taken = refl
+
+fault_is_kept : and_then {A = ℕ} (Err CutShort) (λ n. Ok (n + 1)) ≡ Err CutShort
+fault_is_kept = refl
+
+number_in_front : number_at w32 (0 ∷ 0 ∷ 1 ∷ 2 ∷ 7 ∷ []) ≡ Ok (258, 7 ∷ [])
+number_in_front = refl
+
+no_number_cut_short : number_at w32 (0 ∷ 0 ∷ 1 ∷ []) ≡ Err CutShort
+no_number_cut_short = refl
+
+text_in_front : text_at (0 ∷ 0 ∷ 0 ∷ 1 ∷ codes "ab") ≡ Ok (codes "a", codes "b")
+unfolding text_at
+text_in_front = refl
+
+no_text_cut_short : text_at (0 ∷ 0 ∷ 0 ∷ 2 ∷ codes "a") ≡ Err CutShort
+unfolding text_at
+no_text_cut_short = refl
+
+name_in_front : name_at true (0 ∷ 0 ∷ 0 ∷ 1 ∷ codes "ab") ≡ Ok (Some (codes "a"), codes "b")
+unfolding text_at
+name_in_front = refl
+
+no_name_in_front : name_at false (codes "ab") ≡ Ok (None, codes "ab")
+no_name_in_front = refl
+
+tag_in_front : tag_at (tag_bytes one_tag ++ codes "x") ≡ Ok (one_tag, codes "x")
+unfolding text_at
+tag_in_front = refl
+
+rest_after_a_tag : after_tag (tag_bytes one_tag ++ codes "x") ≡ Ok (codes "x")
+unfolding text_at
+rest_after_a_tag = refl
+
+rest_after_two_tags : after_tags 2 (tag_bytes one_tag ++ tag_bytes one_tag ++ codes "x")
+    ≡ Ok (codes "x")
+unfolding after_tags text_at
+rest_after_two_tags = refl
+
+no_part_of_a_ply : body_at (body_bytes one_game ++ codes "x") ≡ Err PartOfPly
+unfolding body_at after_tags text_at
+no_part_of_a_ply = refl
+
+-- Packs.
+
+no_record_left_out : (game : PackedGame) → FitsRecord game → HasNoRecord (record_bytes game) → ⊥
+no_record_left_out game fits none = none game [] fits (sym (append-nil (record_bytes game)))
+
+no_byte_lost : (old new : Window) (left left' : Option (List ℕ)) → old.ahead ≡ codes "a"
+    → new.current ≡ []
+    → new.ahead ≡ [] → PassesOn old new left left' → ⊥
+no_byte_lost old new left left' some none_held none_ahead passes =
+    let whole : codes "a" ++ passes.read ≡ [] =
+    ap (λ (bytes : List ℕ). bytes ++ passes.read) (sym some) ∙ passes.parted
+    ∙ ap (λ (bytes : List ℕ). bytes ++ new.ahead) none_held ∙ none_ahead in
+    cc
+
+no_break_before_a_record : (old : Window) (left left' : Option (List ℕ)) (game : PackedGame)
+    → FitsRecord game
+    → old.ahead ≡ record_bytes game → BreaksOff old left left' → ⊥
+no_break_before_a_record old left left' game fits held breaks =
+    breaks.none game breaks.read fits (ap (λ (bytes : List ℕ). bytes ++ breaks.read) held)
+
+no_end_of_a_small_pack : (new : Window) → new.place + length new.ahead ≤ largest_offset
+    → IsPastEnd new → ⊥
+no_end_of_a_small_pack new small (front, rest, is, parted, far) =
+    let size = ap length parted in omega (arith, small, size, length-append front rest, far)
