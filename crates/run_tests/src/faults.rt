@@ -19,8 +19,10 @@ const PLAIN: Style = Style {
     width: 79,
 };
 
-/// A whole run in the mode.
-fn all(mode: Mode) -> Settings
+/// A run in the mode from a mark on.
+fn settings_of(mode: Mode, number: u64, offset: u64) -> Settings
+    requires number { (1 ≤ number) × (number ≤ 2 ^ 62) }
+    requires offset { offset ≤ 2 ^ 62 }
     ensures number { (1 ≤ result.number) × (result.number ≤ 2 ^ 62) }
     ensures offset { result.offset ≤ 2 ^ 62 }
 {
@@ -39,9 +41,17 @@ fn all(mode: Mode) -> Settings
         form: Form::Standard,
         style: PLAIN,
         explain: false,
-        number: 1,
-        offset: 0,
+        number,
+        offset,
     }
+}
+
+/// A whole run in the mode.
+fn all(mode: Mode) -> Settings
+    ensures number { (1 ≤ result.number) × (result.number ≤ 2 ^ 62) }
+    ensures offset { result.offset ≤ 2 ^ 62 }
+{
+    settings_of(mode, 1, 0)
 }
 
 /// A run in the mode from the second game of the two on.
@@ -49,24 +59,7 @@ fn rest(mode: Mode) -> Settings
     ensures number { (1 ≤ result.number) × (result.number ≤ 2 ^ 62) }
     ensures offset { result.offset ≤ 2 ^ 62 }
 {
-    Settings {
-        name: None,
-        mode,
-        criteria: None,
-        min_ply: 0,
-        max_ply: u32::MAX,
-        first: false,
-        fields: Fields {
-            fen: false,
-            next: false,
-        },
-        select: Select::Matching,
-        form: Form::Standard,
-        style: PLAIN,
-        explain: false,
-        number: 2,
-        offset: 22,
-    }
+    settings_of(mode, 2, 22)
 }
 
 /// The first bytes of the two games.
@@ -91,8 +84,9 @@ const MODES: [(Mode, &str, &[u8], &[u8]); 3] = [
     ),
 ];
 
-/// Whether a run over the two games, with a read fault after their first bytes, once or from then on, leaves what complete blocks give: the first game
-/// from the 30th byte on, for there the second event line is whole.
+/// Whether a run over the two games, with a read fault after their first bytes, once or from then
+/// on, leaves what complete blocks give: the first game from the 30th byte on, for there the second
+/// event line is whole.
 fn leaves_complete_blocks(alloc: Global, settings: &Settings, first: &[u8], len: usize) -> bool
     requires number { (1 ≤ settings.now.number) × (settings.now.number ≤ 2 ^ 62) }
     requires offset { settings.now.offset ≤ 2 ^ 62 }
@@ -149,7 +143,8 @@ fn the_program_reports_a_read_fault(rt: HostRuntime) -> Result<(), Fail> {
     Ok(())
 }
 
-/// Whether a run from the second game on, over an input that passes over so many bytes a skip, reads no more than what is left, and moves all of it.
+/// Whether a run from the second game on, over an input that passes over so many bytes a skip,
+/// reads no more than what is left, and moves all of it.
 fn reads_what_is_left(alloc: Global, settings: &Settings, whole: &[u8], passes: u64) -> bool
     requires number { (1 ≤ settings.now.number) × (settings.now.number ≤ 2 ^ 62) }
     requires offset { settings.now.offset ≤ 2 ^ 62 }
@@ -160,7 +155,8 @@ fn reads_what_is_left(alloc: Global, settings: &Settings, whole: &[u8], passes: 
     trial.calls[0] == reads && trial.moved == 43 && trial.is_whole(1, 0, whole, b"")
 }
 
-/// Whether a run from the second game on, over an input that fails at skips, writes nothing and does not read on.
+/// Whether a run from the second game on, over an input that fails at skips, writes nothing and
+/// does not read on.
 fn ends_at_a_skip(alloc: Global, settings: &Settings, fails: Fails) -> bool
     requires number { (1 ≤ settings.now.number) × (settings.now.number ≤ 2 ^ 62) }
     requires offset { settings.now.offset ≤ 2 ^ 62 }
@@ -206,8 +202,9 @@ const WRITE_FAULTS: [(Fails, bool); 4] = [
     (Fails::Once, true),
 ];
 
-/// Whether an output that takes `room` bytes in small pieces, and then fails, holds just the first of the whole text's bytes, and nothing is read after the
-/// fault: the first read gives the two games, and a second one, after what the first game gives, the end.
+/// Whether an output that takes `room` bytes in small pieces, and then fails, holds just the first
+/// of the whole text's bytes, and nothing is read after the fault: the first read gives the two
+/// games, and a second one, after what the first game gives, the end.
 fn leaves_a_front(
     alloc: Global,
     settings: &Settings,
@@ -275,8 +272,9 @@ fn a_fault_among_criteria_leaves_as_much(rt: HostRuntime) -> Result<(), Fail> {
     Ok(())
 }
 
-/// Whether standard error that takes `room` bytes in small pieces, and then fails, holds just the first bytes of the fault line, beside this output, and after the
-/// fault nothing is read, written or flushed: there are so many reads.
+/// Whether standard error that takes `room` bytes in small pieces, and then fails, holds just the
+/// first bytes of the fault line, beside this output, and after the fault nothing is read, written
+/// or flushed: there are so many reads.
 fn leaves_a_front_of_a_fault(
     alloc: Global,
     mode: Mode,
@@ -355,7 +353,17 @@ fn the_program_reports_a_write_fault(rt: HostRuntime) -> Result<(), Fail> {
     Ok(())
 }
 
-/// Whether standard error that takes `room` bytes of the summary, and then fails, holds just these, beside the whole output: after the fault nothing is written.
+#[test]
+fn a_help_that_cannot_be_written_is_a_write_fault(rt: HostRuntime) -> Result<(), Fail> {
+    let mut shelf = Shelf::new(TWO_GAMES);
+    let page = Page::failing(5, 2);
+    let end = run_arguments(rt.alloc(), &["--help"], &mut shelf, page, Page::new())?;
+    assert!(rt; end.is_unflushed(b"Reads", b"pgn-extract: write failed\n", 3));
+    Ok(())
+}
+
+/// Whether standard error that takes `room` bytes of the summary, and then fails, holds just these,
+/// beside the whole output: after the fault nothing is written.
 fn leaves_a_front_of_the_summary(
     alloc: Global,
     argument: &str,

@@ -10,7 +10,8 @@ use test_support::{Page, Pieces, TWO_GAMES};
 /// How many bytes a reader gives at a time.
 const PIECE: usize = 8192;
 
-/// The files of a folder. Beside them `broken.pgn`, whose reads fail at its end, `huge.pgn`, at which memory runs out, and `locked.pgn`.
+/// The files of a folder. Beside them `broken.pgn`, whose reads fail at its end, `huge.pgn`, at
+/// which memory runs out, and `locked.pgn`.
 #[derive(Drop)]
 struct Folder;
 
@@ -51,7 +52,19 @@ fn holds(alloc: Global, row: &Row) -> Result<bool, AllocError> {
 }
 
 /// Files that cannot be opened, and runs that fail.
-const FAILURES: [Row; 5] = [
+const FAILURES: [Row; 7] = [
+    (
+        &["--index", "huge.pgn"],
+        b"",
+        b"pgn-extract: out of memory\n",
+        3,
+    ),
+    (
+        &["--summary", "huge.pgn"],
+        b"",
+        b"pgn-extract: out of memory\n",
+        3,
+    ),
     (
         &["--list", "--first", "fault.pgn", "locked.pgn", "marked.pgn"],
         b"fault.pgn:1@0 0\nfault.pgn:3@18 0\nmarked.pgn:1@3 0\n",

@@ -1,25 +1,16 @@
-//! Tests of the program and of its run over memory: readers and writers that fail, pieces and texts of chosen sizes, calls of the libraries.
-//! Rows of arguments, input and output stand in `tests/rows.d`. This library has nothing but tests.
+//! Tests of the program and of its run over memory: readers and writers that fail, pieces of chosen
+//! sizes, calls of the libraries. Rows of arguments, input and output stand in `tests/rows.d`.
+//! This library has nothing but tests.
 #![tactic(auto)]
 
 #[cfg(test)]
-mod arguments;
-#[cfg(test)]
-mod conditions;
-#[cfg(test)]
-mod criteria;
-#[cfg(test)]
 mod examples;
-#[cfg(test)]
-mod explained;
 #[cfg(test)]
 mod faults;
 #[cfg(test)]
 mod files;
 #[cfg(test)]
-mod index;
-#[cfg(test)]
-mod listing;
+mod meetings;
 #[cfg(test)]
 mod runs;
 #[cfg(test)]

@@ -15,86 +15,51 @@ pub const FAULT_BETWEEN: &[u8] = b"1. e4 *\n1. Qxh8 *\n1. d4 *\n";
 /// How many bytes a reader gives at a time.
 const PIECE: usize = 8192;
 
-/// A file of games, `games.pgn`, and the same text on standard input; it counts how often one of the two was opened.
-/// Their readers pass over at most `passes` bytes a skip, or fail at it.
-/// Beside it the criteria `wanted.txt`, and `huge.pgn`, at which memory runs out.
+/// Standard input with a text. Its reader gives the whole of it, or fails after it, or at skips.
 #[derive(Drop)]
 pub struct Shelf<'a> {
     text: &'a [u8],
-    criteria: &'a [u8],
     fails: bool,
-    passes: u64,
     skip_fails: Fails,
-    pub opened: u32,
 }
 
 impl<'a> Shelf<'a> {
     pub fn new(text: &'a [u8]) -> Self {
-        Shelf::with_criteria(text, b"")
-    }
-
-    /// A shelf with criteria.
-    pub fn with_criteria(text: &'a [u8], criteria: &'a [u8]) -> Self {
         Shelf {
             text,
-            criteria,
             fails: false,
-            passes: 0,
             skip_fails: Fails::Never,
-            opened: 0,
         }
     }
 
-    /// A shelf whose readers pass over at most `passes` bytes a skip.
-    pub fn seeking(text: &'a [u8], passes: u64) -> Self {
-        let mut shelf = Shelf::new(text);
-        shelf.passes = passes;
-        shelf
-    }
-
-    /// A shelf whose readers fail at skips.
+    /// A shelf whose reader fails at skips.
     pub fn failing_skip(text: &'a [u8]) -> Self {
         let mut shelf = Shelf::new(text);
         shelf.skip_fails = Fails::Always;
         shelf
     }
 
-    /// A shelf whose readers give the text and then fail.
+    /// A shelf whose reader gives the text and then fails.
     pub fn failing(text: &'a [u8]) -> Self {
-        Shelf {
-            text,
-            criteria: b"",
-            fails: true,
-            passes: 0,
-            skip_fails: Fails::Never,
-            opened: 0,
-        }
-    }
-
-    fn reader(&mut self) -> Pieces<'a> {
-        self.opened = self.opened.saturating_add(1);
-        if self.fails {
-            Pieces::failing(self.text, PIECE)
-        } else {
-            Pieces::failing_skip(self.text, self.passes, self.skip_fails)
-        }
+        let mut shelf = Shelf::new(text);
+        shelf.fails = true;
+        shelf
     }
 }
 
 impl<'a> Files for Shelf<'a> {
     type Input = Pieces<'a>;
 
-    fn open(&mut self, path: &str) -> io::Result<Pieces<'a>> {
-        match path {
-            "games.pgn" => Ok(self.reader()),
-            "wanted.txt" => Ok(Pieces::new(self.criteria, PIECE)),
-            "huge.pgn" => Err(io::Error::from(ErrorKind::OutOfMemory)),
-            _ => Err(io::Error::from(ErrorKind::NotFound)),
-        }
+    fn open(&mut self, _path: &str) -> io::Result<Pieces<'a>> {
+        Err(io::Error::from(ErrorKind::NotFound))
     }
 
     fn standard(&mut self) -> Pieces<'a> {
-        self.reader()
+        if self.fails {
+            Pieces::failing(self.text, PIECE)
+        } else {
+            Pieces::failing_skip(self.text, 0, self.skip_fails)
+        }
     }
 
     fn show_progress(&mut self, _asked: bool) {}
@@ -118,7 +83,8 @@ impl Ending {
             && self.err.is_flushed()
     }
 
-    /// Whether these texts and the status stand, and the output was not flushed, as nothing is written after a write that failed.
+    /// Whether these texts and the status stand, and the output was not flushed, as nothing is
+    /// written after a write that failed.
     pub fn is_unflushed(&self, out: &[u8], err: &[u8], status: u8) -> bool {
         self.out.text() == out
             && self.err.text() == err
@@ -157,50 +123,4 @@ where
         out: out.into_inner(),
         err: err.into_inner(),
     })
-}
-
-/// Runs the program over a text on sound pages.
-pub fn run_over(alloc: Global, arguments: &[&str], text: &[u8]) -> Result<Ending, AllocError> {
-    run_arguments(
-        alloc,
-        arguments,
-        &mut Shelf::new(text),
-        Page::new(),
-        Page::new(),
-    )
-}
-
-/// A worked row: the arguments, the input, the output, standard error and the status.
-pub type Row = (
-    &'static [&'static str],
-    &'static [u8],
-    &'static [u8],
-    &'static [u8],
-    u8,
-);
-
-/// How many bytes an input passes over a skip: none, as a pipe; one; as many as it is asked for, as a file.
-const PASSES: [u64; 3] = [0, 1, u64::MAX];
-
-/// Whether the program does what the row says, over inputs of each kind.
-fn holds(alloc: Global, row: &Row) -> Result<bool, AllocError> {
-    let (arguments, text, out, err, status) = row;
-    for passes in PASSES {
-        let mut shelf = Shelf::seeking(text, passes);
-        let end = run_arguments(alloc, arguments, &mut shelf, Page::new(), Page::new())?;
-        if !end.is(out, err, *status) {
-            return Ok(false);
-        }
-    }
-    Ok(true)
-}
-
-/// The first row of which the program does something else.
-pub fn first_wrong(alloc: Global, rows: &[Row]) -> Result<Option<Row>, AllocError> {
-    for row in rows {
-        if !holds(alloc, row)? {
-            return Ok(Some(*row));
-        }
-    }
-    Ok(None)
 }

@@ -7,7 +7,8 @@ use std::io::ErrorKind;
 use std::test::Fail;
 use test_support::{Page, Pieces};
 
-/// The records of two games without tags: of `1. e4 *` as game 1 at byte 0, and of `1. d4 *` as game 2 at byte 22.
+/// The records of two games without tags: of `1. e4 *` as game 1 at byte 0, and of `1. d4 *` as
+/// game 2 at byte 22.
 const PACK: &[u8] =
     b"\0\0\0\x17\0\0\0\0\0\0\0\x01\0\0\0\0\0\0\0\0\0\0\0\0\x0C\x5C\x5C\0\0\0\x17\0\0\0\0\0\0\0\x02\0\0\0\0\0\0\0\x16\0\0\0\0\x0B\x5B\x5B";
 

@@ -6,7 +6,9 @@ use pgn_text::Tally;
 use std::alloc::Global;
 use test_support::{Page, Pieces};
 
-/// What a run over memory came to: its answer, which of input, output and standard error have failed, how often each was called, whether one was called again after its fault, and what the writers hold.
+/// What a run over memory came to: its answer, which of input, output and standard error have
+/// failed, how often each was called, whether one was called again after its fault, and what the
+/// writers hold.
 #[derive(Drop)]
 pub struct Trial {
     pub answer: Result<Summary, RunError>,
@@ -32,7 +34,8 @@ impl Trial {
         Trial::of(answer, input, out, err)
     }
 
-    /// A run with these settings, which passes over the bytes before its begin where the reader can.
+    /// A run with these settings, which passes over the bytes before its begin where the reader
+    /// can.
     pub fn skipping(alloc: Global, settings: &Settings, reader: Pieces<'_>) -> Self
         requires number { (1 ≤ settings.now.number) × (settings.now.number ≤ 2 ^ 62) }
         requires offset { settings.now.offset ≤ 2 ^ 62 }
@@ -69,7 +72,8 @@ impl Trial {
         }
     }
 
-    /// Whether the run ended with a fault of the input, it was not tried again, and the writers hold these bytes.
+    /// Whether the run ended with a fault of the input, it was not tried again, and the writers
+    /// hold these bytes.
     pub fn is_read_fault(&self, out: &[u8], err: &[u8]) -> bool {
         self.answer == Err(RunError::Read)
             && self.faulted == [true, false, false]
@@ -77,7 +81,8 @@ impl Trial {
             && self.holds(out, err)
     }
 
-    /// Whether the run ended with a fault of the output, it was not tried again, and the writers hold these bytes.
+    /// Whether the run ended with a fault of the output, it was not tried again, and the writers
+    /// hold these bytes.
     pub fn is_output_fault(&self, out: &[u8], err: &[u8]) -> bool {
         self.answer == Err(RunError::Write)
             && self.faulted == [false, true, false]
@@ -85,7 +90,8 @@ impl Trial {
             && self.holds(out, err)
     }
 
-    /// Whether the run ended with a fault of standard error, it was not tried again, and the writers hold these bytes.
+    /// Whether the run ended with a fault of standard error, it was not tried again, and the
+    /// writers hold these bytes.
     pub fn is_error_output_fault(&self, out: &[u8], err: &[u8]) -> bool {
         self.answer == Err(RunError::Write)
             && self.faulted == [false, false, true]
@@ -93,7 +99,8 @@ impl Trial {
             && self.holds(out, err)
     }
 
-    /// Whether the run ended well, with these counts and everything flushed, and the writers hold these bytes.
+    /// Whether the run ended well, with these counts and everything flushed, and the writers hold
+    /// these bytes.
     pub fn is_whole(&self, games: u64, faulty: u64, out: &[u8], err: &[u8]) -> bool {
         self.answer == Ok(Summary { games, faulty })
             && self.faulted == [false, false, false]

@@ -1,0 +1,6 @@
+//! Rows on `pgn_game`, and what is left after a refusal of memory.
+
+mod memory;
+mod refusals;
+mod replays;
+mod rows;
