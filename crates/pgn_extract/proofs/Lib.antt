@@ -10,6 +10,8 @@ pub mod ModeOutputs
 pub mod ExactEntries
 pub mod Examples
 pub mod ReportExamples
+pub mod ReportRows
+pub mod RunRows
 pub mod Exported
 pub mod FieldTexts
 pub mod GameExport

@@ -1,0 +1,213 @@
+-- What the definitions of exports, of runs and of searches refuse.
+use Rattle.std.proofs.Common.{◌≡◌, ◌≢◌, ◌<◌, ◌+◌, ◌∙◌, ℕ, Bool, true, false, List, [], ◌∷◌, ◌++◌, codes, length, Option, None, Some, IfSome, ap, refl, sym, subst, arith}
+use Rattle.std.specs.Io.KnownBytes.{Appends}
+use Rattle.pgn_game.specs.Public.Faults.{Fault}
+use Rattle.pgn_game.specs.Public.PackStreams.{HasNoRecord}
+use Rattle.pgn_game.specs.Public.PackedGames.{PackedGame}
+use Rattle.pgn_game.specs.Public.Replays.{Replay}
+use Rattle.pgn_game.specs.declared.exports.style.Style.{Style}
+use Rattle.pgn_game.specs.declared.replays.replayer.Lines.TheVariants.{All, Main}
+use Rattle.pgn_criteria.specs.Public.Meeting.{Heading}
+use Rattle.pgn_text.specs.Public.Limits.{largest_offset}
+use Rattle.pgn_text.specs.Public.Marks.{MarkedPiece, TooLongBlock}
+use Rattle.pgn_text.specs.Public.Parts.{Part}
+use Rattle.pgn_text.specs.Public.Tallies.{Tallied}
+use Rattle.pgn_extract.specs.Public.Aims.{Aim}
+use Rattle.pgn_extract.specs.Public.Exports.{IsExportOf, IsGameExport, written_lines}
+use Rattle.pgn_extract.specs.Public.Exports.IsGameExport.{sound as sound_export, faulty as faulty_export}
+use Rattle.pgn_extract.specs.Public.GameReports.{AreListed, IsFaultOf, IsReplayOf}
+use Rattle.pgn_extract.specs.Public.GivenMarks.{GivenMark, mark_around}
+use Rattle.pgn_extract.specs.Public.Listing.{AreEntries, Entry, IsMainReplayOf}
+use Rattle.pgn_extract.specs.Public.Outcomes.{AppendsFront}
+use Rattle.pgn_extract.specs.Public.Requests.{option_refusals, refusals, text_refusals}
+use Rattle.pgn_extract.specs.Public.Resuming.{WritesRest}
+use Rattle.pgn_extract.specs.Public.Runs.{Adds, AreWritten, ArePieces, Completed, Completes, Exports, Indexes, Io, Job, Lists, OnInput, Passage, Stream, stream_of}
+use Rattle.pgn_extract.specs.Public.Searching.{AreGameRecords, ArePackLines, ArePieceRecords, AreRecordLines, AreRecords, BeginsWithRecords, HasNoGame, Searches, StopsAtBytes, StopsAtRead, StopsSearch, StopsWithin}
+use Rattle.pgn_extract.specs.Public.Searching.AreGameRecords.{sound as sound_record, faulty as faulty_record}
+use Rattle.pgn_extract.specs.Public.Several.{IsReport, NoFile, Order, StopsInFile}
+use Rattle.pgn_extract.specs.Public.Verdicts.{AreVerdicts, FaultyGame, IsGameVerdict, Verdict}
+use Rattle.pgn_extract.specs.declared.app.command.Request.{Request}
+use Rattle.pgn_extract.specs.declared.output.outcome.RunError.{RunError}
+use Rattle.pgn_extract.specs.declared.output.outcome.Summary.{Summary}
+use Rattle.pgn_extract.specs.declared.packed.searching.SearchError.TheVariants.{BadPack}
+use Rattle.pgn_extract.specs.declared.packed.searching.Searched.{Searched}
+use Rattle.pgn_extract.specs.declared.settings.Form.TheVariants.{Record, Standard}
+use Rattle.pgn_extract.specs.declared.settings.Mode.TheVariants as modes
+
+-- Games and their exports.
+
+no_turns_of_a_main_replay : (parts : List Part) (replay : Replay) → replay.turns ≢ []
+    → IsMainReplayOf parts replay → ⊥
+no_turns_of_a_main_replay parts replay some is = some is.turns
+
+no_turns_where_the_main_line_is_asked : (parts : List Part) (replay : Replay) → replay.turns ≢ []
+    → IsReplayOf Main parts replay → ⊥
+no_turns_where_the_main_line_is_asked parts replay some is = some is.turns
+
+no_entry_of_no_position : (aim : Aim) (number offset : ℕ) (tags : Heading) (entry : Entry)
+    → AreListed aim number offset tags (record { positions = []; played = []; turns = [] })
+    (entry ∷ []) → ⊥
+no_entry_of_no_position aim number offset tags entry are =
+    elim are [ ]
+
+main_line_is_written : (aim : Aim) → written_lines (record aim { form = Record }) ≡ Main
+main_line_is_written aim = refl
+
+all_lines_are_written : (aim : Aim) (style : Style)
+    → written_lines (record aim { form = Standard; style = record style { variations = true } })
+    ≡ All
+all_lines_are_written aim style = refl
+
+no_empty_export : (style : Style) (parts : List Part) → IsExportOf style parts [] → ⊥
+no_empty_export style parts (game, sound, shows, is) = none is.head is.movetext is.spells
+  where
+    none : (head movetext : List ℕ) → [] ≡ head ++ 10 ∷ (movetext ++ 10 ∷ []) → ⊥
+    none [] movetext spells = cc
+    none (byte ∷ more) movetext spells = cc
+
+no_export_of_no_game : (aim : Aim) (number offset : ℕ) (parts : List Part) (text : List ℕ)
+    → ((replay : Replay) → IsReplayOf (written_lines aim) parts replay → ⊥)
+    → ((fault : Fault) → IsFaultOf (written_lines aim) parts fault → ⊥)
+    → IsGameExport aim number offset parts text → ⊥
+no_export_of_no_game aim number offset parts text unsound faultless is = elim is [
+  | sound_export replay is_replay written ↦ unsound replay is_replay
+  | faulty_export fault is_fault same ↦ faultless fault is_fault
+]
+
+no_fault_of_a_game_in_the_index : (aim : Aim) (number offset : ℕ) (parts : List Part)
+    (text line note : List ℕ)
+    → IsGameVerdict (record aim {
+      mode =
+          modes.Index;
+    }) number offset parts (FaultyGame text line note)
+    → ⊥
+no_fault_of_a_game_in_the_index aim number offset parts text line note is = cc
+
+-- Runs.
+
+refusals_of_options_come_first : (noted : Bool) (request : Request)
+    → refusals noted request ≡ option_refusals request ++ text_refusals noted request
+refusals_of_options_come_first noted request = refl
+
+no_mark_of_no_sign : (text : List ℕ) (mark : GivenMark) → mark_around text None ≡ Some mark → ⊥
+no_mark_of_no_sign text mark is = cc
+
+stream_of_a_tally : {T : Type 0} (bytes : T → Option (List ℕ)) (tally : Tallied T) (stream : Stream)
+    → stream.moved ≡ tally.moved + 1 → stream ≡ stream_of bytes tally → ⊥
+stream_of_a_tally bytes tally stream more is =
+    let same : stream.moved
+    ≡ tally.moved = ap (λ (s : Stream). s.moved) is in omega (arith, more, same)
+
+no_fact_of_the_input_is_left : (io : Io) (whole : List ℕ) (P : List ℕ → Type 0)
+    → io.input.old.bytes ≡ Some whole → (P whole → ⊥) → OnInput io P → ⊥
+no_fact_of_the_input_is_left io whole P is none holds =
+    none (subst (λ left. IfSome left P) is holds)
+
+no_piece_unreported : (job : Job) (io : Io) (piece : MarkedPiece) → AreWritten job io (piece
+    ∷ []) [] → ⊥
+no_piece_unreported job io piece written = let none = written.each.2 in cc
+
+no_input_too_long : (job : Job) (io : Io) (whole : List ℕ) (summary : Summary)
+    → largest_offset < length whole → Completes job io whole summary → ⊥
+no_input_too_long job io whole summary long done = omega (arith, long, done.size)
+
+no_run_unflushed : (job : Job) (io : Io) (summary : Summary) → io.out.new.flushed ≡ false
+    → Completed job io summary → ⊥
+no_run_unflushed job io summary not_flushed done = let both = sym done.1 ∙ not_flushed in cc
+
+no_index_unwritten : (job : Job) (io : Io) (whole : List ℕ) → ((text : List ℕ)
+    → Adds io.out text → ⊥)
+    → Indexes job io whole → ⊥
+no_index_unwritten job io whole unwritten indexes = unwritten _ indexes.indexed
+
+no_listing_unwritten : (job : Job) (io : Io) (whole : List ℕ) → ((text : List ℕ)
+    → Adds io.out text → ⊥)
+    → Lists job io whole → ⊥
+no_listing_unwritten job io whole unwritten lists = unwritten _ lists.listed
+
+no_entry_unlisted : (job : Job) (io : Io) (whole : List ℕ)
+    → ((pieces : List MarkedPiece) (entries : List Entry)
+    → AreEntries job.aim job.number pieces entries → ⊥)
+    → Lists job io whole → ⊥
+no_entry_unlisted job io whole none lists = none lists.pieces lists.entries lists.are
+
+no_export_unwritten : (job : Job) (io : Io) (whole : List ℕ) → ((text : List ℕ)
+    → Adds io.out text → ⊥)
+    → Exports job io whole → ⊥
+no_export_unwritten job io whole unwritten exports = unwritten exports.text exports.exported
+
+no_rest_unwritten : (aim : Aim) (number : ℕ) (pieces rest : List MarkedPiece)
+    (out out' err err' : Option (List ℕ)) → ((verdicts : List Verdict)
+    → AreVerdicts aim number rest verdicts → ⊥)
+    → WritesRest aim number pieces rest out out' err err' → ⊥
+no_rest_unwritten aim number pieces rest out out' err err' none writes =
+    none writes.verdicts writes.written.each
+
+no_report_of_no_pieces : (job : Job) (text output faults : List ℕ)
+    → ((pieces : List MarkedPiece) → ArePieces job text pieces → ⊥)
+    → IsReport job text output faults → ⊥
+no_report_of_no_pieces job text output faults none is = none is.pieces is.each
+
+no_file_where_none_is : (error : RunError) (order : Order) (out err : Passage)
+    → StopsInFile error order NoFile out err → ⊥
+no_file_where_none_is error order out err stops = stops
+
+-- Packs.
+
+no_record_of_no_game : (name : Option (List ℕ)) (number offset : ℕ) (parts : List Part)
+    (records : List PackedGame) → ((replay : Replay) → IsReplayOf Main parts replay → ⊥)
+    → ((fault : Fault) → IsFaultOf Main parts fault → ⊥)
+    → AreGameRecords name number offset parts records → ⊥
+no_record_of_no_game name number offset parts records unsound faultless are = elim are [
+  | sound_record game replay packed is_game shows is_replay is_packed one ↦ unsound replay is_replay
+  | faulty_record fault is_fault none ↦ faultless fault is_fault
+]
+
+no_record_of_a_long_block : (name : Option (List ℕ)) (number offset : ℕ) (packed : PackedGame)
+    → ArePieceRecords name TooLongBlock number offset (packed ∷ []) → ⊥
+no_record_of_a_long_block name number offset packed are = cc
+
+no_record_of_no_piece : (name : Option (List ℕ)) (number : ℕ) (packed : PackedGame)
+    → AreRecords name number [] (packed ∷ []) → ⊥
+no_record_of_no_piece name number packed are = cc
+
+no_empty_line_of_a_record : (aim : Aim) (packed : PackedGame)
+    → AreRecordLines modes.Index aim packed [] → ⊥
+no_empty_line_of_a_record aim packed is = none _ is
+  where
+    none : (front : List ℕ) → [] ≡ front ++ 10 ∷ [] → ⊥
+    none [] same = cc
+    none (byte ∷ more) same = cc
+
+no_line_of_no_record : (aim : Aim) → ArePackLines aim [] (codes "x") → ⊥
+no_line_of_no_record aim are = cc
+
+no_byte_left_out : (aim : Aim) (whole rest text : List ℕ) → whole ≢ rest
+    → BeginsWithRecords aim whole [] rest text → ⊥
+no_byte_left_out aim whole rest text other begins = other begins.parted
+
+no_line_before_records : (aim : Aim) (whole rest : List ℕ)
+    → BeginsWithRecords aim whole [] rest (codes "x") → ⊥
+no_line_before_records aim whole rest begins = no_line_of_no_record aim begins.lines
+
+no_search_unwritten : (aim : Aim) (whole : List ℕ) (out out' : Option (List ℕ)) (searched : Searched)
+    → ((text : List ℕ) → Appends out out' text → ⊥) → Searches aim whole out out' searched → ⊥
+no_search_unwritten aim whole out out' searched unwritten searches =
+    unwritten searches.text searches.written
+
+no_stop_at_the_end : (aim : Aim) (whole : List ℕ) (at : ℕ) (out out' : Option (List ℕ))
+    → ((rest : List ℕ) → HasNoGame rest → ⊥) → StopsAtBytes aim whole at out out' → ⊥
+no_stop_at_the_end aim whole at out out' none stops = none stops.rest stops.bad
+
+no_stop_before_a_record : (aim : Aim) (whole : List ℕ) (left out out' : Option (List ℕ))
+    → ((rest : List ℕ) → HasNoRecord rest → ⊥) → StopsAtRead aim whole left out out' → ⊥
+no_stop_before_a_record aim whole left out out' none stops = none stops.rest stops.none
+
+no_stop_unwritten : (aim : Aim) (whole : List ℕ) (out out' : Option (List ℕ))
+    → ((text : List ℕ) → AppendsFront out out' text → ⊥) → StopsWithin aim whole out out' → ⊥
+no_stop_unwritten aim whole out out' unwritten stops = unwritten stops.text stops.written
+
+no_bad_pack_unnamed : (aim : Aim) (whole : List ℕ) (at : ℕ) (left out out' : Option (List ℕ))
+    → (StopsAtBytes aim whole at out out' → ⊥)
+    → StopsSearch (BadPack at) aim whole left out out' → ⊥
+no_bad_pack_unnamed aim whole at left out out' none stops = none stops
