@@ -233,3 +233,28 @@ number_kept old new label n own is line =
 -- one line is a note
 pub line_note : (line : List ℕ) → IsLine line → IsNote true (indented (line ∷ []))
 line_note line is = (line ∷ [], (is, tt), refl)
+
+-- a note, and more lines
+indented_join : (xs ys : List (List ℕ)) → indented (xs ++ ys) ≡ indented xs ++ indented ys
+indented_join [] ys = refl
+indented_join (line ∷ more) ys =
+    ap (λ t. 32 ∷ 32 ∷ (line ++ (10 ∷ t))) (indented_join more ys)
+    ∙ ap (λ t. 32 ∷ 32 ∷ t) (sym (append_assoc line (10 ∷ indented more) (indented ys)))
+
+lines_join : (xs ys : List (List ℕ)) → AreLines xs → AreLines ys → AreLines (xs ++ ys)
+lines_join [] ys first second = second
+lines_join (line ∷ more) ys first second = (first.0, lines_join more ys first.1 second)
+
+pub notes_join : (first second : List ℕ) → IsNote true first → IsNote true second → IsNote true (first ++ second)
+notes_join first second one two = (
+  one.0 ++ two.0,
+  lines_join one.0 two.0 one.1 two.1,
+  ap (λ t. t ++ second) one.2 ∙ ap (λ t. indented one.0 ++ t) two.2 ∙ sym (indented_join one.0 two.0),
+)
+
+-- it names the same byte
+pub names_more : (explain : Bool) (offset : ℕ) (block : List ℕ) (begin : ℕ) (note more : List ℕ)
+    → NamesBlockStop explain offset block begin note → NamesBlockStop explain offset block begin (note ++ more)
+names_more false offset block begin note more names = tt
+names_more true offset block begin note more (place, is, names) =
+    (place, is, (names.0, names.1 ++ more, names.2, ap (λ t. t ++ more) names.3 ∙ simp append_assoc refl))

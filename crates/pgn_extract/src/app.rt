@@ -264,7 +264,7 @@ where
             settings,
             paths: &request.files,
             summary: request.summary,
-            explain: request.explain,
+            explain: order.noted,
         };
         return Ok(search_packs(&task, files, out, err));
     }

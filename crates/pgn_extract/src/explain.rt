@@ -3,4 +3,5 @@
 pub(crate) mod kinds;
 pub(crate) mod move_notes;
 pub(crate) mod notes;
+pub(crate) mod players;
 pub(crate) mod refusal_notes;

@@ -43,9 +43,10 @@ asked_style request = record {
   width = unwrap_or request.width 79;
 }
 
--- all that a run is to do, with these criteria; its lines have no name yet
-abbrev pub asked : Request → Option (List (List (Condition (List ℕ)))) → Aim
-asked request criteria = record {
+-- all that a run is to do, with notes or without, and with these criteria; its lines have no name
+-- yet
+abbrev pub asked : Bool → Request → Option (List (List (Condition (List ℕ)))) → Aim
+asked noted request criteria = record {
   name = None;
   mode = asked_mode request;
   criteria = criteria;
@@ -56,7 +57,7 @@ asked request criteria = record {
   select = asked_select request;
   form = asked_form request;
   style = asked_style request;
-  explain = request.explain;
+  explain = noted;
 }
 
 -- two FILEs or more are given

@@ -22,7 +22,7 @@ pub struct Order<'a> {
     pub mark: Mark,
     /// The offset before which it ends.
     pub end: u64,
-    /// Whether refusals have notes.
+    /// Whether refusals and faulty games have notes.
     pub noted: bool,
 }
 
@@ -193,7 +193,7 @@ fn style_of(request: &Request<'_>) -> Style
 
 /// What a run is to write, with no name yet.
 pub fn settings_of(order: &Order<'_>, criteria: Option<Criteria>) -> Settings
-    ensures asked { aim_of result ≡ asked order.now.request criteria }
+    ensures asked { aim_of result ≡ asked order.now.noted order.now.request criteria }
     ensures number { result.number ≡ order.now.mark.number }
     ensures offset { result.offset ≡ order.now.mark.offset }
 {
@@ -212,7 +212,7 @@ pub fn settings_of(order: &Order<'_>, criteria: Option<Criteria>) -> Settings
         select: select_of(request),
         form: form_of(request),
         style: style_of(request),
-        explain: request.explain,
+        explain: order.noted,
         number: order.mark.number,
         offset: order.mark.offset,
     }
@@ -221,7 +221,7 @@ pub fn settings_of(order: &Order<'_>, criteria: Option<Criteria>) -> Settings
 /// What is looked for in packs.
 pub fn packed_settings(order: &Order<'_>, criteria: Option<Criteria>) -> Settings
     ensures asked { aim_of result
-        ≡ record (asked order.now.request criteria) { fields = result.fields } }
+        ≡ record (asked order.now.noted order.now.request criteria) { fields = result.fields } }
     ensures plain { is_plain result.fields ≡ true }
 {
     let mut settings = settings_of(order, criteria);

@@ -19,6 +19,7 @@ use crate::entries::showing::push_shown;
 use crate::entries::{GameContext, GameMark, push_found};
 use crate::explain::move_notes::{Site, push_game_note};
 use crate::explain::notes::{Origin, Spot, push_stop_note, push_too_long_note};
+use crate::explain::players::push_players;
 use crate::output::texts::{push_fault_line, push_game_fault, push_mark_line};
 use crate::settings::{Mode, Settings};
 use pgn_game::{GameFault, Lines, count_plies};
@@ -168,7 +169,8 @@ impl Report {
             ..site
         };
         let lines = replayed_lines(settings);
-        push_game_note(alloc, &mut self.faults, site, game, lines)
+        push_game_note(alloc, &mut self.faults, site, game, lines)?;
+        push_players(alloc, &mut self.faults, game.text())
     }
 
     /// Adds what the listing reports of a game whose positions are asked: the lines of its entries, or of its fault.
@@ -282,11 +284,11 @@ impl Report {
             × AddsVerdict self.old self.new verdict 0) }
     {
         let BlockContext {
+            alloc,
             settings,
             number,
             offset,
             bytes,
-            ..
         } = context;
         push_faulty(
             &mut self.output,
@@ -309,7 +311,8 @@ impl Report {
             offset,
             line: self.line,
         };
-        push_stop_note(&mut self.faults, origin, bytes, at)
+        push_stop_note(&mut self.faults, origin, bytes, at)?;
+        push_players(alloc, &mut self.faults, &bytes[at..])
     }
 
     /// Adds what is reported of one piece of the block.

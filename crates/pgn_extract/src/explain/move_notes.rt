@@ -29,7 +29,7 @@ fn shown(byte: u8) -> u8
 }
 
 /// Appends the bytes as they are shown: so a line stays one line, whatever it says.
-fn push_shown(line: &mut Vec<u8>, bytes: &[u8]) -> Result<(), AllocError>
+pub(crate) fn push_shown(line: &mut Vec<u8>, bytes: &[u8]) -> Result<(), AllocError>
     ensures { OnOk result (KeepsLine line.old.items line.new.items) }
 {
     for byte in bytes {
@@ -39,7 +39,7 @@ fn push_shown(line: &mut Vec<u8>, bytes: &[u8]) -> Result<(), AllocError>
 }
 
 /// Appends the line to the text, indented.
-fn push_line(text: &mut Vec<u8>, line: &[u8]) -> Result<(), AllocError>
+pub(crate) fn push_line(text: &mut Vec<u8>, line: &[u8]) -> Result<(), AllocError>
     ensures { OnOk result (text.new.items ≡ text.old.items ++ indented (line.now ∷ [])) }
 {
     text.extend_from_slice(b"  ")?;

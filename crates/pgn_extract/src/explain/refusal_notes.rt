@@ -69,7 +69,7 @@ fn push_refusal(note: &mut Vec<u8>, number: usize) -> Result<(), AllocError> {
 }
 
 /// What follows the first line of a text.
-fn after_line(text: &[u8]) -> &[u8] {
+pub(crate) fn after_line(text: &[u8]) -> &[u8] {
     match memchr(b'\n', text) {
         Some(end) => &text[end + 1..],
         None => b"".as_slice(),
@@ -77,7 +77,7 @@ fn after_line(text: &[u8]) -> &[u8] {
 }
 
 /// The first line of a text, without its end.
-fn first_line(text: &[u8]) -> &[u8] {
+pub(crate) fn first_line(text: &[u8]) -> &[u8] {
     let line = match memchr(b'\n', text) {
         Some(end) => &text[..end],
         None => text,

@@ -4,7 +4,7 @@ use Rattle.std.proofs.lemmas.Result.{on_ok_weaker}
 use Rattle.pgn_extract.specs.Public.Index.{fault_text}
 use Rattle.pgn_extract.specs.Public.GameReports.{cause_text}
 use Rattle.pgn_extract.specs.Public.Notes.{IsNote}
-use Rattle.pgn_extract.proofs.NoteLines.{empty_note}
+use Rattle.pgn_extract.proofs.NoteLines.{empty_note, notes_join}
 use Rattle.pgn_extract.proofs.engine.report.Report.add_fault.Goals as goal
 
 pub returns-then-not-settings : goal.returns-then-not-settings
@@ -27,17 +27,20 @@ pub returns : goal.returns
 returns c =
     let of = c.in_ok-push_game_fault.ensures in
     let line = fault_text c.args.context.settings.now.name c.args.context.own.number c.args.context.own.offset (cause_text of.0) in
-    on_ok_weaker c.push_game_note.result
-    (λ note. (
+    let note = c.in_ok-push_game_note.ensures in
+    on_ok_weaker c.push_players.result
+    (λ more. (
       of.0,
-      note.0,
+      note.0 ++ more.0,
       of.1,
-      subst (λ b. IsNote b note.0) (sym c.if-not-settings.false) note.1,
+      subst (λ b. IsNote b (note.0 ++ more.0)) (sym c.if-not-settings.false) (notes_join note.0 more.0 note.1 more.1),
       record {
         output = sym (append-nil c.args.self.now.output.items);
-        faults = note.2 ∙ ap (λ t. t ++ note.0) of.2 ∙ append_assoc c.args.self.now.faults.items line note.0;
+        faults =
+            more.2 ∙ ap (λ t. t ++ more.0) (note.2 ∙ ap (λ t. t ++ note.0) of.2)
+            ∙ append_assoc (c.args.self.now.faults.items ++ line) note.0 more.0 ∙ append_assoc c.args.self.now.faults.items line (note.0 ++ more.0);
         games = omega arith;
         faulty = refl;
       },
     ))
-    c.push_game_note.ensures
+    c.push_players.ensures

@@ -1,11 +1,12 @@
-use Rattle.std.proofs.Common.{◌+◌, drop, [], ◌++◌, refl, sym, ap, ◌∙◌, append_assoc, codes, arith}
+use Rattle.std.proofs.Common.{◌+◌, true, drop, [], ◌++◌, refl, sym, ap, subst, ◌∙◌, append_assoc, codes, arith}
 use Rattle.std.proofs.lemmas.List.{append-nil}
 use Rattle.std.proofs.lemmas.Result.{on_ok_weaker}
 use Rattle.pgn_extract.specs.Public.Exports.{faulty_text}
 use Rattle.pgn_extract.specs.Public.Index.{fault_text}
+use Rattle.pgn_extract.specs.Public.Notes.{IsNote}
 use Rattle.pgn_extract.specs.Public.Verdicts.{FaultyGame}
 use Rattle.pgn_extract.specs.declared.explain.notes.Origin.{Origin}
-use Rattle.pgn_extract.proofs.NoteLines.{no_note, stop_note, names_stop}
+use Rattle.pgn_extract.proofs.NoteLines.{names_more, names_stop, no_note, notes_join, stop_note}
 use Rattle.pgn_extract.proofs.RestOfBlock.{rest_taken}
 use Rattle.pgn_extract.proofs.engine.report.Report.add_unreadable.Goals as goal
 
@@ -15,23 +16,30 @@ returns c =
     let text = faulty_text c.args.context.settings.now.mode c.args.context.settings.now.select (drop c.args.at c.args.context.bytes.now) in
     let written = c.in_ok-push_faulty.ensures ∙ ap (λ bytes. c.args.self.now.output.items ++ faulty_text c.args.context.settings.now.mode c.args.context.settings.now.select bytes) (rest_taken c.args.at c.args.context.bytes.now) in
     let origin : Origin = record { offset = c.args.context.offset; line = c.args.self.now.line } in
-    on_ok_weaker c.push_stop_note.result
-    (λ note. (
-      FaultyGame text line note.0,
+    let note = c.in_ok-push_stop_note.ensures in
+    let explain = c.args.context.settings.now.explain in
+    let offset = c.args.context.offset in
+    let block = c.args.context.bytes.now in
+    on_ok_weaker c.push_players.result
+    (λ more. (
+      FaultyGame text line (note.0 ++ more.0),
       (
-        note.0,
-        stop_note c.args.context.settings.now.explain c.if-not-settings.false origin c.args.context.bytes.now c.args.at note.0 note.1,
-        names_stop c.args.context.settings.now.explain origin c.args.context.bytes.now c.args.at note.0 c.requires.place note.1,
+        note.0 ++ more.0,
+        subst (λ b. IsNote b (note.0 ++ more.0)) (sym c.if-not-settings.false)
+            (notes_join note.0 more.0 (stop_note true refl origin block c.args.at note.0 note.1) more.1),
+        names_more explain offset block c.args.at note.0 more.0 (names_stop explain origin block c.args.at note.0 c.requires.place note.1),
         refl,
       ),
       record {
         output = written;
-        faults = note.2 ∙ ap (λ t. t ++ note.0) c.in_ok-push_fault_line.ensures ∙ append_assoc c.args.self.now.faults.items line note.0;
+        faults =
+            more.2 ∙ ap (λ t. t ++ more.0) (note.2 ∙ ap (λ t. t ++ note.0) c.in_ok-push_fault_line.ensures)
+            ∙ append_assoc (c.args.self.now.faults.items ++ line) note.0 more.0 ∙ append_assoc c.args.self.now.faults.items line (note.0 ++ more.0);
         games = omega arith;
         faulty = refl;
       },
     ))
-    c.push_stop_note.ensures
+    c.push_players.ensures
 
 pub returns-then-not-settings : goal.returns-then-not-settings
 returns-then-not-settings c =
