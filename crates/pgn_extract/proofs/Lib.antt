@@ -41,6 +41,7 @@ pub mod Resumed
 pub mod RunProgress
 pub mod SameTags
 pub mod SeveralFacts
+pub mod SeveralPackFacts
 pub mod StoppedFiles
 pub mod Decided
 pub mod SomeReport

@@ -1,5 +1,6 @@
 -- What the definitions of exports, of runs and of searches refuse.
-use Rattle.std.proofs.Common.{◌≡◌, ◌≢◌, ◌<◌, ◌+◌, ◌∙◌, ℕ, Bool, true, false, List, [], ◌∷◌, ◌++◌, codes, length, Option, None, Some, IfSome, ap, refl, sym, subst, arith}
+use Rattle.std.proofs.Common.{◌≡◌, ◌≢◌, ◌<◌, ◌+◌, ◌∙◌, ℕ, Bool, true, false, List, [], ◌∷◌, ◌++◌, codes, length, Option, None, Some, IfSome, ap, refl, sym, subst, arith, map}
+use Rattle.std.specs.Borrow.{Bor}
 use Rattle.std.specs.Io.KnownBytes.{Appends}
 use Rattle.pgn_game.specs.Public.Faults.{Fault}
 use Rattle.pgn_game.specs.Public.PackStreams.{HasNoRecord}
@@ -24,11 +25,17 @@ use Rattle.pgn_extract.specs.Public.Resuming.{WritesRest}
 use Rattle.pgn_extract.specs.Public.Runs.{Adds, AreWritten, ArePieces, Completed, Completes, Exports, Indexes, Io, Job, Lists, OnInput, Passage, Stream, stream_of}
 use Rattle.pgn_extract.specs.Public.Searching.{AreGameRecords, ArePackLines, ArePieceRecords, AreRecordLines, AreRecords, BeginsWithRecords, HasNoGame, Searches, StopsAtBytes, StopsAtRead, StopsSearch, StopsWithin}
 use Rattle.pgn_extract.specs.Public.Searching.AreGameRecords.{sound as sound_record, faulty as faulty_record}
-use Rattle.pgn_extract.specs.Public.Several.{IsReport, NoFile, Order, StopsInFile}
+use Rattle.pgn_extract.specs.Public.Several.{AtPath, FileOf, IsReport, NoFile, Order, StopsInFile, Unknown}
+use Rattle.pgn_extract.specs.Private.SeveralPacks.{SearchesPath, SearchesPaths, pack_paths}
 use Rattle.pgn_extract.specs.Public.Verdicts.{AreVerdicts, FaultyGame, IsGameVerdict, Verdict}
+use Rattle.pgn_extract.specs.Private.PackStops.{StopsAmongPacks, StopsAtPack, StopsInPack}
 use Rattle.pgn_extract.specs.declared.app.command.Request.{Request}
+use Rattle.pgn_extract.specs.declared.app.packs.PackFailure.{PackFailure}
+use Rattle.pgn_extract.specs.declared.app.packs.PackFailure.TheVariants.{Search}
+use Rattle.pgn_extract.specs.declared.app.packs.PackTask.{PackTask}
 use Rattle.pgn_extract.specs.declared.output.outcome.RunError.{RunError}
 use Rattle.pgn_extract.specs.declared.output.outcome.Summary.{Summary}
+use Rattle.pgn_extract.specs.declared.packed.searching.SearchError.{SearchError}
 use Rattle.pgn_extract.specs.declared.packed.searching.SearchError.TheVariants.{BadPack}
 use Rattle.pgn_extract.specs.declared.packed.searching.Searched.{Searched}
 use Rattle.pgn_extract.specs.declared.settings.Form.TheVariants.{Record, Standard}
@@ -190,7 +197,8 @@ no_line_before_records : (aim : Aim) (whole rest : List ℕ)
     → BeginsWithRecords aim whole [] rest (codes "x") → ⊥
 no_line_before_records aim whole rest begins = no_line_of_no_record aim begins.lines
 
-no_search_unwritten : (aim : Aim) (whole : List ℕ) (out out' : Option (List ℕ)) (searched : Searched)
+no_search_unwritten : (aim : Aim) (whole : List ℕ) (out out' : Option (List ℕ))
+    (searched : Searched)
     → ((text : List ℕ) → Appends out out' text → ⊥) → Searches aim whole out out' searched → ⊥
 no_search_unwritten aim whole out out' searched unwritten searches =
     unwritten searches.text searches.written
@@ -211,3 +219,53 @@ no_bad_pack_unnamed : (aim : Aim) (whole : List ℕ) (at : ℕ) (left out out' :
     → (StopsAtBytes aim whole at out out' → ⊥)
     → StopsSearch (BadPack at) aim whole left out out' → ⊥
 no_bad_pack_unnamed aim whole at left out out' none stops = none stops
+
+-- Several packs.
+
+no_search_of_an_unknown_path : (aim : Aim) (path : List ℕ) (out err : Passage)
+    → SearchesPath aim path Unknown out err → ⊥
+no_search_of_an_unknown_path aim path out err searched = searched
+
+no_line_of_no_pack : (aim : Aim) (path : List ℕ) (out err : Passage) → out.new ≢ out.old
+    → SearchesPath aim path NoFile out err → ⊥
+no_line_of_no_pack aim path out err other searched = other searched.0
+
+no_report_of_a_pack : (aim : Aim) (path whole : List ℕ) (out err : Passage) → err.new ≢ err.old
+    → SearchesPath aim path (FileOf whole) out err → ⊥
+no_report_of_a_pack aim path whole out err other searched = other searched.1
+
+nothing_after_the_last_pack : (aim : Aim) (known : List ℕ → AtPath) (out err : Passage)
+    → out.new ≢ out.old → SearchesPaths aim known [] out err → ⊥
+nothing_after_the_last_pack aim known out err other searched = other searched.0
+
+no_pack_passed_over : (aim : Aim) (known : List ℕ → AtPath) (path : List ℕ) (more : List (List ℕ))
+    (out err : Passage)
+    → ((out_there err_there : Stream) → SearchesPath aim path (known path)
+    (record { old = out.old; new = out_there }) (record { old = err.old; new = err_there }) → ⊥)
+    → SearchesPaths aim known (path ∷ more) out err → ⊥
+no_pack_passed_over aim known path more out err unsearched searched =
+    unsearched searched.0 searched.1 searched.2
+
+-- a search of packs ends early at one of them
+no_stop_at_no_pack : (aim : Aim) (known : List ℕ
+    → AtPath) (failure : PackFailure) (out err : Passage)
+    → StopsAmongPacks aim known [] failure out err → ⊥
+no_stop_at_no_pack aim known failure out err stops = none stops.before stops.parted
+  where
+    none : (before : List (List ℕ)) → [] ≡ before ++ stops.path ∷ stops.after → ⊥
+    none [] parted = cc
+    none (first ∷ more) parted = cc
+
+-- and of a pack that failed nothing goes to standard error before its report
+no_line_of_a_failed_pack : (error : SearchError) (name : Bor (List ℕ)) (aim : Aim)
+    (path whole : List ℕ) (out err : Passage) → err.new ≢ err.old
+    → StopsAtPack (Search name error) aim path (FileOf whole) out err → ⊥
+no_line_of_a_failed_pack error name aim path whole out err other stops = other stops.1
+
+no_other_pack_is_named : (error : SearchError) (name : Bor (List ℕ)) (aim : Aim)
+    (path whole : List ℕ) (out : Passage) → name.now ≢ path
+    → StopsInPack (Search name error) aim path whole out → ⊥
+no_other_pack_is_named error name aim path whole out other stops = other stops.0
+
+paths_of_a_task : (task : PackTask) → pack_paths task ≡ map (λ path. path.now) task.paths.now
+paths_of_a_task task = refl

@@ -43,7 +43,7 @@ paths_more order known (first ∷ more) path output report own own_report are is
 )
 
 -- the paths up to a place and the one that stands there
-path_there : {P : Type 0} (view : P → List ℕ) (all : List P) (i : ℕ) (d : P) → i < length all
+pub path_there : {P : Type 0} (view : P → List ℕ) (all : List P) (i : ℕ) (d : P) → i < length all
     → take (i + 1) (map view all) ≡ take i (map view all) ++ view (get_or all i d) ∷ []
 path_there view all i d within =
     let e : i < length (map view all) = subst (λ n. i < n) (sym (length-map all view)) within in

@@ -10,3 +10,5 @@ pub mod RunParts
 pub mod NoteTexts
 pub mod MoveNotes
 pub mod TwoFiles
+pub mod SeveralPacks
+pub mod PackStops

@@ -1,8 +1,13 @@
 //! The packs of the command line, searched one after another.
-ghost use Rattle.std.specs.Prelude.{◌≡◌, false, true, IfSome, OnOk};
+ghost use Rattle.std.specs.Prelude.{◌≡◌, ◌≢◌, ℕ, List, [], false, true, IfErr, IfSome, OnOk};
+ghost use Rattle.pgn_extract.specs.Private.PackStops.{StopsAmongPacks, StopsAtPack, StopsInPack};
 ghost use Rattle.pgn_extract.specs.Public.Aims.{aim_of};
 ghost use Rattle.pgn_extract.specs.Public.Listing.{is_plain};
-ghost use Rattle.pgn_extract.specs.Public.Searching.{IndexesWhatWasPacked, ListsWhatWasPacked};
+ghost use Rattle.pgn_extract.specs.Public.Runs.{Stream, passage, stream_of};
+ghost use Rattle.pgn_extract.specs.Public.Searching.{IndexesWhatWasPacked, ListsWhatWasPacked, Searches};
+ghost use Rattle.pgn_extract.specs.Public.Several.{Unknown, AreKnown};
+ghost use Rattle.pgn_extract.specs.Private.SeveralPacks.{SearchesPath, SearchesPaths, pack_paths};
+ghost use Rattle.pgn_extract.specs.declared.packed.searching.Searched.{Searched};
 
 use crate::app::endings::{flush_rest, line_of, report_bytes, report_line};
 use crate::app::files::{Files, Total, put_unopened};
@@ -53,9 +58,17 @@ where
     requires sound { out.old.faulted ≡ false }
     requires plain { is_plain task.now.settings.fields ≡ true }
     ensures listed { OnOk result (IfSome (I.remaining input)
-        (λ whole. ListsWhatWasPacked (aim_of task.now.settings) whole (O.contents out.old.inner) (O.contents out.new.inner))) }
+        (λ whole. ListsWhatWasPacked (aim_of task.now.settings) whole
+        (O.contents out.old.inner) (O.contents out.new.inner))) }
     ensures indexed { OnOk result (IfSome (I.remaining input)
-        (λ whole. IndexesWhatWasPacked (aim_of task.now.settings) whole (O.contents out.old.inner) (O.contents out.new.inner))) }
+        (λ whole. IndexesWhatWasPacked (aim_of task.now.settings) whole
+        (O.contents out.old.inner) (O.contents out.new.inner))) }
+    ensures searched { OnOk result (IfSome (I.remaining input) (λ whole. (searched : Searched)
+        × Searches (aim_of task.now.settings) whole
+        (O.contents out.old.inner) (O.contents out.new.inner) searched)) }
+    ensures stopped { IfErr result (λ failure. IfSome (I.remaining input)
+        (λ whole. StopsInPack failure (aim_of task.now.settings) name.now whole
+        (passage O.contents out.old out.new))) }
     ensures sound { OnOk result (out.new.faulted ≡ false) }
 {
     let mut input = Tally::new(input);
@@ -80,6 +93,13 @@ where
     F::Input: Drop,
     requires sound { (out.old.faulted ≡ false) × (err.old.faulted ≡ false) }
     requires plain { is_plain task.now.settings.fields ≡ true }
+    ensures searched { OnOk result (F.known files.old path.now ≢ Unknown
+        → SearchesPath (aim_of task.now.settings) path.now (F.known files.old path.now)
+        (passage O.contents out.old out.new) (passage E.contents err.old err.new)) }
+    ensures stopped { IfErr result (λ failure. F.known files.old path.now ≢ Unknown
+        → StopsAtPack failure (aim_of task.now.settings) path.now (F.known files.old path.now)
+        (passage O.contents out.old out.new) (passage E.contents err.old err.new)) }
+    ensures known { (own : List ℕ) → F.known files.new own ≡ F.known files.old own }
     ensures sound { OnOk result ((out.new.faulted ≡ false) × (err.new.faulted ≡ false)) }
 {
     match files.open(path) {
@@ -106,6 +126,12 @@ where
     F::Input: Drop,
     requires sound { (out.old.faulted ≡ false) × (err.old.faulted ≡ false) }
     requires plain { is_plain task.now.settings.fields ≡ true }
+    ensures searched { OnOk result (AreKnown (F.known files.old) (pack_paths task.now)
+        → SearchesPaths (aim_of task.now.settings) (F.known files.old) (pack_paths task.now)
+        (passage O.contents out.old out.new) (passage E.contents err.old err.new)) }
+    ensures stopped { IfErr result (λ failure. AreKnown (F.known files.old) (pack_paths task.now)
+        → StopsAmongPacks (aim_of task.now.settings) (F.known files.old) (pack_paths task.now)
+        failure (passage O.contents out.old out.new) (passage E.contents err.old err.new)) }
     ensures sound { OnOk result ((out.new.faulted ≡ false) × (err.new.faulted ≡ false)) }
 {
     let mut total = Total::NONE;
@@ -118,7 +144,8 @@ where
     Ok(total)
 }
 
-/// Searches the packs that are asked for, and answers the status.
+/// Searches the packs that are asked for, and answers the status. Where it is not that of a
+/// failure, each pack was searched to its end, and nothing else was written to the output.
 pub fn search_packs<F: Files, O: Write, E: Write>(
     task: &PackTask<'_>,
     files: &mut F,
@@ -129,6 +156,12 @@ where
     F::Input: Drop,
     requires sound { (out.old.faulted ≡ false) × (err.old.faulted ≡ false) }
     requires plain { is_plain task.now.settings.fields ≡ true }
+    ensures searched { result ≢ 3 → pack_paths task.now ≢ []
+        → AreKnown (F.known files.old) (pack_paths task.now)
+        → (err_there : Stream)
+        × SearchesPaths (aim_of task.now.settings) (F.known files.old) (pack_paths task.now)
+        (passage O.contents out.old out.new)
+        (record { old = stream_of E.contents err.old; new = err_there }) }
 {
     let ended = if task.paths.is_empty() {
         search_input(task, messages::STANDARD_INPUT, files.standard(), out).map(Total::of)
