@@ -1,33 +1,37 @@
 -- What the definitions of exports, of runs and of searches refuse.
-use Rattle.std.proofs.Common.{◌≡◌, ◌≢◌, ◌<◌, ◌+◌, ◌∙◌, ℕ, Bool, true, false, List, [], ◌∷◌, ◌++◌, codes, length, Option, None, Some, IfSome, ap, refl, sym, subst, arith, map}
+use Rattle.std.proofs.Common.{◌≡◌, ◌≢◌, ◌<◌, ◌+◌, ◌∙◌, ℕ, Bool, true, false, List, [], ◌∷◌, ◌++◌, codes, length, Option, None, Some, IfSome, ap, refl, sym, subst, arith, map, ◌≤◌, drop}
+use Rattle.pgn_extract.specs.declared.output.outcome.RunError.TheVariants.{InputTooLong}
+use Rattle.pgn_text.specs.Public.Complete.{AreCompleteBlocks, AreCompletePieces}
+use Rattle.pgn_text.specs.Public.GameTexts.{GameText, IsGameText, tag_in}
+use Rattle.pgn_game.specs.Public.Starts.{fen_tag}
 use Rattle.std.specs.Borrow.{Bor}
 use Rattle.std.specs.Io.KnownBytes.{Appends}
 use Rattle.pgn_game.specs.Public.Faults.{Fault}
 use Rattle.pgn_game.specs.Public.PackStreams.{HasNoRecord}
-use Rattle.pgn_game.specs.Public.PackedGames.{PackedGame}
-use Rattle.pgn_game.specs.Public.Replays.{Replay}
+use Rattle.pgn_game.specs.Public.PackedGames.{PackedGame, IsPacked, record_bytes}
+use Rattle.pgn_game.specs.Public.Replays.{Replay, IsReplay}
 use Rattle.pgn_game.specs.declared.exports.style.Style.{Style}
 use Rattle.pgn_game.specs.declared.replays.replayer.Lines.TheVariants.{All, Main}
 use Rattle.pgn_criteria.specs.Public.Meeting.{Heading}
 use Rattle.pgn_text.specs.Public.Limits.{largest_offset}
-use Rattle.pgn_text.specs.Public.Marks.{MarkedPiece, TooLongBlock}
+use Rattle.pgn_text.specs.Public.Marks.{MarkedPiece, TooLongBlock, AreMarkedPieces}
 use Rattle.pgn_text.specs.Public.Parts.{Part}
 use Rattle.pgn_text.specs.Public.Tallies.{Tallied}
 use Rattle.pgn_extract.specs.Public.Aims.{Aim}
-use Rattle.pgn_extract.specs.Public.Exports.{IsExportOf, IsGameExport, written_lines}
+use Rattle.pgn_extract.specs.Public.Exports.{IsExportOf, IsGameExport, written_lines, IsGameRecordOf}
 use Rattle.pgn_extract.specs.Public.Exports.IsGameExport.{sound as sound_export, faulty as faulty_export}
 use Rattle.pgn_extract.specs.Public.GameReports.{AreListed, IsFaultOf, IsReplayOf}
 use Rattle.pgn_extract.specs.Public.GivenMarks.{GivenMark, mark_around}
-use Rattle.pgn_extract.specs.Public.Listing.{AreEntries, Entry, IsMainReplayOf}
-use Rattle.pgn_extract.specs.Public.Outcomes.{AppendsFront}
+use Rattle.pgn_extract.specs.Public.Listing.{AreEntries, Entry, IsMainReplayOf, entries_at_least, listing}
+use Rattle.pgn_extract.specs.Public.Outcomes.{AppendsFront, BeginsAll, WritesComplete}
 use Rattle.pgn_extract.specs.Public.Requests.{option_refusals, refusals, text_refusals}
-use Rattle.pgn_extract.specs.Public.Resuming.{WritesRest}
-use Rattle.pgn_extract.specs.Public.Runs.{Adds, AreWritten, ArePieces, Completed, Completes, Exports, Indexes, Io, Job, Lists, OnInput, Passage, Stream, stream_of}
-use Rattle.pgn_extract.specs.Public.Searching.{AreGameRecords, ArePackLines, ArePieceRecords, AreRecordLines, AreRecords, BeginsWithRecords, HasNoGame, Searches, StopsAtBytes, StopsAtRead, StopsSearch, StopsWithin}
+use Rattle.pgn_extract.specs.Public.Resuming.{WritesRest, IsMarkAmong}
+use Rattle.pgn_extract.specs.Public.Runs.{Adds, AreWritten, ArePieces, Completed, Completes, Exports, Indexes, Io, Job, Lists, OnInput, Passage, Stream, stream_of, Exported, Indexed, IsBegun, IsCompleteOf, Listed, ListsRest, Rest, RestListed, Resumes, Stopped, Stops}
+use Rattle.pgn_extract.specs.Public.Searching.{AreGameRecords, ArePackLines, ArePieceRecords, AreRecordLines, AreRecords, BeginsWithRecords, HasNoGame, Searches, StopsAtBytes, StopsAtRead, StopsSearch, StopsWithin, IndexesWhatWasPacked, IsIndexOfSoundGames, IsPackOf, IsRecordListing, ListsWhatWasPacked}
 use Rattle.pgn_extract.specs.Public.Searching.AreGameRecords.{sound as sound_record, faulty as faulty_record}
-use Rattle.pgn_extract.specs.Public.Several.{AtPath, FileOf, IsReport, NoFile, Order, StopsInFile, Unknown}
+use Rattle.pgn_extract.specs.Public.Several.{AtPath, FileOf, IsReport, NoFile, Order, StopsInFile, Unknown, IsRead, WritesRead}
 use Rattle.pgn_extract.specs.Private.SeveralPacks.{SearchesPath, SearchesPaths, pack_paths}
-use Rattle.pgn_extract.specs.Public.Verdicts.{AreVerdicts, FaultyGame, IsGameVerdict, Verdict}
+use Rattle.pgn_extract.specs.Public.Verdicts.{AreVerdicts, FaultyGame, IsGameVerdict, Verdict, output_text}
 use Rattle.pgn_extract.specs.Private.PackStops.{StopsAmongPacks, StopsAtPack, StopsInPack}
 use Rattle.pgn_extract.specs.declared.app.command.Request.{Request}
 use Rattle.pgn_extract.specs.declared.app.packs.PackFailure.{PackFailure}
@@ -269,3 +273,136 @@ no_other_pack_is_named error name aim path whole out other stops = other stops.0
 
 paths_of_a_task : (task : PackTask) → pack_paths task ≡ map (λ path. path.now) task.paths.now
 paths_of_a_task task = refl
+
+-- What a run leaves as a whole.
+
+no_bytes_of_no_record : (aim : Aim) (number offset : ℕ) (parts : List Part)
+    → IsGameRecordOf aim number offset parts [] → ⊥
+no_bytes_of_no_record aim number offset parts (game, sound, shows, is) = none is.packed is.spells
+  where
+    none : (packed : PackedGame) → [] ≡ record_bytes packed → ⊥
+    none packed spells = cc
+
+no_piece_of_no_complete_block : (limit depth offset : ℕ) (text : List ℕ) (marks : List MarkedPiece)
+    → ((blocks : List (List ℕ)) → AreCompleteBlocks blocks text → ⊥)
+    → AreCompletePieces limit depth offset text marks → ⊥
+no_piece_of_no_complete_block limit depth offset text marks none are = none are.blocks are.complete
+
+no_report_of_an_incomplete_block : (aim : Aim) (limit depth number offset : ℕ) (bytes : List ℕ)
+    (out out' err err' : Option (List ℕ))
+    → ((pieces : List MarkedPiece) → AreCompletePieces limit depth offset bytes pieces → ⊥)
+    → WritesComplete aim limit depth number offset bytes out out' err err' → ⊥
+no_report_of_an_incomplete_block aim limit depth number offset bytes out out' err err' none writes =
+    none writes.pieces writes.each
+
+no_other_beginning : (aim : Aim) (limit depth number offset : ℕ) (bytes : List ℕ)
+    (out out' err err' : Option (List ℕ))
+    → ((text : List ℕ) → AppendsFront out out' text → ⊥)
+    → BeginsAll aim limit depth number offset bytes out out' err err' → ⊥
+no_other_beginning aim limit depth number offset bytes out out' err err' none begins =
+    none (output_text begins.verdicts) begins.output
+
+-- after an error it is of complete blocks, or a beginning of all
+no_complete_report_of_no_block : (job : Job) (io : Io) (bytes : List ℕ)
+    → ((pieces : List MarkedPiece)
+    → AreCompletePieces job.limit job.max_depth job.offset (drop job.offset bytes) pieces → ⊥)
+    → IsCompleteOf job io bytes → ⊥
+no_complete_report_of_no_block job io bytes none is = none is.pieces is.each
+
+no_beginning_of_another_report : (job : Job) (io : Io) (whole : List ℕ)
+    → ((text : List ℕ) → AppendsFront io.out.old.bytes io.out.new.bytes text → ⊥)
+    → IsBegun job io whole → ⊥
+no_beginning_of_another_report job io whole none begun =
+    none (output_text begun.verdicts) begun.output
+
+no_small_input_is_too_long : (job : Job) (io : Io) (whole : List ℕ) → length whole ≤ largest_offset
+    → Stops InputTooLong job io whole → ⊥
+no_small_input_is_too_long job io whole small stops = omega (arith, small, stops.0)
+
+no_small_input_stops_so : (job : Job) (io : Io) (whole : List ℕ) → io.input.old.bytes ≡ Some whole
+    → length whole ≤ largest_offset → Stopped job io InputTooLong → ⊥
+no_small_input_stops_so job io whole known small stopped =
+    no_fact_of_the_input_is_left io whole (λ text. Stops InputTooLong job io text) known
+    (no_small_input_is_too_long job io whole small) stopped
+
+-- in each mode it is what the mode says
+no_run_unindexed : (job : Job) (io : Io) (whole : List ℕ) → io.input.old.bytes ≡ Some whole
+    → job.aim.mode ≡ modes.Index → (Indexes job io whole → ⊥) → Indexed job io → ⊥
+no_run_unindexed job io whole known index none indexed =
+    no_fact_of_the_input_is_left io whole (λ text. job.aim.mode ≡ modes.Index → Indexes job io text)
+    known (λ says. none (says index)) indexed
+
+no_run_unlisted : (job : Job) (io : Io) (whole : List ℕ) → io.input.old.bytes ≡ Some whole
+    → job.aim.mode ≡ modes.List → (Lists job io whole → ⊥) → Listed job io → ⊥
+no_run_unlisted job io whole known list none listed =
+    no_fact_of_the_input_is_left io whole (λ text. job.aim.mode ≡ modes.List → Lists job io text)
+    known (λ says. none (says list)) listed
+
+no_rest_unlisted : (job : Job) (io : Io) (whole : List ℕ) → io.input.old.bytes ≡ Some whole
+    → job.aim.mode ≡ modes.List → (ListsRest job io whole → ⊥) → RestListed job io → ⊥
+no_rest_unlisted job io whole known list none listed =
+    no_fact_of_the_input_is_left io whole (λ text. job.aim.mode ≡ modes.List
+    → ListsRest job io text)
+    known (λ says. none (says list)) listed
+
+no_run_unexported : (job : Job) (io : Io) (whole : List ℕ) → io.input.old.bytes ≡ Some whole
+    → job.aim.mode ≡ modes.Export → (Exports job io whole → ⊥) → Exported job io → ⊥
+no_run_unexported job io whole known export none exported =
+    no_fact_of_the_input_is_left io whole (λ text. job.aim.mode ≡ modes.Export
+    → Exports job io text)
+    known (λ says. none (says export)) exported
+
+no_run_unresumed : (job : Job) (io : Io) (whole : List ℕ) → io.input.old.bytes ≡ Some whole
+    → (Resumes job io whole → ⊥) → Rest job io → ⊥
+no_run_unresumed job io whole known none rest =
+    no_fact_of_the_input_is_left io whole (λ text. Resumes job io text) known none rest
+
+-- from a mark on it is the rest
+no_other_rest_is_listed : (job : Job) (io : Io) (whole : List ℕ) (pieces : List MarkedPiece)
+    (entries : List Entry) → AreMarkedPieces job.limit job.max_depth 0 whole pieces
+    → IsMarkAmong job.number job.offset pieces → AreEntries job.aim 1 pieces entries
+    → (Adds io.out (listing job.aim.name (entries_at_least job.number entries)) → ⊥)
+    → ListsRest job io whole → ⊥
+no_other_rest_is_listed job io whole pieces entries each mark are none lists =
+    none (lists.rest pieces each mark entries are)
+
+no_other_rest_is_reported : (job : Job) (io : Io) (whole : List ℕ) (pieces : List MarkedPiece)
+    → AreMarkedPieces job.limit job.max_depth 0 whole pieces
+    → (mark : IsMarkAmong job.number job.offset pieces)
+    → (WritesRest job.aim job.number pieces (mark.piece ∷ mark.after) io.out.old.bytes
+    io.out.new.bytes io.err.old.bytes io.err.new.bytes → ⊥)
+    → Resumes job io whole → ⊥
+no_other_rest_is_reported job io whole pieces each mark none resumes =
+    none (resumes.rest pieces each mark)
+
+no_file_unread : (order : Order) (text : List ℕ) (out err : Passage)
+    → ((output report : List ℕ) → IsRead order text output report → ⊥)
+    → WritesRead order text out err → ⊥
+no_file_unread order text out err none writes = none writes.0 writes.1 writes.2
+
+-- What a search of a pack finds is what was packed.
+
+no_other_lines_of_a_record : (aim : Aim) (packed : PackedGame) (text : List ℕ) (game : GameText)
+    (replay : Replay) → IsGameText game
+    → IsReplay Main (tag_in fen_tag game.tags) game.elements replay
+    → IsPacked packed.name packed.number packed.offset game replay packed
+    → ((entries : List Entry) → text ≡ listing packed.name entries → ⊥)
+    → IsRecordListing aim packed text → ⊥
+no_other_lines_of_a_record aim packed text game replay sound is_replay is_packed none is =
+    let lines = is game replay sound is_replay is_packed in none lines.0 lines.2
+
+no_other_listing_is_found : (aim : Aim) (whole : List ℕ) (out out' : Option (List ℕ))
+    (name : Option (List ℕ)) (number : ℕ) (pieces : List MarkedPiece) (entries : List Entry)
+    → aim.mode ≡ modes.List → IsPackOf name number pieces whole
+    → AreEntries aim number pieces entries
+    → (Appends out out' (listing name entries) → ⊥) → ListsWhatWasPacked aim whole out out' → ⊥
+no_other_listing_is_found aim whole out out' name number pieces entries list is are none lists =
+    none (lists list name number pieces is entries are)
+
+no_other_index_is_found : (aim : Aim) (whole : List ℕ) (out out' : Option (List ℕ))
+    (name : Option (List ℕ)) (number : ℕ) (pieces : List MarkedPiece) → aim.mode ≡ modes.Index
+    → IsPackOf name number pieces whole
+    → ((text : List ℕ) → IsIndexOfSoundGames name number pieces text → ⊥)
+    → IndexesWhatWasPacked aim whole out out' → ⊥
+no_other_index_is_found aim whole out out' name number pieces index is none indexes =
+    let found = indexes index name number pieces is in none found.0 found.1
