@@ -3,7 +3,7 @@ use Rattle.std.proofs.Common.{◌≡◌, ◌++◌, ℕ, true, false, List, [], �
 use Rattle.std.proofs.lemmas.Fmt.{decimal_digit}
 use Rattle.std.specs.declared.io.ErrorKind.TheVariants.{NotFound}
 use Rattle.chess.specs.Public.Positions.{State}
-use Rattle.pgn_text.specs.Public.Marks.{MarkedPiece, ReadableGame, TooLongBlock, UnreadableRest}
+use Rattle.pgn_text.specs.Public.Marks.{ReadableGame, TooLongBlock, UnreadableRest}
 use Rattle.pgn_text.specs.Public.Parts.{Part}
 use Rattle.pgn_game.specs.Public.Faults.{AmbiguousMove, BadStart, IllegalMove}
 use Rattle.pgn_game.specs.Public.Replays.{Replay}

@@ -1,7 +1,7 @@
 -- What the definitions of what is asked for say of some options, and what they refuse.
-use Rattle.std.proofs.Common.{◌≡◌, ◌^◌, ◌-◌, true, false, ℕ, Bool, List, Option, None, Some, codes, refl}
+use Rattle.std.proofs.Common.{◌≡◌, ◌^◌, ◌-◌, true, false, ℕ, List, None, Some, codes, refl}
 use Rattle.pgn_game.specs.declared.exports.notation.Notation.TheVariants.{San, Uci}
-use Rattle.pgn_extract.specs.Public.GivenMarks.{GivenMark, mark_in}
+use Rattle.pgn_extract.specs.Public.GivenMarks.{mark_in}
 use Rattle.pgn_extract.specs.Public.Requests.{asked, asks_names, begin_of, end_of, first_line, gives_mark, has_several_files, is_one_line, is_stretch, option_refusals}
 use Rattle.pgn_extract.specs.declared.app.command.Request.{Request}
 use Rattle.pgn_extract.specs.declared.settings.Form.TheVariants.{Standard, AsItStands, Line, Record}

@@ -1,5 +1,5 @@
 -- What the definitions of exports, of runs and of searches refuse.
-use Rattle.std.proofs.Common.{◌≡◌, ◌≢◌, ◌<◌, ◌+◌, ◌∙◌, ℕ, Bool, true, false, List, [], ◌∷◌, ◌++◌, codes, length, Option, None, Some, IfSome, ap, refl, sym, subst, arith, map, ◌≤◌, drop}
+use Rattle.std.proofs.Common.{◌≡◌, ◌≢◌, ◌<◌, ◌+◌, ◌∙◌, ℕ, Bool, true, false, List, [], ◌∷◌, ◌++◌, codes, length, Option, None, Some, IfSome, ap, refl, sym, subst, arith, ◌≤◌, drop}
 use Rattle.pgn_extract.specs.declared.output.outcome.RunError.TheVariants.{InputTooLong}
 use Rattle.pgn_text.specs.Public.Complete.{AreCompleteBlocks, AreCompletePieces}
 use Rattle.pgn_text.specs.Public.GameTexts.{GameText, IsGameText, tag_in}
@@ -30,13 +30,12 @@ use Rattle.pgn_extract.specs.Public.Runs.{Adds, AreWritten, ArePieces, Completed
 use Rattle.pgn_extract.specs.Public.Searching.{AreGameRecords, ArePackLines, ArePieceRecords, AreRecordLines, AreRecords, BeginsWithRecords, HasNoGame, Searches, StopsAtBytes, StopsAtRead, StopsSearch, StopsWithin, IndexesWhatWasPacked, IsIndexOfSoundGames, IsPackOf, IsRecordListing, ListsWhatWasPacked}
 use Rattle.pgn_extract.specs.Public.Searching.AreGameRecords.{sound as sound_record, faulty as faulty_record}
 use Rattle.pgn_extract.specs.Public.Several.{AtPath, FileOf, IsReport, NoFile, Order, StopsInFile, Unknown, IsRead, WritesRead}
-use Rattle.pgn_extract.specs.Private.SeveralPacks.{SearchesPath, SearchesPaths, pack_paths}
+use Rattle.pgn_extract.specs.Private.SeveralPacks.{SearchesPath, SearchesPaths}
 use Rattle.pgn_extract.specs.Public.Verdicts.{AreVerdicts, FaultyGame, IsGameVerdict, Verdict, output_text}
 use Rattle.pgn_extract.specs.Private.PackStops.{StopsAmongPacks, StopsAtPack, StopsInPack}
 use Rattle.pgn_extract.specs.declared.app.command.Request.{Request}
 use Rattle.pgn_extract.specs.declared.app.packs.PackFailure.{PackFailure}
 use Rattle.pgn_extract.specs.declared.app.packs.PackFailure.TheVariants.{Search}
-use Rattle.pgn_extract.specs.declared.app.packs.PackTask.{PackTask}
 use Rattle.pgn_extract.specs.declared.output.outcome.RunError.{RunError}
 use Rattle.pgn_extract.specs.declared.output.outcome.Summary.{Summary}
 use Rattle.pgn_extract.specs.declared.packed.searching.SearchError.{SearchError}
@@ -270,9 +269,6 @@ no_other_pack_is_named : (error : SearchError) (name : Bor (List ℕ)) (aim : Ai
     (path whole : List ℕ) (out : Passage) → name.now ≢ path
     → StopsInPack (Search name error) aim path whole out → ⊥
 no_other_pack_is_named error name aim path whole out other stops = other stops.0
-
-paths_of_a_task : (task : PackTask) → pack_paths task ≡ map (λ path. path.now) task.paths.now
-paths_of_a_task task = refl
 
 -- What a run leaves as a whole.
 

@@ -1,6 +1,6 @@
 -- Runs over files, one after the other.
-use Rattle.std.proofs.Common.{◌≡◌, ◌≢◌, ◌++◌, ◌||◌, ◌+◌, ◌<◌, ℕ, Bool, false, List, [], ◌∷◌, Option, Some, None, IfSome, length, take, map, get_or, refl, sym, ap, subst, ◌∙◌}
-use Rattle.std.proofs.lemmas.List.{append_assoc, append-nil, get_or-map, length-map, take_more}
+use Rattle.std.proofs.Common.{◌≡◌, ◌≢◌, ◌++◌, ◌||◌, ◌+◌, ◌<◌, ℕ, Bool, List, [], ◌∷◌, Option, Some, None, IfSome, length, drop, take, map, get_or, refl, sym, ap, subst, ◌∙◌}
+use Rattle.std.proofs.lemmas.List.{append_assoc, append-nil, drop_more, get_or-map, length-map, take-append-drop, take_more}
 use Rattle.std.proofs.lemmas.List.Folds.{list_any-append}
 use Rattle.std.proofs.Math.Bool.{or-false}
 use Rattle.std.specs.Io.KnownBytes.{Appends}
@@ -49,6 +49,17 @@ path_there view all i d within =
     let e : i < length (map view all) = subst (λ n. i < n) (sym (length-map all view)) within in
     take_more (map view all) i [] e
     ∙ ap (λ path. take i (map view all) ++ path ∷ []) (get_or-map view all i d [] within)
+
+-- it parts them: what stands before it, and what after it
+pub parted_there : {P : Type 0} (view : P → List ℕ) (all : List P) (i : ℕ) (d : P) → i < length all
+    → map view all ≡ take i (map view all) ++ view (get_or all i d) ∷ drop (i + 1) (map view all)
+parted_there view all i d within =
+    let paths = map view all in
+    let e : i < length paths = subst (λ n. i < n) (sym (length-map all view)) within in
+    let here : view (get_or all i d) ∷ drop (i + 1) paths ≡ drop i paths =
+    ap (λ path. path ∷ drop (i + 1) paths) (sym (get_or-map view all i d [] within))
+    ∙ sym (drop_more paths i [] e) in
+    sym (ap (λ rest. take i paths ++ rest) here ∙ take-append-drop i paths)
 
 -- something is known of it
 pub known_there : {P : Type 0} (view : P → List ℕ) (all : List P) (i : ℕ) (d : P)

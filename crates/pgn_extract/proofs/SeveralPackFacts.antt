@@ -1,10 +1,9 @@
 -- Searches of packs, one after the other.
-use Rattle.std.proofs.Common.{◌≡◌, ◌≢◌, ◌++◌, ◌<◌, ◌+◌, ℕ, List, [], ◌∷◌, Option, Some, IfSome, drop, get_or, length, map, take, refl, sym, ap, subst, ◌∙◌}
-use Rattle.std.proofs.lemmas.List.{drop_more, get_or-map, length-map, take-append-drop}
+use Rattle.std.proofs.Common.{◌≡◌, ◌≢◌, ◌++◌, ◌<◌, ◌+◌, ℕ, List, [], ◌∷◌, Option, IfSome, drop, get_or, length, map, take, refl, sym, subst}
 use Rattle.std.specs.Io.KnownBytes.{Keeps}
 use Rattle.std.specs.declared.io.ErrorKind.{ErrorKind}
 use Rattle.std.specs.declared.io.ErrorKind.TheVariants.{OutOfMemory}
-use Rattle.pgn_extract.proofs.SeveralFacts.{path_there}
+use Rattle.pgn_extract.proofs.SeveralFacts.{parted_there, path_there}
 use Rattle.pgn_extract.specs.Private.PackStops.{StopsAmongPacks, StopsAtPack, StopsInPack}
 use Rattle.pgn_extract.specs.Public.Aims.{Aim}
 use Rattle.pgn_extract.specs.Public.Outcomes.{AppendsFront}
@@ -136,15 +135,11 @@ stops_at_pack view all i d aim known known' same within failure out err out_ther
     stopped =
     let paths = map view all in
     let path = view (get_or all i d) in
-    let within_paths : i < length paths = subst (λ n. i < n) (sym (length-map all view)) within in
-    let at_path : path ∷ drop (i + 1) paths ≡ drop i paths =
-    ap (λ p. p ∷ drop (i + 1) paths) (sym (get_or-map view all i d [] within))
-    ∙ sym (drop_more paths i [] within_paths) in
     record {
       before = take i paths;
       path = path;
       after = drop (i + 1) paths;
-      parted = sym (ap (λ rest. take i paths ++ rest) at_path ∙ take-append-drop i paths);
+      parted = parted_there view all i d within;
       out_there = out_there;
       err_there = err_there;
       whole = whole;

@@ -1,6 +1,5 @@
 -- Runs over files that end early.
-use Rattle.std.proofs.Common.{◌≡◌, ◌≢◌, ◌⊎◌, ◌++◌, ◌<◌, ◌+◌, ℕ, List, [], ◌∷◌, Option, Some, None, IfSome, codes, count_by, drop, get_or, length, map, take, refl, sym, ap, subst, ◌∙◌, inl, inr}
-use Rattle.std.proofs.lemmas.List.{drop_more, get_or-map, length-map, take-append-drop}
+use Rattle.std.proofs.Common.{◌≡◌, ◌≢◌, ◌⊎◌, ◌++◌, ◌<◌, ◌+◌, ℕ, List, [], ◌∷◌, Option, Some, None, IfSome, codes, count_by, drop, get_or, length, map, take, refl, sym, subst, inl, inr}
 use Rattle.std.specs.Io.KnownBytes.{Appends, Keeps}
 use Rattle.std.specs.Option.{option_map}
 use Rattle.std.specs.Prelude.{Err, Ok, OnErr, Result}
@@ -11,7 +10,7 @@ use Rattle.pgn_text.specs.Public.Marks.{MarkedPiece}
 use Rattle.pgn_extract.proofs.Beginnings.{front_all, front_join}
 use Rattle.pgn_extract.proofs.BegunAll.{front_longer}
 use Rattle.pgn_extract.proofs.BlockWritten.{front_none}
-use Rattle.pgn_extract.proofs.SeveralFacts.{read_of, taken_to}
+use Rattle.pgn_extract.proofs.SeveralFacts.{parted_there, read_of, taken_to}
 use Rattle.pgn_extract.proofs.SomeReport.{rest_reported}
 use Rattle.pgn_extract.proofs.Writing.{appends_kept, appends_none}
 use Rattle.pgn_extract.specs.Public.Index.{shown_name}
@@ -233,17 +232,13 @@ stops_there view all i d order order' known known' orders same within error out 
     err_there whole stopped =
     let paths = map view all in
     let path = view (get_or all i d) in
-    let within_paths : i < length paths = subst (λ n. i < n) (sym (length-map all view)) within in
-    let at_path : path ∷ drop (i + 1) paths ≡ drop i paths =
-    ap (λ p. p ∷ drop (i + 1) paths) (sym (get_or-map view all i d [] within))
-    ∙ sym (drop_more paths i [] within_paths) in
     let now_out : Passage = record { old = out_there; new = out.new } in
     let now_err : Passage = record { old = err_there; new = err.new } in
     record {
       before = take i paths;
       path = path;
       after = drop (i + 1) paths;
-      parted = sym (ap (λ rest. take i paths ++ rest) at_path ∙ take-append-drop i paths);
+      parted = parted_there view all i d within;
       out_there = out_there;
       err_there = err_there;
       whole = whole;

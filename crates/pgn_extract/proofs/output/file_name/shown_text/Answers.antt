@@ -1,6 +1,6 @@
-use Rattle.std.proofs.Common.{◌≡◌, ◌++◌, ℕ, List, IsUtf8, chars, map, encode_utf8, encode_utf8_all, length, ap, sym, ◌∙◌, append_assoc, append-nil, ◌∷◌, []}
+use Rattle.std.proofs.Common.{◌≡◌, ◌++◌, ℕ, List, IsUtf8, chars, map, encode_utf8, encode_utf8_all, length, ap, sym, ◌∙◌, append_assoc, append-nil, []}
 use Rattle.std.proofs.lemmas.List.{nil_from_length}
-use Rattle.std.proofs.lemmas.Str.{IsUtf8-past_char, chars_past_char, chars-nil, encodes-append}
+use Rattle.std.proofs.lemmas.Str.{IsUtf8-past_char, chars_past_char, chars-nil}
 use Rattle.pgn_extract.specs.Public.Index.{shown_char, shown_name}
 use Rattle.pgn_extract.proofs.output.file_name.shown_text.Goals as goal
 
