@@ -1,14 +1,19 @@
 //! Reads and writes that fail, and readers that give few bytes at a time.
 ghost use Rattle.std.specs.Prelude.{◌≤◌, ◌^◌, IfOk};
 
-use crate::runs::{FAULT_BETWEEN, LOST_BRACE, Shelf, run_arguments};
 use crate::trials::Trial;
 use pgn_criteria::Criteria;
 use pgn_extract::{Fields, Form, Mode, Select, Settings};
 use pgn_game::Style;
-use std::alloc::{AllocError, Global};
+use std::alloc::Global;
 use std::test::Fail;
 use test_support::{Fails, Page, Pieces, TWO_GAMES};
+
+/// 46 bytes; the first game lacks its closing brace.
+const LOST_BRACE: &[u8] = b"[Event \"A\"]\n\n1. e4 {oops\n[Event \"B\"]\n\n1. d4 *\n";
+
+/// Three games; no queen takes on h8 at once.
+const FAULT_BETWEEN: &[u8] = b"1. e4 *\n1. Qxh8 *\n1. d4 *\n";
 
 /// The main line with its comments and glyphs, in lines of at most 79 bytes.
 const PLAIN: Style = Style {
@@ -68,17 +73,15 @@ fn front_of_two_games(len: usize) -> &'static [u8] {
 }
 
 /// The modes, with what the first of the two games gives, and both.
-const MODES: [(Mode, &str, &[u8], &[u8]); 3] = [
-    (Mode::Index, "--index", b"1@0\n", b"1@0\n2@22\n"),
+const MODES: [(Mode, &[u8], &[u8]); 3] = [
+    (Mode::Index, b"1@0\n", b"1@0\n2@22\n"),
     (
         Mode::List,
-        "--list",
         b"1@0 0\n1@0 1\n",
         b"1@0 0\n1@0 1\n2@22 0\n2@22 1\n",
     ),
     (
         Mode::Export,
-        "-V",
         b"[Event \"A\"]\n[Site \"?\"]\n[Date \"????.??.??\"]\n[Round \"?\"]\n[White \"?\"]\n[Black \"?\"]\n[Result \"*\"]\n\n1. e4 *\n\n",
         b"[Event \"A\"]\n[Site \"?\"]\n[Date \"????.??.??\"]\n[Round \"?\"]\n[White \"?\"]\n[Black \"?\"]\n[Result \"*\"]\n\n1. e4 *\n\n[Event \"B\"]\n[Site \"?\"]\n[Date \"????.??.??\"]\n[Round \"?\"]\n[White \"?\"]\n[Black \"?\"]\n[Result \"*\"]\n\n1. d4 *\n\n",
     ),
@@ -111,33 +114,11 @@ fn leaves_complete_blocks(alloc: Global, settings: &Settings, first: &[u8], len:
 
 #[test]
 fn a_read_fault_leaves_the_complete_blocks(rt: HostRuntime) -> Result<(), Fail> {
-    for &(mode, _, first, _) in &MODES {
+    for &(mode, first, _) in &MODES {
         for len in 0..=43usize {
             let holds = leaves_complete_blocks(rt.alloc(), &all(mode), first, len)
                 && leaves_complete_blocks(rt.alloc(), &rest(mode), b"", len);
             assert!(rt; holds, "{mode:?} at {len}");
-        }
-    }
-    Ok(())
-}
-
-#[test]
-fn the_program_reports_a_read_fault(rt: HostRuntime) -> Result<(), Fail> {
-    for &(_, argument, first, _) in &MODES {
-        for len in 0..=43usize {
-            let wanted = if len < 30 { b"".as_slice() } else { first };
-            let mut shelf = Shelf::failing(front_of_two_games(len));
-            let end = run_arguments(
-                rt.alloc(),
-                &[argument],
-                &mut shelf,
-                Page::new(),
-                Page::new(),
-            )?;
-            assert!(rt;
-                end.is(wanted, b"pgn-extract: read failed\n", 3),
-                "{argument} at {len}"
-            );
         }
     }
     Ok(())
@@ -169,17 +150,9 @@ fn ends_at_a_skip(alloc: Global, settings: &Settings, fails: Fails) -> bool
     trial.calls == [0, 0, 0] && trial.moved == 0 && trial.is_read_fault(b"", b"")
 }
 
-/// Whether the program over an input that fails at skips reports that a read failed.
-fn reports_a_skip_fault(alloc: Global, argument: &str) -> Result<bool, AllocError> {
-    let arguments = [argument, "--summary", "--from", "2@22", "--until", "3@43"];
-    let mut shelf = Shelf::failing_skip(TWO_GAMES);
-    let end = run_arguments(alloc, &arguments, &mut shelf, Page::new(), Page::new())?;
-    Ok(end.is(b"", b"pgn-extract: read failed\n", 3))
-}
-
 #[test]
 fn bytes_are_passed_over(rt: HostRuntime) -> Result<(), Fail> {
-    for &(mode, argument, first, whole) in &MODES {
+    for &(mode, first, whole) in &MODES {
         let left = whole.get(first.len()..).unwrap_or(b"");
         let settings = rest(mode);
         let holds = reads_what_is_left(rt.alloc(), &settings, left, 0)
@@ -187,8 +160,7 @@ fn bytes_are_passed_over(rt: HostRuntime) -> Result<(), Fail> {
             && reads_what_is_left(rt.alloc(), &settings, left, 22)
             && reads_what_is_left(rt.alloc(), &settings, left, u64::MAX)
             && ends_at_a_skip(rt.alloc(), &settings, Fails::Always)
-            && ends_at_a_skip(rt.alloc(), &settings, Fails::Once)
-            && reports_a_skip_fault(rt.alloc(), argument)?;
+            && ends_at_a_skip(rt.alloc(), &settings, Fails::Once);
         assert!(rt; holds, "{mode:?}");
     }
     Ok(())
@@ -232,7 +204,7 @@ fn leaves_a_front(
 
 #[test]
 fn an_output_fault_leaves_a_front(rt: HostRuntime) -> Result<(), Fail> {
-    for &(mode, _, first, whole) in &MODES {
+    for &(mode, first, whole) in &MODES {
         for room in 0..whole.len() {
             let holds = leaves_a_front(rt.alloc(), &all(mode), first, whole, room);
             assert!(rt; holds, "{mode:?} at {room}");
@@ -253,7 +225,7 @@ fn of_black(alloc: Global, mode: Mode) -> Result<Settings, Fail>
 
 #[test]
 fn a_fault_among_criteria_leaves_as_much(rt: HostRuntime) -> Result<(), Fail> {
-    let (_, _, first, whole) = MODES[2];
+    let (_, first, whole) = MODES[2];
     let rows: [(Mode, &[u8], &[u8]); 2] = [
         (Mode::List, b"1@0 1\n", b"1@0 1\n2@22 1\n"),
         (Mode::Export, first, whole),
@@ -327,7 +299,7 @@ fn a_fault_of_standard_error_leaves_a_front(rt: HostRuntime) -> Result<(), Fail>
 
 #[test]
 fn a_fault_of_the_last_flush_is_a_write_fault(rt: HostRuntime) -> Result<(), Fail> {
-    for &(mode, _, _, whole) in &MODES {
+    for &(mode, _, whole) in &MODES {
         for fails in [Fails::Always, Fails::Once] {
             let page = Page::failing_flush(fails);
             let reader = Pieces::new(TWO_GAMES, 8192);
@@ -341,85 +313,6 @@ fn a_fault_of_the_last_flush_is_a_write_fault(rt: HostRuntime) -> Result<(), Fai
             assert!(rt; holds, "{mode:?}");
         }
     }
-    Ok(())
-}
-
-#[test]
-fn the_program_reports_a_write_fault(rt: HostRuntime) -> Result<(), Fail> {
-    let mut shelf = Shelf::new(TWO_GAMES);
-    let page = Page::failing(5, 2);
-    let end = run_arguments(rt.alloc(), &["--index"], &mut shelf, page, Page::new())?;
-    assert!(rt; end.is_unflushed(b"1@0\n2", b"pgn-extract: write failed\n", 3));
-    Ok(())
-}
-
-#[test]
-fn a_help_that_cannot_be_written_is_a_write_fault(rt: HostRuntime) -> Result<(), Fail> {
-    let mut shelf = Shelf::new(TWO_GAMES);
-    let page = Page::failing(5, 2);
-    let end = run_arguments(rt.alloc(), &["--help"], &mut shelf, page, Page::new())?;
-    assert!(rt; end.is_unflushed(b"Reads", b"pgn-extract: write failed\n", 3));
-    Ok(())
-}
-
-/// Whether standard error that takes `room` bytes of the summary, and then fails, holds just these,
-/// beside the whole output: after the fault nothing is written.
-fn leaves_a_front_of_the_summary(
-    alloc: Global,
-    argument: &str,
-    whole: &[u8],
-    room: usize,
-) -> Result<bool, AllocError> {
-    let line = b"pgn-extract: 2 games, 0 of them faulty\n".as_slice();
-    for &(fails, takes_nothing) in &WRITE_FAULTS {
-        let page = Page::faulty(room, 3, fails, takes_nothing);
-        let mut shelf = Shelf::new(TWO_GAMES);
-        let end = run_arguments(
-            alloc,
-            &[argument, "--summary"],
-            &mut shelf,
-            Page::new(),
-            page,
-        )?;
-        let is_front = end.out.text() == whole
-            && end.out.is_flushed()
-            && end.err.text() == line.get(..room).unwrap_or(b"")
-            && !end.err.calls.again;
-        if end.status != 3 || !is_front {
-            return Ok(false);
-        }
-    }
-    Ok(true)
-}
-
-/// Whether no summary stands after a run whose input or output failed.
-fn fails_without_a_summary(alloc: Global) -> Result<bool, AllocError> {
-    let arguments = ["--index", "--summary"];
-    let mut shelf = Shelf::failing(TWO_GAMES);
-    let read = run_arguments(alloc, &arguments, &mut shelf, Page::new(), Page::new())?;
-    let mut shelf = Shelf::new(TWO_GAMES);
-    let write = run_arguments(
-        alloc,
-        &arguments,
-        &mut shelf,
-        Page::failing(5, 2),
-        Page::new(),
-    )?;
-    Ok(
-        read.is(b"1@0\n", b"pgn-extract: read failed\n", 3)
-            && write.is_unflushed(b"1@0\n2", b"pgn-extract: write failed\n", 3),
-    )
-}
-
-#[test]
-fn a_summary_stands_whole_after_a_whole_run(rt: HostRuntime) -> Result<(), Fail> {
-    for &(_, argument, _, whole) in &MODES {
-        for room in 0..39usize {
-            let holds = leaves_a_front_of_the_summary(rt.alloc(), argument, whole, room)?;
-            assert!(rt; holds, "{argument} at {room}");
-        }
-    }
-    assert!(rt; fails_without_a_summary(rt.alloc())?);
     Ok(())
 }
 
@@ -444,7 +337,7 @@ fn a_summary_counts_games_and_faulty_ones(rt: HostRuntime) -> Result<(), Fail> {
 
 #[test]
 fn the_pieces_that_a_reader_gives_change_nothing(rt: HostRuntime) -> Result<(), Fail> {
-    for &(mode, _, _, whole) in &MODES {
+    for &(mode, _, whole) in &MODES {
         // 23 to 29 cut the second event line after each of its first seven bytes.
         for piece in [1, 7, 8, 23, 24, 25, 26, 27, 28, 29, 8192usize] {
             let reader = Pieces::new(TWO_GAMES, piece);

@@ -1,5 +1,6 @@
-//! Tests of the program and of its run over memory: readers and writers that fail, pieces of chosen
-//! sizes, calls of the libraries. Rows of arguments, input and output stand in `tests/rows.d`.
+//! Tests of a run over memory: readers and writers that fail, pieces of chosen sizes, calls of the
+//! libraries. Rows of arguments, input and output stand in `tests/rows.d`; `tests/faults` has reads
+//! and writes of the program that fail.
 //! This library has nothing but tests.
 #![tactic(auto)]
 
@@ -8,12 +9,6 @@ mod examples;
 #[cfg(test)]
 mod faults;
 #[cfg(test)]
-mod files;
-#[cfg(test)]
 mod meetings;
-#[cfg(test)]
-mod runs;
-#[cfg(test)]
-mod searches;
 #[cfg(test)]
 mod trials;
