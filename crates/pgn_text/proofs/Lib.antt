@@ -1,3 +1,4 @@
+pub mod Bits
 pub mod BlockCuts
 pub mod BlockSizes
 pub mod Braces
@@ -32,6 +33,7 @@ pub mod KeptLemmas
 pub mod LeftEnds
 pub mod LastResult
 pub mod LineFronts
+pub mod Lanes
 pub mod Lines
 pub mod Located
 pub mod MarkBounds
@@ -47,7 +49,7 @@ pub mod PartLemmas
 pub mod PartsAt
 pub mod Places
 pub mod PlainLemmas
-pub mod PlainParts
+pub mod PlainWalk
 pub mod ReadLemmas
 pub mod ReadingLemmas
 pub mod ResumedPieces
@@ -70,6 +72,7 @@ pub mod StopsThere
 pub mod Stopping
 pub mod Stuck
 pub mod Tables
+pub mod SweepLemmas
 pub mod TagLemmas
 pub mod TagReads
 pub mod TagStrings

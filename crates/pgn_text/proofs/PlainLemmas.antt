@@ -1,11 +1,18 @@
 -- A game read on over plain movetext.
-use Rattle.std.proofs.Common.{◌≡◌, ◌⊎◌, ℕ, Bool, true, false, List, refl, sym, ap, ◌∙◌, subst, inl, inr}
-use Rattle.std.specs.Prelude.{Option, Some}
+use Rattle.std.proofs.Common.{◌≡◌, ℕ, Bool, true, false, List, ◌++◌, refl, sym, ap, ◌∙◌, subst}
+use Rattle.std.proofs.Common.{append-nil, append_assoc}
+use Rattle.std.specs.Prelude.{Option, Some, None}
+use Rattle.std.specs.Option.{option_or}
 use Rattle.pgn_text.specs.Public.Games.{Item}
-use Rattle.pgn_text.specs.Private.Movetext.{is_plain_kept, ArePlain, none, one_more, PlainTo, HoldsAny}
-use Rattle.pgn_text.specs.Private.Reading.{Kept, KeptGap, KeptComment, KeptTag, KeptMove, KeptNumber, KeptResult, KeptStray, KeptDot, KeptGlyph, KeptMarks, KeptOpen, KeptClose, is_kept_result, step_kept}
+use Rattle.pgn_text.specs.Private.Movetext.{is_plain_kept, ArePlain, none, one_more, PlainTo}
+use Rattle.pgn_text.specs.Private.Movetext.{AddsElements}
+use Rattle.pgn_text.specs.Private.Reading.{Kept, KeptGap, KeptComment, KeptTag, KeptMove}
+use Rattle.pgn_text.specs.Private.Reading.{KeptNumber, KeptResult, KeptStray, KeptDot, KeptGlyph}
+use Rattle.pgn_text.specs.Private.Reading.{KeptMarks, KeptOpen, KeptClose, is_kept_result}
+use Rattle.pgn_text.specs.Private.Reading.{step_kept, items_of_kept, named_kept}
 use Rattle.pgn_text.specs.Private.Steps.{State}
-use Rattle.pgn_text.proofs.ReadLemmas.{KeptUpTo, kept_more}
+use Rattle.pgn_text.proofs.ReadLemmas.{ReadTo, read_more, KeptUpTo}
+use Rattle.pgn_text.proofs.TagLemmas.{option_or-none}
 
 -- a part of plain movetext is no result
 plain_no_result : (token : Kept) → is_plain_kept token ≡ true → is_kept_result token ≡ false
@@ -24,7 +31,8 @@ plain_no_result KeptClose is = refl
 
 -- after a move, a part of plain movetext leaves the state as it is
 plain_steps : (max_depth depth : ℕ) (token : Kept) → is_plain_kept token ≡ true
-    → step_kept max_depth (record { in_tags = false; depth = depth; has_move = true }) token ≡ Some (record { in_tags = false; depth = depth; has_move = true })
+    → step_kept max_depth (record { in_tags = false; depth = depth; has_move = true }) token
+    ≡ Some (record { in_tags = false; depth = depth; has_move = true })
 plain_steps max_depth depth KeptGap is = refl
 plain_steps max_depth depth (KeptMove word) is = refl
 plain_steps max_depth depth KeptNumber is = refl
@@ -39,29 +47,62 @@ plain_steps max_depth depth KeptOpen is = absurd (cc)
 plain_steps max_depth depth KeptClose is = absurd (cc)
 
 -- a state in the movetext, after a move
-after_move : (state : State) → state.in_tags ≡ false → state.has_move ≡ true → state ≡ record { in_tags = false; depth = state.depth; has_move = true }
+after_move : (state : State) → state.in_tags ≡ false → state.has_move ≡ true
+    → state ≡ record { in_tags = false; depth = state.depth; has_move = true }
 after_move state movetext moved =
-    ap (λ (b : Bool). record { in_tags = b; depth = state.depth; has_move = state.has_move }) movetext
+    ap (λ (b : Bool). record { in_tags = b; depth = state.depth; has_move = state.has_move })
+    movetext
     ∙ ap (λ (b : Bool). record { in_tags = false; depth = state.depth; has_move = b }) moved
 
-kept_over : {kept_first kept_now : (List ℕ → Option (List ℕ)) → List Item → Type 0} {max_depth : ℕ} {f : Bool} {block : List ℕ} {begin at end : ℕ} {state : State}
-    → state ≡ record { in_tags = false; depth = state.depth; has_move = true } → HoldsAny kept_now
-    → KeptUpTo kept_first kept_now max_depth f block begin at state → ArePlain f block at end → KeptUpTo kept_first kept_now max_depth f block begin end state
-kept_over state_is holds up none = up
-kept_over {max_depth = max_depth} {state = state} state_is holds up (one_more token before here is) =
-    kept_more (kept_over state_is holds up before)
-    (record {
-      token = token;
-      here = here;
-      no_result = plain_no_result token is;
-      steps = ap (λ (s : State). step_kept max_depth s token) state_is ∙ plain_steps max_depth state.depth token is ∙ ap Some (sym state_is);
-      keeps = λ tags items kept. holds _ _;
-    })
+-- a part of plain movetext is no tag
+plain_no_tag : (token : Kept) → is_plain_kept token ≡ true → (wanted : List ℕ)
+    → named_kept wanted token ≡ None
+plain_no_tag KeptGap is wanted = refl
+plain_no_tag (KeptMove word) is wanted = refl
+plain_no_tag KeptNumber is wanted = refl
+plain_no_tag KeptDot is wanted = refl
+plain_no_tag (KeptComment text) is wanted = refl
+plain_no_tag (KeptTag name contents) is wanted = absurd (cc)
+plain_no_tag KeptResult is wanted = refl
+plain_no_tag KeptStray is wanted = refl
+plain_no_tag (KeptGlyph number) is wanted = refl
+plain_no_tag (KeptMarks marks) is wanted = refl
+plain_no_tag KeptOpen is wanted = refl
+plain_no_tag KeptClose is wanted = refl
 
--- a game that was read up to plain movetext after a move is read on to its end, if nothing has to be kept
-pub kept_plain : {kept_first kept_now : (List ℕ → Option (List ℕ)) → List Item → Type 0} {max_depth : ℕ} {f : Bool} {block : List ℕ} {begin at end : ℕ} {state : State}
-    → KeptUpTo kept_first kept_now max_depth f block begin at state → state.in_tags ≡ false → state.has_move ≡ true → PlainTo block at end → HoldsAny kept_now ⊎ (end ≡ at)
-    → KeptUpTo kept_first kept_now max_depth f block begin end state
-kept_plain {f = f} {state = state} up movetext moved plain (inl holds) = kept_over (after_move state movetext moved) holds up (plain.parts f)
-kept_plain {kept_first} {kept_now} {max_depth} {f} {block} {begin} {at} {end} {state} up movetext moved plain (inr same) =
-    subst (λ k. KeptUpTo kept_first kept_now max_depth f block begin k state) (sym same) up
+read_over : (max_depth : ℕ) (f : Bool) (block : List ℕ) (begin at end : ℕ) (state : State)
+    (tags : List ℕ → Option (List ℕ)) (elements moves : List Item)
+    → state ≡ record { in_tags = false; depth = state.depth; has_move = true }
+    → ReadTo max_depth f block begin at state tags elements → ArePlain f block at moves end
+    → ReadTo max_depth f block begin end state tags (elements ++ moves)
+read_over max_depth f block begin at end state tags elements moves state_is read none =
+    subst (ReadTo max_depth f block begin at state tags) (sym (append-nil elements)) read
+read_over max_depth f block begin at end state tags elements moves state_is read
+    (one_more {items = items} {at = last} token before here is) =
+    read_more max_depth f block begin last end state state tags tags (elements ++ items) (elements
+    ++ (items ++ items_of_kept token)) token
+    (read_over max_depth f block begin at last state tags elements items state_is read before) here
+    (plain_no_result token is)
+    (ap (λ (s : State). step_kept max_depth s token) state_is
+    ∙ plain_steps max_depth state.depth token is ∙ ap Some (sym state_is))
+    (λ wanted.
+    sym (ap (option_or (tags wanted)) (plain_no_tag token is wanted)
+    ∙ option_or-none (tags wanted)))
+    (sym (append_assoc elements items (items_of_kept token)))
+
+-- a game that was read up to plain movetext after a move is read on to its end, where its elements
+-- were kept
+pub kept_plain : {kept_first kept_now kept_next : (List ℕ → Option (List ℕ)) → List Item
+    → Type 0} {max_depth : ℕ} {f : Bool} {block : List ℕ} {begin at end : ℕ} {state : State}
+    {moves : List Item}
+    → KeptUpTo kept_first kept_now max_depth f block begin at state → state.in_tags ≡ false
+    → state.has_move ≡ true → PlainTo block at moves end → AddsElements kept_now kept_next moves
+    → KeptUpTo kept_first kept_next max_depth f block begin end state
+kept_plain {max_depth = max_depth} {f = f} {block = block} {begin = begin} {at = at} {end =
+    end} {state = state} {moves = moves} up movetext moved plain adds = record {
+      tags = up.tags;
+      elements = up.elements ++ moves;
+      read = read_over max_depth f block begin at end state up.tags up.elements moves
+          (after_move state movetext moved) up.read (plain.parts f);
+      keeps = λ first. adds up.tags up.elements (up.keeps first);
+    }

@@ -1,14 +1,16 @@
 //! A game as it stands in a block.
 
-ghost use Rattle.std.specs.Prelude.{◌≡◌, ◌≤◌, ◌⊎◌, ℕ, List, [], Option, None, length, take, drop, map, IfOk, MatchOption, ◌<◌, get_or, Bool};
+ghost use Rattle.std.specs.Prelude.{◌≡◌, ◌≤◌, ◌⊎◌, ℕ, List, [], Option, None, length, take, drop};
+ghost use Rattle.std.specs.Prelude.{map, IfOk, MatchOption, ◌<◌, get_or, Bool};
 ghost use Rattle.std.specs.Cmp.Lexicographic.{slice_cmp};
 ghost use Rattle.std.specs.List.Sorted.{IsStrictlySortedBy};
 ghost use Rattle.std.specs.Ordering.{nat_cmp};
 ghost use Rattle.pgn_text.specs.Public.Elements.{item_of, tags_of};
-ghost use Rattle.pgn_text.specs.Public.GameTexts.{GameText, HoldStrings, IsGameText, IsPaired, ShowsGame, tag_names};
+ghost use Rattle.pgn_text.specs.Public.GameTexts.{GameText, HoldStrings, IsGameText, IsPaired};
+ghost use Rattle.pgn_text.specs.Public.GameTexts.{ShowsGame, tag_names};
 ghost use Rattle.pgn_text.specs.Public.Games.{Item};
 ghost use Rattle.pgn_text.specs.Public.Limits.{depth_limit};
-ghost use Rattle.pgn_text.specs.Private.Movetext.{HoldsAny, PlainTo};
+ghost use Rattle.pgn_text.specs.Private.Movetext.{AddsElements, PlainTo};
 ghost use Rattle.pgn_text.specs.Public.Parts.{Part};
 ghost use Rattle.pgn_text.specs.Public.Pieces.{NoGame};
 ghost use Rattle.pgn_text.specs.Private.Readings.{IsReading, IsStep};
@@ -37,7 +39,8 @@ use std::marker::Model;
 pub enum Element<'a> {
     /// A move, as its word stands.
     Move(&'a [u8]),
-    /// A glyph's number; a run of `!` and `?` gives a glyph for each two, and one for a last mark alone.
+    /// A glyph's number; a run of `!` and `?` gives a glyph for each two, and one for a last mark
+    /// alone.
     Glyph(u8),
     /// A comment's bytes, without its braces, or its semicolon and line feed.
     Comment(&'a [u8]),
@@ -60,9 +63,24 @@ pub struct RawGame<'a> {
 impl<'a> Model for RawGame<'a> {
     ghost Value = { GameText };
 
-    ghost view = { λ game. record { at = game.at; text = game.text.now; tags = tags_of game.tags; elements = map item_of game.elements.items; result = game.result.now } };
+    ghost view = { λ game. record {
+      at = game.at;
+      text = game.text.now;
+      tags = tags_of game.tags;
+      elements =
+          map item_of game.elements.items;
+      result = game.result.now;
+    } };
 
-    ghost invariant = { λ game. IsGameText (record { at = game.at; text = game.text.now; tags = tags_of game.tags; elements = map item_of game.elements.items; result = game.result.now }) };
+    ghost invariant = { λ game.
+        IsGameText (record {
+          at = game.at;
+          text = game.text.now;
+          tags =
+              tags_of game.tags;
+          elements = map item_of game.elements.items;
+          result = game.result.now;
+        }) };
 }
 
 impl<'a> RawGame<'a> {
@@ -80,7 +98,8 @@ impl<'a> RawGame<'a> {
         self.text
     }
 
-    /// The contents of the tags' strings as they stand in the block, by the tags' names; of a repeated tag the first.
+    /// The contents of the tags' strings as they stand in the block, by the tags' names; of a
+    /// repeated tag the first.
     pub fn tags(&self) -> &BTreeMap<&'a [u8], &'a [u8]>
         ensures tags { tags_of result.now ≡ self.now.tags }
         ensures ordered { IsStrictlySortedBy (slice_cmp nat_cmp) (tag_names self.now.tags) }
@@ -97,7 +116,8 @@ impl<'a> RawGame<'a> {
         self.elements.as_slice()
     }
 
-    /// Each game that is handed out has its tags in the order of their names, which are made of the bytes of names, each the contents of a
+    /// Each game that is handed out has its tags in the order of their names, which are made of the
+    /// bytes of names, each the contents of a
     /// string; its variations are paired, and its result is one of the four.
     pub fn invariant(&self)
         ensures { IsGameText self.now }
@@ -117,21 +137,29 @@ impl<'a> RawGame<'a> {
 trait Visitor<'a>: Drop {
     type Error;
 
-    ghost use Rattle.std.specs.Prelude.{ℕ, List, ◌++◌, Option, OnOk, IsTrue};
+    ghost use Rattle.std.specs.Prelude.{ℕ, ◌≤◌, List, ◌++◌, Option, OnOk, IfOk, length};
     ghost use Rattle.std.specs.Option.{option_or};
     ghost use Rattle.pgn_text.specs.Public.Games.{Item};
     ghost use Rattle.pgn_text.specs.Private.Reading.{items_of_kept, named_kept};
     ghost use Rattle.pgn_text.specs.Private.Tokens.{token_of};
+    ghost use Rattle.pgn_text.specs.Private.Movetext.{AddsElements, PlainTo};
 
     // Holds where these tags and elements were kept.
     ghost kept: { Self → (List ℕ → Option (List ℕ)) → List Item → Type 0 };
 
     fn keep(&mut self, token: Token<'a>) -> Result<(), Self::Error>
-        ensures { OnOk result ((tags : List ℕ → Option (List ℕ)) (items : List Item) → kept self.old tags items → kept self.new (λ wanted. option_or (tags wanted) (named_kept wanted (token_of token.entry))) (items ++ items_of_kept (token_of token.entry))) };
+        ensures { OnOk result ((tags : List ℕ → Option (List ℕ)) (items : List Item)
+            → kept self.old tags items
+            → kept self.new (λ wanted.
+            option_or (tags wanted) (named_kept wanted (token_of token.entry))) (items
+            ++ items_of_kept (token_of token.entry))) };
 
-    /// Whether nothing has to be kept, whatever is read.
-    fn keeps_nothing(&self) -> bool
-        ensures { IsTrue result → (tags : List ℕ → Option (List ℕ)) (items : List Item) → kept self.now tags items };
+    /// Keeps the moves of plain movetext from the place of the block on, and answers the place up
+    /// to which it stands; more of it may follow.
+    fn keep_plain(&mut self, block: &'a [u8], at: usize) -> Result<usize, Self::Error>
+        requires { at ≤ length block.now }
+        ensures { IfOk result (λ end. (moves : List Item) × PlainTo block.now at moves end
+            × AddsElements (kept self.old) (kept self.new) moves) };
 }
 
 /// Keeps nothing: for what asks only where a game ends.
@@ -149,8 +177,8 @@ impl<'a> Visitor<'a> for Discard {
     }
 
     #[inline(always)]
-    fn keeps_nothing(&self) -> bool {
-        true
+    fn keep_plain(&mut self, block: &'a [u8], at: usize) -> Result<usize, Infallible> {
+        Ok(plain_end(block, at))
     }
 }
 
@@ -167,8 +195,8 @@ impl<'a> Visitor<'a> for GameBuilder<'a> {
     }
 
     #[inline(always)]
-    fn keeps_nothing(&self) -> bool {
-        false
+    fn keep_plain(&mut self, block: &'a [u8], at: usize) -> Result<usize, AllocError> {
+        self.add_plain(block, at)
     }
 }
 
@@ -194,7 +222,9 @@ fn step_after<'a, K: Visitor<'a>>(
     progress: &mut Progress,
     visitor: &mut K,
 ) -> Result<Reading, K::Error>
-    ensures { IfOk result (λ reading. IsStep (K.kept visitor.old) (K.kept visitor.new) depth_limit (token_of token.entry) end (state_of progress.old) (state_of progress.new) reading) }
+    ensures { IfOk result (λ reading.
+        IsStep (K.kept visitor.old) (K.kept visitor.new) depth_limit (token_of token.entry) end
+        (state_of progress.old) (state_of progress.new) reading) }
 {
     if !progress.step(token) {
         return Ok(Reading::Stuck);
@@ -213,7 +243,9 @@ fn read_comment<'a, K: Visitor<'a>>(
 ) -> Result<Reading, K::Error>
     requires place { at < length block.now }
     requires brace { get_or block.now at 0 ≡ 123 }
-    ensures { IfOk result (λ reading. (file_start : Bool) → IsReading (K.kept visitor.old) (K.kept visitor.new) depth_limit file_start block.now at (state_of progress.old) (state_of progress.new) reading) }
+    ensures { IfOk result (λ reading. (file_start : Bool)
+        → IsReading (K.kept visitor.old) (K.kept visitor.new) depth_limit file_start block.now at
+        (state_of progress.old) (state_of progress.new) reading) }
 {
     match comment_at(block, at) {
         Some((comment, end)) => step_after(Token::Comment(comment), end, progress, visitor),
@@ -231,7 +263,9 @@ fn read_tag<'a, K: Visitor<'a>>(
 ) -> Result<Reading, K::Error>
     requires place { at < length block.now }
     requires bracket { get_or block.now at 0 ≡ 91 }
-    ensures { IfOk result (λ reading. (file_start : Bool) → IsReading (K.kept visitor.old) (K.kept visitor.new) depth_limit file_start block.now at (state_of progress.old) (state_of progress.new) reading) }
+    ensures { IfOk result (λ reading. (file_start : Bool)
+        → IsReading (K.kept visitor.old) (K.kept visitor.new) depth_limit file_start block.now at
+        (state_of progress.old) (state_of progress.new) reading) }
 {
     match tag_at(block, at + 1) {
         Some((name, contents, end)) => step_after(
@@ -254,7 +288,9 @@ fn read_glyph<'a, K: Visitor<'a>>(
 ) -> Result<Reading, K::Error>
     requires place { at < length block.now }
     requires dollar { get_or block.now at 0 ≡ 36 }
-    ensures { IfOk result (λ reading. (file_start : Bool) → IsReading (K.kept visitor.old) (K.kept visitor.new) depth_limit file_start block.now at (state_of progress.old) (state_of progress.new) reading) }
+    ensures { IfOk result (λ reading. (file_start : Bool)
+        → IsReading (K.kept visitor.old) (K.kept visitor.new) depth_limit file_start block.now at
+        (state_of progress.old) (state_of progress.new) reading) }
 {
     match glyph_at(block, at + 1) {
         Some((number, end)) => step_after(Token::Glyph(number), end, progress, visitor),
@@ -272,7 +308,9 @@ fn read_other<'a, K: Visitor<'a>>(
     visitor: &mut K,
 ) -> Result<Reading, K::Error>
     requires { at ≤ length block.now }
-    ensures { IfOk result (λ reading. IsReading (K.kept visitor.old) (K.kept visitor.new) depth_limit file_start block.now at (state_of progress.old) (state_of progress.new) reading) }
+    ensures { IfOk result (λ reading.
+        IsReading (K.kept visitor.old) (K.kept visitor.new) depth_limit file_start block.now at
+        (state_of progress.old) (state_of progress.new) reading) }
 {
     let Some((token, end)) = part_at(block, at, file_start) else {
         return Ok(Reading::Stuck);
@@ -297,7 +335,9 @@ fn read_part<'a, K: Visitor<'a>>(
     visitor: &mut K,
 ) -> Result<Reading, K::Error>
     requires { at < length block.now }
-    ensures { IfOk result (λ reading. IsReading (K.kept visitor.old) (K.kept visitor.new) depth_limit file_start block.now at (state_of progress.old) (state_of progress.new) reading) }
+    ensures { IfOk result (λ reading.
+        IsReading (K.kept visitor.old) (K.kept visitor.new) depth_limit file_start block.now at
+        (state_of progress.old) (state_of progress.new) reading) }
 {
     let byte = block[at];
     if is_in(ByteClass::Letter, byte) {
@@ -329,21 +369,26 @@ fn read_part<'a, K: Visitor<'a>>(
     }
 }
 
-/// The place from which to read on after a move: after plain movetext, if nothing has to be kept of it.
+/// The place from which to read on after a move: after plain movetext, whose moves are kept.
 #[inline(always)]
-fn pass_plain<'a, K: Visitor<'a>>(block: &[u8], at: usize, visitor: &K) -> usize
+fn pass_plain<'a, K: Visitor<'a>>(
+    block: &'a [u8],
+    at: usize,
+    visitor: &mut K,
+) -> Result<usize, K::Error>
     requires { at ≤ length block.now }
-    ensures plain { PlainTo block.now at result }
-    ensures held { HoldsAny (K.kept visitor.now) ⊎ (result ≡ at) }
+    ensures { IfOk result (λ end. (moves : List Item) × PlainTo block.now at moves end
+        × AddsElements (K.kept visitor.old) (K.kept visitor.new) moves) }
 {
-    if visitor.keeps_nothing() && at < block.len() && is_in(ByteClass::Name, block[at]) {
-        plain_end(block, at)
+    if at < block.len() && is_in(ByteClass::Name, block[at]) {
+        visitor.keep_plain(block, at)
     } else {
-        at
+        Ok(at)
     }
 }
 
-/// Reads the game at the place of the block, if one begins there: the places of its result and after it.
+/// Reads the game at the place of the block, if one begins there: the places of its result and
+/// after it.
 #[inline(always)]
 fn read_parts<'a, K: Visitor<'a>>(
     block: &'a [u8],
@@ -353,14 +398,19 @@ fn read_parts<'a, K: Visitor<'a>>(
 ) -> Result<Option<(usize, usize)>, K::Error>
     requires place { begin ≤ length block.now }
     requires outside { NoGapPartAt file_start block.now begin }
-    ensures { IfOk result (λ read. MatchOption read (NoGame depth_limit file_start (take begin block.now) (drop begin block.now)) (λ found. (tags : List ℕ → Option (List ℕ)) × (items : List Item) × GameRead depth_limit file_start block.now begin found.0 found.1 tags items × (K.kept visitor.old (λ wanted. None) [] → K.kept visitor.new tags items))) }
+    ensures { IfOk result (λ read.
+        MatchOption read
+        (NoGame depth_limit file_start (take begin block.now) (drop begin block.now)) (λ found.
+        (tags : List ℕ → Option (List ℕ)) × (items : List Item)
+        × GameRead depth_limit file_start block.now begin found.0 found.1 tags items
+        × (K.kept visitor.old (λ wanted. None) [] → K.kept visitor.new tags items))) }
 {
     let mut progress = Progress::start();
     let mut at = begin;
     while at < block.len() {
         match read_part(block, at, file_start, &mut progress, visitor)? {
             Reading::Part(end) => at = after_white(block, end),
-            Reading::Move(end) => at = pass_plain(block, after_white(block, end), visitor),
+            Reading::Move(end) => at = pass_plain(block, after_white(block, end), visitor)?,
             Reading::Number(end) => at = after_white(block, after_dot(block, end)),
             Reading::Result(end) => return Ok(Some((at, end))),
             Reading::Stuck => return Ok(None),
@@ -378,7 +428,11 @@ pub(crate) fn read_game<'a>(
 ) -> Result<Option<(RawGame<'a>, usize)>, AllocError>
     requires place { begin ≤ length block.now }
     requires outside { NoGapPartAt file_start block.now begin }
-    ensures { IfOk result (λ read. MatchOption read (NoGame depth_limit file_start (take begin block.now) (drop begin block.now)) (λ found. (parts : List Part) × GameTo depth_limit file_start block.now begin parts found.1 × ShowsGame found.0 begin parts)) }
+    ensures { IfOk result (λ read.
+        MatchOption read
+        (NoGame depth_limit file_start (take begin block.now) (drop begin block.now)) (λ found.
+        (parts : List Part) × GameTo depth_limit file_start block.now begin parts found.1
+        × ShowsGame found.0 begin parts)) }
 {
     let mut game_builder = GameBuilder::new(alloc)?;
     let Some((at, end)) = read_parts(block, begin, file_start, &mut game_builder)? else {
@@ -399,7 +453,9 @@ pub(crate) fn read_game<'a>(
 pub(crate) fn game_end(block: &[u8], begin: usize, file_start: bool) -> Option<usize>
     requires place { begin ≤ length block.now }
     requires outside { NoGapPartAt file_start block.now begin }
-    ensures { MatchOption result (NoGame depth_limit file_start (take begin block.now) (drop begin block.now)) (λ end. (parts : List Part) × GameTo depth_limit file_start block.now begin parts end) }
+    ensures { MatchOption result
+        (NoGame depth_limit file_start (take begin block.now) (drop begin block.now)) (λ end.
+        (parts : List Part) × GameTo depth_limit file_start block.now begin parts end) }
 {
     match read_parts(block, begin, file_start, &mut Discard {}) {
         Ok(Some((_, end))) => Some(end),

@@ -1,107 +1,280 @@
-//! Plain movetext: moves, move numbers with a period, and white space, one after the other.
+//! Plain movetext: moves, move numbers with a period, and white space, one after the other, 64
+//! bytes at once.
 
-ghost use Rattle.std.specs.Prelude.{◌≡◌, ◌<◌, ◌≤◌, ◌+◌, true, Bool, length, get_or, MatchOption};
-ghost use Rattle.pgn_text.specs.Public.Bytes.{is_digit, is_letter};
+ghost use Rattle.std.specs.Prelude.{MatchOption, OnOk, IfOk, ◌++◌, map, ◌≡◌, ◌<◌, ◌≤◌, ◌+◌, ◌==◌};
+ghost use Rattle.std.specs.Prelude.{◌||◌, suc, true, false, ℕ, List, length, get_or};
+ghost use Rattle.pgn_text.specs.Public.Bytes.{is_digit, is_letter, is_white};
+ghost use Rattle.pgn_text.specs.Public.Elements.{item_of};
+ghost use Rattle.pgn_text.specs.Public.Games.{Item};
 ghost use Rattle.pgn_text.specs.Private.Movetext.{PlainTo};
-ghost use Rattle.pgn_text.specs.Private.Reading.{KeptGap};
-ghost use Rattle.pgn_text.specs.Private.Walk.{Passes};
+ghost use Rattle.pgn_text.specs.Private.Masks.{has_bit, is_word_sign, AreLanes, AreBegins};
+ghost use Rattle.pgn_text.specs.Private.Masks.{HaveEnds, IsNextMove, NoneFrom, Sweeps};
 
-use crate::lex::class::{ByteClass, is_in, run_end};
+use crate::game::Element;
+use std::alloc::AllocError;
+use std::simd::prelude::*;
 
-/// How many bytes must be left in the block at a place where plain movetext is read, so that no place is tested again.
-const AHEAD: usize = 8;
-
-/// The place after the space at the place of the block, or the place itself where none stands there.
+/// Which bytes are letters.
 #[inline(always)]
-fn after_space(block: &[u8], at: usize) -> usize
-    requires { at < length block.now }
-    ensures passed { (file_start : Bool) → Passes file_start block.now at KeptGap result }
-    ensures forward { at ≤ result }
-    ensures within { result ≤ length block.now }
+fn letters(bytes: u8x64) -> u64
+    ensures { AreLanes 64 is_letter bytes result }
 {
-    if block[at] == b' ' { at + 1 } else { at }
+    ((bytes | u8x64::splat(0x20)) - u8x64::splat(b'a'))
+        .simd_lt(u8x64::splat(26))
+        .to_bitmask()
 }
 
-/// The place after the move at the place of the block, and after a space that follows it.
+/// Which bytes are digits.
 #[inline(always)]
-fn after_move(block: &[u8], at: usize) -> usize
-    requires ahead { at + 8 ≤ length block.now }
-    requires letter { is_letter (get_or block.now at 0) ≡ true }
-    ensures plain { PlainTo block.now at result }
-    ensures forward { at < result }
+fn digits(bytes: u8x64) -> u64
+    ensures { AreLanes 64 is_digit bytes result }
 {
-    if !is_in(ByteClass::Word, block[at + 1]) {
-        return after_space(block, at + 1);
-    }
-    if !is_in(ByteClass::Word, block[at + 2]) {
-        return after_space(block, at + 2);
-    }
-    if !is_in(ByteClass::Word, block[at + 3]) {
-        return after_space(block, at + 3);
-    }
-    if !is_in(ByteClass::Word, block[at + 4]) {
-        return after_space(block, at + 4);
-    }
-    run_end(ByteClass::Word, block, at + 5)
+    (bytes - u8x64::splat(b'0'))
+        .simd_lt(u8x64::splat(10))
+        .to_bitmask()
 }
 
-/// The place after the move number at the place of the block, its period and a space, if it has a period and at most three digits.
+/// Which bytes are white space.
 #[inline(always)]
-fn after_number(block: &[u8], at: usize) -> Option<usize>
-    requires ahead { at + 8 ≤ length block.now }
-    requires digit { is_digit (get_or block.now at 0) ≡ true }
-    ensures { MatchOption result (Unit {0}) (λ end. PlainTo block.now at end × (at < end)) }
+fn whites(bytes: u8x64) -> u64
+    ensures { AreLanes 64 is_white bytes result }
 {
-    if block[at + 1] == b'.' {
-        return Some(after_space(block, at + 2));
+    (bytes.simd_eq(u8x64::splat(b' '))
+        | (bytes - u8x64::splat(9)).simd_lt(u8x64::splat(5))).to_bitmask()
+}
+
+/// Which bytes are periods.
+#[inline(always)]
+fn periods(bytes: u8x64) -> u64
+    ensures { AreLanes 64 (λ b. b == 46) bytes result }
+{
+    bytes.simd_eq(u8x64::splat(b'.')).to_bitmask()
+}
+
+/// Which bytes are bytes of words, but neither letters nor digits.
+#[inline(always)]
+fn signs(bytes: u8x64) -> u64
+    ensures { AreLanes 64 is_word_sign bytes result }
+{
+    // (a minus and a slash, and a plus and a hash, differ in one bit)
+    ((bytes | u8x64::splat(2)).simd_eq(u8x64::splat(b'/'))
+        | (bytes | u8x64::splat(8)).simd_eq(u8x64::splat(b'+'))
+        | bytes.simd_eq(u8x64::splat(b'='))
+        | bytes.simd_eq(u8x64::splat(b':'))
+        | bytes.simd_eq(u8x64::splat(b'_'))).to_bitmask()
+}
+
+/// The bytes with which the words begin.
+#[inline(always)]
+fn begins(words: u64) -> u64
+    ensures { AreBegins words result }
+{
+    words & !(words << 1)
+}
+
+/// The digits of the words that begin with one, up to another byte: a carry runs through them. That
+/// they are digits is all that is needed.
+#[inline(always)]
+fn numbers(digits: u64, begins: u64) -> u64
+    ensures { (i : ℕ) → has_bit result i ≡ true → has_bit digits i ≡ true }
+{
+    digits & !digits.wrapping_add(begins & digits)
+}
+
+/// The word's bits below the place.
+#[inline(always)]
+fn below(word: u64, place: u32) -> u64
+    requires { place < 64 }
+    ensures low { (i : ℕ) → i < place → has_bit result i ≡ has_bit word i }
+    ensures high { (i : ℕ) → place ≤ i → i < 64 → has_bit result i ≡ false }
+{
+    word & !(u64::MAX << place)
+}
+
+/// The bytes of no plain movetext: those of no class, those with which a word begins that is
+/// neither a move nor a number, and those after a
+/// number's byte that are neither a number's nor a period.
+#[inline(always)]
+fn strange(words: u64, gaps: u64, periods: u64, begins: u64, letters: u64, numbers: u64) -> u64
+    ensures each { (i : ℕ) → i < 64 → has_bit result i ≡ false
+        → (has_bit words i || (has_bit gaps i || has_bit periods i)) ≡ true }
+    ensures begins { (i : ℕ) → i < 64 → has_bit result i ≡ false → has_bit begins i ≡ true
+        → (has_bit letters i || has_bit numbers i) ≡ true }
+    ensures goes_on { (i : ℕ) → suc i < 64 → has_bit result (suc i) ≡ false
+        → has_bit numbers i ≡ true → (has_bit numbers (suc i) || has_bit periods (suc i)) ≡ true }
+{
+    !(words | (gaps | periods))
+        | (begins & !(letters | numbers))
+        | ((numbers << 1) & !(numbers | periods))
+}
+
+/// How many bytes from the first on are not strange and have a gap as their last.
+#[inline(always)]
+fn plain_len(gaps: u64, strange: u64) -> usize
+    ensures short { result < 64 }
+    ensures plain { (i : ℕ) → i < result → has_bit strange i ≡ false }
+    ensures ends { (i : ℕ) → result ≡ suc i → has_bit gaps i ≡ true }
+{
+    let stops = strange | 1 << 63;
+    let ends = gaps & !stops & (stops - 1);
+    64 - ends.leading_zeros() as usize
+}
+
+/// 64 bytes of the block.
+#[inline(always)]
+fn bytes_at(block: &[u8], at: usize) -> u8x64
+    requires { at + 64 ≤ length block.now }
+    ensures { (i : ℕ) → i < 64 → get_or result i 0 ≡ get_or block.now (at + i) 0 }
+{
+    u8x64::from_slice(&block[at..])
+}
+
+/// What 64 bytes of a block show: where words stand, which of them are moves of the plain movetext
+/// at the front, and how long it is.
+#[derive(Clone, Copy)]
+pub(crate) struct Swept {
+    pub(crate) words: u64,
+    pub(crate) moves: u64,
+    pub(crate) len: usize,
+}
+
+/// Where 64 bytes of a block begin that have the place among them: at the place, or so that they
+/// are the last.
+#[inline(always)]
+fn base_of(len: usize, at: usize) -> usize
+    requires { (at < len) × (64 ≤ len) }
+    ensures among { (result ≤ at) × (at < result + 64) × (result + 64 ≤ len) }
+    ensures last { result < at → result + 64 ≡ len }
+{
+    if len - at < 64 { len - 64 } else { at }
+}
+
+/// Looks at 64 bytes of the block at once: those from the place on, or where fewer are left, the
+/// last.
+#[inline(always)]
+pub(crate) fn sweep(block: &[u8], at: usize) -> Swept
+    requires { (at < length block.now) × (64 ≤ length block.now) }
+    ensures { (numbers : ℕ) × Sweeps block.now at result.words result.moves numbers result.len }
+{
+    let base = base_of(block.len(), at);
+    let skip = at - base;
+    let bytes = bytes_at(block, base);
+    let letter_bits = letters(bytes) >> skip;
+    let digit_bits = digits(bytes) >> skip;
+    let word_bits = letter_bits | digit_bits | (signs(bytes) >> skip);
+    let gap_bits = whites(bytes) >> skip;
+    let period_bits = periods(bytes) >> skip;
+    let begin_bits = begins(word_bits);
+    let number_bits = numbers(digit_bits, begin_bits);
+    let strange_bits = strange(
+        word_bits,
+        gap_bits,
+        period_bits,
+        begin_bits,
+        letter_bits,
+        number_bits,
+    );
+    let len = plain_len(gap_bits, strange_bits);
+    let moves = below(begin_bits & letter_bits, len as u32);
+    Swept {
+        words: word_bits,
+        moves,
+        len,
     }
-    if !is_in(ByteClass::Digit, block[at + 1]) {
+}
+
+/// The place of the word's first bit from the given one on, or 64 where there is none.
+#[inline(always)]
+pub(crate) fn first_from(word: u64, from: usize) -> usize
+    requires { from < 64 }
+    ensures within { result ≤ 64 }
+    ensures found { result < 64 → (from ≤ result) × (has_bit word result ≡ true) }
+    ensures before { (i : ℕ) → from ≤ i → i < result → i < 64 → has_bit word i ≡ false }
+{
+    (word & (u64::MAX << from)).trailing_zeros() as usize
+}
+
+/// The first move from the place on, from its first byte to the place after it.
+#[inline(always)]
+fn next_move(swept: Swept, from: usize) -> Option<(usize, usize)>
+    requires place { from < 64 }
+    requires ends { HaveEnds swept.words swept.moves }
+    ensures { MatchOption result (NoneFrom swept.moves from) (λ found.
+        IsNextMove swept.words swept.moves from found.0 found.1) }
+{
+    let begin = first_from(swept.moves, from);
+    if begin == 64 {
         return None;
     }
-    if block[at + 2] == b'.' {
-        return Some(after_space(block, at + 3));
-    }
-    if is_in(ByteClass::Digit, block[at + 2]) && block[at + 3] == b'.' {
-        return Some(after_space(block, at + 4));
-    }
-    None
+    Some((begin, first_from(!swept.words, begin)))
 }
 
-/// The place after the move, the number or the white space at the place of the block, if one of them stands there.
+/// Adds the moves that the sweep shows.
 #[inline(always)]
-fn after_plain(block: &[u8], at: usize) -> Option<usize>
-    requires { at + 8 ≤ length block.now }
-    ensures { MatchOption result (Unit {0}) (λ end. PlainTo block.now at end × (at < end)) }
+fn push_moves<'a>(
+    elements: &mut Vec<Element<'a>>,
+    block: &'a [u8],
+    at: usize,
+    swept: Swept,
+) -> Result<(), AllocError>
+    requires { (numbers : ℕ) × Sweeps block.now at swept.words swept.moves numbers swept.len }
+    ensures { OnOk result ((moves : List Item) × PlainTo block.now at moves (at + swept.len)
+        × (map item_of elements.new.items ≡ map item_of elements.old.items ++ moves)) }
 {
-    let byte = block[at];
-    if is_in(ByteClass::Letter, byte) {
-        return Some(after_move(block, at));
+    let mut from = 0;
+    while from < swept.len {
+        let Some((begin, end)) = next_move(swept, from) else {
+            return Ok(());
+        };
+        elements.push(Element::Move(&block[at + begin..at + end]))?;
+        from = end;
     }
-    if is_in(ByteClass::Digit, byte) {
-        return after_number(block, at);
-    }
-    if is_in(ByteClass::White, byte) {
-        return Some(at + 1);
-    }
-    None
+    Ok(())
 }
 
 /// A place up to which only plain movetext stands from the given one on; more of it may follow.
 #[inline(never)]
 pub(crate) fn plain_end(block: &[u8], from: usize) -> usize
     requires { from ≤ length block.now }
-    ensures { PlainTo block.now from result }
+    ensures { (moves : List Item) × PlainTo block.now from moves result }
 {
-    if block.len() < AHEAD {
+    if block.len() < 64 {
         return from;
     }
-    let last = block.len() - AHEAD;
     let mut at = from;
-    while at <= last {
-        let Some(end) = after_plain(block, at) else {
+    while at < block.len() {
+        let swept = sweep(block, at);
+        if swept.len == 0 {
             return at;
-        };
-        at = end;
+        }
+        at += swept.len;
     }
     at
+}
+
+/// Adds the moves of plain movetext from the place of the block on, and answers the place up to
+/// which it stands; more of it may follow.
+#[inline(never)]
+pub(crate) fn push_plain<'a>(
+    elements: &mut Vec<Element<'a>>,
+    block: &'a [u8],
+    from: usize,
+) -> Result<usize, AllocError>
+    requires { from ≤ length block.now }
+    ensures { IfOk result (λ end. (moves : List Item) × PlainTo block.now from moves end
+        × (map item_of elements.new.items ≡ map item_of elements.old.items ++ moves)) }
+{
+    if block.len() < 64 {
+        return Ok(from);
+    }
+    let mut at = from;
+    while at < block.len() {
+        let swept = sweep(block, at);
+        if swept.len == 0 {
+            return Ok(at);
+        }
+        push_moves(elements, block, at, swept)?;
+        at += swept.len;
+    }
+    Ok(at)
 }

@@ -1,5 +1,11 @@
-use Rattle.pgn_text.proofs.PlainParts.{plain_none}
+use Rattle.std.proofs.Common.{[], subst, sym, append-nil}
+use Rattle.pgn_text.proofs.PlainWalk.{with_none}
 use Rattle.pgn_text.proofs.game.pass_plain.Goals as goal
 
-pub returns-else-keeps_nothing-clause-plain : goal.returns-else-keeps_nothing-clause-plain
-returns-else-keeps_nothing-clause-plain g c = plain_none c.args.block.now c.args.at c.requires
+pub returns-else-at-block : goal.returns-else-at-block
+returns-else-at-block g c = (
+  [],
+  with_none c.args.block.now c.args.at c.requires,
+  λ tags items kept. subst (λ xs.
+      g.K.Visitor.kept c.args.visitor.now tags xs) (sym (append-nil items)) kept,
+)

@@ -1,9 +1,10 @@
-use Rattle.std.proofs.Common.{◌-◌, length}
+use Rattle.std.proofs.Common.{◌-◌, List, length}
+use Rattle.pgn_text.specs.Public.Games.{Item}
 use Rattle.pgn_text.specs.Private.Movetext.{PlainTo}
 use Rattle.pgn_text.proofs.lex.movetext.plain_end.Given as goal
 
 abbrev pub invariant-loop-at : goal.invariant-loop-at
-invariant-loop-at l = PlainTo l.block l.from l.at
+invariant-loop-at l = (moves : List Item) × PlainTo l.block l.from moves l.at
 
 abbrev pub decreases-loop-at : goal.decreases-loop-at
 decreases-loop-at l = length l.block - l.at

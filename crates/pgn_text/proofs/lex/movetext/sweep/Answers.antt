@@ -1,0 +1,74 @@
+use Rattle.std.proofs.Common.{◌≡◌, ℕ, suc, ◌+◌, ◌-◌, ◌/◌, ◌^◌, ◌<◌, ◌&&◌, ◌||◌, ◌==◌, get_or}
+use Rattle.std.proofs.Common.{bit_or, refl, sym, ap, ap₂, ◌∙◌, arith}
+use Rattle.pgn_text.specs.Public.Bytes.{is_white, is_digit, is_letter}
+use Rattle.pgn_text.specs.Private.Masks.{is_word_sign, has_bit}
+use Rattle.pgn_text.proofs.Bits.{bit-and, bit-or}
+use Rattle.pgn_text.proofs.SweepLemmas.{word_parts, begins_are, moved_bits, within_block}
+use Rattle.pgn_text.proofs.lex.movetext.sweep.Goals as goal
+
+pub returns : goal.returns
+returns c =
+    let block = c.args.block.now in
+    let at = c.args.at in
+    let len = c.plain_len-len.result in
+    let numbers = c.numbers-number_bits.result in
+    let short : len < 64 = c.plain_len-len.ensures.short in
+    let base = c.base_of-base.result in
+    let skip = at - base in
+    let among = c.base_of-base.ensures.among in
+    let there : base + skip ≡ at = omega (arith, among.0) in
+    let last = λ (some : 0 < skip). c.base_of-base.ensures.last (omega arith) in
+    let same = λ (i : ℕ) (lt : i < 64). c.bytes_at-bytes.ensures i lt in
+    let letters_are =
+    moved_bits is_letter refl block base skip at c.letters.result there last (omega arith)
+    (λ i lt. c.letters.ensures i lt ∙ ap is_letter (same i lt)) in
+    let digits_are =
+    moved_bits is_digit refl block base skip at c.digits.result there last (omega arith)
+    (λ i lt. c.digits.ensures i lt ∙ ap is_digit (same i lt)) in
+    let signs_are =
+    moved_bits is_word_sign refl block base skip at c.signs.result there last (omega arith)
+    (λ i lt. c.signs.ensures i lt ∙ ap is_word_sign (same i lt)) in
+    let letters = c.letters.result / 2 ^ skip in
+    let digits = c.digits.result / 2 ^ skip in
+    let signs = c.signs.result / 2 ^ skip in
+    let words_are = λ (i : ℕ) (lt : i < 64). bit-or (bit_or letters digits) signs i
+    ∙ ap₂ (λ a b. a || b) (bit-or letters digits i
+    ∙ ap₂ (λ a b. a || b) (letters_are i lt) (digits_are i lt)) (signs_are i lt)
+    ∙ word_parts (get_or block (at + i) 0) in
+    let gaps_are =
+    moved_bits is_white refl block base skip at c.whites.result there last (omega arith)
+    (λ i lt. c.whites.ensures i lt ∙ ap is_white (same i lt)) in
+    let periods_are =
+    moved_bits (λ b. b == 46) refl block base skip at c.periods.result there last (omega arith)
+    (λ i lt. c.periods.ensures i lt ∙ ap (λ b. b == 46) (same i lt)) in
+    let begin_bits = c.begins-begin_bits.result in
+    let are =
+    begins_are block at (bit_or (bit_or letters digits) signs) begin_bits
+    c.begins-begin_bits.ensures words_are in (
+      numbers,
+      record {
+        within = within_block block at len c.requires.0 (λ i is. sym (gaps_are i (omega arith))
+            ∙ c.plain_len-len.ensures.ends i is);
+        short = short;
+        words_are = words_are;
+        moves_are = λ i lt. c.below-moves.ensures.low i (omega arith)
+            ∙ bit-and begin_bits (c.letters.result / 2 ^ skip) i
+            ∙ ap₂ (λ a b. a && b) (are i (omega arith)) (letters_are i (omega arith));
+        moves_end = λ i le lt. c.below-moves.ensures.high i (omega arith) lt;
+        each = λ i lt. ap₂ (λ a b. a || b) (sym (words_are i (omega arith)))
+            (ap₂ (λ a b. a || b) (sym (gaps_are i (omega arith)))
+            (sym (periods_are i (omega arith))))
+            ∙ c.strange-strange_bits.ensures.each i (omega arith)
+            (c.plain_len-len.ensures.plain i lt);
+        begins = λ i lt first. ap (λ b. b || has_bit numbers i) (sym (letters_are i (omega arith)))
+            ∙ c.strange-strange_bits.ensures.begins i (omega arith)
+            (c.plain_len-len.ensures.plain i lt) (are i (omega arith) ∙ first);
+        digits = λ i lt on. sym (digits_are i (omega arith)) ∙ c.numbers-number_bits.ensures i on;
+        goes_on =
+            λ i lt on. ap (λ b. has_bit numbers (suc i)
+            || b) (sym (periods_are (suc i) (omega arith)))
+            ∙ c.strange-strange_bits.ensures.goes_on i (omega arith)
+            (c.plain_len-len.ensures.plain (suc i) lt) on;
+        ends = λ i is. sym (gaps_are i (omega arith)) ∙ c.plain_len-len.ensures.ends i is;
+      },
+    )

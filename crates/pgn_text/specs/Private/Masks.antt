@@ -1,0 +1,72 @@
+-- Words of 64 bits that say which of 64 bytes of a block are of a class.
+use Rattle.std.specs.Prelude.{◌≡◌, ℕ, zero, suc, Bool, true, false, not, ◌&&◌, ◌||◌, ◌==◌, ◌+◌, ◌<◌}
+use Rattle.std.specs.Prelude.{◌≤◌, List, length, get_or}
+use Rattle.std.specs.Int.{bit_at}
+use Rattle.pgn_text.specs.Public.Bytes.{is_white, is_digit, is_letter, is_word_byte}
+
+-- bit i of the word is set
+unfoldable pub has_bit : ℕ → ℕ → Bool
+has_bit word i = bit_at word i == 1
+
+-- a byte of a word that is neither a letter nor a digit
+abbrev pub is_word_sign : ℕ → Bool
+is_word_sign b = (b == 95 || ((b == 43 || b == 35) || (b == 61 || b == 58))) || (b == 45 || b == 47)
+
+-- the bits of the word are set where the `count` bytes of the vector pass the test
+abbrev pub AreLanes : ℕ → (ℕ → Bool) → List ℕ → ℕ → Type 0
+AreLanes count test vector word = (i : ℕ) → i < count → has_bit word i ≡ test (get_or vector i 0)
+
+-- the bits of `begins` are those of `words` before which none of them is set
+abbrev pub AreBegins : ℕ → ℕ → Type 0
+AreBegins words begins = (has_bit begins 0 ≡ has_bit words 0)
+    × ((i : ℕ) → suc i < 64 → has_bit begins (suc i)
+    ≡ (has_bit words (suc i) && not (has_bit words i)))
+
+-- a word of the block begins at byte i from the place, where what stands before the place does not
+-- count
+abbrev pub word_begins : List ℕ → ℕ → ℕ → Bool
+word_begins block at zero = is_word_byte (get_or block (at + 0) 0)
+word_begins block at (suc i) = is_word_byte (get_or block (at + suc i) 0)
+    && not (is_word_byte (get_or block (at + i) 0))
+
+-- the 64 bytes from the place on have the words at the bits of `words`, and the first `len` of them
+-- are plain movetext whose last byte is
+-- white space, with the moves that begin at the bits of `moves`, and with bytes of numbers at those
+-- of `numbers`
+pub record Sweeps (block : List ℕ) (at words moves numbers len : ℕ) : Type 0 where
+  pub within : at + len ≤ length block
+  pub short : len < 64
+  pub words_are : (i : ℕ) → i < 64 → has_bit words i ≡ is_word_byte (get_or block (at + i) 0)
+  pub moves_are : (i : ℕ) → i < len → has_bit moves i
+      ≡ (word_begins block at i && is_letter (get_or block (at + i) 0))
+  pub moves_end : (i : ℕ) → len ≤ i → i < 64 → has_bit moves i ≡ false
+  pub each : (i : ℕ) → i < len
+      → (is_word_byte (get_or block (at + i) 0)
+      || (is_white (get_or block (at + i) 0) || (get_or block (at + i) 0 == 46))) ≡ true
+  pub begins : (i : ℕ) → i < len → word_begins block at i ≡ true
+      → (is_letter (get_or block (at + i) 0) || has_bit numbers i) ≡ true
+  pub digits : (i : ℕ) → i < len → has_bit numbers i ≡ true
+      → is_digit (get_or block (at + i) 0) ≡ true
+  pub goes_on : (i : ℕ) → suc i < len → has_bit numbers i ≡ true
+      → (has_bit numbers (suc i) || (get_or block (at + suc i) 0 == 46)) ≡ true
+  pub ends : (i : ℕ) → len ≡ suc i → is_white (get_or block (at + i) 0) ≡ true
+
+-- no bit of the word is set from the place on
+abbrev pub NoneFrom : ℕ → ℕ → Type 0
+NoneFrom word place = (i : ℕ) → place ≤ i → i < 64 → has_bit word i ≡ false
+
+-- after each bit of `moves` there is a place without a bit of `words`
+abbrev pub HaveEnds : ℕ → ℕ → Type 0
+HaveEnds words moves = (i : ℕ) → i < 64 → has_bit moves i ≡ true
+    → (end : ℕ) × (i < end) × (end < 64) × (has_bit words end ≡ false)
+
+-- the first bit of `moves` from the place on is that at `begin`, and `end` is the first place after
+-- it without a bit of `words`
+pub record IsNextMove (words moves from begin end : ℕ) : Type 0 where
+  pub forward : from ≤ begin
+  pub short : end < 64
+  pub longer : begin ≤ end
+  pub begins : has_bit moves begin ≡ true
+  pub first : (i : ℕ) → from ≤ i → i < begin → has_bit moves i ≡ false
+  pub inside : (i : ℕ) → begin ≤ i → i < end → has_bit words i ≡ true
+  pub ends : has_bit words end ≡ false
