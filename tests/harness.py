@@ -44,6 +44,8 @@ sys.path.insert(0, str(TOP / "bench"))
 import make_games  # noqa: E402
 
 BUILT = TOP / "crates/cli/out/cli"
+# What the commands beside the program share.
+SHARED = TOP / "tools/pgn_tools.py"
 # The variable by which tools are given a program.
 TOOL_VARIABLE = "PGN_EXTRACT"
 # The status of a run that was ended at its time limit, as timeout(1) has it.
@@ -251,6 +253,12 @@ def raw_in(text):
 
 # A name that a terminal would obey: an escape, a bell, DEL, U+009B, and a byte that is no UTF-8.
 UNSHOWN = b"x\x1b]0;y\x07\x7f\xc2\x9b31m\x9b\xff\r\nz"
+
+
+def copy_command(command, target):
+    """Copies a command beside the program, and beside it what the commands share."""
+    shutil.copy(command, target)
+    shutil.copy(SHARED, Path(target).parent)
 
 
 class MissingTool(Exception):
