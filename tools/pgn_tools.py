@@ -307,7 +307,7 @@ class Run:
         return self.process.stdout
 
     def end(self, good=(0,)):
-        """Waits for its end, which has to be a good one; then its reports can be read."""
+        """Waits for its end, which has to be a good one: the status. Its reports can be read."""
         status = self.process.wait()
         self.scratch.runs.remove(self)
         if self.reports and self.reports.seekable():
@@ -316,6 +316,7 @@ class Run:
             kind = REFUSED if status == REFUSED and self.name != SORT else FAILED
             number = f"{'signal' if status < 0 else 'status'} {abs(status)}"
             raise Fault(kind, f"{shown(self.name)}: {number}{self.said()}")
+        return status
 
     def said(self):
         """The last lines that a run reported which failed."""
