@@ -15,7 +15,7 @@ _pgn_extract() {
     esac
     if [[ $word == -* ]]; then
         mapfile -t COMPREPLY < <(compgen -W '--list --fen --next --packed --index --moves --uci --pack --criteria --where --min-ply --max-ply --first --others --faulty --as-is -C --no-comments -N --no-glyphs
-            -V --no-variations --roster -w --width --explain --summary --progress --no-progress --from --until --with-names --no-names
+            -V --no-variations --keep-commands --roster -w --width --explain --summary --progress --no-progress --from --until --with-names --no-names
             -h --help --version' -- "$word")
         # --list, --index, --moves, --uci and --pack exclude each other, what only a list shows, and most of what chooses games; --others and --faulty exclude each other; names too. A pack is searched as a whole, for plain lines.
         options=" ${COMP_WORDS[*]:0:COMP_CWORD} "
@@ -25,7 +25,7 @@ _pgn_extract() {
         [[ $options == *' --index '* ]] && _pgn_extract_without --list --fen --next --others --faulty --as-is --moves --uci --pack
         [[ $options == *' --moves '* ]] && _pgn_extract_without --list --fen --next --packed --index --faulty --as-is --uci --pack
         [[ $options == *' --uci '* ]] && _pgn_extract_without --list --fen --next --packed --index --faulty --as-is --moves --pack
-        [[ $options == *' --pack '* ]] && _pgn_extract_without --list --fen --next --packed --index --faulty --as-is --moves --uci -C --no-comments -N --no-glyphs -V --no-variations --roster -w --width
+        [[ $options == *' --pack '* ]] && _pgn_extract_without --list --fen --next --packed --index --faulty --as-is --moves --uci -C --no-comments -N --no-glyphs -V --no-variations --keep-commands --roster -w --width
         [[ $options == *' --others '* ]] && _pgn_extract_without --list --fen --next --packed --index --faulty
         [[ $options == *' --faulty '* ]] && _pgn_extract_without --list --fen --next --packed --index --others --moves --uci --pack
         [[ $options == *' --as-is '* ]] && _pgn_extract_without --list --fen --next --packed --index --moves --uci --pack

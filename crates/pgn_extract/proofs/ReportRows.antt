@@ -90,12 +90,20 @@ width_is_79 : (request : Request)
     → asked_style (record request {
       no_comments =
           true;
+      keep_commands = true;
       no_glyphs = false;
       no_variations = true;
       roster = true;
       width = None;
     })
-    ≡ record { comments = false; glyphs = true; variations = false; roster_only = true; width = 79 }
+    ≡ record {
+      comments = false;
+      commands = true;
+      glyphs = true;
+      variations = false;
+      roster_only = true;
+      width = 79;
+    }
 width_is_79 request = refl
 
 list_is_a_mode : (request : Request)
@@ -118,6 +126,7 @@ width_is_style : (request : Request)
     → has_style (record request {
       no_comments =
           false;
+      keep_commands = false;
       no_glyphs = false;
       no_variations = false;
       roster = false;
@@ -126,6 +135,7 @@ width_is_style : (request : Request)
     ∷ has_style (record request {
       no_comments =
           false;
+      keep_commands = false;
       no_glyphs = false;
       no_variations = false;
       roster = false;

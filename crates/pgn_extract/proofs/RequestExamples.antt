@@ -37,6 +37,7 @@ plain request = record request {
   uci = false;
   pack = false;
   no_comments = false;
+  keep_commands = false;
   no_glyphs = false;
   no_variations = false;
   roster = false;
@@ -83,7 +84,7 @@ both_choices = codes "pgn-extract: --others and --faulty exclude each other\n"
 
 abbrev no_pack : List ℕ
 no_pack =
-    codes "pgn-extract: --pack goes with none of --list, --index, --moves, --uci, --faulty, --as-is, -C, -N, -V, --roster and -w\n"
+    codes "pgn-extract: --pack goes with none of --list, --index, --moves, --uci, --faulty, --as-is, -C, -N, -V, --keep-commands, --roster and -w\n"
 
 abbrev both_notations : List ℕ
 both_notations = codes "pgn-extract: --moves and --uci exclude each other\n"
@@ -123,6 +124,7 @@ each_pair : (request : Request)
     × RefusedWith (record (plain request) { pack = true; faulty = true }) no_pack
     × RefusedWith (record (plain request) { pack = true; as_is = true }) no_pack
     × RefusedWith (record (plain request) { pack = true; no_comments = true }) no_pack
+    × RefusedWith (record (plain request) { pack = true; keep_commands = true }) no_pack
     × RefusedWith (record (plain request) { pack = true; no_glyphs = true }) no_pack
     × RefusedWith (record (plain request) { pack = true; no_variations = true }) no_pack
     × RefusedWith (record (plain request) { pack = true; roster = true }) no_pack
@@ -133,6 +135,7 @@ each_pair : (request : Request)
     × RefusedWith (record (plain request) { moves = true; as_is = true }) no_lines_of_moves
     × RefusedWith (record (plain request) { with_names = true; no_names = true }) both_namings
 each_pair request = (
+  refl,
   refl,
   refl,
   refl,
@@ -208,7 +211,14 @@ nothing_asked : (request : Request) → let aim = asked false (plain request) No
     (aim.mode ≡ modes.Export) × (aim.select ≡ Matching) × (aim.form ≡ Standard) × (aim.min_ply ≡ 0)
     × (aim.max_ply ≡ 4294967295) × (aim.first ≡ false)
     × (aim.fields ≡ record { fen = false; next = false }) × (aim.explain ≡ false)
-    × (aim.style ≡ record { comments = true; glyphs = true; variations = true; roster_only = false; width = 79 })
+    × (aim.style ≡ record {
+      comments = true;
+      commands = false;
+      glyphs = true;
+      variations = true;
+      roster_only = false;
+      width = 79;
+    })
 nothing_asked request = (refl, refl, refl, refl, refl, refl, refl, refl, refl)
 
 each_asked : (request : Request)
@@ -231,11 +241,12 @@ each_asked request =
 
 each_style : (request : Request)
     → ((asked false (record (plain request) { no_comments = true }) None).style.comments ≡ false)
+    × ((asked false (record (plain request) { keep_commands = true }) None).style.commands ≡ true)
     × ((asked false (record (plain request) { no_glyphs = true }) None).style.glyphs ≡ false)
     × ((asked false (record (plain request) { no_variations = true }) None).style.variations ≡ false)
     × ((asked false (record (plain request) { roster = true }) None).style.roster_only ≡ true)
     × ((asked false (record (plain request) { width = Some 40 }) None).style.width ≡ 40)
-each_style request = (refl, refl, refl, refl, refl)
+each_style request = (refl, refl, refl, refl, refl, refl)
 
 without_marks : (request : Request)
     → (begin_of (plain request) ≡ Some (record { number = 1; offset = 0 }))

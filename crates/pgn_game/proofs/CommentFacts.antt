@@ -48,7 +48,7 @@ words_after (b ∷ text) =
     ] refl
 
 -- a text that begins with a byte of a word: the first word, and the words of what follows it
-words_of_front : (b : ℕ) (text : List ℕ) → is_white b ≡ false → words_in (b ∷ text) ≡ word_front (b ∷ text) ∷ words_in (after_front (b ∷ text))
+pub words_of_front : (b : ℕ) (text : List ℕ) → is_white b ≡ false → words_in (b ∷ text) ≡ word_front (b ∷ text) ∷ words_in (after_front (b ∷ text))
 words_of_front b text other =
     let first : word_front (b ∷ text) ≡ b ∷ word_front text = ap (λ t. if t then [] else b ∷ word_front text) other in
     ap full_ones (cut_by_front (b ∷ text))

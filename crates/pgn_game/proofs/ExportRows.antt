@@ -9,7 +9,7 @@ use Rattle.chess.specs.declared.moves.Move.{Move}
 use Rattle.pgn_text.specs.Public.Games.{Item, MoveText, CommentText, VariationOpen, VariationClose}
 use Rattle.pgn_text.specs.Public.Strings.{Sign, Single, Escaped, spelled_sign, value_of_sign}
 use Rattle.pgn_game.specs.Public.AllLines.{LineEnd, ThenGlyph, SaysTurn}
-use Rattle.pgn_game.specs.Public.Comments.{in_first, cut_at_white, words_in, closed, braced, comment_tokens}
+use Rattle.pgn_game.specs.Public.Comments.{in_first, cut_at_white, words_in, closed, braced, begins_command, has_bracket, closes, leaves_open, in_command, ties, in_front, tied, comment_tokens}
 use Rattle.pgn_game.specs.Public.Exports.{number_tokens, IsTurnText, kept, AreTokens}
 use Rattle.pgn_game.specs.Public.GameLines.{unspaced, IsStartText, promotion_letter, uci_text, IsMoveText, AreMoveTexts}
 use Rattle.pgn_game.specs.Public.GameLines.IsStartText.{as_initial, as_fen}
@@ -155,10 +155,78 @@ words_in_braces : braced (codes "a}" ∷ codes "b" ∷ []) ≡ codes "{a)" ∷ c
 words_in_braces = refl
 
 -- no later word begins an event line or an escape
-tokens_of_a_comment : comment_tokens (codes "%a [Event %b [Events") ≡ codes "{%a"
+tokens_of_a_comment : comment_tokens false (codes "%a [Event %b [Events") ≡ codes "{%a"
     ∷ codes "(Event" ∷ codes "(%b"
     ∷ codes "[Events}" ∷ []
 tokens_of_a_comment = refl
+
+-- Commands of comments.
+
+command_begins :
+    begins_command (codes "[%clk") ∷ begins_command (codes "[ %clk") ∷ begins_command (codes "%clk")
+    ∷ [] ≡ true ∷ false ∷ false ∷ []
+command_begins = refl
+
+bracket_stands_in_a_text : has_bracket (codes "a]b") ∷ has_bracket (codes "a[b") ∷ [] ≡ true
+    ∷ false ∷ []
+bracket_stands_in_a_text = refl
+
+bracket_closes : closes (codes "0:01] [%b") ∷ closes (codes "a [%b c]") ∷ closes (codes "a b")
+    ∷ [] ≡ true ∷ false ∷ false ∷ []
+bracket_closes = refl
+
+word_leaves_open :
+    leaves_open (codes "[%a") ∷ leaves_open (codes "b][%c") ∷ leaves_open (codes "[%a]")
+    ∷ leaves_open (codes "[a")
+    ∷ [] ≡ true ∷ true ∷ false ∷ false ∷ []
+word_leaves_open = refl
+
+space_in_a_command :
+    in_command false (codes "[%a") (codes "b]") ∷ in_command true (codes "b") (codes "c]")
+    ∷ in_command true (codes "b]") (codes "c]")
+    ∷ in_command false (codes "b") (codes "c]") ∷ [] ≡ true ∷ true ∷ false ∷ false ∷ []
+space_in_a_command = refl
+
+ties_of_words :
+    ties false (codes "[%a" ∷ codes "b" ∷ codes "c]" ∷ codes "[%d" ∷ codes "e" ∷ []) ≡ true
+    ∷ true ∷ false
+    ∷ false ∷ false ∷ []
+ties_of_words = refl
+
+token_before_others : in_front true (codes "a") (codes "b" ∷ codes "c" ∷ []) ≡ codes "a b" ∷ codes "c"
+    ∷ []
+token_before_others = refl
+
+tokens_are_tied :
+    tied (true ∷ false ∷ true ∷ []) (codes "a" ∷ codes "b" ∷ codes "c" ∷ []) ≡ codes "a b"
+    ∷ codes "c" ∷ []
+tokens_are_tied = refl
+
+commands_are_whole :
+    comment_tokens true (codes "x [%clk  0:01:00] [%csl Ra1][%cal Gb1b4, Ga1a2] y") ≡ codes "{x"
+    ∷ codes "[%clk 0:01:00]"
+    ∷ codes "[%csl Ra1][%cal Gb1b4, Ga1a2]" ∷ codes "y}" ∷ []
+commands_are_whole = refl
+
+commands_are_broken : comment_tokens false (codes "[%clk 0:01:00]") ≡ codes "{[%clk"
+    ∷ codes "0:01:00]}" ∷ []
+commands_are_broken = refl
+
+-- of two that begin before a closing bracket, the second is one
+one_in_another : comment_tokens true (codes "[%a b [%c d] [%e f") ≡ codes "{[%a" ∷ codes "b"
+    ∷ codes "[%c d]"
+    ∷ codes "[%e" ∷ codes "f}" ∷ []
+one_in_another = refl
+
+no_command_without_its_end : comment_tokens true (codes "[%clk 0:01:00")
+    ≡ codes "{[%clk 0:01:00}" ∷ []
+    → ⊥
+no_command_without_its_end whole = cc
+
+no_command_without_its_sign : comment_tokens true (codes "[clk 0:01:00]")
+    ≡ codes "{[clk 0:01:00]}" ∷ []
+    → ⊥
+no_command_without_its_sign whole = cc
 
 -- Tokens in lines.
 

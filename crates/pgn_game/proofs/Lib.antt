@@ -25,6 +25,7 @@ pub mod TagLineFacts
 pub mod OneExport
 pub mod PenFacts
 pub mod CommentFacts
+pub mod CommandFacts
 pub mod MovetextFacts
 pub mod MovetextLines
 pub mod SomeMovetext

@@ -155,9 +155,9 @@ module _ (style : Style) where
       let puts = first.1 in
       let there = line_written line rest (apart || style.comments) at outer more first.0 new shown (puts.same ∙ same)
       (puts.stands ∙ ap (λ a. a || old.style.comments) stands ∙ ap (λ (s : Style). apart || s.comments) same) walks first.2 in
-      let remark = kept style.comments (comment_tokens text) in
+      let remark = kept style.comments (comment_tokens style.commands text) in
       let put : HasPut old.pen first.0.pen old.out.items first.0.out.items remark =
-      subst (λ (s : Style). HasPut old.pen first.0.pen old.out.items first.0.out.items (kept s.comments (comment_tokens text))) same puts.put in
+      subst (λ (s : Style). HasPut old.pen first.0.pen old.out.items first.0.out.items (kept s.comments (comment_tokens s.commands text))) same puts.put in
       record {
         own = remark ++ there.own;
         mid = there.mid;
@@ -261,9 +261,9 @@ module _ (style : Style) where
       let puts = first.1 in
       let there = main_written line (apart || style.comments) at more first.0 new hidden (puts.same ∙ same)
       (puts.stands ∙ ap (λ a. a || old.style.comments) stands ∙ ap (λ (s : Style). apart || s.comments) same) walks first.2 in
-      let remark = kept style.comments (comment_tokens text) in
+      let remark = kept style.comments (comment_tokens style.commands text) in
       let put : HasPut old.pen first.0.pen old.out.items first.0.out.items remark =
-      subst (λ (s : Style). HasPut old.pen first.0.pen old.out.items first.0.out.items (kept s.comments (comment_tokens text))) same puts.put in
+      subst (λ (s : Style). HasPut old.pen first.0.pen old.out.items first.0.out.items (kept s.comments (comment_tokens s.commands text))) same puts.put in
       record {
         own = remark ++ there.own;
         put = put_both old.pen first.0.pen new.pen old.out.items first.0.out.items new.out.items remark there.own put there.put;

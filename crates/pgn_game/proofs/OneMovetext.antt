@@ -34,7 +34,7 @@ one_list (ThenMove word line) style inside before now apart tokens others (turn,
 one_list (ThenGlyph number line) style inside before now apart tokens others (more, is, rest) (more2, is2, rest2) =
     is ∙ ap (λ ts. kept style.glyphs ((36 ∷ decimal number) ∷ []) ++ ts) (one_list line style inside before now apart more more2 rest rest2) ∙ sym is2
 one_list (ThenComment text line) style inside before now apart tokens others (more, is, rest) (more2, is2, rest2) =
-    is ∙ ap (λ ts. kept style.comments (comment_tokens text) ++ ts) (one_list line style inside before now (apart || style.comments) more more2 rest rest2) ∙ sym is2
+    is ∙ ap (λ ts. kept style.comments (comment_tokens style.commands text) ++ ts) (one_list line style inside before now (apart || style.comments) more more2 rest rest2) ∙ sym is2
 one_list (ThenVariation inner line) style inside before now apart tokens others (own, more, is, within, rest) (own2, more2, is2, within2, rest2) =
     is ∙ ap (λ ts. ts ++ more) (same_kept style.variations own own2 (λ shown. one_list inner style true before before true own own2 (within shown) (within2 shown)))
     ∙ ap (λ ts. kept style.variations (codes "(" ∷ own2 ++ codes ")" ∷ []) ++ ts) (one_list line style inside before now (apart || style.variations) more more2 rest rest2)

@@ -9,7 +9,7 @@ use Rattle.pgn_game.specs.Public.Exports.{AreMovetextTokens}
 use Rattle.pgn_game.specs.Public.Laws.{BeginsLine, IsMisread, NoLineIsMisread}
 use Rattle.pgn_game.specs.Public.TextLines.{joined, tokens_of, text_of, AreLines, IsLaid}
 use Rattle.pgn_game.specs.declared.exports.style.Style.{Style}
-use Rattle.pgn_game.proofs.PlainTokens.{AllOf, IsInk, IsSolid, MayBegin, AllMayBegin, all_append, all_front, all_back, movetext_may}
+use Rattle.pgn_game.proofs.PlainTokens.{AllOf, IsInk, IsSolid, MayBegin, AllMayBegin, MayStand, AllMayStand, may_both, all_append, all_front, all_back, movetext_may}
 
 -- a byte between tokens or after the last one of a line
 abbrev pub IsBetween : ℕ → Type 0
@@ -91,25 +91,35 @@ no_feed_read more (other, inr event) = absurd (cc)
 pub feed_right : (more : List ℕ) → IsRight more → IsRight (10 ∷ more)
 feed_right more later = line_right [] more (record {}) (no_feed_read more) later
 
+-- a line of tokens is words with one space between each two
+may_line : (token : List ℕ) (line : List (List ℕ)) → AllMayStand (token ∷ line) → MayStand (joined (token ∷ line))
+may_line token [] all = all.0
+may_line token (next ∷ line) all = may_both token (joined (next ∷ line)) all.0 (may_line next line all.1)
+
 -- the lines of tokens, and what stands after them
-pub lines_right : (width : ℕ) (lines : List (List (List ℕ))) (tail : List ℕ) → AreLines width lines → AllMayBegin (tokens_of lines) → IsRight tail
+pub lines_right : (width : ℕ) (lines : List (List (List ℕ))) (tail : List ℕ) → AreLines width lines → AllMayStand (tokens_of lines) → IsRight tail
     → IsRight (text_of lines ++ tail)
 lines_right width [] tail are all right = right
 lines_right width ([] ∷ lines) tail are all right = absurd are.0
 lines_right width ((token ∷ line) ∷ lines) tail are all right =
     subst IsRight (sym (append_assoc (joined (token ∷ line) ++ 10 ∷ []) (text_of lines) tail ∙ append_assoc (joined (token ∷ line)) (10 ∷ []) (text_of lines ++ tail)))
-    (line_right (joined (token ∷ line)) (text_of lines ++ tail) (joined_feed (token ∷ line) own) (line_read token line (text_of lines ++ tail) own.0)
-    (lines_right width lines tail are.2 (all_back MayBegin (token ∷ line) (tokens_of lines) all) right))
+    (line_right (joined (token ∷ line)) (text_of lines ++ tail) (subst HasNoFeed (sym words.whole) (joined_feed (words.first ∷ words.more) words.may))
+    (subst (λ bytes. IsMisread (bytes ++ 10 ∷ (text_of lines ++ tail)) → ⊥) (sym words.whole)
+    (line_read words.first words.more (text_of lines ++ tail) words.may.0))
+    (lines_right width lines tail are.2 (all_back MayStand (token ∷ line) (tokens_of lines) all) right))
   where
-    own : AllMayBegin (token ∷ line)
-    own = all_front MayBegin (token ∷ line) (tokens_of lines) all
+    own : AllMayStand (token ∷ line)
+    own = all_front MayStand (token ∷ line) (tokens_of lines) all
+
+    words : MayStand (joined (token ∷ line))
+    words = may_line token line own
 
 -- the movetext, and what stands after it
 pub movetext_right : (style : Style) (start : State) (items : List Item) (result : List ℕ) (tokens : List (List ℕ)) (width : ℕ) (movetext tail : List ℕ) → IsResult result
     → AreMovetextTokens style start items result tokens → IsLaid width tokens movetext → IsRight tail → IsRight (movetext ++ tail)
 movetext_right style start items result tokens width movetext tail ends are laid right =
     subst (λ text. IsRight (text ++ tail)) (sym laid.spells)
-    (lines_right width laid.lines tail laid.are_lines (subst AllMayBegin (sym laid.all) (movetext_may style start items result tokens ends are)) right)
+    (lines_right width laid.lines tail laid.are_lines (subst AllMayStand (sym laid.all) (movetext_may style start items result tokens ends are)) right)
 
 pub no_line_misread : NoLineIsMisread
 no_line_misread style start items result tokens width movetext rest ends are laid begins read =

@@ -1,5 +1,6 @@
--- No token of a movetext begins an escape or is the word of an event line, and none holds a space or a line feed.
-use Rattle.std.proofs.Common.{◌≡◌, ◌≢◌, ◌⊎◌, ℕ, zero, suc, ◌+◌, ◌%◌, ◌/◌, ◌<◌, ◌≤◌, Bool, true, false, List, [], ◌∷◌, ◌++◌, map, refl, sym, ap, ◌∙◌, subst, inl, inr, append-nil, arith}
+-- A token of a movetext is words with one space between each two. No word begins an escape or is the word of an event line, and none holds
+-- a space or a line feed.
+use Rattle.std.proofs.Common.{◌≡◌, ◌≢◌, ◌⊎◌, ℕ, zero, suc, ◌+◌, ◌%◌, ◌/◌, ◌<◌, ◌≤◌, Bool, true, false, List, [], ◌∷◌, ◌++◌, map, refl, sym, ap, ◌∙◌, subst, inl, inr, append_assoc, append-nil, arith}
 use Rattle.std.proofs.lemmas.Bool.Decides.{nat_tests}
 use Rattle.std.specs.Prelude.{◌==◌, not, ◌||◌, if◌then◌else◌, bytes_eq, filter, Option, Some, None, codes, decimal, nat_lt}
 use Rattle.std.specs.Fmt.{digit_glyph, digits_onto, digits}
@@ -18,8 +19,9 @@ use Rattle.pgn_text.specs.Public.Games.{Item}
 use Rattle.pgn_text.specs.Public.GameTexts.{IsResult}
 use Rattle.pgn_text.specs.Public.Bytes.{is_white, is_empty, begins}
 use Rattle.pgn_game.specs.Public.AllLines.{Line, LineEnd, ThenMove, ThenGlyph, ThenComment, ThenVariation, after_turn}
-use Rattle.pgn_game.specs.Public.Comments.{in_first, cut_at_white, words_in, unbraced, later_word, closed, braced, comment_tokens}
+use Rattle.pgn_game.specs.Public.Comments.{in_first, cut_at_white, words_in, unbraced, later_word, closed, braced, ties, in_front, tied, comment_tokens}
 use Rattle.pgn_game.specs.Public.Exports.{number_tokens, IsTurnText, kept, AreTokens, AreMovetextTokens}
+use Rattle.pgn_game.specs.Public.TextLines.{joined}
 use Rattle.pgn_game.specs.declared.exports.style.Style.{Style}
 use Rattle.pgn_game.specs.declared.turns.line_move.LineMove.{LineMove}
 use Rattle.pgn_game.specs.declared.turns.line_move.LineMove.TheVariants.{Played, Passed}
@@ -64,6 +66,49 @@ pub record MayBegin (token : List ℕ) : Type 0 where
 
 abbrev pub AllMayBegin : List (List ℕ) → Type 0
 AllMayBegin tokens = AllOf MayBegin tokens
+
+-- the token is words with one space between each two, each of which may begin a line
+pub record MayStand (token : List ℕ) : Type 0 where
+  pub first : List ℕ
+  pub more : List (List ℕ)
+  pub whole : token ≡ joined (first ∷ more)
+  pub may : AllMayBegin (first ∷ more)
+
+abbrev pub AllMayStand : List (List ℕ) → Type 0
+AllMayStand tokens = AllOf MayStand tokens
+
+pub may_alone : (token : List ℕ) → MayBegin token → MayStand token
+may_alone token may = record { first = token; more = []; whole = refl; may = (may, record {}) }
+
+all_alone : (tokens : List (List ℕ)) → AllMayBegin tokens → AllMayStand tokens
+all_alone [] all = all
+all_alone (token ∷ tokens) all = (may_alone token all.0, all_alone tokens all.1)
+
+joined_both : (first : List ℕ) (more : List (List ℕ)) (next : List ℕ) (rest : List (List ℕ))
+    → joined (first ∷ more) ++ 32 ∷ joined (next ∷ rest) ≡ joined (first ∷ (more ++ next ∷ rest))
+joined_both first [] next rest = refl
+joined_both first (word ∷ more) next rest =
+    append_assoc first (32 ∷ joined (word ∷ more)) (32 ∷ joined (next ∷ rest)) ∙ ap (λ text. first ++ 32 ∷ text) (joined_both word more next rest)
+
+pub may_both : (token next : List ℕ) → MayStand token → MayStand next → MayStand (token ++ 32 ∷ next)
+may_both token next one other = record {
+  first = one.first;
+  more = one.more ++ other.first ∷ other.more;
+  whole =
+      ap (λ text. text ++ 32 ∷ next) one.whole ∙ ap (λ text. joined (one.first ∷ one.more) ++ 32 ∷ text) other.whole
+      ∙ joined_both one.first one.more other.first other.more;
+  may = all_append MayBegin (one.first ∷ one.more) (other.first ∷ other.more) one.may other.may;
+}
+
+before_may : (tie : Bool) (token : List ℕ) (tokens : List (List ℕ)) → MayStand token → AllMayStand tokens → AllMayStand (in_front tie token tokens)
+before_may tie token [] may all = (may, record {})
+before_may true token (next ∷ more) may all = (may_both token next may all.0, all.1)
+before_may false token (next ∷ more) may all = (may, all)
+
+tied_may : (flags : List Bool) (tokens : List (List ℕ)) → AllMayStand tokens → AllMayStand (tied flags tokens)
+tied_may [] tokens all = all
+tied_may (tie ∷ flags) [] all = all
+tied_may (tie ∷ flags) (token ∷ tokens) all = before_may tie token (tied flags tokens) all.0 (tied_may flags tokens all.1)
 
 plain_may : (token : List ℕ) → IsPlain token → MayBegin token
 plain_may [] plain = record { solid = plain.0; no_escape = λ more is. absurd (cc); no_event = λ is. absurd (cc) }
@@ -321,8 +366,10 @@ braced_may (word ∷ []) solid = (first_may word (codes "}") solid.0 (inr refl),
 braced_may (word ∷ next ∷ more) solid =
     (subst (λ bytes. MayBegin (123 ∷ bytes)) (append-nil (unbraced word)) (first_may word [] solid.0 (inl refl)), later_words_may (next ∷ more) solid.1)
 
-comment_may : (text : List ℕ) → AllMayBegin (comment_tokens text)
-comment_may text = braced_may (words_in text) (full_solid (cut_at_white text) (pieces_solid text))
+comment_may : (commands : Bool) (text : List ℕ) → AllMayStand (comment_tokens commands text)
+comment_may commands text =
+    tied_may (if commands then ties false (words_in text) else []) (braced (words_in text))
+    (all_alone (braced (words_in text)) (braced_may (words_in text) (full_solid (cut_at_white text) (pieces_solid text))))
 
 -- ---- all tokens
 
@@ -336,39 +383,40 @@ result_may result (inr (inr (inl is))) =
     plain_may result (subst IsPlain (sym is) ((one, (stroke, (two, (ink 45 (omega arith), (one, (stroke, (two, record {}))))))), (omega arith, omega arith)))
 result_may result (inr (inr (inr is))) = plain_may result (subst IsPlain (sym is) ((ink 42 (omega arith), record {}), (omega arith, omega arith)))
 
-kept_may : (shown : Bool) (tokens : List (List ℕ)) → (shown ≡ true → AllMayBegin tokens) → AllMayBegin (kept shown tokens)
+kept_may : (shown : Bool) (tokens : List (List ℕ)) → (shown ≡ true → AllMayStand tokens) → AllMayStand (kept shown tokens)
 kept_may true tokens all = all refl
 kept_may false tokens all = record {}
 
-open_may : MayBegin (codes "(")
-open_may = plain_may (codes "(") ((ink 40 (omega arith), record {}), (omega arith, omega arith))
+open_may : MayStand (codes "(")
+open_may = may_alone (codes "(") (plain_may (codes "(") ((ink 40 (omega arith), record {}), (omega arith, omega arith)))
 
-close_may : MayBegin (codes ")")
-close_may = plain_may (codes ")") ((ink 41 (omega arith), record {}), (omega arith, omega arith))
+close_may : MayStand (codes ")")
+close_may = may_alone (codes ")") (plain_may (codes ")") ((ink 41 (omega arith), record {}), (omega arith, omega arith)))
 
 line_may : (line : Line) (style : Style) (inside : Bool) (before now : State) (apart : Bool) (tokens : List (List ℕ))
-    → AreTokens style inside before now apart line tokens → AllMayBegin tokens
-line_may LineEnd style inside before now apart tokens is = subst AllMayBegin (sym is) (record {})
+    → AreTokens style inside before now apart line tokens → AllMayStand tokens
+line_may LineEnd style inside before now apart tokens is = subst AllMayStand (sym is) (record {})
 line_may (ThenMove word line) style inside before now apart tokens (turn, text, more, says, spells, is, rest) =
-    subst AllMayBegin (sym is)
-    (all_append MayBegin (number_tokens now.turn now.fullmove_number apart) (text ∷ more) (number_may now.turn now.fullmove_number apart)
-    (turn_may now turn text spells, line_may line style inside now (after_turn now turn) false more rest))
+    subst AllMayStand (sym is)
+    (all_append MayStand (number_tokens now.turn now.fullmove_number apart) (text ∷ more)
+    (all_alone (number_tokens now.turn now.fullmove_number apart) (number_may now.turn now.fullmove_number apart))
+    (may_alone text (turn_may now turn text spells), line_may line style inside now (after_turn now turn) false more rest))
 line_may (ThenGlyph number line) style inside before now apart tokens (more, is, rest) =
-    subst AllMayBegin (sym is)
-    (all_append MayBegin (kept style.glyphs ((36 ∷ decimal number) ∷ [])) more (kept_may style.glyphs ((36 ∷ decimal number) ∷ []) (λ _. (glyph_may number, record {})))
+    subst AllMayStand (sym is)
+    (all_append MayStand (kept style.glyphs ((36 ∷ decimal number) ∷ [])) more (kept_may style.glyphs ((36 ∷ decimal number) ∷ []) (λ _. (may_alone (36 ∷ decimal number) (glyph_may number), record {})))
     (line_may line style inside before now apart more rest))
 line_may (ThenComment text line) style inside before now apart tokens (more, is, rest) =
-    subst AllMayBegin (sym is)
-    (all_append MayBegin (kept style.comments (comment_tokens text)) more (kept_may style.comments (comment_tokens text) (λ _. comment_may text))
+    subst AllMayStand (sym is)
+    (all_append MayStand (kept style.comments (comment_tokens style.commands text)) more (kept_may style.comments (comment_tokens style.commands text) (λ _. comment_may style.commands text))
     (line_may line style inside before now (apart || style.comments) more rest))
 line_may (ThenVariation inner line) style inside before now apart tokens (own, more, is, within, rest) =
-    subst AllMayBegin (sym is)
-    (all_append MayBegin (kept style.variations (codes "(" ∷ own ++ codes ")" ∷ [])) more
+    subst AllMayStand (sym is)
+    (all_append MayStand (kept style.variations (codes "(" ∷ own ++ codes ")" ∷ [])) more
     (kept_may style.variations (codes "(" ∷ own ++ codes ")" ∷ [])
-    (λ shown. (open_may, all_append MayBegin own (codes ")" ∷ []) (line_may inner style true before before true own (within shown)) (close_may, record {}))))
+    (λ shown. (open_may, all_append MayStand own (codes ")" ∷ []) (line_may inner style true before before true own (within shown)) (close_may, record {}))))
     (line_may line style inside before now (apart || style.variations) more rest))
 
 pub movetext_may : (style : Style) (start : State) (items : List Item) (result : List ℕ) (tokens : List (List ℕ)) → IsResult result
-    → AreMovetextTokens style start items result tokens → AllMayBegin tokens
+    → AreMovetextTokens style start items result tokens → AllMayStand tokens
 movetext_may style start items result tokens ends (line, own, spells, are, all) =
-    subst AllMayBegin (sym all) (all_append MayBegin own (result ∷ []) (line_may line style false start start true own are) (result_may result ends, record {}))
+    subst AllMayStand (sym all) (all_append MayStand own (result ∷ []) (line_may line style false start start true own are) (may_alone result (result_may result ends), record {}))

@@ -45,7 +45,7 @@ all_tokens (ThenGlyph number line) style inside before now apart turns on_board 
     (kept style.glyphs ((36 ∷ decimal number) ∷ []) ++ there.0, (there.0, refl, there.1))
 all_tokens (ThenComment text line) style inside before now apart turns on_board stands played =
     let there = all_tokens line style inside before now (apart || style.comments) turns on_board stands played in
-    (kept style.comments (comment_tokens text) ++ there.0, (there.0, refl, there.1))
+    (kept style.comments (comment_tokens style.commands text) ++ there.0, (there.0, refl, there.1))
 all_tokens (ThenVariation inner line) style inside before now apart turns on_board stands (own, more, is, within, played) =
     let there = all_tokens inner style true before before true own on_board on_board within in
     let after = all_tokens line style inside before now (apart || style.variations) more on_board stands played in
@@ -64,7 +64,7 @@ main_tokens (ThenGlyph number line) style hidden before now apart positions play
     (kept style.glyphs ((36 ∷ decimal number) ∷ []) ++ there.0, (there.0, refl, there.1))
 main_tokens (ThenComment text line) style hidden before now apart positions played stands line_is =
     let there = main_tokens line style hidden before now (apart || style.comments) positions played stands line_is in
-    (kept style.comments (comment_tokens text) ++ there.0, (there.0, refl, there.1))
+    (kept style.comments (comment_tokens style.commands text) ++ there.0, (there.0, refl, there.1))
 main_tokens (ThenVariation inner line) style hidden before now apart positions played stands line_is =
     let tail = main_tokens line style hidden before now (apart || style.variations) positions played stands line_is in (
       kept style.variations (codes "(" ∷ codes ")" ∷ []) ++ tail.0,

@@ -128,6 +128,7 @@ fn a_word_leads_to_a_position(rt: HostRuntime) -> Result<(), Fail> {
 /// Everything is kept.
 const WHOLE: Style = Style {
     comments: true,
+    commands: false,
     glyphs: true,
     variations: true,
     roster_only: false,

@@ -18,6 +18,7 @@ const FAULT_BETWEEN: &[u8] = b"1. e4 *\n1. Qxh8 *\n1. d4 *\n";
 /// The main line with its comments and glyphs, in lines of at most 79 bytes.
 const PLAIN: Style = Style {
     comments: true,
+    commands: false,
     glyphs: true,
     variations: false,
     roster_only: false,

@@ -14,6 +14,7 @@ const ELEMENTS: &[u8] =
 /// Everything is kept.
 const WHOLE: Style = Style {
     comments: true,
+    commands: false,
     glyphs: true,
     variations: true,
     roster_only: false,

@@ -37,6 +37,7 @@ asked_form request =
 abbrev pub asked_style : Request → Style
 asked_style request = record {
   comments = not request.no_comments;
+  commands = request.keep_commands;
   glyphs = not request.no_glyphs;
   variations = not request.no_variations;
   roster_only = request.roster;
@@ -105,7 +106,7 @@ has_moves request = request.moves || request.uci
 -- something says how games are written in the standard's form
 abbrev pub has_style : Request → Bool
 has_style request = request.no_comments || request.no_glyphs || request.no_variations
-    || request.roster || is_some request.width
+    || request.keep_commands || request.roster || is_some request.width
 
 -- the run ends after it begins
 abbrev pub is_stretch : Option GivenMark → Option ℕ → Bool
@@ -171,7 +172,7 @@ option_refusals request =
     ∷ record {
       applies = request.pack
           && (has_mode request || has_moves request || request.faulty || request.as_is || has_style request);
-      line = codes "pgn-extract: --pack goes with none of --list, --index, --moves, --uci, --faulty, --as-is, -C, -N, -V, --roster and -w\n";
+      line = codes "pgn-extract: --pack goes with none of --list, --index, --moves, --uci, --faulty, --as-is, -C, -N, -V, --keep-commands, --roster and -w\n";
     }
     ∷ record {
       applies = request.moves && request.uci;

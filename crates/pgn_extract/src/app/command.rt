@@ -19,6 +19,8 @@ pub struct Request<'a> {
     pub pack: bool,
     /// `-C` was given.
     pub no_comments: bool,
+    /// `--keep-commands` was given.
+    pub keep_commands: bool,
     /// `-N` was given.
     pub no_glyphs: bool,
     /// `-V` was given.
@@ -236,6 +238,12 @@ fn style_options<'a>(alloc: Global, command: Command<'a>) -> Result<Command<'a>,
     command
         .next_help_heading("Games as they are written")
         .arg(flag(alloc, "no-comments", "Leave comments out").short('C'))?
+        .arg(flag(
+            alloc,
+            "keep-commands",
+            "End no line within a command of a comment, as\n\
+             [%clk 0:01:00]",
+        ))?
         .arg(flag(alloc, "no-glyphs", "Leave NAGs ($1, !, ?) out").short('N'))?
         .arg(flag(alloc, "no-variations", no_variations).short('V'))?
         .arg(flag(
@@ -353,6 +361,7 @@ pub fn read_arguments<'a>(alloc: Global, arguments: &'a [String]) -> Result<Requ
         uci: matches.get_flag("uci"),
         pack: matches.get_flag("pack"),
         no_comments: matches.get_flag("no-comments"),
+        keep_commands: matches.get_flag("keep-commands"),
         no_glyphs: matches.get_flag("no-glyphs"),
         no_variations: matches.get_flag("no-variations"),
         roster: matches.get_flag("roster"),

@@ -25,7 +25,7 @@ pub const NO_LINES_OF_MOVES: &str =
 
 /// A pack is of games that are selected, and a record has one form.
 pub const NO_PACK: &str =
-    "pgn-extract: --pack goes with none of --list, --index, --moves, --uci, --faulty, --as-is, -C, -N, -V, --roster and -w\n";
+    "pgn-extract: --pack goes with none of --list, --index, --moves, --uci, --faulty, --as-is, -C, -N, -V, --keep-commands, --roster and -w\n";
 
 /// Names are asked for, and refused.
 pub const BOTH_NAMINGS: &str = "pgn-extract: --with-names and --no-names exclude each other\n";

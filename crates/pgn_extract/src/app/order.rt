@@ -125,7 +125,7 @@ fn is_styled(request: &Request<'_>) -> bool
     ensures { result ≡ has_style request.now }
 {
     let leaves_out = request.no_comments || request.no_glyphs || request.no_variations;
-    leaves_out || request.roster || request.width.is_some()
+    leaves_out || request.keep_commands || request.roster || request.width.is_some()
 }
 
 /// Whether lines have the names of their files.
@@ -184,6 +184,7 @@ fn style_of(request: &Request<'_>) -> Style
 {
     Style {
         comments: !request.no_comments,
+        commands: request.keep_commands,
         glyphs: !request.no_glyphs,
         variations: !request.no_variations,
         roster_only: request.roster,

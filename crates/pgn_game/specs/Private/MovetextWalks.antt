@@ -19,6 +19,6 @@ WritesStep old (Turned inside before turn) new =
     (text : List ℕ) × IsTurnText before turn text × Puts old new (number_tokens before.turn before.fullmove_number old.apart ++ text ∷ []) false
 WritesStep old (Beside (MoveText word)) new = new ≡ old
 WritesStep old (Beside (GlyphNumber number)) new = Puts old new (kept old.style.glyphs ((36 ∷ decimal number) ∷ [])) old.apart
-WritesStep old (Beside (CommentText text)) new = Puts old new (kept old.style.comments (comment_tokens text)) (old.apart || old.style.comments)
+WritesStep old (Beside (CommentText text)) new = Puts old new (kept old.style.comments (comment_tokens old.style.commands text)) (old.apart || old.style.comments)
 WritesStep old (Beside VariationOpen) new = Puts old new (codes "(" ∷ []) true
 WritesStep old (Beside VariationClose) new = Puts old new (codes ")" ∷ []) true

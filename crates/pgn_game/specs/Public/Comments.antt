@@ -1,6 +1,9 @@
--- A comment as tokens: its words, the first after an opening brace and the last before a closing one.
-use Rattle.std.specs.Prelude.{ℕ, not, ◌==◌, if◌then◌else◌, bytes_eq, codes, List, [], ◌∷◌, ◌++◌, map, filter}
+-- A comment as tokens: its words, the first after an opening brace and the last before a closing one; and, where its commands are kept
+-- whole, the words of each command as one token.
+use Rattle.std.specs.Prelude.{ℕ, Bool, false, not, ◌&&◌, ◌||◌, ◌==◌, if◌then◌else◌, bytes_eq, codes, List, [], ◌∷◌, ◌++◌, map, filter}
+use Rattle.std.specs.List.{list_any}
 use Rattle.pgn_text.specs.Public.Bytes.{is_white, is_empty, begins}
+use Rattle.pgn_game.specs.Public.TextLines.{joined}
 
 -- the text cut at each white byte
 abbrev pub in_first : ℕ → List (List ℕ) → List (List ℕ)
@@ -35,5 +38,45 @@ abbrev pub braced : List (List ℕ) → List (List ℕ)
 braced [] = codes "{}" ∷ []
 braced (word ∷ more) = closed ((123 ∷ unbraced word) ∷ map later_word more)
 
-abbrev pub comment_tokens : List ℕ → List (List ℕ)
-comment_tokens text = braced (words_in text)
+-- the text begins with that of a command, as `[%clk 0:01:00]`
+abbrev pub begins_command : List ℕ → Bool
+begins_command [] = false
+begins_command (b ∷ text) = b == 91 && begins (λ c. c == 37) text
+
+-- a closing bracket stands in the text
+abbrev pub has_bracket : List ℕ → Bool
+has_bracket text = list_any (λ b. b == 93) text
+
+-- a closing bracket stands in the text before any `[%`
+abbrev pub closes : List ℕ → Bool
+closes [] = false
+closes (b ∷ text) = b == 93 || (not (begins_command (b ∷ text)) && closes text)
+
+-- a `[%` stands in the text with no closing bracket after it
+abbrev pub leaves_open : List ℕ → Bool
+leaves_open [] = false
+leaves_open (b ∷ text) = (begins_command (b ∷ text) && not (has_bracket text)) || leaves_open text
+
+-- white space between the word and what follows stands in a command, which the word begins, or in which it begins; a `[%` whose closing
+-- bracket is missing, or stands after another `[%`, begins none
+abbrev pub in_command : Bool → List ℕ → List ℕ → Bool
+in_command inside word rest = if leaves_open word then closes rest else inside && not (has_bracket word)
+
+-- for each word, whether white space after it stands in a command; `inside` where the first one begins in a command
+abbrev pub ties : Bool → List (List ℕ) → List Bool
+ties inside [] = []
+ties inside (word ∷ more) = in_command inside word (joined more) ∷ ties (in_command inside word (joined more)) more
+
+-- a token before others: where it is tied to the next one, it is one token with it, with a space between them
+abbrev pub in_front : Bool → List ℕ → List (List ℕ) → List (List ℕ)
+in_front tie token [] = token ∷ []
+in_front tie token (next ∷ more) = if tie then (token ++ 32 ∷ next) ∷ more else token ∷ next ∷ more
+
+abbrev pub tied : List Bool → List (List ℕ) → List (List ℕ)
+tied [] tokens = tokens
+tied (tie ∷ more) [] = []
+tied (tie ∷ more) (token ∷ tokens) = in_front tie token (tied more tokens)
+
+-- the tokens of a comment, where commands are kept whole or not: it has the same words in the same order either way
+abbrev pub comment_tokens : Bool → List ℕ → List (List ℕ)
+comment_tokens commands text = tied (if commands then ties false (words_in text) else []) (braced (words_in text))

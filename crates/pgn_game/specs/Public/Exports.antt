@@ -45,7 +45,7 @@ AreTokens style inside before now apart (ThenMove word rest) tokens =
 AreTokens style inside before now apart (ThenGlyph number rest) tokens =
     (more : List (List ℕ)) × (tokens ≡ kept style.glyphs ((36 ∷ decimal number) ∷ []) ++ more) × AreTokens style inside before now apart rest more
 AreTokens style inside before now apart (ThenComment text rest) tokens =
-    (more : List (List ℕ)) × (tokens ≡ kept style.comments (comment_tokens text) ++ more)
+    (more : List (List ℕ)) × (tokens ≡ kept style.comments (comment_tokens style.commands text) ++ more)
     × AreTokens style inside before now (apart || style.comments) rest more
 AreTokens style inside before now apart (ThenVariation inner rest) tokens =
     (own : List (List ℕ)) × (more : List (List ℕ)) × (tokens ≡ kept style.variations (codes "(" ∷ own ++ codes ")" ∷ []) ++ more)

@@ -1,8 +1,9 @@
 //! Comments as tokens.
-ghost use Rattle.std.specs.Prelude.{◌≡◌, ◌+◌, ◌++◌, ◌∷◌, ◌<◌, ◌≤◌, ℕ, List, [], length, map, OnOk, IfSome, IsTrue, true};
+ghost use Rattle.std.specs.Prelude.{◌≡◌, ◌+◌, ◌++◌, ◌∷◌, ◌<◌, ◌≤◌, ℕ, Bool, List, [], length, map, OnOk, IfOk, IfSome, IsTrue, true, false};
 ghost use Rattle.pgn_text.specs.Public.Bytes.{is_white};
-ghost use Rattle.pgn_game.specs.Public.Comments.{words_in, unbraced, later_word, closed, comment_tokens};
-ghost use Rattle.pgn_game.specs.Private.CommentWords.{word_front, after_front, after_white, found_words, closing, IsBare, IsFoundBare, IsAfterBare, IsAfterKept, IsSpaced};
+ghost use Rattle.pgn_game.specs.Public.Comments.{words_in, unbraced, later_word, closed, begins_command, closes, leaves_open, in_command, comment_tokens};
+ghost use Rattle.pgn_game.specs.Public.TextLines.{joined};
+ghost use Rattle.pgn_game.specs.Private.CommentWords.{word_front, after_front, after_white, found_words, closing, found_size, tied_words, IsBare, IsFoundBare, IsAfterBare, IsAfterKept, IsSpaced, HasTied, PutsTied};
 ghost use Rattle.pgn_game.specs.Private.Pens.{HasPut};
 
 use crate::exports::pen::Pen;
@@ -130,6 +131,26 @@ fn push_front(out: &mut Vec<u8>, front: &[u8]) -> Result<(), AllocError>
     Ok(())
 }
 
+/// Writes a word that was found, after what it begins with; the last one has the closing brace.
+#[inline(always)]
+fn push_word(
+    out: &mut Vec<u8>,
+    front: &[u8],
+    found: Found<'_>,
+    is_last: bool,
+) -> Result<(), AllocError>
+    requires { found.bare ≡ true → IsBare found.word.now }
+    ensures text { OnOk result (out.new.items ≡ out.old.items ++ (front.now ++ unbraced found.entry.word.now ++ closing is_last)) }
+    ensures kept { (some : List ℕ) × (out.new.items ≡ out.old.items ++ some) }
+{
+    push_front(out, front)?;
+    push_unbraced(out, found.word, found.bare)?;
+    if is_last {
+        out.push(b'}')?;
+    }
+    Ok(())
+}
+
 /// Writes a word that was found as a token, after what it begins with; the last one has the closing brace.
 fn put_word(
     pen: &mut Pen,
@@ -144,12 +165,7 @@ fn put_word(
     ensures width { pen.new.width ≡ pen.old.width }
 {
     pen.start(out, front.len() + found.word.len() + usize::from(is_last))?;
-    push_front(out, front)?;
-    push_unbraced(out, found.word, found.bare)?;
-    if is_last {
-        out.push(b'}')?;
-    }
-    Ok(())
+    push_word(out, front, found, is_last)
 }
 
 /// What a word after the first one begins with, and what follows: it must be neither an event line nor an escape at the beginning of a
@@ -223,7 +239,7 @@ fn put_spaced(pen: &mut Pen, out: &mut Vec<u8>, text: &[u8]) -> Result<(), Alloc
     requires spaced { IsSpaced text.now }
     requires begun { pen.old.begun ≡ true }
     requires room { pen.old.column + 1 + (length text.now + 2) ≤ pen.old.width }
-    ensures text { OnOk result (HasPut pen.old pen.new out.old.items out.new.items (comment_tokens text.now)) }
+    ensures text { OnOk result ((commands : Bool) → HasPut pen.old pen.new out.old.items out.new.items (comment_tokens commands text.now)) }
     ensures kept { (some : List ℕ) × (out.new.items ≡ out.old.items ++ some) }
     ensures width { pen.new.width ≡ pen.old.width }
 {
@@ -236,7 +252,7 @@ fn put_spaced(pen: &mut Pen, out: &mut Vec<u8>, text: &[u8]) -> Result<(), Alloc
 
 /// Writes a comment in braces, word by word.
 fn put_words(pen: &mut Pen, out: &mut Vec<u8>, text: &[u8]) -> Result<(), AllocError>
-    ensures text { OnOk result (HasPut pen.old pen.new out.old.items out.new.items (comment_tokens text.now)) }
+    ensures text { OnOk result (HasPut pen.old pen.new out.old.items out.new.items (comment_tokens false text.now)) }
     ensures kept { (some : List ℕ) × (out.new.items ≡ out.old.items ++ some) }
     ensures width { pen.new.width ≡ pen.old.width }
 {
@@ -248,14 +264,155 @@ fn put_words(pen: &mut Pen, out: &mut Vec<u8>, text: &[u8]) -> Result<(), AllocE
     put_later(pen, out, next)
 }
 
-/// Writes a comment in braces: each of its words is a token. Where it stands in one line as it is, it is written at once.
-pub(crate) fn put_comment(pen: &mut Pen, out: &mut Vec<u8>, text: &[u8]) -> Result<(), AllocError>
-    ensures text { OnOk result (HasPut pen.old pen.new out.old.items out.new.items (comment_tokens text.now)) }
+/// Whether the text begins with that of a command.
+#[inline]
+fn begins_command(text: &[u8]) -> bool
+    ensures { result ≡ begins_command text.now }
+{
+    matches!(text, [b'[', b'%', ..])
+}
+
+/// Whether a closing bracket stands in the text before any `[%`.
+fn closes(text: &[u8]) -> bool
+    ensures { result ≡ closes text.now }
+{
+    let mut rest = text;
+    while let [first, after @ ..] = rest {
+        if *first == b']' {
+            return true;
+        }
+        if begins_command(rest) {
+            return false;
+        }
+        rest = after;
+    }
+    false
+}
+
+/// Whether a `[%` stands in the text with no closing bracket after it.
+fn leaves_open(text: &[u8]) -> bool
+    ensures { result ≡ leaves_open text.now }
+{
+    let mut rest = text;
+    let mut is_open = false;
+    while let [first, after @ ..] = rest {
+        is_open = begins_command(rest) | (is_open & (*first != b']'));
+        rest = after;
+    }
+    is_open
+}
+
+/// Whether white space after the word that was found stands in a command, where the word begins in one or not.
+fn is_in_command(inside: bool, found: &Found<'_>) -> bool
+    ensures { result ≡ in_command inside found.now.word.now (joined (words_in found.now.rest.now)) }
+{
+    if leaves_open(found.word) {
+        return closes(found.rest);
+    }
+    inside && !found.word.contains(&b']')
+}
+
+/// Writes the words that are tied to what is written, and answers the word after them: the first of these words is tied where it stands
+/// inside a command.
+fn push_tied<'a>(
+    out: &mut Vec<u8>,
+    first_inside: bool,
+    first: Option<Found<'a>>,
+) -> Result<Option<Found<'a>>, AllocError>
+    requires { IsFoundBare first }
+    ensures text { IfOk result (λ next. HasTied out.old.items out.new.items first_inside (found_words first.entry) (found_words next)) }
+    ensures shorter { IfOk result (λ next. found_size next ≤ found_size first.entry) }
+    ensures bare { IfOk result IsFoundBare }
+    ensures kept { (some : List ℕ) × (out.new.items ≡ out.old.items ++ some) }
+{
+    let mut next = first;
+    let mut inside = first_inside;
+    while inside && let Some(found) = next {
+        inside = is_in_command(true, &found);
+        next = first_word(found.rest);
+        let (front, word) = guarded(found.word);
+        out.push(b' ')?;
+        push_word(out, front, Found { word, ..found }, next.is_none())?;
+    }
+    Ok(next)
+}
+
+/// Writes a word that was found, after what it begins with, and the words that are tied to it, as one token; and answers the word after
+/// them.
+fn put_tied<'a>(
+    pen: &mut Pen,
+    out: &mut Vec<u8>,
+    front: &[u8],
+    found: Found<'a>,
+    inside: bool,
+) -> Result<Option<Found<'a>>, AllocError>
+    requires { found.bare ≡ true → IsBare found.word.now }
+    ensures text { IfOk result (λ next. PutsTied pen.old pen.new out.old.items out.new.items inside (front.now ++ unbraced found.entry.word.now) (words_in found.entry.rest.now) (found_words next)) }
+    ensures shorter { IfOk result (λ next. found_size next ≤ length found.entry.rest.now) }
+    ensures bare { IfOk result IsFoundBare }
+    ensures kept { (some : List ℕ) × (out.new.items ≡ out.old.items ++ some) }
+    ensures width { pen.new.width ≡ pen.old.width }
+{
+    let from = out.len();
+    let next = first_word(found.rest);
+    push_word(out, front, found, next.is_none())?;
+    let after = push_tied(out, inside, next)?;
+    pen.part(out, from)?;
+    Ok(after)
+}
+
+/// Writes the words after the first one, with each command as one token.
+fn put_later_whole(
+    pen: &mut Pen,
+    out: &mut Vec<u8>,
+    first: Option<Found<'_>>,
+) -> Result<(), AllocError>
+    requires { IsFoundBare first }
+    ensures text { OnOk result (HasPut pen.old pen.new out.old.items out.new.items (tied_words false (found_words first.entry))) }
+    ensures kept { (some : List ℕ) × (out.new.items ≡ out.old.items ++ some) }
+    ensures width { pen.new.width ≡ pen.old.width }
+{
+    let mut next = first;
+    while let Some(found) = next {
+        let inside = is_in_command(false, &found);
+        let (front, word) = guarded(found.word);
+        next = put_tied(pen, out, front, Found { word, ..found }, inside)?;
+    }
+    Ok(())
+}
+
+/// Writes a comment in braces, word by word, with each command as one token.
+#[inline(never)]
+fn put_whole(pen: &mut Pen, out: &mut Vec<u8>, text: &[u8]) -> Result<(), AllocError>
+    ensures text { OnOk result (HasPut pen.old pen.new out.old.items out.new.items (comment_tokens true text.now)) }
+    ensures kept { (some : List ℕ) × (out.new.items ≡ out.old.items ++ some) }
+    ensures width { pen.new.width ≡ pen.old.width }
+{
+    let Some(first) = first_word(text) else {
+        return pen.put(out, b"{}");
+    };
+    let inside = is_in_command(false, &first);
+    let next = put_tied(pen, out, b"{", first, inside)?;
+    put_later_whole(pen, out, next)
+}
+
+/// Writes a comment in braces: each of its words is a token, or each command with its words, where commands are kept whole. Where it stands
+/// in one line as it is, it is written at once.
+pub(crate) fn put_comment(
+    pen: &mut Pen,
+    out: &mut Vec<u8>,
+    text: &[u8],
+    commands: bool,
+) -> Result<(), AllocError>
+    ensures text { OnOk result (HasPut pen.old pen.new out.old.items out.new.items (comment_tokens commands text.now)) }
     ensures kept { (some : List ℕ) × (out.new.items ≡ out.old.items ++ some) }
     ensures width { pen.new.width ≡ pen.old.width }
 {
     if pen.takes(text.len() + 2) && is_spaced(text) {
         return put_spaced(pen, out, text);
+    }
+    if commands {
+        return put_whole(pen, out, text);
     }
     put_words(pen, out, text)
 }

@@ -86,7 +86,7 @@ impl Visitor for MovetextWriter {
                     return Ok(());
                 }
                 self.apart = true;
-                put_comment(&mut self.pen, &mut self.out, text)
+                put_comment(&mut self.pen, &mut self.out, text, self.style.commands)
             }
             Element::Open => self.put_parenthesis(b"("),
             Element::Close => self.put_parenthesis(b")"),

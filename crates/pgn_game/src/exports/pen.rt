@@ -1,5 +1,5 @@
 //! Tokens in lines.
-ghost use Rattle.std.specs.Prelude.{◌≡◌, ◌+◌, ◌≤◌, ◌++◌, ◌∷◌, ℕ, List, [], length, false, true, OnOk, IsTrue};
+ghost use Rattle.std.specs.Prelude.{◌≡◌, ◌+◌, ◌≤◌, ◌++◌, ◌∷◌, ℕ, List, [], length, nat_le, false, true, OnOk, IsTrue};
 ghost use Rattle.pgn_game.specs.Private.Pens.{HasPut, after_tokens};
 
 use std::alloc::AllocError;
@@ -27,6 +27,14 @@ impl Pen {
         }
     }
 
+    /// Whether a token of so many bytes is within the width after a space.
+    #[inline(always)]
+    fn fits(&self, size: usize) -> bool
+        ensures { result ≡ nat_le (self.now.column + 1 + size) self.now.width }
+    {
+        size < self.width.saturating_sub(self.column)
+    }
+
     /// Whether a line is begun that takes a token of so many bytes within the width.
     #[inline(always)]
     pub(crate) fn takes(&self, size: usize) -> bool
@@ -47,7 +55,7 @@ impl Pen {
             self.column = size;
             return Ok(());
         }
-        if size < self.width.saturating_sub(self.column) {
+        if self.fits(size) {
             self.column += 1 + size;
             out.push(b' ')?;
             return Ok(());
@@ -66,6 +74,29 @@ impl Pen {
     {
         self.start(out, token.len())?;
         out.extend_from_slice(token)?;
+        Ok(())
+    }
+
+    /// Begins the token that stands at the end of the text, from this place on: what parts it from the others goes in front of it.
+    pub(crate) fn part(&mut self, out: &mut Vec<u8>, from: usize) -> Result<(), AllocError>
+        requires { from ≤ length out.old.items }
+        ensures text { OnOk result ((before token : List ℕ) → length before ≡ from → out.old.items ≡ before ++ token → HasPut self.old self.new before out.new.items (token ∷ [])) }
+        ensures kept { (before token : List ℕ) → length before ≡ from → out.old.items ≡ before ++ token → (some : List ℕ) × (out.new.items ≡ before ++ some) }
+        ensures width { self.new.width ≡ self.old.width }
+    {
+        let size = out.len() - from;
+        if !self.begun {
+            self.begun = true;
+            self.column = size;
+            return Ok(());
+        }
+        if self.fits(size) {
+            self.column += 1 + size;
+            out.insert(from, b' ')?;
+            return Ok(());
+        }
+        self.column = size;
+        out.insert(from, b'\n')?;
         Ok(())
     }
 

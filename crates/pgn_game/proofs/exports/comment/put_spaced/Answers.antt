@@ -1,11 +1,12 @@
 use Rattle.std.proofs.Common.{◌≡◌, ◌+◌, ◌≤◌, ◌++◌, ◌∷◌, [], length, ap, sym, ◌∙◌, subst, arith, append_assoc, length-append}
 use Rattle.pgn_game.specs.Public.Comments.{comment_tokens}
 use Rattle.pgn_game.specs.Private.Pens.{HasPut}
+use Rattle.pgn_game.proofs.CommandFacts.{joined_comment}
 use Rattle.pgn_game.proofs.PenFacts.{put_at_once}
 use Rattle.pgn_game.proofs.exports.comment.put_spaced.Goals as goal
 
 pub returns-clause-text : goal.returns-clause-text
-returns-clause-text c =
+returns-clause-text c commands =
     let text = c.args.text.now in
     let begun = c.start.new.out.items in
     let rest = text ++ 125 ∷ [] in
@@ -16,5 +17,5 @@ returns-clause-text c =
     sym (c.in_ok-push-2.ensures.items
     ∙ ap (λ x. x ++ 125 ∷ []) (c.in_ok-extend_from_slice.ensures.items ∙ ap (λ x. x ++ text) c.in_ok-push.ensures.items)
     ∙ append_assoc (begun ++ 123 ∷ []) text (125 ∷ []) ∙ append_assoc begun (123 ∷ []) rest) in
-    put_at_once c.args.pen.now c.start.new.self c.args.out.now.items c.push-2.new.self.items (comment_tokens text) 123 rest c.requires.spaced c.requires.begun fits
+    put_at_once c.args.pen.now c.start.new.self c.args.out.now.items c.push-2.new.self.items (comment_tokens commands text) 123 rest (joined_comment commands text ∙ c.requires.spaced) c.requires.begun fits
     (subst (λ after. HasPut c.args.pen.now c.start.new.self c.args.out.now.items after ((123 ∷ rest) ∷ [])) whole (c.in_ok-start.ensures.text (123 ∷ rest) long))

@@ -1,0 +1,12 @@
+use Rattle.std.proofs.Common.{sym, ap, ◌∙◌}
+use Rattle.std.specs.Prelude.{if◌then◌else◌, ◌&&◌, not}
+use Rattle.pgn_game.specs.Public.Comments.{words_in, has_bracket, closes}
+use Rattle.pgn_game.specs.Public.TextLines.{joined}
+use Rattle.pgn_game.proofs.CommandFacts.{closes_words}
+use Rattle.pgn_game.proofs.exports.comment.is_in_command.Goals as goal
+
+pub returns-then-leaves_open : goal.returns-then-leaves_open
+returns-then-leaves_open c =
+    let found = c.args.found.now in
+    c.closes.ensures ∙ sym (closes_words found.rest.now)
+    ∙ sym (ap (λ t. if t then closes (joined (words_in found.rest.now)) else c.args.inside && not (has_bracket found.word.now)) (sym c.leaves_open.ensures ∙ c.if-leaves_open.true))

@@ -1,0 +1,24 @@
+use Rattle.std.proofs.Common.{◌≡◌, ◌∷◌, [], false, true, sym, subst}
+use Rattle.std.proofs.lemmas.Result.{on_ok_weaker}
+use Rattle.pgn_game.specs.Public.Comments.{words_in, comment_tokens}
+use Rattle.pgn_game.specs.Private.CommentWords.{found_words, tied_words}
+use Rattle.pgn_game.specs.Private.Pens.{HasPut}
+use Rattle.pgn_game.proofs.CommandFacts.{whole_comment}
+use Rattle.pgn_game.proofs.PenFacts.{put_both}
+use Rattle.pgn_game.proofs.exports.comment.put_whole.Goals as goal
+
+pub returns-clause-text : goal.returns-clause-text
+returns-clause-text c =
+    let first = c.in-Some.first in
+    let puts = c.in_ok-next.ensures.text in
+    let left = tied_words false (found_words c.in_ok-next.next) in
+    let all : comment_tokens true c.args.text.now ≡ puts.0 ∷ left =
+    whole_comment c.args.text.now first.word.now (words_in first.rest.now) c.is_in_command-inside.result (puts.0 ∷ left)
+    c.in-Some.ensures.words c.is_in_command-inside.ensures puts.2 in
+    let before_it = c.args.out.now.items in
+    let between = c.put_tied.new.out.items in
+    let after = c.put_later_whole.new.out.items in
+    on_ok_weaker c.put_later_whole.result
+    (λ laid. subst (HasPut c.args.pen.now c.put_later_whole.new.pen before_it after) (sym all)
+    (put_both c.args.pen.now c.put_tied.new.pen c.put_later_whole.new.pen before_it between after (puts.0 ∷ []) left puts.1 laid))
+    c.put_later_whole.ensures.text
