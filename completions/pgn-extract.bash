@@ -15,13 +15,13 @@ _pgn_extract() {
     esac
     if [[ $word == -* ]]; then
         mapfile -t COMPREPLY < <(compgen -W '--list --fen --next --packed --index --moves --uci --pack --criteria --where --min-ply --max-ply --first --others --faulty --as-is -C --no-comments -N --no-glyphs
-            -V --no-variations --keep-commands --roster -w --width --explain --summary --progress --no-progress --from --until --with-names --no-names
+            -V --no-variations --keep-commands --roster -w --width --explain --summary --progress --no-progress --from --until --at --with-names --no-names
             -h --help --version' -- "$word")
         # --list, --index, --moves, --uci and --pack exclude each other, what only a list shows, and most of what chooses games; --others and --faulty exclude each other; names too. A pack is searched as a whole, for plain lines.
         options=" ${COMP_WORDS[*]:0:COMP_CWORD} "
         [[ $options == *' --list '* ]] && _pgn_extract_without --index --others --faulty --as-is --moves --uci --pack
-        [[ $options == *' --packed '* ]] && _pgn_extract_without --fen --next --others --faulty --as-is --moves --uci --pack --from --until --with-names --no-names
-        [[ $options =~ ' '--(fen|next|from|until)' ' ]] && _pgn_extract_without --packed
+        [[ $options == *' --packed '* ]] && _pgn_extract_without --fen --next --others --faulty --as-is --moves --uci --pack --from --until --at --with-names --no-names
+        [[ $options =~ ' '--(fen|next|from|until|at)' ' ]] && _pgn_extract_without --packed
         [[ $options == *' --index '* ]] && _pgn_extract_without --list --fen --next --others --faulty --as-is --moves --uci --pack
         [[ $options == *' --moves '* ]] && _pgn_extract_without --list --fen --next --packed --index --faulty --as-is --uci --pack
         [[ $options == *' --uci '* ]] && _pgn_extract_without --list --fen --next --packed --index --faulty --as-is --moves --pack
@@ -105,4 +105,4 @@ _pgn_extract_command() {
     fi
 }
 complete -o filenames -F _pgn_extract pgn-extract pgn-extract-proved
-complete -o filenames -F _pgn_extract_command pgn-extract-parallel pgn-games-at pgn-mend pgn-tree pgn-unique
+complete -o filenames -F _pgn_extract_command pgn-extract-parallel pgn-mend pgn-tree pgn-unique

@@ -40,7 +40,7 @@ module _ {aim : Aim} {report : Report} {limit max_depth number offset : ℕ} {bl
     (of : GathersBlock aim report limit max_depth number offset block out out' err err') where
   -- a block whose report is written to its end
   pub writes_rest : {out'' err'' : Option (List ℕ)} → Appends out' out'' report.output.items → Appends err' err'' report.faults.items
-      → WritesBlock aim limit max_depth number offset block out out'' err err'' (record { games = report.games; faulty = report.faulty })
+      → WritesBlock aim limit max_depth number offset block out out'' err err'' (record { games = report.games; faulty = report.faulty; met = report.met })
   writes_rest {out''} {err''} output faults = record {
     own = of.own;
     each = of.each;

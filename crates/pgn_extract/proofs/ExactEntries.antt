@@ -1,5 +1,5 @@
 -- The entries of pieces in a row: which they are, and their order.
-use Rattle.std.proofs.Common.{◌≡◌, ℕ, ◌+◌, ◌<◌, ◌≤◌, zero, suc, List, [], ◌∷◌, ◌++◌, length, Option, Some, refl, sym, ap, ◌∙◌, subst, arith, inl, inr}
+use Rattle.std.proofs.Common.{◌≡◌, ℕ, ◌+◌, ◌<◌, ◌≤◌, zero, suc, Bool, true, false, List, [], ◌∷◌, ◌++◌, length, Option, Some, refl, sym, ap, ◌∙◌, subst, arith, inl, inr}
 use Rattle.std.specs.List.{Contains, slice_get}
 use Rattle.std.proofs.lemmas.Bool.{cases_lt}
 use Rattle.std.proofs.lemmas.List.Elements.{Contains-append_left, Contains-append_right, Contains-append_cases}
@@ -12,6 +12,8 @@ use Rattle.pgn_game.specs.Public.Replays.{Replay, IsReplay, IsMainReplay}
 use Rattle.pgn_game.specs.declared.replays.replayer.Lines.TheVariants.{Main}
 use Rattle.pgn_game.specs.Public.Starts.{fen_tag}
 use Rattle.pgn_extract.specs.Public.Aims.{Aim, IsEntry}
+use Rattle.pgn_extract.specs.Public.Choices.{is_chosen, IfChosen}
+use Rattle.pgn_extract.proofs.ChoiceFacts.{by_choice, when_taken}
 use Rattle.pgn_extract.proofs.Chosen.{entry_at, none_in, in_front, Rise, IsPicked, chosen_from, chosen_all, chosen_ascend}
 use Rattle.pgn_extract.proofs.FieldTexts.{one_text}
 use Rattle.pgn_extract.specs.Public.Listing.{Entry, AreFields, heading_in, IsPlyOfGame, IsEarlier, Ascend, AreEntries}
@@ -78,6 +80,11 @@ own_has aim number offset parts own (sound first is these) replay also entry mar
 own_has aim number offset parts own (faulty fault is none) replay also entry marked less listed shows =
     absurd (no_fault Main (first_tag fen_tag parts) (items_of parts) fault (replay, also) is)
 
+-- a piece that has entries is chosen
+taken_piece : (taken : Bool) {P : Type 0} (own : List Entry) → IfChosen taken P (own ≡ []) → (entry : Entry) → Contains own entry → (taken ≡ true) × P
+taken_piece true own here entry has = (refl, here)
+taken_piece false own none entry has = absurd (none_in entry (subst (λ e. Contains e entry) none has))
+
 -- each entry is a ply of a sound game
 pub to_ply : (aim : Aim) (number : ℕ) (pieces : List MarkedPiece) (entries : List Entry) → AreEntryRows aim number pieces entries → (entry : Entry) → Contains entries entry
     → IsPlyOfGame aim number pieces entry
@@ -85,15 +92,19 @@ to_ply aim number [] entries none entry has = absurd (none_in entry (subst (λ e
 to_ply aim number (piece ∷ more) entries (own, rest, parted, here, others) entry has =
     elim (Contains-append_cases own rest entry (subst (λ e. Contains e entry) parted has)) [
       | inl first ↦
-          let of = own_ply aim piece.kind number piece.offset own here entry first in
+          let taken = taken_piece (is_chosen aim.chosen number piece.offset) own here entry first in
+          let of = own_ply aim piece.kind number piece.offset own taken.1 entry first in
           let place = of.4 in
+          let numbered : entry.number ≡ number = ap (λ (e : Entry). e.number) place.is in
           let offset : entry.offset ≡ piece.offset = ap (λ (e : Entry). e.offset) place.is in
           record {
             place = 0;
             parts = of.0;
             replay = of.1;
             game = ap (λ (p : MarkedPiece). Some p) (ap (λ k. record { offset = piece.offset; kind = k }) of.2 ∙ ap (λ n. record { offset = n; kind = ReadableGame of.0 }) (sym offset));
-            numbered = ap (λ (e : Entry). e.number) place.is ∙ omega arith;
+            numbered = numbered ∙ omega arith;
+            chosen =
+                subst (λ n. is_chosen aim.chosen n entry.offset ≡ true) (sym numbered) (subst (λ o. is_chosen aim.chosen number o ≡ true) (sym offset) taken.0);
             is_replay = main_of of.3;
             within = within_plies of.1.positions entry.ply place.among;
             listed = place.fact;
@@ -107,6 +118,7 @@ to_ply aim number (piece ∷ more) entries (own, rest, parted, here, others) ent
             replay = of.replay;
             game = of.game;
             numbered = (let n = of.numbered in omega arith);
+            chosen = of.chosen;
             is_replay = of.is_replay;
             within = of.within;
             listed = of.listed;
@@ -125,7 +137,10 @@ from_ply aim number pieces entries are entry of = by_place number pieces entries
     by_place number (piece ∷ more) entries (own, rest, parted, here, others) zero game numbered =
         let is : piece ≡ record { offset = entry.offset; kind = ReadableGame of.parts } = cc in
         let same : entry.number ≡ number = omega arith in
-        let has = own_has aim number entry.offset of.parts own (subst (λ (p : MarkedPiece). ArePieceEntries aim p.kind number p.offset own) is here)
+        let taken : is_chosen aim.chosen number piece.offset ≡ true =
+        subst (λ n. is_chosen aim.chosen n piece.offset ≡ true) same (subst (λ (p : MarkedPiece). is_chosen aim.chosen entry.number p.offset ≡ true) (sym is) of.chosen) in
+        let own_here = when_taken (is_chosen aim.chosen number piece.offset) _ taken here in
+        let has = own_has aim number entry.offset of.parts own (subst (λ (p : MarkedPiece). ArePieceEntries aim p.kind number p.offset own) is own_here)
         of.replay (replay_of of.is_replay) entry (ap (λ n. entry_at n entry.offset entry.ply entry.shown) same) of.within of.listed of.shows in
         subst (λ e. Contains e entry) (sym parted) (Contains-append_left own rest entry has)
     by_place number (piece ∷ more) entries (own, rest, parted, here, others) (suc place) game numbered =
@@ -164,9 +179,10 @@ pub entries_ascend : (aim : Aim) (number : ℕ) (pieces : List MarkedPiece) (ent
 entries_ascend aim number [] entries none = subst Ascend (sym none) tt
 entries_ascend aim number (piece ∷ more) entries (own, rest, parted, here, others) =
     subst Ascend (sym parted)
-    (ascend-append own rest (ascend_own aim piece.kind number piece.offset own here) (entries_ascend aim (number + 1) more rest others)
+    (ascend-append own rest (by_choice (is_chosen aim.chosen number piece.offset) (λ _. ascend_own aim piece.kind number piece.offset own) (λ _ none. subst Ascend (sym none) tt) here) (entries_ascend aim (number + 1) more rest others)
     (λ x y has other.
-    let first = own_ply aim piece.kind number piece.offset own here x has in
+    let taken = taken_piece (is_chosen aim.chosen number piece.offset) own here x has in
+    let first = own_ply aim piece.kind number piece.offset own taken.1 x has in
     let second = to_ply aim (number + 1) more rest others y other in
     let low : x.number ≡ number = ap (λ (e : Entry). e.number) first.4.is in
     let high = second.numbered in

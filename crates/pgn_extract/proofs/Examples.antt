@@ -15,6 +15,7 @@ use Rattle.pgn_game.specs.Public.Replays.{Replay, IsReplay}
 use Rattle.pgn_game.specs.Public.Starts.{fen_tag}
 use Rattle.pgn_game.specs.declared.replays.replayer.Lines.TheVariants.{Main}
 use Rattle.pgn_game.proofs.PackStreamFacts.{record_size}
+use Rattle.pgn_extract.proofs.ChoiceFacts.{none_met}
 use Rattle.pgn_extract.specs.Public.Aims.{Aim}
 use Rattle.pgn_extract.specs.Public.Index.{mark, mark_line, shown_char, shown_name, titled}
 use Rattle.pgn_extract.specs.Public.Laws.{IsInOneOf, in_first, in_second, in_third, HasAMark}
@@ -126,7 +127,7 @@ not_another_name names =
 -- ---- summaries
 
 -- one game, and several, of which the second number is that of the faulty ones
-one_game : summary_text None (record { games = 1; faulty = 0 })
+one_game : summary_text None (record { games = 1; faulty = 0; met = none_met })
     ≡ codes "pgn-extract: 1 game, 0 of them faulty" ++ 10 ∷ []
 one_game =
     ap (λ d. codes "pgn-extract: " ++ d ++ codes " game, " ++ decimal 0 ++ codes " of them faulty"
@@ -135,7 +136,7 @@ one_game =
     ∙ ap (λ d. codes "pgn-extract: 1 game, " ++ d ++ codes " of them faulty" ++ 10 ∷ [])
     (decimal_digit 0 (omega arith))
 
-games_of_a_file : summary_text (Some (codes "a")) (record { games = 3; faulty = 2 })
+games_of_a_file : summary_text (Some (codes "a")) (record { games = 3; faulty = 2; met = none_met })
     ≡ codes "pgn-extract: a: 3 games, 2 of them faulty" ++ 10 ∷ []
 games_of_a_file =
     ap (λ d. codes "pgn-extract: a: " ++ d ++ codes " games, " ++ decimal 2 ++ codes

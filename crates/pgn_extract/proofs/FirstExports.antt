@@ -6,7 +6,9 @@ use Rattle.pgn_game.specs.Public.Replays.{Replay}
 use Rattle.pgn_extract.specs.Public.Aims.{Aim, IsWanted}
 use Rattle.pgn_extract.specs.Public.Exports.{AreExports, HasEntry, IsGameExport, IsPieceExport, IsTextOf, IsWritten, faulty, sound, selected, unselected, written_lines}
 use Rattle.pgn_extract.specs.Public.GameReports.{IsReplayOf}
+use Rattle.pgn_extract.specs.Public.Choices.{is_chosen}
 use Rattle.pgn_extract.specs.Public.Laws.{FirstChangesNoExport, with_first}
+use Rattle.pgn_extract.proofs.ChoiceFacts.{choice_of}
 use Rattle.pgn_extract.specs.Public.Listing.{heading_in}
 use Rattle.pgn_extract.specs.declared.settings.Form.{Form}
 use Rattle.pgn_extract.specs.declared.settings.Form.TheVariants.{Standard, AsItStands, Line, Record}
@@ -68,11 +70,11 @@ module _ (aim : Aim) where
 
   exports_all : (number : ℕ) (pieces : List MarkedPiece) (text : List ℕ) → AreExports (with_first true aim) number pieces text → AreExports (with_first false aim) number pieces text
   exports_all number [] text none = none
-  exports_all number (piece ∷ more) text (own, rest, parted, is, others) = (own, rest, parted, piece_all number piece.offset piece.kind own is, exports_all (number + 1) more rest others)
+  exports_all number (piece ∷ more) text (own, rest, parted, is, others) = (own, rest, parted, choice_of (is_chosen aim.chosen number piece.offset) (piece_all number piece.offset piece.kind own) (λ none. none) is, exports_all (number + 1) more rest others)
 
   exports_first : (number : ℕ) (pieces : List MarkedPiece) (text : List ℕ) → AreExports (with_first false aim) number pieces text → AreExports (with_first true aim) number pieces text
   exports_first number [] text none = none
-  exports_first number (piece ∷ more) text (own, rest, parted, is, others) = (own, rest, parted, piece_first number piece.offset piece.kind own is, exports_first (number + 1) more rest others)
+  exports_first number (piece ∷ more) text (own, rest, parted, is, others) = (own, rest, parted, choice_of (is_chosen aim.chosen number piece.offset) (piece_first number piece.offset piece.kind own) (λ none. none) is, exports_first (number + 1) more rest others)
 
 pub first_changes_none : FirstChangesNoExport
 first_changes_none aim number pieces text = (exports_all aim number pieces text, exports_first aim number pieces text)

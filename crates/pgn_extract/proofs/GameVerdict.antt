@@ -4,7 +4,8 @@ use Rattle.std.proofs.lemmas.List.{append-nil}
 use Rattle.std.specs.Prelude.{Option, if◌then◌else◌}
 use Rattle.pgn_text.specs.Public.GameTexts.{GameText, IsGameText, ShowsGame, tag_in}
 use Rattle.pgn_text.specs.Public.Games.{Item, first_tag}
-use Rattle.pgn_text.specs.Public.Left.{IsPiece}
+use Rattle.pgn_text.specs.Public.Left.{IsPiece, piece_place}
+use Rattle.pgn_text.specs.Public.LeftMarks.{mark_place}
 use Rattle.pgn_text.specs.Public.Limits.{depth_limit}
 use Rattle.pgn_text.proofs.StopsThere.{stops_alone}
 use Rattle.pgn_text.specs.Public.Marks.{marked}
@@ -19,7 +20,8 @@ use Rattle.pgn_game.specs.Public.Replays.{Replay, IsReplay}
 use Rattle.pgn_game.specs.declared.replays.replayer.Lines.{Lines}
 use Rattle.pgn_game.specs.declared.replays.replayer.Lines.TheVariants.{Main}
 use Rattle.pgn_game.specs.Public.Starts.{fen_tag}
-use Rattle.pgn_extract.specs.Private.Blockwise.{AddsVerdict, AddsListed, AddsExported, AddsGame, IsGivenText, IsGameWritten, AddsMark, IsPieceOf, AddsPiece, NamesBlockStop, IsBlockVerdict, IsMarkVerdict}
+use Rattle.pgn_extract.specs.Public.Choices.{is_chosen}
+use Rattle.pgn_extract.specs.Private.Blockwise.{AddsVerdict, AddsListed, AddsExported, AddsGame, IsGivenText, IsGameWritten, AddsMark, IsPieceOf, AddsPiece, NamesBlockStop, IsBlockVerdict, IsMarkReport, IsMarkVerdict}
 use Rattle.pgn_extract.specs.Public.Index.{fault_text, mark_line}
 use Rattle.pgn_extract.specs.Public.Listing.{Entry, AreFields, listing, heading_in}
 use Rattle.pgn_extract.specs.Public.GameReports.{plies_of, AreListed, cause_text, IsReplayOf, IsFaultOf}
@@ -32,6 +34,7 @@ use Rattle.pgn_extract.specs.Public.Verdicts.{Verdict, SoundGame, FaultyGame, ou
 use Rattle.pgn_extract.specs.declared.engine.report.Report.{Report}
 use Rattle.pgn_criteria.specs.Public.Meeting.{Heading, heading_of}
 use Rattle.pgn_extract.specs.Public.Aims.{Aim, IsEntry}
+use Rattle.pgn_extract.proofs.ChoiceFacts.{if_passed, if_taken}
 use Rattle.pgn_extract.proofs.Chosen.{chosen_by}
 use Rattle.pgn_extract.proofs.Exported.{selected_by}
 use Rattle.pgn_extract.proofs.RestOfBlock.{rest_of_block}
@@ -180,19 +183,21 @@ counted_first verdict adds output faults games faulty = record {
   faulty = adds.faulty ∙ ap (λ n. n + (if is_faulty verdict then 1 else 0)) faulty;
 }
 
--- a piece that is a game is counted, and reported
+-- a piece that is a game and chosen is counted, and reported
 pub piece_game : (aim : Aim) {old mid new : Report} (number offset here : ℕ) (block : List ℕ) (piece : Piece) (game : GameText) → piece ≡ given.Game game → here ≡ offset + game.at
-    → AddsGame aim mid new number here game → mid.output ≡ old.output → mid.faults ≡ old.faults → mid.games ≡ old.games + 1 → mid.faulty ≡ old.faulty
+    → is_chosen aim.chosen number here ≡ true → AddsGame aim mid new number here game → mid.output ≡ old.output → mid.faults ≡ old.faults → mid.games ≡ old.games + 1 → mid.faulty ≡ old.faulty
     → AddsPiece aim old new number offset block piece
-piece_game aim {old} {mid} {new} number offset here block piece game is_game place adds output faults games faulty shown is among =
+piece_game aim {old} {mid} {new} number offset here block piece game is_game place taken adds output faults games faulty shown is among =
     shows shown (subst (λ p. IsPiece p shown) is_game is)
   where
     shows : (shown : spec.Piece) → IsPiece (given.Game game) shown → AddsMark aim old new number (marked offset shown)
     shows (spec.Unreadable at bytes) is = absurd is
     shows (spec.Game at parts) is =
-        let verdict = adds at parts is in (
+        let verdict = adds at parts is in
+        let same : here ≡ offset + at = place ∙ ap (λ n. offset + n) is.place in (
           verdict.0,
-          subst (λ n. IsGameVerdict aim number n parts verdict.0) (place ∙ ap (λ n. offset + n) is.place) verdict.1,
+          if_taken (is_chosen aim.chosen number (offset + at)) _ (subst (λ n. is_chosen aim.chosen number n ≡ true) same taken)
+              (subst (λ n. IsGameVerdict aim number n parts verdict.0) same verdict.1),
           counted_first verdict.0 verdict.2 output faults games faulty,
         )
 
@@ -222,12 +227,12 @@ unreadable_there aim number offset block place at bytes verdict is among by =
       says ∙ ap (λ (b : List ℕ). FaultyGame (faulty_text aim.mode aim.select b) line note) (rest_of_block offset block at bytes among),
     )
 
--- a piece that is no game is counted, and reported
+-- a piece that is no game and chosen is counted, and reported
 pub piece_unreadable : (aim : Aim) {old mid new : Report} (number offset : ℕ) (block : List ℕ) (piece : Piece) (place : ℕ) (verdict : Verdict)
-    → piece ≡ given.Unreadable place → IsBlockVerdict aim number offset block place verdict → AddsVerdict mid new verdict 0
+    → piece ≡ given.Unreadable place → is_chosen aim.chosen number (offset + place) ≡ true → IsBlockVerdict aim number offset block place verdict → AddsVerdict mid new verdict 0
     → mid.output ≡ old.output → mid.faults ≡ old.faults → mid.games ≡ old.games + 1 → mid.faulty ≡ old.faulty
     → AddsPiece aim old new number offset block piece
-piece_unreadable aim {old} {mid} {new} number offset block piece place verdict is_none by adds output faults games faulty shown is among =
+piece_unreadable aim {old} {mid} {new} number offset block piece place verdict is_none taken by adds output faults games faulty shown is among =
     shows shown (subst (λ p. IsPiece p shown) is_none is) among
   where
     shows : (shown : spec.Piece) → IsPiece (given.Unreadable place) shown → IsPieceOf offset block shown
@@ -235,29 +240,62 @@ piece_unreadable aim {old} {mid} {new} number offset block piece place verdict i
     shows (spec.Game at parts) is among = absurd is
     shows (spec.Unreadable at bytes) is among = (
       verdict,
-      unreadable_there aim number offset block place at bytes verdict is among by,
+      if_taken (is_chosen aim.chosen number (offset + at)) _ (subst (λ n. is_chosen aim.chosen number (offset + n) ≡ true) is taken)
+          (unreadable_there aim number offset block place at bytes verdict is among by),
       counted_first verdict adds output faults games faulty,
     )
 
--- the mark of a piece that is a game is counted, and reported
-pub mark_game : (aim : Aim) {old new : Report} (number offset : ℕ) (block : List ℕ) (place : ℕ) (mark : PieceStart) → mark ≡ marks.Game place
+-- a piece that is passed over is counted, and nothing is reported of it
+nothing_added : {old new : Report} → new.output ≡ old.output → new.faults ≡ old.faults → new.games ≡ old.games + 1 → new.faulty ≡ old.faulty
+    → AddsVerdict old new (SoundGame []) 1
+nothing_added {old} {new} output faults games faulty = record {
+  output = ap (λ (v : Vec ℕ Global). v.items) output ∙ sym (append-nil old.output.items);
+  faults = ap (λ (v : Vec ℕ Global). v.items) faults ∙ sym (append-nil old.faults.items);
+  games = games;
+  faulty = faulty ∙ omega arith;
+}
+
+pub piece_passed : (aim : Aim) {old new : Report} (number offset : ℕ) (block : List ℕ) (piece : Piece) → is_chosen aim.chosen number (offset + piece_place piece) ≡ false
+    → new.output ≡ old.output → new.faults ≡ old.faults → new.games ≡ old.games + 1 → new.faulty ≡ old.faulty → AddsPiece aim old new number offset block piece
+piece_passed aim {old} {new} number offset block (given.Game game) passed output faults games faulty (spec.Game at parts) is among = (
+  SoundGame [],
+  if_passed (is_chosen aim.chosen number (offset + at)) _ (subst (λ n. is_chosen aim.chosen number (offset + n) ≡ false) is.place passed) refl,
+  nothing_added output faults games faulty,
+)
+piece_passed aim {old} {new} number offset block (given.Game game) passed output faults games faulty (spec.Unreadable at bytes) is among = absurd is
+piece_passed aim {old} {new} number offset block (given.Unreadable place) passed output faults games faulty (spec.Game at parts) is among = absurd is
+piece_passed aim {old} {new} number offset block (given.Unreadable place) passed output faults games faulty (spec.Unreadable at bytes) is among = (
+  SoundGame [],
+  if_passed (is_chosen aim.chosen number (offset + at)) _ (subst (λ n. is_chosen aim.chosen number (offset + n) ≡ false) is passed) refl,
+  nothing_added output faults games faulty,
+)
+
+-- and so is its mark
+pub mark_passed : (aim : Aim) {old new : Report} (number offset : ℕ) (block : List ℕ) (mark : PieceStart) → is_chosen aim.chosen number (offset + mark_place mark) ≡ false
+    → new.output ≡ old.output → new.faults ≡ old.faults → new.games ≡ old.games + 1 → new.faulty ≡ old.faulty
+    → (verdict : Verdict) × IsMarkReport aim number offset block mark verdict × AddsVerdict old new verdict 1
+mark_passed aim number offset block mark passed output faults games faulty =
+    (SoundGame [], if_passed (is_chosen aim.chosen number (offset + mark_place mark)) _ passed refl, nothing_added output faults games faulty)
+
+-- the mark of a piece that is a game and chosen is counted, and reported
+pub mark_game : (aim : Aim) {old new : Report} (number offset : ℕ) (block : List ℕ) (place : ℕ) (mark : PieceStart) → mark ≡ marks.Game place → is_chosen aim.chosen number (offset + mark_place mark) ≡ true
     → new.output.items ≡ old.output.items ++ mark_line aim.name number (offset + place)
     → new.faults.items ≡ old.faults.items → new.games ≡ old.games + 1 → new.faulty ≡ old.faulty
-    → (verdict : Verdict) × IsMarkVerdict aim number offset block mark verdict × AddsVerdict old new verdict 1
-mark_game aim {old} {new} number offset block place mark is output faults games faulty =
+    → (verdict : Verdict) × IsMarkReport aim number offset block mark verdict × AddsVerdict old new verdict 1
+mark_game aim {old} {new} number offset block place mark is taken output faults games faulty =
     let verdict = SoundGame (mark_line aim.name number (offset + place)) in (
       verdict,
-      subst (λ m. IsMarkVerdict aim number offset block m verdict) (sym is) refl,
+      if_taken (is_chosen aim.chosen number (offset + mark_place mark)) _ taken (subst (λ m. IsMarkVerdict aim number offset block m verdict) (sym is) refl),
       record { output = output; faults = faults ∙ sym (append-nil old.faults.items); games = games; faulty = faulty ∙ omega arith },
     )
 
 -- and that of one that is none
 pub mark_unreadable : (aim : Aim) {old mid new : Report} (number offset : ℕ) (block : List ℕ) (place : ℕ) (mark : PieceStart) (verdict : Verdict)
-    → mark ≡ marks.Unreadable place → IsBlockVerdict aim number offset block place verdict → AddsVerdict mid new verdict 0
+    → mark ≡ marks.Unreadable place → is_chosen aim.chosen number (offset + mark_place mark) ≡ true → IsBlockVerdict aim number offset block place verdict → AddsVerdict mid new verdict 0
     → mid.output ≡ old.output → mid.faults ≡ old.faults → mid.games ≡ old.games + 1 → mid.faulty ≡ old.faulty
-    → (verdict : Verdict) × IsMarkVerdict aim number offset block mark verdict × AddsVerdict old new verdict 1
-mark_unreadable aim number offset block place mark verdict is by adds output faults games faulty = (
+    → (verdict : Verdict) × IsMarkReport aim number offset block mark verdict × AddsVerdict old new verdict 1
+mark_unreadable aim number offset block place mark verdict is taken by adds output faults games faulty = (
   verdict,
-  subst (λ m. IsMarkVerdict aim number offset block m verdict) (sym is) by,
+  if_taken (is_chosen aim.chosen number (offset + mark_place mark)) _ taken (subst (λ m. IsMarkVerdict aim number offset block m verdict) (sym is) by),
   counted_first verdict adds output faults games faulty,
 )

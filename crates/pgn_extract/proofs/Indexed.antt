@@ -9,27 +9,49 @@ use Rattle.pgn_text.specs.Public.Pieces as spec
 use Rattle.pgn_text.specs.declared.game.pieces.PieceStart.{PieceStart}
 use Rattle.pgn_text.specs.declared.game.pieces.PieceStart.TheVariants.{Game, Unreadable}
 use Rattle.pgn_extract.specs.Public.Aims.{Aim}
-use Rattle.pgn_extract.specs.Private.Blockwise.{Gathers, GathersBlock, Passes, BeginsBlock, AddsVerdict, IsPieceOf, IsMarkVerdict}
+use Rattle.pgn_extract.specs.Private.Blockwise.{Gathers, GathersBlock, Passes, BeginsBlock, AddsVerdict, IsPieceOf, IsMarkReport, IsMarkVerdict}
+use Rattle.pgn_extract.specs.Public.Choices.{is_chosen, IfChosen}
 use Rattle.pgn_extract.specs.Public.Index.{mark_line}
 use Rattle.pgn_extract.specs.Public.Outcomes.{AppendsFront}
-use Rattle.pgn_extract.specs.Public.Verdicts.{Verdict, SoundGame, is_faulty, IsVerdict, IsVerdictIn}
+use Rattle.pgn_extract.specs.Public.Verdicts.{Verdict, SoundGame, is_faulty, IsPieceVerdict, IsVerdict, IsVerdictIn}
 use Rattle.pgn_extract.specs.declared.engine.report.Report.{Report}
 use Rattle.pgn_extract.specs.declared.settings.Mode.TheVariants as modes
+use Rattle.pgn_extract.proofs.ChoiceFacts.{choice_of}
 use Rattle.pgn_extract.proofs.GameVerdict.{unreadable_there}
 use Rattle.pgn_extract.proofs.Gathered.{gathers_none, gathers_more, gathers_passed}
 use Rattle.pgn_extract.proofs.Listed.{piece_in, begun_of}
 use Rattle.pgn_criteria.proofs.SpanFacts.{at_most_one}
 
--- what is reported of a mark is the index's verdict on the piece
+-- whether the piece is chosen, by the same place
+at_place : (aim : Aim) (number offset place at : ℕ) (shown : spec.Piece) (verdict : Verdict) → place ≡ at
+    → IfChosen (is_chosen aim.chosen number (offset + place)) (IsPieceVerdict (marked offset shown).kind aim number (marked offset shown).offset verdict) (verdict ≡ SoundGame [])
+    → IfChosen (is_chosen aim.chosen number (offset + at)) (IsPieceVerdict (marked offset shown).kind aim number (marked offset shown).offset verdict) (verdict ≡ SoundGame [])
+at_place aim number offset place at shown verdict is has =
+    subst (λ n. IfChosen (is_chosen aim.chosen number (offset + n)) (IsPieceVerdict (marked offset shown).kind aim number (marked offset shown).offset verdict) (verdict ≡ SoundGame [])) is has
+
+-- what is reported of the mark of a piece that is chosen is the index's verdict on it
+own_mark : (aim : Aim) (number offset : ℕ) (block : List ℕ) (mark : PieceStart) (shown : spec.Piece) (verdict : Verdict)
+    → aim.mode ≡ modes.Index → IsMark mark shown → IsPieceOf offset block shown → IsMarkVerdict aim number offset block mark verdict
+    → IsPieceVerdict (marked offset shown).kind aim number (marked offset shown).offset verdict
+own_mark aim number offset block (Game place) (spec.Game at parts) verdict index is among by =
+    subst (λ m. IsVerdictIn m aim number (offset + at) parts verdict) (sym index) (by ∙ ap (λ n. SoundGame (mark_line aim.name number (offset + n))) is)
+own_mark aim number offset block (Game place) (spec.Unreadable at bytes) verdict index is among by = absurd is
+own_mark aim number offset block (Unreadable place) (spec.Game at parts) verdict index is among by = absurd is
+own_mark aim number offset block (Unreadable place) (spec.Unreadable at bytes) verdict index is among by =
+    unreadable_there aim number offset block place at bytes verdict is among by
+
+-- and so it is of each piece
 mark_is_verdict : (aim : Aim) (number offset : ℕ) (block : List ℕ) (mark : PieceStart) (shown : spec.Piece) (verdict : Verdict)
     → aim.mode ≡ modes.Index → IsMark mark shown → IsPieceOf offset block shown
-    → IsMarkVerdict aim number offset block mark verdict → IsVerdict aim number (marked offset shown) verdict
+    → IsMarkReport aim number offset block mark verdict → IsVerdict aim number (marked offset shown) verdict
 mark_is_verdict aim number offset block (Game place) (spec.Game at parts) verdict index is among by =
-    subst (λ m. IsVerdictIn m aim number (offset + at) parts verdict) (sym index) (by ∙ ap (λ n. SoundGame (mark_line aim.name number (offset + n))) is)
+    at_place aim number offset place at (spec.Game at parts) verdict is
+    (choice_of (is_chosen aim.chosen number (offset + place)) (own_mark aim number offset block (Game place) (spec.Game at parts) verdict index is among) (λ none. none) by)
 mark_is_verdict aim number offset block (Game place) (spec.Unreadable at bytes) verdict index is among by = absurd is
 mark_is_verdict aim number offset block (Unreadable place) (spec.Game at parts) verdict index is among by = absurd is
 mark_is_verdict aim number offset block (Unreadable place) (spec.Unreadable at bytes) verdict index is among by =
-    unreadable_there aim number offset block place at bytes verdict is among by
+    at_place aim number offset place at (spec.Unreadable at bytes) verdict is
+    (choice_of (is_chosen aim.chosen number (offset + place)) (own_mark aim number offset block (Unreadable place) (spec.Unreadable at bytes) verdict index is among) (λ none. none) by)
 
 -- the marks of some pieces are given, and the pieces reported by the index
 pub record Indexed (aim : Aim) (start now : Left) (report : Report) (number offset : ℕ) (out out' err err' : Option (List ℕ)) : Type 0 where
@@ -62,7 +84,7 @@ module _ {aim : Aim} {start now : Left} {report : Report} {number offset : ℕ} 
   -- one more mark
   pub indexed_more : {next : Left} {report' : Report} {here : ℕ} (block : List ℕ) (mark : PieceStart)
       → start ≡ record { block = block; file_start = offset == 0; at = 0; failed = false } → aim.mode ≡ modes.Index → TakesMark depth_limit now next mark
-      → here ≡ number + report.games → (verdict : Verdict) × IsMarkVerdict aim here offset block mark verdict × AddsVerdict report report' verdict 1
+      → here ≡ number + report.games → (verdict : Verdict) × IsMarkReport aim here offset block mark verdict × AddsVerdict report report' verdict 1
       → Indexed aim start next report' number offset out out' err err'
   indexed_more {next} {report'} {here} block mark begins index takes is (verdict, by, adds) = record {
     done = l.done ++ takes.shown ∷ [];

@@ -5,6 +5,8 @@ pub mod BegunAll
 pub mod BlockWritten
 pub mod BlocksGiven
 pub mod Chosen
+pub mod ChoiceFacts
+pub mod ChoiceRows
 pub mod Dropping
 pub mod ModeOutputs
 pub mod ExactEntries
@@ -31,6 +33,8 @@ pub mod PackFits
 pub mod SearchFacts
 pub mod Sifted
 pub mod MarkedFacts
+pub mod MarkOrder
+pub mod MarkLineFacts
 pub mod OneOfThree
 pub mod OneReport
 pub mod OneVerdict

@@ -1,7 +1,8 @@
 -- What is reported to the output of pieces in a row is their index, the listing of their entries, or the exports of their games.
-use Rattle.std.proofs.Common.{◌≡◌, ℕ, ◌+◌, List, [], ◌∷◌, ◌++◌, refl, sym, ap, ◌∙◌, subst, append_assoc, Option}
+use Rattle.std.proofs.Common.{◌≡◌, ℕ, ◌+◌, Bool, true, false, if◌then◌else◌, List, [], ◌∷◌, ◌++◌, refl, sym, ap, ◌∙◌, subst, append_assoc, Option}
 use Rattle.pgn_text.specs.Public.Marks.{PieceKind, ReadableGame, UnreadableRest, TooLongBlock, MarkedPiece}
 use Rattle.pgn_text.specs.Public.Parts.{Part}
+use Rattle.pgn_extract.specs.Public.Choices.{IfChosen, is_chosen}
 use Rattle.pgn_extract.specs.Public.Index.{index, index_line}
 use Rattle.pgn_extract.specs.Public.Listing.{Entry, entry_line, listing}
 use Rattle.pgn_extract.specs.Private.EntryRows.{AreGameEntries, sound, faulty, ArePieceEntries, AreEntryRows}
@@ -11,6 +12,7 @@ use Rattle.pgn_extract.specs.Public.Verdicts.{Verdict, SoundGame, FaultyGame, ou
 use Rattle.pgn_extract.specs.declared.output.outcome.Summary.{Summary}
 use Rattle.pgn_extract.specs.Public.Aims.{Aim}
 use Rattle.pgn_extract.specs.declared.settings.Mode.TheVariants as modes
+use Rattle.pgn_extract.proofs.ChoiceFacts.{choice_of}
 
 -- the lines of entries, and then of others
 pub listing-append : (name : Option (List ℕ)) (xs ys : List Entry) → listing name (xs ++ ys) ≡ listing name xs ++ listing name ys
@@ -32,12 +34,19 @@ of_piece (UnreadableRest bytes) aim lists number offset verdict (note, noted, na
     ([], refl, ap output_of is ∙ ap (λ m. faulty_text m aim.select bytes) lists)
 of_piece TooLongBlock aim lists number offset verdict (note, noted, is) = ([], refl, ap output_of is)
 
+-- those of one that is chosen or passed over
+of_taken : (taken : Bool) (kind : PieceKind) (aim : Aim) → aim.mode ≡ modes.List → (number offset : ℕ) (verdict : Verdict)
+    → IfChosen taken (IsPieceVerdict kind aim number offset verdict) (verdict ≡ SoundGame [])
+    → (own : List Entry) × IfChosen taken (ArePieceEntries aim kind number offset own) (own ≡ []) × (output_of verdict ≡ listing aim.name own)
+of_taken true kind aim lists number offset verdict is = of_piece kind aim lists number offset verdict is
+of_taken false kind aim lists number offset verdict none = ([], refl, ap output_of none)
+
 -- the entries of pieces in a row
 pub of_pieces : (aim : Aim) → aim.mode ≡ modes.List → (number : ℕ) (pieces : List MarkedPiece) (verdicts : List Verdict) → AreVerdicts aim number pieces verdicts
     → (entries : List Entry) × AreEntryRows aim number pieces entries × (output_text verdicts ≡ listing aim.name entries)
 of_pieces aim lists number [] verdicts none = ([], refl, ap output_text none)
 of_pieces aim lists number (piece ∷ more) verdicts (verdict, rest, parted, is, others) =
-    let own = of_piece piece.kind aim lists number piece.offset verdict is in
+    let own = of_taken (is_chosen aim.chosen number piece.offset) piece.kind aim lists number piece.offset verdict is in
     let later = of_pieces aim lists (number + 1) more rest others in (
       own.0 ++ later.0,
       (own.0, later.0, refl, own.1, later.1),
@@ -67,7 +76,7 @@ exports_of_pieces aim exports number (piece ∷ more) verdicts (verdict, rest, p
   output_of verdict,
   output_text rest,
   ap output_text parted,
-  export_of_piece piece.kind aim exports number piece.offset verdict is,
+  choice_of (is_chosen aim.chosen number piece.offset) (export_of_piece piece.kind aim exports number piece.offset verdict) (ap output_of) is,
   exports_of_pieces aim exports (number + 1) more rest others,
 )
 
@@ -79,13 +88,21 @@ indexed_piece (UnreadableRest bytes) aim indexes number offset verdict (note, no
     ap output_of is ∙ ap (λ m. faulty_text m aim.select bytes) indexes
 indexed_piece TooLongBlock aim indexes number offset verdict (note, noted, is) = ap output_of is
 
+-- and where it is passed over
+indexed_taken : (taken : Bool) (aim : Aim) → aim.mode ≡ modes.Index → (number : ℕ) (piece : MarkedPiece) (verdict : Verdict)
+    → IfChosen taken (IsPieceVerdict piece.kind aim number piece.offset verdict) (verdict ≡ SoundGame [])
+    → output_of verdict ≡ (if taken then index_line aim.name number piece else [])
+indexed_taken true aim indexes number piece verdict is = indexed_piece piece.kind aim indexes number piece.offset verdict is
+indexed_taken false aim indexes number piece verdict none = ap output_of none
+
 -- the index of pieces in a row
 indexed_pieces : (aim : Aim) → aim.mode ≡ modes.Index → (number : ℕ) (pieces : List MarkedPiece) (verdicts : List Verdict) → AreVerdicts aim number pieces verdicts
-    → output_text verdicts ≡ index aim.name number pieces
+    → output_text verdicts ≡ index aim.chosen aim.name number pieces
 indexed_pieces aim indexes number [] verdicts none = ap output_text none
 indexed_pieces aim indexes number (piece ∷ more) verdicts (verdict, rest, parted, is, others) =
-    ap output_text parted ∙ ap (λ t. t ++ output_text rest) (indexed_piece piece.kind aim indexes number piece.offset verdict is)
-    ∙ ap (λ t. index_line aim.name number piece ++ t) (indexed_pieces aim indexes (number + 1) more rest others)
+    let taken = is_chosen aim.chosen number piece.offset in
+    ap output_text parted ∙ ap (λ t. t ++ output_text rest) (indexed_taken taken aim indexes number piece verdict is)
+    ∙ ap (λ t. (if taken then index_line aim.name number piece else []) ++ t) (indexed_pieces aim indexes (number + 1) more rest others)
 
 module _ (job : Job) (io : Io) (whole : List ℕ) (summary : Summary) (e : Completes job io whole summary) where
   -- a run for the index wrote it

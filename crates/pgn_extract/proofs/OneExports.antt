@@ -7,10 +7,12 @@ use Rattle.pgn_game.specs.Public.Replays.{Replay}
 use Rattle.pgn_game.specs.Public.Starts.{fen_tag}
 use Rattle.pgn_game.proofs.OneReplay.{one_replay, no_fault}
 use Rattle.pgn_extract.specs.Public.Aims.{Aim}
+use Rattle.pgn_extract.specs.Public.Choices.{is_chosen}
 use Rattle.pgn_extract.specs.Public.Exports.{written_lines, IsWritten, IsGameExport, sound, faulty, IsPieceExport}
 use Rattle.pgn_extract.specs.Public.Laws.{TextHasOneExport}
 use Rattle.pgn_extract.proofs.GameExport.{one_export_of_parts}
 use Rattle.pgn_extract.proofs.OneVerdict.{one_written}
+use Rattle.pgn_extract.proofs.ChoiceFacts.{by_both}
 
 of_game : (aim : Aim) (number offset : ℕ) (parts : List Part) (x y : List ℕ) → IsGameExport aim number offset parts x → IsGameExport aim number offset parts y → x ≡ y
 of_game aim number offset parts x y (sound first is this) (sound second also that) =
@@ -30,5 +32,6 @@ of_piece TooLongBlock aim number offset x y a b = a ∙ sym b
 pub one_exports : TextHasOneExport
 one_exports aim number [] text other a b = a ∙ sym b
 one_exports aim number (piece ∷ more) text other (own, rest, parted, is, others) (also, later, split, that, those) =
-    parted ∙ ap (λ t. t ++ rest) (of_piece piece.kind aim number piece.offset own also is that)
+    let one = by_both (is_chosen aim.chosen number piece.offset) (of_piece piece.kind aim number piece.offset own also) (λ none also_none. none ∙ sym also_none) is that in
+    parted ∙ ap (λ t. t ++ rest) one
     ∙ ap (λ t. also ++ t) (one_exports aim (number + 1) more rest later others those) ∙ sym split

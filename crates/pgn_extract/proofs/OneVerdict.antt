@@ -18,6 +18,8 @@ use Rattle.pgn_extract.specs.Public.GameReports.{plies_of, AreListed, cause_text
 use Rattle.pgn_extract.specs.Public.Notes.{IsNote}
 use Rattle.pgn_extract.specs.Public.Verdicts.{Verdict, SoundGame, FaultyGame, IsListed, IsExported, IsVerdictIn, IsReportedBy, IsPieceVerdict, AreVerdicts, without_note, IsUnreadableVerdict}
 use Rattle.pgn_extract.specs.Public.Aims.{Aim, IsEntry}
+use Rattle.pgn_extract.specs.Public.Choices.{is_chosen}
+use Rattle.pgn_extract.proofs.ChoiceFacts.{by_both, by_choice}
 use Rattle.pgn_extract.proofs.Chosen.{one_chosen}
 use Rattle.pgn_extract.proofs.FieldTexts.{one_text as one_fields}
 use Rattle.pgn_extract.proofs.GameExport.{PartsHaveOneExport, one_record_of_parts}
@@ -97,7 +99,8 @@ module _ (one_replay : GameHasOneReplay) (one_fault : GameHasOneFault) (no_fault
       → map without_note xs ≡ map without_note ys
   all_one_verdict aim number [] xs ys x y = ap (map without_note) (x ∙ sym y)
   all_one_verdict aim number (piece ∷ more) xs ys (a, rest, parted, is, others) (b, last, split, also, later) =
-      ap (map without_note) parted ∙ ap (λ t. t ∷ map without_note rest) (one_verdict piece.kind aim number piece.offset a b is also)
+      let one = by_both (is_chosen aim.chosen number piece.offset) (one_verdict piece.kind aim number piece.offset a b) (λ none also_none. ap without_note (none ∙ sym also_none)) is also in
+      ap (map without_note) parted ∙ ap (λ t. t ∷ map without_note rest) one
       ∙ ap (λ t. without_note b ∷ t) (all_one_verdict aim (number + 1) more rest last others later) ∙ ap (map without_note) (sym split)
 
 -- where no explanations are asked for, no verdict has a note
@@ -130,5 +133,6 @@ module _ (aim : Aim) (plain : aim.explain ≡ false) where
   pub bare_verdicts : (number : ℕ) (pieces : List MarkedPiece) (verdicts : List Verdict) → AreVerdicts aim number pieces verdicts → map without_note verdicts ≡ verdicts
   bare_verdicts number [] verdicts none = ap (map without_note) none ∙ sym none
   bare_verdicts number (piece ∷ more) verdicts (own, rest, parted, is, others) =
-      ap (map without_note) parted ∙ ap (λ t. t ∷ map without_note rest) (bare_piece piece.kind number piece.offset own is)
+      let one = by_choice (is_chosen aim.chosen number piece.offset) (λ _. bare_piece piece.kind number piece.offset own) (λ _ none. ap without_note none ∙ sym none) is in
+      ap (map without_note) parted ∙ ap (λ t. t ∷ map without_note rest) one
       ∙ ap (λ t. own ∷ t) (bare_verdicts (number + 1) more rest others) ∙ sym parted

@@ -15,7 +15,7 @@ use Rattle.pgn_extract.specs.Private.EntryRows.{AreGameEntries, sound as sound_r
 use Rattle.pgn_extract.specs.Public.GameReports.{AreListed}
 use Rattle.pgn_extract.specs.Public.Index.{mark_line}
 use Rattle.pgn_extract.specs.Public.Listing.{Entry, AreEntries, listing, heading_in}
-use Rattle.pgn_extract.specs.Public.Searching.{AreGameRecords, sound, faulty, ArePieceRecords, AreRecords, IsPackOf, IsRecordListing, AreRecordLines, ArePackLines, BeginsWithRecords, IsSoundPiece, IsIndexOfSoundGames, none as no_pieces, keep, leave}
+use Rattle.pgn_extract.specs.Public.Searching.{AreGameRecords, sound, faulty, ArePieceRecords, AreRecords, IsPackOf, IsRecordListing, AreRecordLines, ArePackLines, BeginsWithRecords, IsSoundPiece, IsIndexOfSoundGames, none as no_pieces, keep, leave, of_all}
 use Rattle.pgn_extract.specs.declared.settings.Mode.{Mode}
 use Rattle.pgn_extract.specs.declared.settings.Mode.TheVariants as modes
 use Rattle.pgn_extract.proofs.ExactEntries.{are_entries}
@@ -50,7 +50,7 @@ same_heading game at parts shows = λ i. record { named = λ name. shows.tags na
 -- what is listed of a record is listed of the game
 game_rows : (aim : Aim) → aim.mode ≡ modes.List → (name : Option (List ℕ)) (number offset : ℕ) (parts : List Part) (own : List PackedGame) (text : List ℕ)
     → AreGameRecords name number offset parts own → ArePackLines aim own text
-    → (rows : List Entry) × AreGameEntries aim number offset parts rows × (text ≡ listing name rows)
+    → (rows : List Entry) × AreGameEntries (of_all aim) number offset parts rows × (text ≡ listing name rows)
 game_rows aim list name number offset parts own text (sound game replay packed good shows is packs one) listed =
     let (lines, others, parted, of, none) = subst (λ r. ArePackLines aim r text) one listed in
     let played = own_replay Main game parts replay shows is in
@@ -79,14 +79,14 @@ game_rows aim list name number offset parts own text (faulty fault is none) list
 
 piece_rows : (aim : Aim) → aim.mode ≡ modes.List → (name : Option (List ℕ)) (kind : PieceKind) (number offset : ℕ) (own : List PackedGame) (text : List ℕ)
     → ArePieceRecords name kind number offset own → ArePackLines aim own text
-    → (rows : List Entry) × ArePieceEntries aim kind number offset rows × (text ≡ listing name rows)
+    → (rows : List Entry) × ArePieceEntries (of_all aim) kind number offset rows × (text ≡ listing name rows)
 piece_rows aim list name (ReadableGame parts) number offset own text are listed = game_rows aim list name number offset parts own text are listed
 piece_rows aim list name (UnreadableRest bytes) number offset own text none listed = ([], refl, subst (λ r. ArePackLines aim r text) none listed)
 piece_rows aim list name TooLongBlock number offset own text none listed = ([], refl, subst (λ r. ArePackLines aim r text) none listed)
 
 all_rows : (aim : Aim) → aim.mode ≡ modes.List → (name : Option (List ℕ)) (number : ℕ) (pieces : List MarkedPiece) (records : List PackedGame) (text : List ℕ)
     → AreRecords name number pieces records → ArePackLines aim records text
-    → (rows : List Entry) × AreEntryRows aim number pieces rows × (text ≡ listing name rows)
+    → (rows : List Entry) × AreEntryRows (of_all aim) number pieces rows × (text ≡ listing name rows)
 all_rows aim list name number [] records text none listed = ([], refl, subst (λ r. ArePackLines aim r text) none listed)
 all_rows aim list name number (piece ∷ more) records text (own, rest, parted, here, others) listed =
     let cut = lines_cut aim own rest text (subst (λ r. ArePackLines aim r text) parted listed) in
@@ -105,11 +105,11 @@ same_records aim whole records text read name number pieces pack = one_pack pack
 -- whatever text the bytes are the pack of, what is listed of their records is its listing
 pub packed_listing : (aim : Aim) → aim.mode ≡ modes.List → (whole : List ℕ) (records : List PackedGame) (text : List ℕ) → BeginsWithRecords aim whole records [] text
     → (name : Option (List ℕ)) (number : ℕ) (pieces : List MarkedPiece) → IsPackOf name number pieces whole
-    → (entries : List Entry) → AreEntries aim number pieces entries → text ≡ listing name entries
+    → (entries : List Entry) → AreEntries (of_all aim) number pieces entries → text ≡ listing name entries
 packed_listing aim list whole records text read name number pieces pack entries are =
     let same = same_records aim whole records text read name number pieces pack in
     let rows = all_rows aim list name number pieces records text (subst (AreRecords name number pieces) same pack.are) read.lines in
-    rows.2 ∙ ap (listing name) (one_listing aim number pieces rows.0 entries (are_entries aim number pieces rows.0 rows.1) are)
+    rows.2 ∙ ap (listing name) (one_listing (of_all aim) number pieces rows.0 entries (are_entries (of_all aim) number pieces rows.0 rows.1) are)
 
 -- ---- the index
 

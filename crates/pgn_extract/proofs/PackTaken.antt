@@ -16,12 +16,15 @@ use Rattle.pgn_criteria.specs.Public.Meeting.{Heading}
 use Rattle.pgn_criteria.specs.declared.condition.Condition.{Condition}
 use Rattle.pgn_extract.specs.Public.Aims.{Aim, IsMet}
 use Rattle.pgn_extract.specs.Public.Exports.{HasEntry, IsSelected, IsWritten, selected, unselected, IsTextOf, sound as exported, faulty as unexported, IsPieceExport, AreExports, faulty_text, lines_in}
+use Rattle.pgn_extract.specs.Public.Choices.{is_chosen}
 use Rattle.pgn_extract.specs.Public.GameReports.{IsReplayOf, IsFaultOf}
+use Rattle.pgn_extract.specs.Public.GivenMarks.{GivenMark}
 use Rattle.pgn_extract.specs.Public.Listing.{heading_in}
 use Rattle.pgn_extract.specs.Public.Searching.{AreGameRecords, sound, faulty, ArePieceRecords, AreRecords, PacksAll}
 use Rattle.pgn_extract.specs.declared.settings.Form.{Form}
 use Rattle.pgn_extract.specs.declared.settings.Mode.TheVariants as modes
 use Rattle.pgn_extract.specs.declared.settings.Select.{Select}
+use Rattle.pgn_extract.proofs.ChoiceFacts.{when_taken}
 
 -- the first position of a game is an entry
 has_first : (packing : Aim) (tags : Heading) (replay : Replay) → PacksAll packing → 0 < length replay.positions → HasEntry packing tags replay
@@ -66,7 +69,8 @@ pub pieces_records : (packing : Aim) (number : ℕ) (pieces : List MarkedPiece) 
     → (records : List PackedGame) × AreRecords packing.name number pieces records × (bytes ≡ pack_bytes records)
 pieces_records packing number [] bytes all none = ([], refl, none)
 pieces_records packing number (piece ∷ more) bytes all (own, rest, parted, here, others) =
-    let first = piece_records packing number piece.offset piece.kind own all here in
+    let taken = ap (λ (chosen : Option (List GivenMark)). is_chosen chosen number piece.offset) all.chosen in
+    let first = piece_records packing number piece.offset piece.kind own all (when_taken (is_chosen packing.chosen number piece.offset) _ taken here) in
     let later = pieces_records packing (number + 1) more rest all others in (
       first.0 ++ later.0,
       (first.0, later.0, refl, first.1, later.1),

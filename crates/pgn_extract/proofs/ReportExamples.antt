@@ -11,12 +11,14 @@ use Rattle.pgn_game.specs.declared.exports.style.Style.{Style}
 use Rattle.pgn_game.specs.declared.replays.replayer.Lines.TheVariants.{All, Main}
 use Rattle.pgn_extract.specs.Public.Aims.{Aim}
 use Rattle.pgn_extract.specs.Public.Exports.{HasEntry, IsPieceExport, IsSelected, IsWritten, faulty_text, lines_in, selected, unselected}
+use Rattle.pgn_extract.specs.Public.Choices.{is_chosen}
 use Rattle.pgn_extract.specs.Public.GameReports.{cause_text}
 use Rattle.pgn_extract.specs.Public.Index.{fault_text, index, mark, mark_line}
 use Rattle.pgn_extract.specs.Public.Listing.{AreFields, IsFenField, heading_in, IsNextField, IsNextMove}
 use Rattle.pgn_extract.specs.Public.Outcomes.{Writes}
 use Rattle.pgn_extract.specs.Public.Several.{AreOfPaths, AtPath, FileOf, IsOfPath, IsOpened, IsRead, IsRefused, NoFile, Order, name_at, own_summary, summary_text}
 use Rattle.pgn_extract.specs.Public.Verdicts.{FaultyGame, IsExported, IsListed, IsVerdict, SoundGame, Verdict, is_faulty, output_text}
+use Rattle.pgn_extract.proofs.ChoiceFacts.{when_taken}
 use Rattle.pgn_extract.proofs.TwoFiles.{plain}
 use Rattle.pgn_extract.specs.declared.settings.Form.TheVariants.{AsItStands, Record, Standard}
 use Rattle.pgn_extract.specs.declared.settings.Mode.TheVariants as modes
@@ -50,7 +52,7 @@ causes_are = (
 
 -- games that can be read are in the index, each under its own number and offset, and nothing else
 index_is : (name : Option (List ℕ)) (parts : List Part) (bytes : List ℕ)
-    → index name 1 (record { offset = 0; kind = UnreadableRest bytes }
+    → index None name 1 (record { offset = 0; kind = UnreadableRest bytes }
     ∷ record { offset = 9; kind = ReadableGame parts } ∷ record { offset = 20; kind = TooLongBlock }
     ∷ record { offset = 31; kind = ReadableGame parts } ∷ [])
     ≡ mark_line name 2 9 ++ (mark_line name 4 31 ++ [])
@@ -115,9 +117,12 @@ no_fault_unsaid aim number offset parts text note (fault, first, is, noted, writ
 
 -- bytes that are no game are not sound
 not_sound : (aim : Aim) (number offset : ℕ) (bytes text : List ℕ)
+    → is_chosen aim.chosen number offset ≡ true
     → IsVerdict aim number (record { offset = offset; kind = UnreadableRest bytes })
     (SoundGame text) → ⊥
-not_sound aim number offset bytes text (note, noted, names, is) = cc
+not_sound aim number offset bytes text taken is =
+    let by = when_taken (is_chosen aim.chosen number offset) _ taken is in
+    let same = by.3 in cc
 
 -- nothing is written of no piece
 nothing_of_none : (aim : Aim) (err err' : Option (List ℕ)) (number : ℕ) (verdicts : List Verdict)
@@ -159,12 +164,13 @@ summary_counts : (order : Order) (name text output report : List ℕ) → order.
     → report ≡ read.faults ++ summary_text (Some name) (record {
       games = length read.reported.pieces;
       faulty = count_by is_faulty read.reported.verdicts;
+      met = read.summary.met;
     })
 summary_counts order name text output report asked named read =
     read.is
     ∙ ap (λ asked. read.faults ++ own_summary asked order.job.aim.name read.summary) asked
     ∙ ap (λ name. read.faults ++ own_summary true name read.summary) named
     ∙ ap (λ games. read.faults ++ summary_text (Some name)
-    (record { games = games; faulty = read.summary.faulty })) read.games
+    (record { games = games; faulty = read.summary.faulty; met = read.summary.met })) read.games
     ∙ ap (λ faulty. read.faults ++ summary_text (Some name)
-    (record { games = length read.reported.pieces; faulty = faulty })) read.faulty
+    (record { games = length read.reported.pieces; faulty = faulty; met = read.summary.met })) read.faulty

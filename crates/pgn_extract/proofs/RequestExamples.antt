@@ -1,5 +1,5 @@
 -- What the definitions of what is asked for say of some options, and what they refuse.
-use Rattle.std.proofs.Common.{◌≡◌, ◌^◌, ◌-◌, true, false, ℕ, List, None, Some, codes, refl}
+use Rattle.std.proofs.Common.{◌≡◌, ◌^◌, ◌-◌, true, false, ℕ, List, [], None, Some, codes, refl}
 use Rattle.pgn_game.specs.declared.exports.notation.Notation.TheVariants.{San, Uci}
 use Rattle.pgn_extract.specs.Public.GivenMarks.{mark_in}
 use Rattle.pgn_extract.specs.Public.Requests.{asked, asks_names, begin_of, end_of, first_line, gives_mark, has_several_files, is_one_line, is_stretch, option_refusals}
@@ -53,13 +53,14 @@ plain request = record request {
   explain = false;
   from = None;
   until = None;
+  at = None;
   with_names = false;
   no_names = false;
 }
 
 -- and with its marks
 abbrev marked : Request → Request
-marked request = record (plain request) { from = request.from; until = request.until }
+marked request = record (plain request) { from = request.from; until = request.until; at = request.at }
 
 -- the lines of refusals
 abbrev both_modes : List ℕ
@@ -70,7 +71,7 @@ packs_give_lines = codes "pgn-extract: --packed goes with --list or --index\n"
 
 abbrev packs_are_plain : List ℕ
 packs_are_plain =
-    codes "pgn-extract: --packed goes with none of --fen, --next, --from, --until, --with-names and --no-names\n"
+    codes "pgn-extract: --packed goes with none of --fen, --next, --from, --until, --at, --with-names and --no-names\n"
 
 abbrev no_entries_listed : List ℕ
 no_entries_listed = codes "pgn-extract: --fen and --next go with --list\n"
@@ -97,7 +98,7 @@ abbrev both_namings : List ℕ
 both_namings = codes "pgn-extract: --with-names and --no-names exclude each other\n"
 
 abbrev marks_take_one_file : List ℕ
-marks_take_one_file = codes "pgn-extract: --from and --until take one FILE\n"
+marks_take_one_file = codes "pgn-extract: --from, --until and --at take one FILE\n"
 
 -- the options are refused with the line
 abbrev RefusedWith : Request → List ℕ → Type 0
@@ -207,7 +208,7 @@ lines = (refl, refl, refl)
 
 -- ---- what is asked for
 
-nothing_asked : (request : Request) → let aim = asked false (plain request) None in
+nothing_asked : (request : Request) → let aim = asked false (plain request) None None in
     (aim.mode ≡ modes.Export) × (aim.select ≡ Matching) × (aim.form ≡ Standard) × (aim.min_ply ≡ 0)
     × (aim.max_ply ≡ 4294967295) × (aim.first ≡ false)
     × (aim.fields ≡ record { fen = false; next = false }) × (aim.explain ≡ false)
@@ -222,30 +223,31 @@ nothing_asked : (request : Request) → let aim = asked false (plain request) No
 nothing_asked request = (refl, refl, refl, refl, refl, refl, refl, refl, refl)
 
 each_asked : (request : Request)
-    → ((asked false (record (plain request) { list = true }) None).mode ≡ modes.List)
-    × ((asked false (record (plain request) { index = true }) None).mode ≡ modes.Index)
-    × ((asked false (record (plain request) { others = true }) None).select ≡ Others)
-    × ((asked false (record (plain request) { faulty = true }) None).select ≡ Faulty)
-    × ((asked false (record (plain request) { as_is = true }) None).form ≡ AsItStands)
-    × ((asked false (record (plain request) { moves = true }) None).form ≡ Line San)
-    × ((asked false (record (plain request) { uci = true }) None).form ≡ Line Uci)
-    × ((asked false (record (plain request) { pack = true }) None).form ≡ Record)
-    × ((asked false (record (plain request) { min_ply = 7 }) None).min_ply ≡ 7)
-    × ((asked false (record (plain request) { max_ply = 7 }) None).max_ply ≡ 7)
-    × ((asked false (record (plain request) { first = true }) None).first ≡ true)
-    × ((asked false (record (plain request) { fen = true }) None).fields ≡ record { fen = true; next = false })
-    × ((asked false (record (plain request) { next = true }) None).fields ≡ record { fen = false; next = true })
-    × ((asked true (plain request) None).explain ≡ true)
+    → ((asked false (record (plain request) { list = true }) None None).mode ≡ modes.List)
+    × ((asked false (record (plain request) { index = true }) None None).mode ≡ modes.Index)
+    × ((asked false (record (plain request) { others = true }) None None).select ≡ Others)
+    × ((asked false (record (plain request) { faulty = true }) None None).select ≡ Faulty)
+    × ((asked false (record (plain request) { as_is = true }) None None).form ≡ AsItStands)
+    × ((asked false (record (plain request) { moves = true }) None None).form ≡ Line San)
+    × ((asked false (record (plain request) { uci = true }) None None).form ≡ Line Uci)
+    × ((asked false (record (plain request) { pack = true }) None None).form ≡ Record)
+    × ((asked false (record (plain request) { min_ply = 7 }) None None).min_ply ≡ 7)
+    × ((asked false (record (plain request) { max_ply = 7 }) None None).max_ply ≡ 7)
+    × ((asked false (record (plain request) { first = true }) None None).first ≡ true)
+    × ((asked false (record (plain request) { fen = true }) None None).fields ≡ record { fen = true; next = false })
+    × ((asked false (record (plain request) { next = true }) None None).fields ≡ record { fen = false; next = true })
+    × ((asked true (plain request) None None).explain ≡ true)
+    × ((asked false (plain request) None (Some [])).chosen ≡ Some [])
 each_asked request =
-    (refl, refl, refl, refl, refl, refl, refl, refl, refl, refl, refl, refl, refl, refl)
+    (refl, refl, refl, refl, refl, refl, refl, refl, refl, refl, refl, refl, refl, refl, refl)
 
 each_style : (request : Request)
-    → ((asked false (record (plain request) { no_comments = true }) None).style.comments ≡ false)
-    × ((asked false (record (plain request) { keep_commands = true }) None).style.commands ≡ true)
-    × ((asked false (record (plain request) { no_glyphs = true }) None).style.glyphs ≡ false)
-    × ((asked false (record (plain request) { no_variations = true }) None).style.variations ≡ false)
-    × ((asked false (record (plain request) { roster = true }) None).style.roster_only ≡ true)
-    × ((asked false (record (plain request) { width = Some 40 }) None).style.width ≡ 40)
+    → ((asked false (record (plain request) { no_comments = true }) None None).style.comments ≡ false)
+    × ((asked false (record (plain request) { keep_commands = true }) None None).style.commands ≡ true)
+    × ((asked false (record (plain request) { no_glyphs = true }) None None).style.glyphs ≡ false)
+    × ((asked false (record (plain request) { no_variations = true }) None None).style.variations ≡ false)
+    × ((asked false (record (plain request) { roster = true }) None None).style.roster_only ≡ true)
+    × ((asked false (record (plain request) { width = Some 40 }) None None).style.width ≡ 40)
 each_style request = (refl, refl, refl, refl, refl, refl)
 
 without_marks : (request : Request)

@@ -1,5 +1,6 @@
 -- The run over the blocks: what stands at each turn, and what each way out of it gives.
-use Rattle.std.proofs.Common.{◌≡◌, ℕ, ◌+◌, ◌-◌, ◌^◌, ◌<◌, ◌≤◌, true, false, List, [], ◌∷◌, ◌++◌, length, Option, Some, None, refl, sym, ap, ◌∙◌, subst, arith, append_assoc, length-append, inl, inr, ◌⊎◌}
+use Rattle.std.proofs.Common.{◌≡◌, ℕ, ◌+◌, ◌-◌, ◌^◌, ◌<◌, ◌≤◌, true, false, List, [], ◌∷◌, ◌++◌, length, Option, Some, None, refl, sym, ap, ◌∙◌, subst, arith, append_assoc, length-append, inl, inr, ◌⊎◌, Fits, w64}
+use Rattle.std.proofs.lemmas.List.Sums.{count_by-le-length}
 use Rattle.std.specs.Prelude.{◌≢◌, count_by, IfSome}
 use Rattle.std.specs.Io.KnownBytes.{Keeps, IsAtEnd}
 use Rattle.std.proofs.lemmas.Bool.{cases_Bool, both_ways}
@@ -90,6 +91,10 @@ module _ {aim : Aim} {limit max_depth number offset : ℕ} {now : Window} {first
       subst (λ r. Reads first left' moved count' r)
       (append_assoc p.bytes now.ahead read ∙ ap (λ t. p.bytes ++ t) cut.parted ∙ sym (append_assoc p.bytes block next.ahead))
       (reads_join first left left' moved count count' (p.bytes ++ now.ahead) read p.reads more)
+
+  -- no more of the pieces are faulty than there are bytes before the place
+  pub faulty_fits : Fits w64 faulty
+  faulty_fits = omega (arith, p.faults, p.same, p.few, p.within, p.given.place, count_by-le-length is_faulty p.verdicts)
 
   -- one more block is reported
   pub progress_more : {next : Window} {left' : Option (List ℕ)} {count' from : ℕ} {read block : List ℕ} {out'' err'' : Option (List ℕ)} {verdict : Summary}

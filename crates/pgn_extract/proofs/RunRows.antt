@@ -27,7 +27,7 @@ use Rattle.pgn_extract.specs.Public.Outcomes.{AppendsFront, BeginsAll, WritesCom
 use Rattle.pgn_extract.specs.Public.Requests.{option_refusals, refusals, text_refusals}
 use Rattle.pgn_extract.specs.Public.Resuming.{WritesRest, IsMarkAmong}
 use Rattle.pgn_extract.specs.Public.Runs.{Adds, AreWritten, ArePieces, Completed, Completes, Exports, Indexes, Io, Job, Lists, OnInput, Passage, Stream, stream_of, Exported, Indexed, IsBegun, IsCompleteOf, Listed, ListsRest, Rest, RestListed, Resumes, Stopped, Stops}
-use Rattle.pgn_extract.specs.Public.Searching.{AreGameRecords, ArePackLines, ArePieceRecords, AreRecordLines, AreRecords, BeginsWithRecords, HasNoGame, Searches, StopsAtBytes, StopsAtRead, StopsSearch, StopsWithin, IndexesWhatWasPacked, IsIndexOfSoundGames, IsPackOf, IsRecordListing, ListsWhatWasPacked}
+use Rattle.pgn_extract.specs.Public.Searching.{AreGameRecords, ArePackLines, ArePieceRecords, AreRecordLines, AreRecords, BeginsWithRecords, HasNoGame, Searches, StopsAtBytes, StopsAtRead, StopsSearch, StopsWithin, IndexesWhatWasPacked, IsIndexOfSoundGames, IsPackOf, IsRecordListing, ListsWhatWasPacked, of_all}
 use Rattle.pgn_extract.specs.Public.Searching.AreGameRecords.{sound as sound_record, faulty as faulty_record}
 use Rattle.pgn_extract.specs.Public.Several.{AtPath, FileOf, IsReport, NoFile, Order, StopsInFile, Unknown, IsRead, WritesRead}
 use Rattle.pgn_extract.specs.Private.SeveralPacks.{SearchesPath, SearchesPaths}
@@ -390,7 +390,7 @@ no_other_lines_of_a_record aim packed text game replay sound is_replay is_packed
 no_other_listing_is_found : (aim : Aim) (whole : List ℕ) (out out' : Option (List ℕ))
     (name : Option (List ℕ)) (number : ℕ) (pieces : List MarkedPiece) (entries : List Entry)
     → aim.mode ≡ modes.List → IsPackOf name number pieces whole
-    → AreEntries aim number pieces entries
+    → AreEntries (of_all aim) number pieces entries
     → (Appends out out' (listing name entries) → ⊥) → ListsWhatWasPacked aim whole out out' → ⊥
 no_other_listing_is_found aim whole out out' name number pieces entries list is are none lists =
     none (lists list name number pieces is entries are)

@@ -1,6 +1,6 @@
 -- The pieces of a text are reported in some way: each of its games has a replay or a fault, since its FEN tag has the contents of a string,
 -- and each sound one has an export.
-use Rattle.std.proofs.Common.{◌≡◌, ◌⊎◌, ℕ, zero, suc, arith, ◌+◌, ◌<◌, ◌≤◌, ◌==◌, Bool, List, [], ◌∷◌, ◌++◌, map, length, Option, Some, None, IfSome, refl, sym, ◌∙◌, subst, inl, inr, codes}
+use Rattle.std.proofs.Common.{◌≡◌, ◌⊎◌, ℕ, zero, suc, arith, ◌+◌, ◌<◌, ◌≤◌, ◌==◌, Bool, true, false, List, [], ◌∷◌, ◌++◌, map, length, Option, Some, None, IfSome, refl, sym, ◌∙◌, subst, inl, inr, codes}
 use Rattle.std.proofs.lemmas.Bool.{cases_lt, cases_Bool, both_ways}
 use Rattle.pgn_text.specs.Public.Games.{items_of, first_tag}
 use Rattle.pgn_text.specs.Public.Marks.{PieceKind, ReadableGame, UnreadableRest, TooLongBlock, MarkedPiece, marked, AreOfBlock, over, within, AreOfBlocks, AreMarkedPieces}
@@ -14,6 +14,7 @@ use Rattle.pgn_game.specs.Public.Faults.{Fault}
 use Rattle.pgn_game.specs.declared.replays.replayer.Lines.{Lines}
 use Rattle.pgn_game.specs.declared.replays.replayer.Lines.TheVariants.{Main}
 use Rattle.pgn_game.specs.Public.Starts.{fen_tag}
+use Rattle.pgn_extract.specs.Public.Choices.{IfChosen, is_chosen}
 use Rattle.pgn_extract.specs.Public.Index.{fault_text, mark_line}
 use Rattle.pgn_extract.specs.Public.Listing.{AreFields, listing, heading_in}
 use Rattle.pgn_extract.specs.Public.GameReports.{plies_of, cause_text, IsReplayOf, IsFaultOf}
@@ -213,11 +214,17 @@ piece_reported (UnreadableRest bytes) aim decided number offset made =
     unreadable_reported aim offset bytes (fault_text aim.name number offset (codes "unreadable"))
 piece_reported TooLongBlock aim decided number offset made = by_line aim (fault_text aim.name number offset (codes "too long"))
 
+-- a piece, chosen or passed over
+one_reported : (taken : Bool) (kind : PieceKind) (aim : Aim) → IsDecided aim → (number offset : ℕ) → IsMade kind
+    → (verdict : Verdict) × IfChosen taken (IsPieceVerdict kind aim number offset verdict) (verdict ≡ SoundGame [])
+one_reported true kind aim decided number offset made = piece_reported kind aim decided number offset made
+one_reported false kind aim decided number offset made = (SoundGame [], refl)
+
 all_reported : (aim : Aim) → IsDecided aim → (number : ℕ) (pieces : List MarkedPiece) → AreMade pieces
     → (reported : List Verdict) × AreVerdicts aim number pieces reported
 all_reported aim decided number [] made = ([], refl)
 all_reported aim decided number (piece ∷ more) made =
-    let own = piece_reported piece.kind aim decided number piece.offset made.0 in
+    let own = one_reported (is_chosen aim.chosen number piece.offset) piece.kind aim decided number piece.offset made.0 in
     let rest = all_reported aim decided (number + 1) more made.1 in
     (own.0 ∷ rest.0, (own.0, rest.0, refl, own.1, rest.1))
 

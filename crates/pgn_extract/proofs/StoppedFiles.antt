@@ -7,6 +7,7 @@ use Rattle.std.specs.declared.io.ErrorKind.{ErrorKind}
 use Rattle.std.specs.declared.io.ErrorKind.TheVariants as kinds
 use Rattle.pgn_text.proofs.MarkedPieces.{marked_pieces_exist}
 use Rattle.pgn_text.specs.Public.Marks.{MarkedPiece}
+use Rattle.pgn_extract.proofs.ChoiceFacts.{none_met}
 use Rattle.pgn_extract.proofs.Beginnings.{front_all, front_join}
 use Rattle.pgn_extract.proofs.BegunAll.{front_longer}
 use Rattle.pgn_extract.proofs.BlockWritten.{front_none}
@@ -28,6 +29,7 @@ report_text order pieces verdicts =
     let summary : Summary = record {
       games = length pieces;
       faulty = count_by is_faulty verdicts;
+      met = none_met;
     } in
     fault_lines verdicts ++ own_summary order.summary order.job.aim.name summary
 
@@ -37,7 +39,7 @@ read_by : (order : Order) (text : List ℕ) (pieces : List MarkedPiece) (verdict
     → IsRead order text (output_text verdicts) (report_text order pieces verdicts)
 read_by order text pieces verdicts each reported = record {
   faults = fault_lines verdicts;
-  summary = record { games = length pieces; faulty = count_by is_faulty verdicts };
+  summary = record { games = length pieces; faulty = count_by is_faulty verdicts; met = none_met };
   reported = record {
     pieces = pieces;
     each = each;

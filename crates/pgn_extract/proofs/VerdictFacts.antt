@@ -1,15 +1,17 @@
 -- What is reported of pieces in a row, piece by piece.
-use Rattle.std.proofs.Common.{◌≡◌, ℕ, ◌+◌, List, [], ◌∷◌, ◌++◌, map, length, refl, sym, ap, ◌∙◌, subst, arith, append_assoc, codes}
+use Rattle.std.proofs.Common.{◌≡◌, ℕ, ◌+◌, true, false, List, [], ◌∷◌, ◌++◌, map, length, refl, sym, ap, ◌∙◌, subst, arith, append_assoc, codes}
 use Rattle.std.specs.Prelude.{count_by, fold, if◌then◌else◌}
 use Rattle.std.proofs.lemmas.List.Sums.{fold-append}
 use Rattle.std.proofs.lemmas.List.{append-nil}
 use Rattle.pgn_text.specs.Public.Marks.{MarkedPiece}
 use Rattle.pgn_extract.specs.Private.Blockwise.{Reports, too_long_piece}
+use Rattle.pgn_extract.specs.Public.Choices.{is_chosen}
 use Rattle.pgn_extract.specs.Public.Index.{fault_text}
 use Rattle.pgn_extract.specs.Public.Notes.{IsNote}
 use Rattle.pgn_extract.specs.Public.Verdicts.{Verdict, SoundGame, FaultyGame, without_note, AreVerdicts, output_of, fault_line_of, output_text, fault_lines, is_faulty}
 use Rattle.pgn_extract.specs.declared.engine.report.Report.{Report}
 use Rattle.pgn_extract.specs.Public.Aims.{Aim}
+use Rattle.pgn_extract.proofs.ChoiceFacts.{if_passed, if_taken}
 
 -- what goes to the output of some, and then of others
 pub output_text-append : (xs ys : List Verdict) → output_text (xs ++ ys) ≡ output_text xs ++ output_text ys
@@ -77,18 +79,32 @@ same_faulty xs ys same = sym (bare_count 0 xs) ∙ ap (count_by is_faulty) same 
 pub joined : (front one whole : List ℕ) → whole ≡ front ++ (one ++ []) → front ++ one ≡ whole
 joined front one whole e = ap (λ t. front ++ t) (sym (append-nil one)) ∙ sym e
 
--- the one piece of a block over the limit
-pub reports_too_long : (aim : Aim) (report : Report) (number offset : ℕ) (note : List ℕ) → IsNote aim.explain note → report.output.items ≡ []
+-- the one piece of a block over the limit, where it is chosen
+pub reports_too_long : (aim : Aim) (report : Report) (number offset : ℕ) (note : List ℕ) → is_chosen aim.chosen number offset ≡ true
+    → IsNote aim.explain note → report.output.items ≡ []
     → report.faults.items ≡ fault_text aim.name number offset (codes "too long") ++ note → report.games ≡ 1 → report.faulty ≡ 1
     → Reports aim report number (too_long_piece offset ∷ [])
-reports_too_long aim report number offset note noted output faults games faulty =
+reports_too_long aim report number offset note taken noted output faults games faulty =
     let line = fault_text aim.name number offset (codes "too long") in
     record {
       verdicts = FaultyGame [] line note ∷ [];
-      each = (FaultyGame [] line note, [], refl, (note, noted, refl), refl);
+      each = (FaultyGame [] line note, [], refl, if_taken (is_chosen aim.chosen number offset) _ taken (note, noted, refl), refl);
       output = output;
       faults = faults ∙ sym (append-nil (line ++ note));
       same = refl;
       games = games;
       faulty = faulty;
     }
+
+-- and where it is passed over
+pub reports_passed : (aim : Aim) (report : Report) (number offset : ℕ) → is_chosen aim.chosen number offset ≡ false → report.output.items ≡ []
+    → report.faults.items ≡ [] → report.games ≡ 1 → report.faulty ≡ 0 → Reports aim report number (too_long_piece offset ∷ [])
+reports_passed aim report number offset passed output faults games faulty = record {
+  verdicts = SoundGame [] ∷ [];
+  each = (SoundGame [], [], refl, if_passed (is_chosen aim.chosen number offset) _ passed refl, refl);
+  output = output;
+  faults = faults;
+  same = refl;
+  games = games;
+  faulty = faulty;
+}

@@ -12,3 +12,5 @@ pub mod MoveNotes
 pub mod TwoFiles
 pub mod SeveralPacks
 pub mod PackStops
+pub mod MarkOrder
+pub mod MarkLines

@@ -1,6 +1,7 @@
 -- What a reader must believe, in the order in which it is best read.
-pub mod Aims
 pub mod GivenMarks
+pub mod Choices
+pub mod Aims
 pub mod Requests
 pub mod Index
 pub mod Listing

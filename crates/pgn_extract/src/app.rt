@@ -1,12 +1,14 @@
 //! The program over arguments and files that are handed in.
 ghost use Rattle.std.specs.Prelude.{◌≡◌, false, OnErr};
 
+mod chosen_marks;
 pub mod command;
 mod conditions;
 mod debians;
 mod endings;
 pub(crate) mod files;
 pub mod mark;
+mod mark_lines;
 pub mod messages;
 pub mod order;
 mod outputs;
@@ -14,6 +16,7 @@ mod packs;
 mod prefix;
 pub mod status;
 
+use crate::app::chosen_marks::{MarkNames, MarksFile, Unmarked, read_marks};
 use crate::app::command::read_arguments;
 use crate::app::conditions::push_lines;
 use crate::app::debians::debians_option;
@@ -27,6 +30,7 @@ use crate::app::packs::{PackTask, search_packs};
 use crate::app::prefix::read_prefix;
 use crate::app::status::{FAILED, FAULTY, REFUSED, SOUND};
 use crate::explain::refusal_notes::{doubt_notes, file_note, line_note};
+use crate::marks::Marks;
 use crate::output::file_name::shown_lines;
 use crate::output::write_all::write_all;
 use clap::Error;
@@ -179,6 +183,50 @@ where
     }
 }
 
+/// What the file of marks at the path has for a run.
+fn read_marks_at<F: Files>(
+    alloc: Global,
+    files: &mut F,
+    order: &Order<'_>,
+    path: &str,
+) -> io::Result<MarksFile>
+where
+    F::Input: Drop,
+{
+    let games = match order.request.files.get(0) {
+        Some(games) => *games,
+        None => messages::STANDARD_INPUT,
+    };
+    let names = MarkNames::new(alloc, path, games)?;
+    read_marks(alloc, files.open(path)?, order, names)
+}
+
+/// The marks of the games that are reported, with the lines of their file that have none, where
+/// not all games are.
+fn read_chosen<F: Files>(
+    alloc: Global,
+    files: &mut F,
+    order: &Order<'_>,
+) -> Result<Option<(Marks, Unmarked)>, Refusal>
+where
+    F::Input: Drop,
+{
+    let Some(path) = order.request.at else {
+        return Ok(None);
+    };
+    let file = match read_marks_at(alloc, files, order, path) {
+        Ok(file) => file,
+        Err(error) => {
+            let line = messages::CANNOT_READ_MARKS;
+            return Err(refused_file(alloc, &error, line, path, order.noted));
+        }
+    };
+    match file.refusal(alloc)? {
+        Some(line) => Err(Refusal::Note(line)),
+        None => Ok(Some(file.into_marks())),
+    }
+}
+
 /// Shows a note for each line of criteria that misleads. Where memory is refused there is none: the
 /// run is the same with notes and without.
 fn show_doubts<F: Files>(alloc: Global, files: &mut F, criteria: &Criteria, text: &[u8]) {
@@ -248,6 +296,10 @@ where
     let request = &order.request;
     refuse_outputs(alloc, files, request)?;
     let criteria = read_criteria(alloc, files, &order)?;
+    let (chosen, unmarked) = match read_chosen(alloc, files, &order)? {
+        Some((marks, unmarked)) => (Some(marks), Some(unmarked)),
+        None => (None, None),
+    };
     if order.noted && request.min_ply > request.max_ply {
         files.show_notes(messages::NO_PLY_BETWEEN.as_bytes());
     }
@@ -270,7 +322,7 @@ where
     }
     let mut task = Task {
         alloc,
-        settings: settings_of(&order, criteria),
+        settings: settings_of(&order, criteria, chosen),
         paths: &request.files,
         with_names: has_names(request),
         summary: request.summary,
@@ -284,13 +336,41 @@ where
         run_files(&mut task, files, out, err)
     };
     Ok(match ended {
-        Ok(total) => end_runs(alloc, err, request.summary, &total),
+        Ok(total) => end_task(&task, err, &total, &unmarked),
         Err(error) => {
             flush_rest(out);
             report_failure(err, &task.settings.name, error);
             FAILED
         }
     })
+}
+
+/// Ends the runs of a task that came to the ends of their inputs: the status. Before the summary is
+/// said which marks of the games that were to be reported are of none.
+fn end_task<E: Write>(
+    task: &Task<'_>,
+    err: &mut Tally<E>,
+    total: &Total,
+    unmarked: &Option<Unmarked>,
+) -> u8
+    requires { err.old.faulted ≡ false }
+{
+    let mut is_short = false;
+    if let Some(unmarked) = unmarked
+        && let Some(marks) = &task.settings.chosen
+    {
+        match unmarked.put_end(task.alloc, err, marks, total.summary.met) {
+            Ok(said) => is_short = said,
+            Err(error) => {
+                report_line(err, line_of(error));
+                return FAILED;
+            }
+        }
+    }
+    match end_runs(task.alloc, err, task.summary, total) {
+        SOUND if is_short => FAULTY,
+        status => status,
+    }
 }
 
 /// Ends runs that came to the ends of their inputs, with a summary where it is asked for: the

@@ -68,7 +68,13 @@ fn run_blocks<R: Read, O: Write, E: Write>(
                 }
             }
             Ok(None) => match finish_both(out, err) {
-                Ok(()) => return Ok(Summary { games, faulty }),
+                Ok(()) => {
+                    return Ok(Summary {
+                        games,
+                        faulty,
+                        met: report.met,
+                    });
+                }
                 Err(error) => return Err(error),
             },
             Err(error) => return Err(of_read(error)),

@@ -11,7 +11,7 @@ ghost use Rattle.pgn_extract.specs.Public.Index.{index};
 ghost use Rattle.pgn_extract.specs.Public.Listing.{Entry, AreEntries, entries_at_least, is_plain, listing};
 ghost use Rattle.pgn_extract.specs.Public.Resuming.{IsMarkAmong, verdicts_at_least};
 ghost use Rattle.pgn_extract.specs.Public.Runs.{ArePieces, job_of};
-ghost use Rattle.pgn_extract.specs.Public.Searching.{ArePackLines, HasNoGame, IsIndexOfSoundGames, IsPackOf};
+ghost use Rattle.pgn_extract.specs.Public.Searching.{ArePackLines, HasNoGame, IsIndexOfSoundGames, IsPackOf, of_all};
 ghost use Rattle.pgn_extract.specs.Public.Several.{IsReport, NamesUnopened};
 ghost use Rattle.pgn_extract.specs.Public.Verdicts.{Verdict, AreVerdicts, IsSameReport, fault_lines, is_faulty, output_text};
 
@@ -67,7 +67,7 @@ pub fn index_text(alloc: Global, text: &[u8], settings: &Settings) -> Result<Wri
     requires offset { settings.now.offset ≤ largest_offset }
     requires mode { settings.now.mode ≡ Mode.Index }
     ensures { IfOk result (λ written. (pieces : List MarkedPiece) × AreMarkedPieces block_limit depth_limit settings.now.offset (drop settings.now.offset text.now) pieces
-        × (written.out.items ≡ index settings.now.name settings.now.number pieces)) }
+        × (written.out.items ≡ index settings.now.chosen settings.now.name settings.now.number pieces)) }
 {
     run_over(alloc, text, settings)
 }
@@ -99,7 +99,7 @@ fn run_over(alloc: Global, text: &[u8], settings: &Settings) -> Result<Written, 
     requires number { (1 ≤ settings.now.number) × (settings.now.number ≤ 2 ^ 62) }
     requires offset { settings.now.offset ≤ largest_offset }
     ensures indexes { IfOk result (λ written. settings.now.mode ≡ Mode.Index → (pieces : List MarkedPiece) × AreMarkedPieces block_limit depth_limit settings.now.offset (drop settings.now.offset text.now) pieces
-        × (written.out.items ≡ index settings.now.name settings.now.number pieces)) }
+        × (written.out.items ≡ index settings.now.chosen settings.now.name settings.now.number pieces)) }
     ensures lists { IfOk result (λ written. settings.now.mode ≡ Mode.List → (pieces : List MarkedPiece) × (entries : List Entry)
         × AreMarkedPieces block_limit depth_limit settings.now.offset (drop settings.now.offset text.now) pieces × AreEntries (aim_of settings.now) settings.now.number pieces entries × (written.out.items ≡ listing settings.now.name entries)) }
     ensures exports { IfOk result (λ written. settings.now.mode ≡ Mode.Export → (pieces : List MarkedPiece) × AreMarkedPieces block_limit depth_limit settings.now.offset (drop settings.now.offset text.now) pieces
@@ -207,7 +207,7 @@ pub fn report_some<'a>(
 pub fn search_pack(alloc: Global, bytes: &[u8], settings: &Settings) -> Result<Vec<u8>, SearchError>
     requires plain { is_plain settings.now.fields ≡ true }
     ensures listed { IfOk result (λ out. settings.now.mode ≡ Mode.List → (name : Option (List ℕ)) (number : ℕ) (pieces : List MarkedPiece)
-        → IsPackOf name number pieces bytes.now → (entries : List Entry) → AreEntries (aim_of settings.now) number pieces entries → out.items ≡ listing name entries) }
+        → IsPackOf name number pieces bytes.now → (entries : List Entry) → AreEntries (of_all (aim_of settings.now)) number pieces entries → out.items ≡ listing name entries) }
     ensures indexed { IfOk result (λ out. settings.now.mode ≡ Mode.Index → (name : Option (List ℕ)) (number : ℕ) (pieces : List MarkedPiece)
         → IsPackOf name number pieces bytes.now → IsIndexOfSoundGames name number pieces out.items) }
     ensures bad { IfErr result (λ error. (at : ℕ) → error ≡ SearchError.BadPack at → (before : List PackedGame) × (rest : List ℕ)

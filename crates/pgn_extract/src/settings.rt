@@ -2,6 +2,7 @@
 ghost use Rattle.std.specs.Prelude.{◌≡◌};
 ghost use Rattle.pgn_extract.specs.Public.Listing.{is_plain};
 
+use crate::marks::Marks;
 use crate::output::file_name::FileName;
 use pgn_criteria::Criteria;
 use pgn_game::{Notation, Style};
@@ -59,11 +60,13 @@ pub enum Form {
     Record,
 }
 
-/// What a run writes, and where in the file it begins. With [`Mode::Index`] only `name`, `explain`, `number` and `offset` have an effect.
+/// What a run writes, and where in the file it begins. With [`Mode::Index`] only `name`, `chosen`, `explain`, `number` and `offset` have an effect.
 #[derive(Drop)]
 pub struct Settings {
     /// The name that the lines of games begin with, if they have one.
     pub name: Option<FileName>,
+    /// The marks of the pieces that are reported; without marks, every one is.
+    pub chosen: Option<Marks>,
     /// What is written.
     pub mode: Mode,
     /// Which positions are looked for; without criteria, every one.

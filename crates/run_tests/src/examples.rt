@@ -80,6 +80,7 @@ fn plies(first: bool) -> Settings
 {
     Settings {
         name: None,
+        chosen: None,
         mode: Mode::List,
         criteria: None,
         min_ply: 1,

@@ -34,6 +34,7 @@ fn settings_of(mode: Mode, number: u64, offset: u64) -> Settings
 {
     Settings {
         name: None,
+        chosen: None,
         mode,
         criteria: None,
         min_ply: 0,

@@ -1,7 +1,7 @@
 //! Runs over readers and writers in memory: what each came to, and which calls it made.
 ghost use Rattle.std.specs.Prelude.{◌≤◌, ◌^◌};
 
-use pgn_extract::{RunError, Settings, Summary, run, run_skipping};
+use pgn_extract::{Met, RunError, Settings, Summary, run, run_skipping};
 use pgn_text::Tally;
 use std::alloc::Global;
 use test_support::{Page, Pieces};
@@ -102,7 +102,8 @@ impl Trial {
     /// Whether the run ended well, with these counts and everything flushed, and the writers hold
     /// these bytes.
     pub fn is_whole(&self, games: u64, faulty: u64, out: &[u8], err: &[u8]) -> bool {
-        self.answer == Ok(Summary { games, faulty })
+        let met = Met::NONE;
+        self.answer == Ok(Summary { games, faulty, met })
             && self.faulted == [false, false, false]
             && self.flushed
             && self.holds(out, err)

@@ -34,6 +34,8 @@ use Rattle.pgn_extract.specs.declared.output.outcome.RunError.TheVariants.{Read,
 use Rattle.pgn_extract.specs.declared.output.outcome.Summary.{Summary}
 use Rattle.pgn_criteria.specs.Public.Meeting.{heading_of, Heading}
 use Rattle.pgn_extract.specs.Public.Aims.{Aim}
+use Rattle.pgn_extract.specs.Public.Choices.{IfChosen, is_chosen}
+use Rattle.pgn_text.specs.Public.LeftMarks.{mark_place}
 use Rattle.pgn_extract.specs.Public.Listing.{Entry, listing}
 use Rattle.pgn_extract.specs.declared.settings.Form.{Form}
 use Rattle.pgn_extract.specs.declared.settings.Form.TheVariants.{Standard, AsItStands, Line, Record}
@@ -163,10 +165,15 @@ IsBlockVerdict aim number offset block begin verdict =
     (note : List ℕ) × IsNote aim.explain note × NamesBlockStop aim.explain offset block begin note
     × (verdict ≡ FaultyGame (faulty_text aim.mode aim.select (drop begin block)) (fault_text aim.name number (offset + begin) (codes "unreadable")) note)
 
--- so the index reports the piece whose mark is given, in the block that begins at the offset
+-- so the index reports the piece whose mark is given, in the block that begins at the offset, where it is chosen
 abbrev pub IsMarkVerdict : Aim → ℕ → ℕ → List ℕ → PieceStart → Verdict → Type 0
 IsMarkVerdict aim number offset block (mark.Game place) verdict = verdict ≡ SoundGame (mark_line aim.name number (offset + place))
 IsMarkVerdict aim number offset block (mark.Unreadable place) verdict = IsBlockVerdict aim number offset block place verdict
+
+-- and so it does whether it is or not
+abbrev pub IsMarkReport : Aim → ℕ → ℕ → List ℕ → PieceStart → Verdict → Type 0
+IsMarkReport aim number offset block mark verdict =
+    IfChosen (is_chosen aim.chosen number (offset + mark_place mark)) (IsMarkVerdict aim number offset block mark verdict) (verdict ≡ SoundGame [])
 
 -- of what is reported of these pieces a beginning is written; the report has the rest, and counts the pieces
 pub record Gathers (aim : Aim) (report : Report) (out out' err err' : Option (List ℕ)) (number : ℕ) (pieces : List MarkedPiece) : Type 0 where

@@ -6,6 +6,7 @@ use Rattle.pgn_game.specs.Public.Faults.{Fault}
 use Rattle.pgn_game.specs.Public.Replays.{Replay}
 use Rattle.pgn_game.specs.declared.replays.replayer.Lines.TheVariants.{Main}
 use Rattle.pgn_extract.specs.Public.Aims.{Aim}
+use Rattle.pgn_extract.specs.Public.Choices.{IfChosen, is_chosen}
 use Rattle.pgn_extract.specs.Public.GameReports.{AreListed, IsReplayOf, IsFaultOf}
 use Rattle.pgn_extract.specs.Public.Listing.{Entry, heading_in}
 
@@ -21,9 +22,10 @@ ArePieceEntries aim (ReadableGame parts) number offset entries = AreGameEntries 
 ArePieceEntries aim (UnreadableRest bytes) number offset entries = entries ≡ []
 ArePieceEntries aim TooLongBlock number offset entries = entries ≡ []
 
--- the entries of pieces that are numbered from a number on: those of the first, and then those of the others
+-- the entries of pieces that are numbered from a number on: those of the first, where it is chosen, and then those of the others
 abbrev pub AreEntryRows : Aim → ℕ → List MarkedPiece → List Entry → Type 0
 AreEntryRows aim number [] entries = entries ≡ []
 AreEntryRows aim number (piece ∷ more) entries =
     (own : List Entry) × (rest : List Entry) × (entries ≡ own ++ rest)
-    × ArePieceEntries aim piece.kind number piece.offset own × AreEntryRows aim (number + 1) more rest
+    × IfChosen (is_chosen aim.chosen number piece.offset) (ArePieceEntries aim piece.kind number piece.offset own) (own ≡ [])
+    × AreEntryRows aim (number + 1) more rest

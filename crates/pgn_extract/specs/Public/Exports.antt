@@ -17,6 +17,7 @@ use Rattle.pgn_game.specs.declared.replays.replayer.Lines.TheVariants.{Main}
 use Rattle.pgn_game.specs.declared.exports.style.Style.{Style}
 use Rattle.pgn_criteria.specs.Public.Meeting.{Heading}
 use Rattle.pgn_extract.specs.Public.Aims.{Aim, IsEntry}
+use Rattle.pgn_extract.specs.Public.Choices.{IfChosen, is_chosen}
 use Rattle.pgn_extract.specs.Public.Index.{mark, titled}
 use Rattle.pgn_extract.specs.Public.Listing.{heading_in}
 use Rattle.pgn_extract.specs.Public.GameReports.{IsReplayOf, IsFaultOf}
@@ -96,15 +97,16 @@ pub data IsGameExport (aim : Aim) (number offset : ℕ) (parts : List Part) (tex
   faulty : (fault : Fault) → IsFaultOf (written_lines aim) parts fault → text ≡ faulty_text modes.Export aim.select (spelled parts)
       → IsGameExport aim number offset parts text
 
--- what is written of a piece: nothing of a block over the limit, whose bytes are not kept
+-- what is written of a piece that is chosen: nothing of a block over the limit, whose bytes are not kept
 abbrev pub IsPieceExport : Aim → ℕ → ℕ → PieceKind → List ℕ → Type 0
 IsPieceExport aim number offset (ReadableGame parts) text = IsGameExport aim number offset parts text
 IsPieceExport aim number offset (UnreadableRest bytes) text = text ≡ faulty_text modes.Export aim.select bytes
 IsPieceExport aim number offset TooLongBlock text = text ≡ []
 
--- what is written of pieces in a row that are numbered from a number on: that of the first, and then that of the others
+-- what is written of pieces in a row that are numbered from a number on: that of the first, where it is chosen, and then that of the others
 abbrev pub AreExports : Aim → ℕ → List MarkedPiece → List ℕ → Type 0
 AreExports aim number [] text = text ≡ []
 AreExports aim number (piece ∷ more) text =
-    (own : List ℕ) × (rest : List ℕ) × (text ≡ own ++ rest) × IsPieceExport aim number piece.offset piece.kind own
+    (own : List ℕ) × (rest : List ℕ) × (text ≡ own ++ rest)
+    × IfChosen (is_chosen aim.chosen number piece.offset) (IsPieceExport aim number piece.offset piece.kind own) (own ≡ [])
     × AreExports aim (number + 1) more rest

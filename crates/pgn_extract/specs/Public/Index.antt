@@ -1,6 +1,8 @@
 -- Marks, the index of a text, and the lines that report faulty games.
 use Rattle.std.specs.Prelude.{ℕ, ◌+◌, List, [], ◌∷◌, ◌++◌, Option, Some, None, map, codes, chars, encode_utf8_all, decimal, nat_lt, ◌&&◌, ◌||◌, if◌then◌else◌}
 use Rattle.pgn_text.specs.Public.Marks.{ReadableGame, UnreadableRest, TooLongBlock, MarkedPiece}
+use Rattle.pgn_extract.specs.Public.Choices.{is_chosen}
+use Rattle.pgn_extract.specs.Public.GivenMarks.{GivenMark}
 
 -- a mark, `N@O`: the number of a piece and the offset of its first byte, both in decimal
 abbrev pub mark : ℕ → ℕ → List ℕ
@@ -36,7 +38,8 @@ index_line name number piece = elim piece.kind [
   | TooLongBlock ↦ []
 ]
 
--- the index of pieces that are numbered from a number on
-abbrev pub index : Option (List ℕ) → ℕ → List MarkedPiece → List ℕ
-index name number [] = []
-index name number (piece ∷ more) = index_line name number piece ++ index name (number + 1) more
+-- the index of pieces that are numbered from a number on: the lines of those that are chosen
+abbrev pub index : Option (List GivenMark) → Option (List ℕ) → ℕ → List MarkedPiece → List ℕ
+index chosen name number [] = []
+index chosen name number (piece ∷ more) =
+    (if is_chosen chosen number piece.offset then index_line name number piece else []) ++ index chosen name (number + 1) more

@@ -11,7 +11,7 @@ use Rattle.pgn_extract.specs.Public.Exports.{as_it_stands, IsPieceExport, AreExp
 use Rattle.pgn_extract.specs.Public.Notes.{IsLinePlace, IsNote, NamesByte, NamesStop}
 use Rattle.pgn_extract.specs.Public.Resuming.{IsMarkAmong}
 use Rattle.pgn_extract.specs.Public.Runs.{Io, job_of, ArePieces, Adds, IsRun}
-use Rattle.pgn_extract.specs.Public.Searching.{IsSearch, PacksAll}
+use Rattle.pgn_extract.specs.Public.Searching.{IsSearch, PacksAll, of_all}
 use Rattle.pgn_extract.specs.Public.Verdicts.{Verdict, AreVerdicts, IsSameReport, output_text, fault_lines, is_faulty}
 use Rattle.pgn_extract.specs.Public.Aims.{Aim, aim_of}
 use Rattle.pgn_extract.specs.declared.output.outcome.Summary.{Summary}
@@ -81,12 +81,13 @@ PackIsListedAsItsText =
     → packing.number ≤ 2 ^ 62 → packing.offset ≤ largest_offset → io.input.old.bytes ≡ Some whole → IsRun (job_of packing) io (Ok summary)
     → (pieces : List MarkedPiece) × (bytes : List ℕ) × ArePieces (job_of packing) whole pieces × Adds io.out bytes
     × ((aim : Aim) (left out out' : Option (List ℕ)) (searched : Searched) (entries : List Entry) → aim.mode ≡ modes.List
-    → IsSearch aim (Some bytes) left out out' (Ok searched) → AreEntries aim packing.number pieces entries → Appends out out' (listing packing.name entries))
+    → IsSearch aim (Some bytes) left out out' (Ok searched) → AreEntries (of_all aim) packing.number pieces entries → Appends out out' (listing packing.name entries))
 
 -- the aim that asks for all entries of each game, or for the first alone
 abbrev pub with_first : Bool → Aim → Aim
 with_first first aim = record {
   name = aim.name;
+  chosen = aim.chosen;
   mode = aim.mode;
   criteria = aim.criteria;
   min_ply = aim.min_ply;
@@ -109,6 +110,7 @@ FirstChangesNoExport =
 abbrev pub as_they_stand : Select → Aim → Aim
 as_they_stand select aim = record {
   name = aim.name;
+  chosen = aim.chosen;
   mode = aim.mode;
   criteria = aim.criteria;
   min_ply = aim.min_ply;

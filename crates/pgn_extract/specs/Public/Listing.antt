@@ -12,6 +12,7 @@ use Rattle.pgn_game.specs.Public.Replays.{Replay, IsMainReplay}
 use Rattle.pgn_game.specs.Public.Starts.{fen_tag}
 use Rattle.pgn_criteria.specs.Public.Meeting.{Heading}
 use Rattle.pgn_extract.specs.Public.Aims.{Aim, IsEntry}
+use Rattle.pgn_extract.specs.Public.Choices.{is_chosen}
 use Rattle.pgn_extract.specs.Public.Index.{mark, titled}
 use Rattle.pgn_extract.specs.declared.settings.Fields.{Fields}
 
@@ -64,14 +65,15 @@ heading_in parts = record { named = λ name. first_tag name parts; result = resu
 abbrev pub IsMainReplayOf : List Part → Replay → Type 0
 IsMainReplayOf parts replay = IsMainReplay (first_tag fen_tag parts) (items_of parts) replay
 
--- the entry names a sound game, by its place among the pieces and the offset of its first byte, and a ply of its main line that is listed,
--- and shows what is asked for of the ply
+-- the entry names a sound game that is chosen, by its place among the pieces and the offset of its first byte, and a ply of its main line that is
+-- listed, and shows what is asked for of the ply
 pub record IsPlyOfGame (aim : Aim) (number : ℕ) (pieces : List MarkedPiece) (entry : Entry) : Type 0 where
   pub place : ℕ
   pub parts : List Part
   pub replay : Replay
   pub game : slice_get pieces place ≡ Some (record { offset = entry.offset; kind = ReadableGame parts })
   pub numbered : entry.number ≡ number + place
+  pub chosen : is_chosen aim.chosen entry.number entry.offset ≡ true
   pub is_replay : IsMainReplayOf parts replay
   pub within : entry.ply < length replay.positions
   pub listed : IsEntry aim (heading_in parts) replay entry.ply
@@ -86,7 +88,7 @@ abbrev pub Ascend : List Entry → Type 0
 Ascend [] = Unit {0}
 Ascend (entry ∷ more) = ((later : Entry) → Contains more later → IsEarlier entry later) × Ascend more
 
--- the entries of pieces that are numbered from a number on: exactly the plies of the sound games among them that are listed, each once, in
+-- the entries of pieces that are numbered from a number on: exactly the plies of the chosen sound games among them that are listed, each once, in
 -- the order of the games and their plies
 pub record AreEntries (aim : Aim) (number : ℕ) (pieces : List MarkedPiece) (entries : List Entry) : Type 0 where
   pub exact : (entry : Entry) → (Contains entries entry ↔ IsPlyOfGame aim number pieces entry)

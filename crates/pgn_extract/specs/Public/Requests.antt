@@ -44,11 +44,13 @@ asked_style request = record {
   width = unwrap_or request.width 79;
 }
 
--- all that a run is to do, with notes or without, and with these criteria; its lines have no name
--- yet
-abbrev pub asked : Bool → Request → Option (List (List (Condition (List ℕ)))) → Aim
-asked noted request criteria = record {
+-- all that a run is to do, with notes or without, with these criteria, and of the pieces with these
+-- marks; its lines have no name yet
+abbrev pub asked : Bool → Request → Option (List (List (Condition (List ℕ)))) → Option (List GivenMark)
+    → Aim
+asked noted request criteria chosen = record {
   name = None;
+  chosen = chosen;
   mode = asked_mode request;
   criteria = criteria;
   min_ply = request.min_ply;
@@ -95,9 +97,9 @@ has_mode request = request.list || request.index
 abbrev pub has_fields : Request → Bool
 has_fields request = request.fen || request.next
 
--- the run is to begin or to end at a mark
+-- the run is to begin or to end at a mark, or to report the pieces with marks
 abbrev pub gives_mark : Request → Bool
-gives_mark request = is_some request.from || is_some request.until
+gives_mark request = is_some request.from || is_some request.until || is_some request.at
 
 -- moves are to stand on a line
 abbrev pub has_moves : Request → Bool
@@ -137,7 +139,7 @@ file_refusals request =
     }
     ∷ record {
       applies = gives_mark request && has_several_files request;
-      line = codes "pgn-extract: --from and --until take one FILE\n";
+      line = codes "pgn-extract: --from, --until and --at take one FILE\n";
     }
     ∷ []
 
@@ -155,7 +157,7 @@ option_refusals request =
     ∷ record {
       applies = request.packed
           && (has_fields request || gives_mark request || request.with_names || request.no_names);
-      line = codes "pgn-extract: --packed goes with none of --fen, --next, --from, --until, --with-names and --no-names\n";
+      line = codes "pgn-extract: --packed goes with none of --fen, --next, --from, --until, --at, --with-names and --no-names\n";
     }
     ∷ record {
       applies = has_fields request && not request.list;

@@ -99,11 +99,11 @@ pub record Completes (job : Job) (io : Io) (whole : List ℕ) (summary : Summary
 abbrev pub Completed : Job → Io → Summary → Type 0
 Completed job io summary = OnInput io (λ whole. Completes job io whole summary) × (io.out.new.flushed ≡ true) × (io.err.new.flushed ≡ true)
 
--- In the mode of the index the output grew by exactly the index of the pieces,
+-- In the mode of the index the output grew by exactly the index of the pieces that are chosen,
 pub record Indexes (job : Job) (io : Io) (whole : List ℕ) : Type 0 where
   pub pieces : List MarkedPiece
   pub each : ArePieces job whole pieces
-  pub indexed : Adds io.out (index job.aim.name job.number pieces)
+  pub indexed : Adds io.out (index job.aim.chosen job.aim.name job.number pieces)
 
 abbrev pub Indexed : Job → Io → Type 0
 Indexed job io = OnInput io (λ whole. job.aim.mode ≡ mode.Index → Indexes job io whole)

@@ -55,8 +55,9 @@ pub record IsPackOf (name : Option (List ℕ)) (number : ℕ) (pieces : List Mar
   pub fit : AllByRecursion FitsRecord records
   pub packed : bytes ≡ pack_bytes records
 
--- each sound game is packed, whatever its moves
+-- each sound game is packed, whatever its mark and its moves
 pub record PacksAll (packing : Aim) : Type 0 where
+  pub chosen : packing.chosen ≡ None
   pub form : packing.form ≡ Record
   pub criteria : packing.criteria ≡ None
   pub from_start : packing.min_ply ≡ 0
@@ -78,6 +79,10 @@ PackedTextIsAPack =
     → PacksText packing number offset text pieces bytes → IsPackOf packing.name number pieces bytes
 
 -- What is found in a pack.
+
+-- the aim that passes over no game: marks are not looked for in packs
+abbrev pub of_all : Aim → Aim
+of_all aim = record aim { chosen = None }
 
 -- the listing of a record: of whatever game it is kept, the lines of the entries of that game
 abbrev pub IsRecordListing : Aim → PackedGame → List ℕ → Type 0
@@ -128,7 +133,7 @@ pub record Searches (aim : Aim) (whole : List ℕ) (out out' : Option (List ℕ)
 abbrev pub ListsWhatWasPacked : Aim → List ℕ → Option (List ℕ) → Option (List ℕ) → Type 0
 ListsWhatWasPacked aim whole out out' =
     aim.mode ≡ modes.List → (name : Option (List ℕ)) (number : ℕ) (pieces : List MarkedPiece) → IsPackOf name number pieces whole
-    → (entries : List Entry) → AreEntries aim number pieces entries → Appends out out' (listing name entries)
+    → (entries : List Entry) → AreEntries (of_all aim) number pieces entries → Appends out out' (listing name entries)
 
 -- the piece is a game whose main line is sound
 abbrev pub IsSoundPiece : PieceKind → Type 0

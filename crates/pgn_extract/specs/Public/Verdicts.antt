@@ -9,6 +9,7 @@ use Rattle.pgn_extract.specs.Public.Index.{fault_text, mark_line}
 use Rattle.pgn_extract.specs.Public.Listing.{Entry, listing, heading_in}
 use Rattle.pgn_extract.specs.Public.GameReports.{AreListed, IsReplayOf, IsFaultOf, cause_text}
 use Rattle.pgn_extract.specs.Public.Aims.{Aim}
+use Rattle.pgn_extract.specs.Public.Choices.{IfChosen, is_chosen}
 use Rattle.pgn_extract.specs.Public.Exports.{written_lines, IsWritten, faulty_text}
 use Rattle.pgn_extract.specs.Public.Notes.{IsNote, NamesStop}
 use Rattle.pgn_extract.specs.declared.settings.Mode.{Mode}
@@ -88,16 +89,17 @@ IsUnreadableVerdict aim offset bytes line verdict =
     (note : List ℕ) × IsNote aim.explain note × NamesStop aim.explain offset bytes note
     × (verdict ≡ FaultyGame (faulty_text aim.mode aim.select bytes) line note)
 
--- a piece is reported so, by what it is: what can't be read is reported by the same line in each mode
+-- a piece that is chosen is reported so, by what it is: what can't be read is reported by the same line in each mode
 abbrev pub IsPieceVerdict : PieceKind → Aim → ℕ → ℕ → Verdict → Type 0
 IsPieceVerdict (ReadableGame parts) aim number offset verdict = IsGameVerdict aim number offset parts verdict
 IsPieceVerdict (UnreadableRest bytes) aim number offset verdict =
     IsUnreadableVerdict aim offset bytes (fault_text aim.name number offset (codes "unreadable")) verdict
 IsPieceVerdict TooLongBlock aim number offset verdict = IsReportedBy aim [] (fault_text aim.name number offset (codes "too long")) verdict
 
--- the piece with this number is reported so in the mode
+-- the piece with this number is reported so in the mode: where it is not chosen, nothing goes anywhere
 abbrev pub IsVerdict : Aim → ℕ → MarkedPiece → Verdict → Type 0
-IsVerdict aim number piece verdict = IsPieceVerdict piece.kind aim number piece.offset verdict
+IsVerdict aim number piece verdict =
+    IfChosen (is_chosen aim.chosen number piece.offset) (IsPieceVerdict piece.kind aim number piece.offset verdict) (verdict ≡ SoundGame [])
 
 -- the pieces in a row, which are numbered from a number on, are reported so one after the other
 abbrev pub AreVerdicts : Aim → ℕ → List MarkedPiece → List Verdict → Type 0

@@ -61,6 +61,8 @@ pub struct Request<'a> {
     pub from: Option<&'a str>,
     /// The text after `--until`.
     pub until: Option<&'a str>,
+    /// The path after `--at`.
+    pub at: Option<&'a str>,
     /// `--with-names` was given.
     pub with_names: bool,
     /// `--no-names` was given.
@@ -303,6 +305,13 @@ fn input_options<'a>(alloc: Global, command: Command<'a>) -> Result<Command<'a>,
             "End before the game with this mark\n\
              [default: the end of the input]",
         ))?
+        .arg(text_option(
+            alloc,
+            "at",
+            "MARKS",
+            "Report only the games whose marks begin the lines of\n\
+             the file MARKS: of a list, an index, or reports",
+        ))?
         .arg(flag(
             alloc,
             "with-names",
@@ -382,6 +391,7 @@ pub fn read_arguments<'a>(alloc: Global, arguments: &'a [String]) -> Result<Requ
         no_progress: matches.get_flag("no-progress"),
         from: matches.get_str("from"),
         until: matches.get_str("until"),
+        at: matches.get_str("at"),
         with_names: matches.get_flag("with-names"),
         no_names: matches.get_flag("no-names"),
         files,

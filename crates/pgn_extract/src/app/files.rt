@@ -12,6 +12,7 @@ ghost use Rattle.pgn_extract.specs.Public.Several.{AtPath, FileOf, Unknown, AreK
 use crate::app::endings::put_summary;
 use crate::engine::run_skipping;
 use crate::explain::refusal_notes::push_reason;
+use crate::marks::Met;
 use crate::output::file_name::FileName;
 use crate::output::outcome::{RunError, Summary};
 use crate::output::write_all::{finish, write_all};
@@ -109,6 +110,7 @@ impl Total {
         summary: Summary {
             games: 0,
             faulty: 0,
+            met: Met::NONE,
         },
         unopened: false,
     };

@@ -36,13 +36,13 @@ pub const PACKS_GIVE_LINES: &str = "pgn-extract: --packed goes with --list or --
 /// The lines of a pack have the names that were packed, and end after the ply; and a pack is
 /// searched as a whole.
 pub const PACKS_ARE_PLAIN: &str =
-    "pgn-extract: --packed goes with none of --fen, --next, --from, --until, --with-names and --no-names\n";
+    "pgn-extract: --packed goes with none of --fen, --next, --from, --until, --at, --with-names and --no-names\n";
 
 /// A pack has something that is the record of no game; its name follows.
 pub const BAD_PACK: &str = "pgn-extract: bad pack: ";
 
 /// A mark is of one file.
-pub const MARKS_TAKE_ONE_FILE: &str = "pgn-extract: --from and --until take one FILE\n";
+pub const MARKS_TAKE_ONE_FILE: &str = "pgn-extract: --from, --until and --at take one FILE\n";
 
 /// The name of standard input.
 pub const STANDARD_INPUT: &str = "(standard input)";
@@ -65,6 +65,9 @@ pub const NOT_ONE_LINE: &str = "pgn-extract: --where takes one line\n";
 
 /// Standard output is one of the files that are to be read; its name follows.
 pub const OUTPUT_IS_READ: &str = "pgn-extract: the output is one of the files: ";
+
+/// The file of marks could not be opened, or a read of it failed.
+pub const CANNOT_READ_MARKS: &str = "pgn-extract: cannot read marks\n";
 
 /// The file of criteria could not be opened, or a read of it failed.
 pub const CANNOT_READ_CRITERIA: &str = "pgn-extract: cannot read criteria\n";

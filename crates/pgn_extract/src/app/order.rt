@@ -9,6 +9,7 @@ use crate::app::command::{DEFAULT_WIDTH, Request};
 use crate::app::conditions::are_lines;
 use crate::app::mark::{Mark, read_mark};
 use crate::app::messages;
+use crate::marks::Marks;
 use crate::settings::{Fields, Form, Mode, Select, Settings};
 use pgn_criteria::Criteria;
 use pgn_game::{Notation, Style};
@@ -113,11 +114,11 @@ fn refused_files(request: &Request<'_>) -> Option<&'static str>
     None
 }
 
-/// Whether the run is to begin or to end at a mark.
+/// Whether the run is to begin or to end at a mark, or to report the pieces with marks.
 fn has_mark(request: &Request<'_>) -> bool
     ensures { result ≡ gives_mark request.now }
 {
-    request.from.is_some() || request.until.is_some()
+    request.from.is_some() || request.until.is_some() || request.at.is_some()
 }
 
 /// Whether an option says how games are written in the standard's form.
@@ -193,14 +194,15 @@ fn style_of(request: &Request<'_>) -> Style
 }
 
 /// What a run is to write, with no name yet.
-pub fn settings_of(order: &Order<'_>, criteria: Option<Criteria>) -> Settings
-    ensures asked { aim_of result ≡ asked order.now.noted order.now.request criteria }
+pub fn settings_of(order: &Order<'_>, criteria: Option<Criteria>, chosen: Option<Marks>) -> Settings
+    ensures asked { aim_of result ≡ asked order.now.noted order.now.request criteria chosen }
     ensures number { result.number ≡ order.now.mark.number }
     ensures offset { result.offset ≡ order.now.mark.offset }
 {
     let request = &order.request;
     Settings {
         name: None,
+        chosen,
         mode: mode_of(request),
         criteria,
         min_ply: request.min_ply,
@@ -222,10 +224,10 @@ pub fn settings_of(order: &Order<'_>, criteria: Option<Criteria>) -> Settings
 /// What is looked for in packs.
 pub fn packed_settings(order: &Order<'_>, criteria: Option<Criteria>) -> Settings
     ensures asked { aim_of result
-        ≡ record (asked order.now.noted order.now.request criteria) { fields = result.fields } }
+        ≡ record (asked order.now.noted order.now.request criteria None) { fields = result.fields } }
     ensures plain { is_plain result.fields ≡ true }
 {
-    let mut settings = settings_of(order, criteria);
+    let mut settings = settings_of(order, criteria, None);
     settings.fields = Fields {
         fen: false,
         next: false,

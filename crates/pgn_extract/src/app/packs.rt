@@ -13,6 +13,7 @@ use crate::app::endings::{flush_rest, line_of, report_bytes, report_line};
 use crate::app::files::{Files, Total, put_unopened};
 use crate::app::status::FAILED;
 use crate::app::{end_runs, messages};
+use crate::marks::Met;
 use crate::output::file_name::FileName;
 use crate::output::outcome::{RunError, Summary};
 use crate::output::texts::push_number;
@@ -76,6 +77,7 @@ where
         Ok(searched) => Ok(Summary {
             games: searched.records,
             faulty: 0,
+            met: Met::NONE,
         }),
         Err(error) => Err(PackFailure::Search(name, error)),
     }

@@ -234,5 +234,6 @@ pub fn put_block<'a, O: Write, E: Write>(
     Ok(Summary {
         games: report.games,
         faulty: report.faulty,
+        met: report.met,
     })
 }

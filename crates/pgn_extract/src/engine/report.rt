@@ -1,9 +1,10 @@
 //! What is reported of the pieces of one block, piece by piece.
-ghost use Rattle.std.specs.Prelude.{◌≡◌, ℕ, List, None, Some, true, MatchResult, IfSome, ◌+◌, ◌^◌, ◌<◌, ◌≤◌, [], ◌∷◌, length, codes, OnOk};
+ghost use Rattle.std.specs.Prelude.{◌≡◌, ℕ, List, None, Some, true, MatchResult, IfSome, ◌+◌, ◌^◌, ◌<◌, ◌≤◌, [], ◌∷◌, length, codes, not, OnOk};
 ghost use Rattle.pgn_text.specs.Public.Left.{piece_place};
 ghost use Rattle.pgn_text.specs.Public.LeftMarks.{mark_place};
 ghost use Rattle.pgn_extract.specs.Public.Aims.{aim_of};
-ghost use Rattle.pgn_extract.specs.Private.Blockwise.{Reports, AddsVerdict, AddsGame, AddsListed, AddsExported, AddsPiece, IsBlockVerdict, IsMarkVerdict, too_long_piece};
+ghost use Rattle.pgn_extract.specs.Public.Choices.{is_chosen};
+ghost use Rattle.pgn_extract.specs.Private.Blockwise.{Reports, AddsVerdict, AddsGame, AddsListed, AddsExported, AddsPiece, IsBlockVerdict, IsMarkReport, too_long_piece};
 ghost use Rattle.pgn_extract.specs.Private.Finding.{AddsEntries, StopsAtFault};
 ghost use Rattle.pgn_extract.specs.Public.Index.{fault_text};
 ghost use Rattle.pgn_extract.specs.Public.Listing.{is_plain};
@@ -20,6 +21,7 @@ use crate::entries::{GameContext, GameMark, push_found};
 use crate::explain::move_notes::{Site, push_game_note};
 use crate::explain::notes::{Origin, Spot, push_stop_note, push_too_long_note};
 use crate::explain::players::push_players;
+use crate::marks::Met;
 use crate::output::texts::{push_fault_line, push_game_fault, push_mark_line};
 use crate::settings::{Mode, Settings};
 use pgn_game::{GameFault, Lines, count_plies};
@@ -40,6 +42,8 @@ pub struct Report {
     pub games: u64,
     /// How many of them are faulty.
     pub faulty: u64,
+    /// Which of the marks of the run's settings are met, in this block and those before it.
+    pub met: Met,
     /// The line on which the pieces begin, counted from 1, where it is known.
     pub line: Option<u32>,
     /// The place of the block up to which lines are counted.
@@ -58,6 +62,7 @@ impl Report {
             faults: Vec::new(alloc),
             games: 0,
             faulty: 0,
+            met: Met::NONE,
             line,
             spot: Spot::first(),
         }
@@ -79,6 +84,23 @@ impl Report {
     /// Whether its texts are so long that they are better written before more is added.
     pub fn is_large(&self) -> bool {
         self.output.len() + self.faults.len() >= LARGE
+    }
+
+    /// Whether the piece with this number and offset is passed over; else its mark is met.
+    fn passes_over(&mut self, settings: &Settings, number: u64, offset: u64) -> bool
+        ensures passed { result ≡ not (is_chosen (aim_of settings.now).chosen number offset) }
+        ensures output { self.new.output ≡ self.old.output }
+        ensures faults { self.new.faults ≡ self.old.faults }
+        ensures counts { (self.new.games ≡ self.old.games) × (self.new.faulty ≡ self.old.faulty) }
+    {
+        let Some(marks) = &settings.chosen else {
+            return false;
+        };
+        let Some(place) = marks.place(number, offset) else {
+            return true;
+        };
+        self.met.meet(place);
+        false
     }
 
     /// Makes its texts empty; the counts stay, and so does the room.
@@ -337,6 +359,9 @@ impl Report {
         match piece {
             Piece::Game(game) => {
                 let offset_of_game = offset + game.at() as u64;
+                if self.passes_over(settings, number, offset_of_game) {
+                    return Ok(());
+                }
                 let own = GameMark {
                     number,
                     offset: offset_of_game,
@@ -357,7 +382,12 @@ impl Report {
                 };
                 self.add_game(context, site, game)
             }
-            Piece::Unreadable { at } => self.add_unreadable(context, *at),
+            Piece::Unreadable { at } => {
+                if self.passes_over(settings, number, offset + *at as u64) {
+                    return Ok(());
+                }
+                self.add_unreadable(context, *at)
+            }
         }
     }
 }
@@ -373,6 +403,10 @@ pub fn report_too_long(
     ensures { OnOk result (Reports (aim_of settings.now) report.new number (too_long_piece offset ∷ [])) }
 {
     report.clear();
+    report.games = 1;
+    if report.passes_over(settings, number, offset) {
+        return Ok(());
+    }
     push_fault_line(
         &mut report.faults,
         &settings.name,
@@ -380,7 +414,6 @@ pub fn report_too_long(
         offset,
         b"too long",
     )?;
-    report.games = 1;
     report.faulty = 1;
     if !settings.explain {
         return Ok(());
@@ -397,17 +430,25 @@ pub fn add_mark(
     requires place { mark_place mark ≤ length context.bytes.now }
     requires room { context.offset + length context.bytes.now < 2 ^ 64 }
     requires counts { (index.old.games + 1 < 2 ^ 64) × (index.old.faulty + 1 < 2 ^ 64) }
-    ensures { OnOk result ((verdict : Verdict) × IsMarkVerdict (aim_of context.entry.settings.now) context.entry.number context.entry.offset context.entry.bytes.now mark verdict
+    ensures { OnOk result ((verdict : Verdict) × IsMarkReport (aim_of context.entry.settings.now) context.entry.number context.entry.offset context.entry.bytes.now mark verdict
         × AddsVerdict index.old index.new verdict 1) }
 {
     index.games += 1;
     match mark {
-        PieceStart::Game(at) => push_mark_line(
-            &mut index.output,
-            &context.settings.name,
-            context.number,
-            context.offset + at as u64,
-        ),
-        PieceStart::Unreadable(at) => index.add_unreadable(context, at),
+        PieceStart::Game(at) => {
+            let offset = context.offset + at as u64;
+            if index.passes_over(context.settings, context.number, offset) {
+                return Ok(());
+            }
+            let name = &context.settings.name;
+            push_mark_line(&mut index.output, name, context.number, offset)
+        }
+        PieceStart::Unreadable(at) => {
+            let offset = context.offset + at as u64;
+            if index.passes_over(context.settings, context.number, offset) {
+                return Ok(());
+            }
+            index.add_unreadable(context, at)
+        }
     }
 }

@@ -3,6 +3,7 @@ ghost use Rattle.std.specs.Prelude.{◌≡◌};
 ghost use Rattle.pgn_extract.specs.Private.Blockwise.{run_error_of};
 ghost use Rattle.pgn_extract.specs.declared.output.outcome.RunError.TheVariants.{OutOfMemory};
 
+use crate::marks::Met;
 use pgn_text::ReadError;
 use std::alloc::AllocError;
 use thiserror::Error;
@@ -14,6 +15,8 @@ pub struct Summary {
     pub games: u64,
     /// The faulty ones among them.
     pub faulty: u64,
+    /// Which of the marks it met, where it reports only the pieces with marks.
+    pub met: Met,
 }
 
 /// Why a run ended early.

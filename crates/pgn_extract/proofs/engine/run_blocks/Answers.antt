@@ -2,11 +2,18 @@ use Rattle.std.proofs.Common.{Err, ap, subst, refl, inl, inr}
 use Rattle.std.proofs.lemmas.Bool.{both_ways, false_from_ne_true}
 use Rattle.pgn_text.specs.Public.Tallies.{Reads}
 use Rattle.pgn_text.specs.declared.io.blocks.ReadError.{ReadError}
-use Rattle.pgn_extract.proofs.RunProgress.{progress_start, nearer, progress_more, block_breaks, all_written, flush_breaks, read_breaks}
+use Rattle.pgn_extract.proofs.RunProgress.{faulty_fits, progress_start, nearer, progress_more, block_breaks, all_written, flush_breaks, read_breaks}
 use Rattle.pgn_extract.proofs.engine.run_blocks.Goals as goal
 
 pub loop-block-init : goal.loop-block-init
 loop-block-init g c = (progress_start _ _ _ _ c.new-blocks.ensures c.requires.offset, c.requires.sound.0, c.requires.sound.1, c.requires.sound.2)
+
+pub overflow_add-faulty : goal.overflow_add-faulty
+overflow_add-faulty g c =
+    let gives = rw (c.in-Ok-Some.is, c.in-Ok-Some.field-0-is) at c.next.follows.holds-at-none in
+    let work = c.new-work.ensures in
+    let done = rw (work.settings, work.number, work.block) at c.in-Ok.ensures.done in
+    faulty_fits (progress_more c.loop-block.invariant.0 gives.2.1 gives.1 gives.2.2.1 (done gives.2.0 gives.2.2.0))
 
 pub loop-block-smaller : goal.loop-block-smaller
 loop-block-smaller g c =
