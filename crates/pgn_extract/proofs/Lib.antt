@@ -30,6 +30,7 @@ pub mod OneListing
 pub mod PackListed
 pub mod PackTaken
 pub mod PackFits
+mod ShownNames
 pub mod SearchFacts
 pub mod Sifted
 pub mod MarkedFacts

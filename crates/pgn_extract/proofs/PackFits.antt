@@ -1,14 +1,15 @@
 -- Where each sound game of a text is packed, each of its records has a spelling, and so what is exported is the pack of the text.
-use Rattle.std.proofs.Common.{◌≡◌, ℕ, ◌+◌, ◌^◌, ◌<◌, ◌≤◌, ◌==◌, Bool, List, [], ◌∷◌, ◌++◌, map, length, drop, Option, Some, sym, ap, ◌∙◌, subst, append_assoc, length-append, length-drop, arith}
+use Rattle.std.proofs.Common.{◌≡◌, ℕ, ◌+◌, ◌^◌, ◌<◌, ◌≤◌, ◌==◌, Bool, List, [], ◌∷◌, ◌++◌, map, length, drop, Option, Some, refl, sym, ap, ◌∙◌, subst, append_assoc, length-append, length-drop, arith}
 use Rattle.std.specs.List.{AllByRecursion}
-use Rattle.std.specs.Prelude.{IfSome}
+use Rattle.std.proofs.lemmas.Bool.Decides.{nat_tests}
+use Rattle.std.specs.Prelude.{◌&&◌, true, nat_le, IfSome, IsTrue}
 use Rattle.pgn_text.specs.Public.Limits.{block_limit, depth_limit, largest_offset}
 use Rattle.pgn_text.specs.Public.Marks.{PieceKind, ReadableGame, UnreadableRest, TooLongBlock, MarkedPiece, marked, AreOfBlock, over, within, AreOfBlocks, AreMarkedPieces}
 use Rattle.pgn_text.specs.Public.Parts.{Part, spelled}
 use Rattle.pgn_text.specs.Public.Pieces.{Piece, Game, Unreadable, ArePieces}
 use Rattle.pgn_text.proofs.MarkBounds.{mark_bounds}
 use Rattle.pgn_game.proofs.PackRoom.{game_fits}
-use Rattle.pgn_game.specs.Public.PackedGames.{PackedGame, FitsRecord, longest_name}
+use Rattle.pgn_game.specs.Public.PackedGames.{PackedGame, FitsRecord, longest_name, is_origin, is_shown_name}
 use Rattle.pgn_game.specs.declared.replays.replayer.Lines.TheVariants.{Main}
 use Rattle.pgn_extract.specs.Public.Aims.{aim_of}
 use Rattle.pgn_extract.specs.Public.Laws.{PackIsListedAsItsText}
@@ -51,32 +52,41 @@ small_of_blocks max_depth offset [] marks none = subst (AllByRecursion IsSmall) 
 small_of_blocks max_depth offset (block ∷ more) marks (own, rest, parted, here, others) =
     subst (AllByRecursion IsSmall) (sym parted) (both_parts IsSmall own rest (small_of_block max_depth offset block own here) (small_of_blocks max_depth (offset + length block) more rest others))
 
+is_met_there : (number offset : ℕ) (name : Option (List ℕ)) → 1 ≤ number → offset ≤ largest_offset
+    → IsTrue (is_shown_name name) → IsTrue (is_origin number offset name)
+is_met_there number offset name counted placed shown =
+    let first : nat_le 1 number ≡ true = grind (arith, nat_tests) in
+    let second : nat_le offset largest_offset ≡ true = grind (arith, nat_tests) in
+    rw (first, second, shown) refl
+
 record_fits : (name : Option (List ℕ)) (number offset : ℕ) (parts : List Part) (records : List PackedGame) → IfSome name (λ own. length own ≤ longest_name)
-    → number < 2 ^ 64 → offset < 2 ^ 64 → length (spelled parts) ≤ block_limit → AreGameRecords name number offset parts records → AllByRecursion FitsRecord records
-record_fits name number offset parts records short number_fits offset_fits small (sound game replay packed good shows is packs one) =
+    → number < 2 ^ 64 → offset < 2 ^ 64 → IsTrue (is_origin number offset name) → length (spelled parts) ≤ block_limit → AreGameRecords name number offset parts records → AllByRecursion FitsRecord records
+record_fits name number offset parts records short number_fits offset_fits origin small (sound game replay packed good shows is packs one) =
     let own = own_replay Main game parts replay shows is in
     let text : length game.text ≤ block_limit = omega (arith, ap length shows.text) in
-    subst (AllByRecursion FitsRecord) (sym one) (game_fits name number offset game parts replay packed good shows text own packs short number_fits offset_fits, tt)
-record_fits name number offset parts records short number_fits offset_fits small (faulty fault is none) = subst (AllByRecursion FitsRecord) (sym none) tt
+    subst (AllByRecursion FitsRecord) (sym one) (game_fits name number offset game parts replay packed good shows text own packs short number_fits offset_fits origin, tt)
+record_fits name number offset parts records short number_fits offset_fits origin small (faulty fault is none) = subst (AllByRecursion FitsRecord) (sym none) tt
 
 piece_fits : (name : Option (List ℕ)) (number offset : ℕ) (kind : PieceKind) (records : List PackedGame) → IfSome name (λ own. length own ≤ longest_name)
-    → number < 2 ^ 64 → offset < 2 ^ 64 → IsSmallKind kind → ArePieceRecords name kind number offset records → AllByRecursion FitsRecord records
-piece_fits name number offset (ReadableGame parts) records short number_fits offset_fits small are = record_fits name number offset parts records short number_fits offset_fits small are
-piece_fits name number offset (UnreadableRest bytes) records short number_fits offset_fits small none = subst (AllByRecursion FitsRecord) (sym none) tt
-piece_fits name number offset TooLongBlock records short number_fits offset_fits small none = subst (AllByRecursion FitsRecord) (sym none) tt
+    → number < 2 ^ 64 → offset < 2 ^ 64 → IsTrue (is_origin number offset name) → IsSmallKind kind → ArePieceRecords name kind number offset records → AllByRecursion FitsRecord records
+piece_fits name number offset (ReadableGame parts) records short number_fits offset_fits origin small are = record_fits name number offset parts records short number_fits offset_fits origin small are
+piece_fits name number offset (UnreadableRest bytes) records short number_fits offset_fits origin small none = subst (AllByRecursion FitsRecord) (sym none) tt
+piece_fits name number offset TooLongBlock records short number_fits offset_fits origin small none = subst (AllByRecursion FitsRecord) (sym none) tt
 
 -- a piece has no more pieces before it than bytes
 pieces_fit : (name : Option (List ℕ)) (number max_depth offset : ℕ) (text : List ℕ) (before more : List MarkedPiece) (records : List PackedGame)
-    → IfSome name (λ own. length own ≤ longest_name) → number ≤ 2 ^ 62 + length before → offset + length text ≤ largest_offset
+    → IfSome name (λ own. length own ≤ longest_name) → IsTrue (is_shown_name name) → 1 ≤ number
+    → number ≤ 2 ^ 62 + length before → offset + length text ≤ largest_offset
     → AreMarkedPieces block_limit max_depth offset text (before ++ more) → AllByRecursion IsSmall more → AreRecords name number more records → AllByRecursion FitsRecord records
-pieces_fit name number max_depth offset text before [] records short few bounded each small none = subst (AllByRecursion FitsRecord) (sym none) tt
-pieces_fit name number max_depth offset text before (piece ∷ more) records short few bounded each small (own, rest, parted, here, others) =
+pieces_fit name number max_depth offset text before [] records short shown counted few bounded each small none = subst (AllByRecursion FitsRecord) (sym none) tt
+pieces_fit name number max_depth offset text before (piece ∷ more) records short shown counted few bounded each small (own, rest, parted, here, others) =
     let bounds = mark_bounds block_limit max_depth offset text before piece more each in
-    let first = piece_fits name number piece.offset piece.kind own short (omega (arith, bounds.0, bounds.1)) (omega (arith, bounds.1)) small.0 here in
+    let origin = is_met_there number piece.offset name counted (omega (arith, bounds.1)) shown in
+    let first = piece_fits name number piece.offset piece.kind own short (omega (arith, bounds.0, bounds.1)) (omega (arith, bounds.1)) origin small.0 here in
     let next : AreMarkedPieces block_limit max_depth offset text ((before ++ piece ∷ []) ++ more) =
     subst (AreMarkedPieces block_limit max_depth offset text) (sym (append_assoc before (piece ∷ []) more)) each in
     let count : number + 1 ≤ 2 ^ 62 + length (before ++ piece ∷ []) = omega (arith, length-append before (piece ∷ [])) in
-    subst (AllByRecursion FitsRecord) (sym parted) (both_parts FitsRecord own rest first (pieces_fit name (number + 1) max_depth offset text (before ++ piece ∷ []) more rest short count bounded next small.1 others))
+    subst (AllByRecursion FitsRecord) (sym parted) (both_parts FitsRecord own rest first (pieces_fit name (number + 1) max_depth offset text (before ++ piece ∷ []) more rest short shown (omega arith) count bounded next small.1 others))
 
 pub packed_text : PackedTextIsAPack
 packed_text packing number offset text pieces bytes packs =
@@ -84,7 +94,7 @@ packed_text packing number offset text pieces bytes packs =
     let small = small_of_blocks depth_limit offset packs.each.blocks pieces packs.each.each in record {
       records = taken.0;
       are = taken.1;
-      fit = pieces_fit packing.name number depth_limit offset text [] pieces taken.0 packs.short (omega (arith, packs.few)) packs.within packs.each small taken.1;
+      fit = pieces_fit packing.name number depth_limit offset text [] pieces taken.0 packs.short packs.shown packs.counted (omega (arith, packs.few)) packs.within packs.each small taken.1;
       packed = taken.2;
     }
 
@@ -94,13 +104,15 @@ some_input : (P : List ℕ → Type 0) (input : Option (List ℕ)) (whole : List
 some_input P input whole is holds = subst (λ (bytes : Option (List ℕ)). IfSome bytes P) is holds
 
 pub listed_pack : PackIsListedAsItsText
-listed_pack packing io summary whole exports all short few offset known run =
+listed_pack packing io summary whole exports all short shown counted few offset known run =
     let exported : Exports (job_of packing) io whole = some_input (λ bytes. packing.mode ≡ modes.Export → Exports (job_of packing) io bytes) io.input.old.bytes whole known run.exports exports in
     let done : Completes (job_of packing) io whole summary = some_input (λ bytes. Completes (job_of packing) io bytes summary) io.input.old.bytes whole known run.done.0 in
     let pack : IsPackOf packing.name packing.number exported.pieces exported.text =
     packed_text (aim_of packing) packing.number packing.offset (drop packing.offset whole) exported.pieces exported.text record {
       all = all;
       short = short;
+      shown = shown;
+      counted = counted;
       few = few;
       within = omega (arith, done.size, length-drop packing.offset whole);
       each = exported.each;

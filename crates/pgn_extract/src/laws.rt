@@ -1,7 +1,7 @@
 //! What holds of every text, whatever lists or reports it. Each law is the contract of a function that does nothing.
 
 ghost use Rattle.pgn_extract.specs.Public.Searching.{PackedTextIsAPack};
-ghost use Rattle.pgn_extract.specs.Public.Laws.{PiecesHaveOneListing, EachPieceHasAMark, TextHasAReport, TextHasOneReport, ExportsAreWritten, TextHasOneExport, PackIsListedAsItsText, FirstChangesNoExport, PieceIsInOneExport, NoteNamesTheStop, NoNotes, PartsJoin, PartsAreReported};
+ghost use Rattle.pgn_extract.specs.Public.Laws.{PiecesHaveOneListing, EachPieceHasAMark, TextHasAReport, TextHasOneReport, ExportsAreWritten, TextHasOneExport, PackIsListedAsItsText, NamesAreShown, FirstChangesNoExport, PieceIsInOneExport, NoteNamesTheStop, NoNotes, PartsJoin, PartsAreReported};
 
 /// The pieces of each text have entries, and these are one list: the plies of its sound games that are within the bounds and whose position
 /// meets the criteria, or the least such of each game, each once, in the order of the games and their plies.
@@ -50,8 +50,10 @@ pub fn parts()
 {}
 
 /// Where each sound game of a text is packed, what the export writes is the pack of the text. So a search that lists what such a run wrote
-/// writes the listing of the text.
+/// writes the listing of the text. Both ask that the name of the file is shown as it is, as each name of a
+/// path is.
 pub fn packs()
     ensures pack { PackedTextIsAPack }
     ensures listing { PackIsListedAsItsText }
+    ensures names { NamesAreShown }
 {}

@@ -40,6 +40,7 @@ pub mod GameLineFacts
 pub mod PlyCodeFacts
 pub mod RecordFields
 pub mod HeadFacts
+mod TagOrder
 pub mod TagSearch
 pub mod RecordFacts
 pub mod CodeLineFacts

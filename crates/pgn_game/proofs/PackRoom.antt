@@ -3,6 +3,9 @@ use Rattle.std.proofs.Common.{◌≡◌, ℕ, ◌+◌, ◌*◌, ◌≤◌, ◌==
 use Rattle.std.specs.Prelude.{IfSome, bytes_eq, if◌then◌else◌}
 use Rattle.std.specs.FinMap.{FinMap, empty, entries, entries_sorted, get, insert, get-empty, get-entries, get-insert, entries-insert, len-empty, len-entries}
 use Rattle.std.specs.FinMap.Entries.{by_order, put}
+use Rattle.std.specs.Cmp.Lexicographic.{slice_cmp}
+use Rattle.std.specs.List.Sorted.{IsStrictlySortedBy}
+use Rattle.std.specs.Ordering.{nat_cmp}
 use Rattle.std.specs.declared.cmp.Ordering.TheVariants.{Less, Equal, Greater}
 use Rattle.std.proofs.lemmas.Cmp.{nat_list_cmp_total, nat_list_eq_equiv}
 use Rattle.std.proofs.lemmas.List.{length-append}
@@ -16,7 +19,7 @@ use Rattle.chess.specs.Public.San.{IsNamed, Spells, Said, IsCastlingText, letter
 use Rattle.chess.specs.declared.board.man.Wing.{Wing}
 use Rattle.chess.specs.declared.board.man.Wing.TheVariants.{KingSide, QueenSide}
 use Rattle.chess.specs.declared.moves.Move.{Move}
-use Rattle.pgn_text.specs.Public.GameTexts.{GameText, IsGameText, IsResult, ShowsGame}
+use Rattle.pgn_text.specs.Public.GameTexts.{GameText, IsGameText, IsResult, ShowsGame, tag_names}
 use Rattle.pgn_text.specs.Public.Games.{Item, MoveText, GlyphNumber, CommentText, VariationOpen, VariationClose, is_move_text, glyphs_of_marks, items_of, items_of_part, first_tag}
 use Rattle.pgn_text.specs.Public.Parts.{Part, ByteOrderMark, White, Brace, Line, EscapeLine, Tag, Word, Star, Dot, Glyph, Marks, Open, Close, spelled, spelled_part}
 use Rattle.pgn_text.proofs.ShownOnce.{same_tags}
@@ -210,7 +213,7 @@ name_within None short = omega arith
 name_within (Some own) short = omega arith
 
 pub game_fits : GameOfABlockFits
-game_fits name number offset game parts replay packed is shows small replays is_packed short number_fits offset_fits =
+game_fits name number offset game parts replay packed is shows small replays is_packed short number_fits offset_fits origin =
     let begins = same_Some is_packed.start replays.start (sym is_packed.first ∙ line_head replays.start (main_words game.elements 0) replay.positions replay.played replays.line) in
     let codes : AreCodes replays.start replay.played packed.plies = subst (λ (P : State). AreCodes P replay.played packed.plies) begins is_packed.plies in
     record_fits packed replays.start (main_words game.elements 0) replay.positions replay.played (omega (arith, is_packed.number)) (omega (arith, is_packed.offset))
@@ -223,3 +226,5 @@ game_fits name number offset game parts replay packed is shows small replays is_
       codes_count replays.start replay.played packed.plies codes,
       game_room game parts replays.start replay.positions replay.played is shows replays.line,
     ))
+    (subst (λ (tags : List NamedTag). IsStrictlySortedBy (slice_cmp nat_cmp) (tag_names tags)) (sym is_packed.tags) is.ordered)
+    (rw (is_packed.number, is_packed.offset, is_packed.name) origin)

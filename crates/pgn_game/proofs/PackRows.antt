@@ -1,20 +1,28 @@
 -- Worked rows of the parts of codes and of records; and what these definitions refuse.
-use Rattle.std.proofs.Common.{◌≡◌, ◌≤◌, ◌+◌, ◌^◌, ◌∙◌, ℕ, true, false, List, [], ◌∷◌, ◌++◌, length, codes, Option, None, Some, Ok, Err, ap, refl, sym, arith}
+use Rattle.std.proofs.Common.{◌≡◌, ◌≤◌, ◌+◌, ◌^◌, ◌∙◌, ℕ, true, false, List, [], ◌∷◌, ◌++◌, length}
+use Rattle.std.proofs.Common.{codes, Option, None, Some, Ok, Err, ap, refl, sym, subst, arith}
 use Rattle.std.proofs.lemmas.List.{append-nil, length-append}
+use Rattle.std.specs.Cmp.Lexicographic.{slice_cmp}
 use Rattle.std.specs.Int.{w32}
+use Rattle.std.specs.List.Sorted.{IsStrictlySortedBy}
+use Rattle.std.specs.Ordering.{nat_cmp}
+use Rattle.std.specs.declared.cmp.Ordering.TheVariants.{Less}
 use Rattle.chess.specs.Public.Moves.{IsLegal, after}
 use Rattle.chess.specs.Public.Positions.{State, king_of, pawn_of}
 use Rattle.chess.specs.declared.board.man.Kind.TheVariants.{King, Queen, Rook, Bishop, Knight, Pawn}
 use Rattle.chess.specs.declared.board.man.Side.TheVariants.{White, Black}
 use Rattle.chess.specs.declared.board.man.Wing.TheVariants.{KingSide, QueenSide}
 use Rattle.chess.specs.declared.moves.Move.{Move}
+use Rattle.pgn_text.specs.Public.GameTexts.{tag_names}
 use Rattle.pgn_text.specs.Public.Limits.{largest_offset}
 use Rattle.pgn_game.specs.Public.CodeLines.{AreLegalMoves, positions_from}
-use Rattle.pgn_game.specs.Public.PackReading.{and_then, number_at, text_at, name_at, tag_at, after_tag, after_tags, body_at}
+use Rattle.pgn_game.specs.Public.PackReading.{and_then, number_at, text_at, name_at, tag_at, follows}
+use Rattle.pgn_game.specs.Public.PackReading.{next_tag, after_tags, body_at}
 use Rattle.pgn_game.specs.Public.PackStreams.{Window, HasNoRecord, PassesOn, BreaksOff, IsPastEnd}
-use Rattle.pgn_game.specs.Public.PackedGames.{Tag, PackedGame, FitsRecord, FitsTag, record_bytes, with_length, tag_bytes, named_number, name_bytes, tail_bytes, body_bytes, name_size, tags_size}
+use Rattle.pgn_game.specs.Public.PackedGames.{Tag, PackedGame, FitsRecord, FitsTag, record_bytes, with_length, tag_bytes, named_number, name_bytes, tail_bytes, body_bytes, name_size, tags_size, is_origin}
+use Rattle.pgn_game.specs.Public.PackedGames.{begins_control, is_shown, is_shown_name}
 use Rattle.pgn_game.specs.Public.PlyCodes.{PlyCode, AreCodes, bit, marks_number, kind_number, side_number, castle_number, man_number, numbered_kind}
-use Rattle.pgn_game.specs.declared.pack.error.RecordError.TheVariants.{CutShort, PartOfPly}
+use Rattle.pgn_game.specs.declared.pack.error.RecordError.TheVariants.{CutShort, TagOrder, PartOfPly, NoOrigin}
 
 -- Codes.
 
@@ -66,6 +74,10 @@ one_tag = (codes "A", codes "bc")
 
 length_in_front : with_length (codes "ab") ≡ 0 ∷ 0 ∷ 0 ∷ 2 ∷ codes "ab"
 length_in_front = refl
+
+-- a tag that follows it
+abbrev next_one : Tag
+next_one = (codes "B", codes "d")
 
 bytes_of_one_tag : tag_bytes one_tag ≡ 0 ∷ 0 ∷ 0 ∷ 1 ∷ 65 ∷ 0 ∷ 0 ∷ 0 ∷ 2 ∷ codes "bc"
 bytes_of_one_tag = refl
@@ -148,14 +160,80 @@ tag_in_front : tag_at (tag_bytes one_tag ++ codes "x") ≡ Ok (one_tag, codes "x
 unfolding text_at
 tag_in_front = refl
 
-rest_after_a_tag : after_tag (tag_bytes one_tag ++ codes "x") ≡ Ok (codes "x")
+first_tag_and_rest : next_tag None (tag_bytes one_tag ++ codes "x") ≡ Ok (codes "A", codes "x")
 unfolding text_at
-rest_after_a_tag = refl
+first_tag_and_rest = refl
 
-rest_after_two_tags : after_tags 2 (tag_bytes one_tag ++ tag_bytes one_tag ++ codes "x")
+rest_after_two_tags : after_tags 2 None (tag_bytes one_tag ++ tag_bytes next_one ++ codes "x")
     ≡ Ok (codes "x")
 unfolding after_tags text_at
 rest_after_two_tags = refl
+
+no_tag_twice : after_tags 2 None (tag_bytes one_tag ++ tag_bytes one_tag) ≡ Err TagOrder
+unfolding after_tags text_at
+no_tag_twice = refl
+
+no_smaller_tag : after_tags 2 None (tag_bytes next_one ++ tag_bytes one_tag) ≡ Err TagOrder
+unfolding after_tags text_at
+no_smaller_tag = refl
+
+names_in_order :
+    follows None (codes "B") ∷ follows (Some (codes "A")) (codes "A")
+    ∷ follows (Some (codes "A")) (codes "AB") ∷ follows (Some (codes "B")) (codes "A")
+    ∷ follows (Some (codes "A")) (codes "B") ∷ [] ≡ true ∷ false ∷ true ∷ false ∷ true ∷ []
+names_in_order = refl
+
+-- NUL, line feed, escape and delete; U+009B, U+00A0 and U+00DB in UTF-8
+control_characters :
+    begins_control (0 ∷ []) ∷ begins_control (codes "\n") ∷ begins_control (27 ∷ 91 ∷ [])
+    ∷ begins_control (127 ∷ []) ∷ begins_control (194 ∷ 155 ∷ [])
+    ∷ begins_control (194 ∷ 160 ∷ []) ∷ begins_control (195 ∷ 155 ∷ []) ∷ begins_control (codes " ")
+    ∷ begins_control [] ∷ []
+    ≡ true ∷ true ∷ true ∷ true ∷ true ∷ false ∷ false ∷ false ∷ false ∷ []
+control_characters = refl
+
+names_that_are_shown :
+    is_shown (codes "my games.pgn") ∷ is_shown (codes "a\nb") ∷ is_shown (97 ∷ 194 ∷ 133 ∷ [])
+    ∷ is_shown_name None ∷ is_shown_name (Some (codes "\n")) ∷ []
+    ≡ true ∷ false ∷ false ∷ true ∷ false ∷ []
+names_that_are_shown = refl
+
+origins :
+    is_origin 1 0 None ∷ is_origin 0 0 None ∷ is_origin 7 largest_offset (Some (codes "a"))
+    ∷ is_origin 7 (largest_offset + 1) None ∷ is_origin 1 0 (Some (codes "\n")) ∷ []
+    ≡ true ∷ false ∷ true ∷ false ∷ false ∷ []
+origins = refl
+
+no_record_of_no_origin : (game : PackedGame) → is_origin game.number game.offset game.name ≡ false
+    → FitsRecord game → ⊥
+no_record_of_no_origin game none fits = let both : true ≡ false = sym fits.origin ∙ none in cc
+
+no_record_with_a_tag_twice : (game : PackedGame) → game.tags ≡ one_tag ∷ one_tag ∷ []
+    → FitsRecord game → ⊥
+unfolding IsStrictlySortedBy
+no_record_with_a_tag_twice game twice fits =
+    let sorted = subst (λ (tags : List Tag). IsStrictlySortedBy (slice_cmp nat_cmp) (tag_names tags))
+    twice fits.ordered in
+    let below : slice_cmp nat_cmp (codes "A") (codes "A") ≡ Less = sorted.0.0 in
+    cc
+
+-- the same game with another number
+abbrev game_zero : PackedGame
+game_zero =
+    record {
+      number = 0;
+      offset = 5;
+      name = Some (codes "a");
+      tags = one_tag ∷ [];
+      result = codes "*";
+      check = false;
+      stuck = false;
+      plies = [];
+    }
+
+no_body_of_game_zero : body_at (body_bytes game_zero) ≡ Err NoOrigin
+unfolding body_at after_tags text_at
+no_body_of_game_zero = refl
 
 no_part_of_a_ply : body_at (body_bytes one_game ++ codes "x") ≡ Err PartOfPly
 unfolding body_at after_tags text_at

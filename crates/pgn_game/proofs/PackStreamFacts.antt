@@ -1,5 +1,5 @@
 -- What the first bytes of a pack show of the record in front, before all of it is read.
-use Rattle.std.proofs.Common.{◌≡◌, ℕ, ◌+◌, ◌-◌, ◌<◌, ◌≤◌, Bool, true, false, List, [], ◌++◌, length, take, drop, Option, Some, None, Ok, Err, refl, sym, ap, ◌∙◌, append_assoc, arith, take-append-drop, length-append}
+use Rattle.std.proofs.Common.{◌≡◌, ℕ, ◌+◌, ◌-◌, ◌<◌, ◌≤◌, Bool, true, false, List, [], ◌++◌, length, take, drop, Option, Some, None, Ok, Err, refl, sym, ap, ◌∙◌, append_assoc, arith, take-append-drop, length-append, append-nil}
 use Rattle.std.specs.Int.{w32, to_be_bytes, from_be_bytes}
 use Rattle.std.proofs.lemmas.List.{take_at, take-append-le, length-take-le}
 use Rattle.pgn_text.specs.Public.Limits.{largest_offset}
@@ -8,7 +8,8 @@ use Rattle.pgn_game.specs.Public.PackReading.{record_at}
 use Rattle.pgn_game.specs.Private.PackSteps.{HoldsWhole, IsWhole, IsPart, ReadsOn, size_in}
 use Rattle.pgn_game.specs.Public.PackStreams.{Window, IsRecord, HasNoRecord, PassesOn, StepGives}
 use Rattle.pgn_game.specs.declared.pack.error.RecordError.{RecordError}
-use Rattle.pgn_game.specs.declared.pack.records.RecordsError.TheVariants.{BadPack, InputTooLong}
+use Rattle.pgn_game.specs.declared.pack.records.RecordsError.{RecordsError}
+use Rattle.pgn_game.specs.declared.pack.records.RecordsError.TheVariants.{Read, OutOfMemory, BadPack, InputTooLong}
 use Rattle.pgn_game.proofs.RecordFacts.{record_again}
 use Rattle.pgn_game.proofs.RecordFields.{wide32}
 
@@ -78,6 +79,39 @@ bad_step old passed ahead place left (Some rest) is on whole none = (
   refl,
   (λ empty. omega (arith, whole.sized, ap length empty, length-append ahead rest), none rest),
 )
+
+-- a step to a record that stands in front
+pub held_step : (old : Window) (passed ahead : List ℕ) (place size : ℕ) (left left' : Option (List ℕ))
+    → passed ≡ old.ahead → ReadsOn passed ahead left left' → IsRecord (take size ahead)
+    → StepGives old (record { current = take size ahead; ahead = drop size ahead; place = place }) left left' (Ok true)
+held_step old passed ahead place size left left' is on found = (
+  record {
+    read = on.read;
+    bytes = on.bytes;
+    parted = ap (λ (a : List ℕ). a ++ on.read) (sym is) ∙ sym on.joined ∙ sym (take-append-drop size ahead);
+  },
+  found,
+)
+
+-- a step that reading on ends
+pub failed_step : (old : Window) (passed ahead : List ℕ) (place : ℕ) (left left' : Option (List ℕ)) (error : RecordsError)
+    → passed ≡ old.ahead → HoldsWhole passed ahead left left' (Err error)
+    → StepGives old (record { current = []; ahead = ahead; place = place }) left left' (Err error)
+failed_step old passed ahead place left None BadPack is held =
+    (passes old passed ahead place left None is held.0, refl, tt)
+failed_step old passed ahead place left (Some rest) BadPack is held =
+    let same : ahead ++ rest ≡ ahead = ap (λ (more : List ℕ). ahead ++ more) held.3 ∙ append-nil ahead in (
+      passes old passed ahead place left (Some rest) is held.0,
+      refl,
+      (λ empty. held.1 (sym same ∙ empty), rw same (no_part ahead held.2)),
+    )
+failed_step old passed ahead place left left' InputTooLong is held = absurd held
+failed_step old passed ahead place left left' Read is held = record {
+  read = held.read;
+  bytes = held.bytes;
+  none = rw (← is) (no_part (passed ++ held.read) held.part);
+}
+failed_step old passed ahead place left left' OutOfMemory is held = tt
 
 pub long_step : (old : Window) (passed ahead : List ℕ) (place size : ℕ) (left left' : Option (List ℕ)) → passed ≡ old.ahead → ReadsOn passed ahead left left'
     → size ≤ length ahead → IsRecord (take size ahead) → place ≤ largest_offset → largest_offset - place < size

@@ -1,5 +1,5 @@
 -- The two laws: what is read is spelled so, and what is spelled so is read.
-use Rattle.std.proofs.Common.{◌≡◌, ℕ, zero, suc, ◌*◌, ◌/◌, ◌%◌, ◌^◌, ◌<◌, ◌≤◌, ◌==◌, Bool, true, false, cond, eqb, ltb, List, [], ◌∷◌, ◌++◌, length, take, drop, Option, Result, Ok, Err, refl, sym, ap, subst, ◌∙◌, append_assoc, arith}
+use Rattle.std.proofs.Common.{◌≡◌, ℕ, zero, suc, ◌*◌, ◌/◌, ◌%◌, ◌^◌, ◌<◌, ◌≤◌, ◌==◌, Bool, true, false, cond, eqb, ltb, List, [], ◌∷◌, ◌++◌, length, take, drop, Option, Some, None, Result, Ok, Err, refl, sym, ap, subst, ◌∙◌, append_assoc, arith}
 use Rattle.std.specs.Prelude.{IfOk, IfSome, is_some}
 use Rattle.std.specs.List.{flat_map, AllByRecursion}
 use Rattle.std.specs.Int.{w32, w64, to_be_bytes}
@@ -7,17 +7,24 @@ use Rattle.std.proofs.lemmas.Bool.{eqb-true, ltb-false, le-ltb}
 use Rattle.std.proofs.lemmas.List.{length-append, length-take, take_at, drop_at, take-append-drop}
 use Rattle.std.proofs.lemmas.List.Concat.{flat_map-cons}
 use Rattle.pgn_game.specs.declared.pack.error.RecordError.{RecordError}
-use Rattle.pgn_game.specs.declared.pack.error.RecordError.TheVariants.{CutShort, TooLarge, PartOfPly}
+use Rattle.pgn_game.specs.declared.pack.error.RecordError.TheVariants.{CutShort, TooLarge, TagOrder, PartOfPly, NoOrigin}
 use Rattle.pgn_game.specs.Public.PlyCodes.{PlyCode, FitsCode, marks_number, code_bytes, code_of}
-use Rattle.pgn_game.specs.Public.PackedGames.{PackedGame, Tag, FitsTag, FitsRecord, with_length, name_bytes, numbered_result, tag_bytes, head_of, tail_bytes, body_bytes, record_bytes, largest_body}
-use Rattle.pgn_game.specs.Public.PackReading.{Gives, RawRecord, raw_of, number_at, text_at, name_at, tag_at, after_tag, after_tags, body_at, size_at, record_at}
+use Rattle.pgn_game.specs.Public.PackedGames.{PackedGame, Tag, FitsTag, FitsRecord, with_length, name_bytes, numbered_result, tag_bytes, head_of, tail_bytes, body_bytes, record_bytes, largest_body, is_origin}
+use Rattle.pgn_game.specs.Public.PackReading.{Gives, RawRecord, raw_of, number_at, text_at, name_at, tag_at, follows}
+use Rattle.pgn_game.specs.Public.PackReading.{next_tag, after_tags, body_at, size_at, record_at}
 use Rattle.pgn_game.proofs.PlyCodeFacts.{code_takes, code_fits, pairs}
 use Rattle.pgn_game.proofs.HeadFacts.{name_takes, name_again, named_below, result_taken, result_is_below, head_taken, head_shows, mark_below}
+use Rattle.pgn_game.proofs.TagOrder.{AreRising, rising_is_sorted, sorted_is_rising}
 use Rattle.pgn_game.proofs.RecordFields.{◌>>=◌, IsBytes, IsBytes-take, IsBytes-rest, bind_ok, guard_ok, ok_is, Takes, Takes-then, wide32, wide64, number_takes, number_again, text_takes, text_again}
 
 guard_ended : {A : Type 0} (b : Bool) (d : RecordError) (x y : A) → cond b (Ok x) (Err d) ≡ Ok y → (b ≡ true) × (x ≡ y)
 guard_ended true d x y e = (refl, cc)
 guard_ended false d x y e = absurd cc
+
+tested_so : {A : Type 0} (b : Bool) (d : RecordError) (r : Result A RecordError) (y : A) → cond b r (Err d) ≡ Ok y
+    → (b ≡ true) × (r ≡ Ok y)
+tested_so true d r y e = (refl, e)
+tested_so false d r y e = absurd cc
 
 tested : {A : Type 0} (b : Bool) (d : RecordError) (r : Result A RecordError) (y : A) → cond b (Err d) r ≡ Ok y → (b ≡ false) × (r ≡ Ok y)
 tested true d r y e = absurd cc
@@ -25,38 +32,63 @@ tested false d r y e = (refl, e)
 
 -- ---- tags
 
-tag_takes : (bytes rest : List ℕ) → IsBytes bytes → after_tag bytes ≡ Ok rest → (t : Tag) × FitsTag t × Takes bytes (tag_bytes t) rest
-tag_takes bytes rest fits e =
-    let tag = bind_ok (tag_at bytes) (λ tag. Ok tag.1) rest e in
+tag_takes : (last : Option (List ℕ)) (bytes name rest : List ℕ) → IsBytes bytes
+    → next_tag last bytes ≡ Ok (name, rest)
+    → (t : Tag) × FitsTag t × (t.0 ≡ name) × (follows last t.0 ≡ true) × Takes bytes (tag_bytes t) rest
+tag_takes last bytes name rest fits e =
+    let end : (Tag × List ℕ) → Result (List ℕ × List ℕ) RecordError =
+    λ tag. cond (follows last tag.0.0) (Ok (tag.0.0, tag.1)) (Err TagOrder) in
+    let tag = bind_ok (tag_at bytes) end (name, rest) e in
+    let own = guard_ended (follows last tag.0.0.0) TagOrder (tag.0.0.0, tag.0.1) (name, rest) tag.2 in
     let a = bind_ok (text_at bytes) (λ name. text_at name.1 >>= λ contents. Ok ((name.0, contents.0), contents.1)) tag.0 tag.1 in
     let b = bind_ok (text_at a.0.1) (λ contents. Ok ((a.0.0, contents.0), contents.1)) tag.0 a.2 in
     let s = text_takes bytes a.0.0 a.0.1 fits a.1 in
     let t = text_takes a.0.1 b.0.0 b.0.1 s.0.rest_fits b.1 in
     let both = Takes-then bytes (with_length a.0.0) a.0.1 (with_length b.0.0) b.0.1 s.0 t.0 in
-    let same : b.0.1 ≡ rest = ap (λ (read : Tag × List ℕ). read.1) (ok_is ((a.0.0, b.0.0), b.0.1) tag.0 b.2) ∙ ok_is tag.0.1 rest tag.2 in
-    ((a.0.0, b.0.0), record { name = s.1; contents = t.1 }, subst (λ (r : List ℕ). Takes bytes (with_length a.0.0 ++ with_length b.0.0) r) same both)
+    let whole = ok_is ((a.0.0, b.0.0), b.0.1) tag.0 b.2 in
+    let same : b.0.1 ≡ rest =
+    ap (λ (read : Tag × List ℕ). read.1) whole ∙ ap (λ (p : List ℕ × List ℕ). p.1) own.1 in
+    let named : a.0.0 ≡ name =
+    ap (λ (read : Tag × List ℕ). read.0.0) whole ∙ ap (λ (p : List ℕ × List ℕ). p.0) own.1 in
+    let order : follows last a.0.0 ≡ true =
+    ap (λ (read : Tag × List ℕ). follows last read.0.0) whole ∙ own.0 in (
+      (a.0.0, b.0.0),
+      record { name = s.1; contents = t.1 },
+      named,
+      order,
+      subst (λ (r : List ℕ). Takes bytes (with_length a.0.0 ++ with_length b.0.0) r) same both,
+    )
 
-tag_again : (t : Tag) (rest : List ℕ) → FitsTag t → after_tag (tag_bytes t ++ rest) ≡ Ok rest
-tag_again t rest fits =
-    ap after_tag (append_assoc (with_length t.0) (with_length t.1) rest) ∙ rw (text_again t.0 (with_length t.1 ++ rest) fits.name, text_again t.1 rest fits.contents) refl
+tag_again : (last : Option (List ℕ)) (t : Tag) (rest : List ℕ) → FitsTag t → follows last t.0 ≡ true
+    → next_tag last (tag_bytes t ++ rest) ≡ Ok (t.0, rest)
+tag_again last t rest fits order =
+    ap (next_tag last) (append_assoc (with_length t.0) (with_length t.1) rest)
+    ∙ rw (text_again t.0 (with_length t.1 ++ rest) fits.name, text_again t.1 rest fits.contents, order) refl
 
-tags_take : (n : ℕ) (bytes rest : List ℕ) → IsBytes bytes → after_tags n bytes ≡ Ok rest
+tags_take : (n : ℕ) (last : Option (List ℕ)) (bytes rest : List ℕ) → IsBytes bytes
+    → after_tags n last bytes ≡ Ok rest
     → (ts : List Tag) × (length ts ≡ n) × AllByRecursion FitsTag ts × Takes bytes (flat_map tag_bytes ts) rest
+    × AreRising last ts
 unfolding after_tags
-tags_take zero bytes rest fits e = ([], refl, tt, subst (λ (r : List ℕ). Takes bytes [] r) (ok_is bytes rest e) (record { parts = refl; rest_fits = fits }))
-tags_take (suc n) bytes rest fits e =
-    let a = bind_ok (after_tag bytes) (λ r. after_tags n r) rest e in
-    let first = tag_takes bytes a.0 fits a.1 in
-    let others = tags_take n a.0 rest first.2.rest_fits a.2 in
-    let both = Takes-then bytes (tag_bytes first.0) a.0 (flat_map tag_bytes others.0) rest first.2 others.3 in
-    (first.0 ∷ others.0, ap suc others.1, (first.1, others.2), rw flat_map-cons both)
+tags_take zero last bytes rest fits e =
+    ([], refl, tt, subst (λ (r : List ℕ). Takes bytes [] r) (ok_is bytes rest e) (record { parts = refl; rest_fits = fits }), tt)
+tags_take (suc n) last bytes rest fits e =
+    let a = bind_ok (next_tag last bytes) (λ tag. after_tags n (Some tag.0) tag.1) rest e in
+    let first = tag_takes last bytes a.0.0 a.0.1 fits a.1 in
+    let others = tags_take n (Some a.0.0) a.0.1 rest first.4.rest_fits a.2 in
+    let both = Takes-then bytes (tag_bytes first.0) a.0.1 (flat_map tag_bytes others.0) rest first.4 others.3 in
+    let rising = subst (λ (name : List ℕ). AreRising (Some name) others.0) (sym first.2) others.4 in
+    (first.0 ∷ others.0, ap suc others.1, (first.1, others.2), rw flat_map-cons both, (first.3, rising))
 
-tags_again : (ts : List Tag) (rest : List ℕ) → AllByRecursion FitsTag ts → after_tags (length ts) (flat_map tag_bytes ts ++ rest) ≡ Ok rest
+tags_again : (last : Option (List ℕ)) (ts : List Tag) (rest : List ℕ) → AllByRecursion FitsTag ts
+    → AreRising last ts → after_tags (length ts) last (flat_map tag_bytes ts ++ rest) ≡ Ok rest
 unfolding after_tags
-tags_again [] rest fits = refl
-tags_again (t ∷ ts) rest fits =
-    let regrouped : flat_map tag_bytes (t ∷ ts) ++ rest ≡ tag_bytes t ++ (flat_map tag_bytes ts ++ rest) = ap (λ (x : List ℕ). x ++ rest) (flat_map-cons tag_bytes t ts) ∙ append_assoc (tag_bytes t) (flat_map tag_bytes ts) rest in
-    ap (after_tags (suc (length ts))) regrouped ∙ rw (tag_again t (flat_map tag_bytes ts ++ rest) fits.0) (tags_again ts rest fits.1)
+tags_again last [] rest fits rising = refl
+tags_again last (t ∷ ts) rest fits rising =
+    let regrouped : flat_map tag_bytes (t ∷ ts) ++ rest ≡ tag_bytes t ++ (flat_map tag_bytes ts ++ rest) =
+    ap (λ (x : List ℕ). x ++ rest) (flat_map-cons tag_bytes t ts) ∙ append_assoc (tag_bytes t) (flat_map tag_bytes ts) rest in
+    ap (after_tags (suc (length ts)) last) regrouped
+    ∙ rw (tag_again last t (flat_map tag_bytes ts ++ rest) fits.0 rising.0) (tags_again (Some t.0) ts rest fits.1 rising.1)
 
 -- ---- plies
 
@@ -88,9 +120,9 @@ body_is : (number offset head : ℕ) (name : Option (List ℕ)) (bytes after_num
     → length bytes ≤ largest_body → Takes bytes (to_be_bytes w64 number) after_number → number < 2 ^ 64 → Takes after_number (to_be_bytes w64 offset) after_offset
     → offset < 2 ^ 64 → Takes after_offset (to_be_bytes w32 head) after_head → head < 2 ^ 32 → Takes after_head (name_bytes name) tail
     → IfSome name (λ own. length own < 2 ^ 32) → is_some name ≡ (head / 16 % 2 == 1) → length tags ≡ head / 32 → AllByRecursion FitsTag tags
-    → Takes tail (flat_map tag_bytes tags) plies → AllByRecursion FitsCode codes → plies ≡ flat_map code_bytes codes
-    → IsBody bytes (record { number = number; offset = offset; head = head; name = name; tail = tail; plies = plies })
-body_is number offset head name bytes after_number after_offset after_head tail plies tags codes size t0 number_fits t1 offset_fits t2 head_fits t3 name_fits named count tags_fit t4 codes_fit codes_are =
+    → Takes tail (flat_map tag_bytes tags) plies → AreRising None tags → AllByRecursion FitsCode codes
+    → plies ≡ flat_map code_bytes codes → is_origin number offset name ≡ true → IsBody bytes (record { number = number; offset = offset; head = head; name = name; tail = tail; plies = plies })
+body_is number offset head name bytes after_number after_offset after_head tail plies tags codes size t0 number_fits t1 offset_fits t2 head_fits t3 name_fits named count tags_fit t4 rising codes_fit codes_are origin =
     let game : PackedGame = record {
       number = number;
       offset = offset;
@@ -113,32 +145,35 @@ body_is number offset head name bytes after_number after_offset after_head tail 
       name = name_fits;
       count = omega (arith, count, head_fits);
       tags = tags_fit;
+      ordered = rising_is_sorted tags rising;
       result = (result_taken (head / 4 % 4) (omega arith)).0;
       plies = codes_fit;
       size = subst (λ (x : List ℕ). length x ≤ largest_body) whole size;
+      origin = origin;
     } in
     (game, fits, rw (head_is, ← tail_is, ← codes_are) refl, whole)
 
 body_takes : (bytes : List ℕ) (raw : RawRecord) → IsBytes bytes → length bytes ≤ largest_body → body_at bytes ≡ Ok raw → IsBody bytes raw
 unfolding body_at
 body_takes bytes raw fits size e =
-    let end : (ℕ × List ℕ) → (ℕ × List ℕ) → (ℕ × List ℕ) → (Option (List ℕ) × List ℕ) → List ℕ → Result RawRecord RecordError = λ number offset head name plies. cond (eqb (length plies % 3) 0) (Ok (record { number = number.0; offset = offset.0; head = head.0; name = name.0; tail = name.1; plies = plies })) (Err PartOfPly) in
+    let end : (ℕ × List ℕ) → (ℕ × List ℕ) → (ℕ × List ℕ) → (Option (List ℕ) × List ℕ) → List ℕ → Result RawRecord RecordError = λ number offset head name plies. cond (eqb (length plies % 3) 0) (cond (is_origin number.0 offset.0 name.0) (Ok (record { number = number.0; offset = offset.0; head = head.0; name = name.0; tail = name.1; plies = plies })) (Err NoOrigin)) (Err PartOfPly) in
     let named : (ℕ × List ℕ) → Result (Option (List ℕ) × List ℕ) RecordError = λ head. name_at (head.0 / 16 % 2 == 1) head.1 in
-    let a = bind_ok (number_at w64 bytes) (λ number. number_at w64 number.1 >>= λ offset. number_at w32 offset.1 >>= λ head. named head >>= λ name. after_tags (head.0 / 32) name.1 >>= λ plies. end number offset head name plies) raw e in
-    let b = bind_ok (number_at w64 a.0.1) (λ offset. number_at w32 offset.1 >>= λ head. named head >>= λ name. after_tags (head.0 / 32) name.1 >>= λ plies. end a.0 offset head name plies) raw a.2 in
-    let c = bind_ok (number_at w32 b.0.1) (λ head. named head >>= λ name. after_tags (head.0 / 32) name.1 >>= λ plies. end a.0 b.0 head name plies) raw b.2 in
-    let n = bind_ok (named c.0) (λ name. after_tags (c.0.0 / 32) name.1 >>= λ plies. end a.0 b.0 c.0 name plies) raw c.2 in
-    let d = bind_ok (after_tags (c.0.0 / 32) n.0.1) (λ plies. end a.0 b.0 c.0 n.0 plies) raw n.2 in
+    let a = bind_ok (number_at w64 bytes) (λ number. number_at w64 number.1 >>= λ offset. number_at w32 offset.1 >>= λ head. named head >>= λ name. after_tags (head.0 / 32) None name.1 >>= λ plies. end number offset head name plies) raw e in
+    let b = bind_ok (number_at w64 a.0.1) (λ offset. number_at w32 offset.1 >>= λ head. named head >>= λ name. after_tags (head.0 / 32) None name.1 >>= λ plies. end a.0 offset head name plies) raw a.2 in
+    let c = bind_ok (number_at w32 b.0.1) (λ head. named head >>= λ name. after_tags (head.0 / 32) None name.1 >>= λ plies. end a.0 b.0 head name plies) raw b.2 in
+    let n = bind_ok (named c.0) (λ name. after_tags (c.0.0 / 32) None name.1 >>= λ plies. end a.0 b.0 c.0 name plies) raw c.2 in
+    let d = bind_ok (after_tags (c.0.0 / 32) None n.0.1) (λ plies. end a.0 b.0 c.0 n.0 plies) raw n.2 in
     let made : RawRecord = record { number = a.0.0; offset = b.0.0; head = c.0.0; name = n.0.0; tail = n.0.1; plies = d.0 } in
-    let g = guard_ended (eqb (length d.0 % 3) 0) PartOfPly made raw d.2 in
+    let whole = tested_so (eqb (length d.0 % 3) 0) PartOfPly (cond (is_origin a.0.0 b.0.0 n.0.0) (Ok made) (Err NoOrigin)) raw d.2 in
+    let g = guard_ended (is_origin a.0.0 b.0.0 n.0.0) NoOrigin made raw whole.1 in
     let t0 = number_takes w64 (2 ^ 64) wide64 bytes a.0.0 a.0.1 fits a.1 in
     let t1 = number_takes w64 (2 ^ 64) wide64 a.0.1 b.0.0 b.0.1 t0.0.rest_fits b.1 in
     let t2 = number_takes w32 (2 ^ 32) wide32 b.0.1 c.0.0 c.0.1 t1.0.rest_fits c.1 in
     let t3 = name_takes (c.0.0 / 16 % 2 == 1) c.0.1 n.0.0 n.0.1 t2.0.rest_fits n.1 in
-    let t4 = tags_take (c.0.0 / 32) n.0.1 d.0 t3.0.rest_fits d.1 in
-    let t5 = plies_take d.0 t4.3.rest_fits (eqb-true _ _ g.0) in
+    let t4 = tags_take (c.0.0 / 32) None n.0.1 d.0 t3.0.rest_fits d.1 in
+    let t5 = plies_take d.0 t4.3.rest_fits (eqb-true _ _ whole.0) in
     subst (IsBody bytes) g.1
-    (body_is a.0.0 b.0.0 c.0.0 n.0.0 bytes a.0.1 b.0.1 c.0.1 n.0.1 d.0 t4.0 t5.0 size t0.0 t0.1 t1.0 t1.1 t2.0 t2.1 t3.0 t3.1 t3.2 t4.1 t4.2 t4.3 t5.1 t5.2)
+    (body_is a.0.0 b.0.0 c.0.0 n.0.0 bytes a.0.1 b.0.1 c.0.1 n.0.1 d.0 t4.0 t5.0 size t0.0 t0.1 t1.0 t1.1 t2.0 t2.1 t3.0 t3.1 t3.2 t4.1 t4.2 t4.3 t4.4 t5.1 t5.2 g.0)
 
 three : (n : ℕ) → eqb (3 * n % 3) 0 ≡ true
 three n = let z : 3 * n % 3 ≡ 0 = omega arith in rw z refl
@@ -149,6 +184,7 @@ body_again e fits =
     let shows = head_shows e fits in
     let h : head_of e < 2 ^ 32 = omega (arith, fits.count, named_below e.name, result_is_below e.result fits.result, mark_below e.check e.stuck) in
     let whole : eqb (length (flat_map code_bytes e.plies) % 3) 0 ≡ true = rw (plies_size e.plies) (three (length e.plies)) in
+    let origin : is_origin e.number e.offset e.name ≡ true = fits.origin in
     rw (
       number_again w64 (2 ^ 64) wide64 e.number (to_be_bytes w64 e.offset ++ to_be_bytes w32 (head_of e) ++ (name_bytes e.name ++ tail_bytes e)) fits.number,
       number_again w64 (2 ^ 64) wide64 e.offset (to_be_bytes w32 (head_of e) ++ (name_bytes e.name ++ tail_bytes e)) fits.offset,
@@ -156,8 +192,9 @@ body_again e fits =
       shows.named,
       name_again e.name (tail_bytes e) fits.name,
       shows.count,
-      tags_again e.tags (flat_map code_bytes e.plies) fits.tags,
+      tags_again None e.tags (flat_map code_bytes e.plies) fits.tags (sorted_is_rising e.tags fits.ordered),
       whole,
+      origin,
     ) refl
 
 -- the record of a game stands in front, as it shows it, and these bytes after it

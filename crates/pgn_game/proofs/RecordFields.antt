@@ -1,5 +1,5 @@
 -- A field that is read is the field that was written, and what was written is read again.
-use Rattle.std.proofs.Common.{◌≡◌, ℕ, suc, ◌+◌, ◌-◌, ◌^◌, ◌<◌, ◌≤◌, Bool, true, false, cond, ltb, List, ◌∷◌, ◌++◌, length, get_or, take, drop, Result, Ok, Err, refl, sym, ap, subst, ◌∙◌, append_assoc, arith, inl, inr}
+use Rattle.std.proofs.Common.{◌≡◌, ℕ, suc, ◌+◌, ◌-◌, ◌^◌, ◌<◌, ◌≤◌, Bool, true, false, cond, ltb, List, ◌∷◌, ◌++◌, length, get_or, take, drop, Option, Some, Result, Ok, Err, refl, sym, ap, subst, ◌∙◌, append_assoc, arith, inl, inr}
 use Rattle.std.specs.Int.{Width, w32, w64, byte_len, from_be_bytes, to_be_bytes}
 use Rattle.std.proofs.lemmas.Bool.{cases_lt, ltb-false, le-ltb}
 use Rattle.std.proofs.lemmas.List.{take_at, drop_at, take-append-drop, length-append, length-take, get_or-drop, get_or-take, get_or_past}
@@ -7,7 +7,7 @@ use Rattle.std.proofs.lemmas.Nat.{be_bytes_4, be_bytes_8, from_be_bytes-to_be_by
 use Rattle.pgn_game.specs.declared.pack.error.RecordError.{RecordError}
 use Rattle.pgn_game.specs.declared.pack.error.RecordError.TheVariants.{CutShort}
 use Rattle.pgn_game.specs.Public.PackedGames.{with_length}
-use Rattle.pgn_game.specs.Public.PackReading.{and_then, number_at, text_at, after_tag, after_tags}
+use Rattle.pgn_game.specs.Public.PackReading.{and_then, number_at, text_at, next_tag, after_tags}
 
 -- the next step after one
 infixl 10 ◌>>=◌
@@ -119,25 +119,31 @@ IsBytes-rest b bytes h i = h (suc i)
 
 -- ---- tags passed over one after another
 
-pub goes_on : (count i : ℕ) (bytes after : List ℕ) (total : Result (List ℕ) RecordError) → i < count → after_tag bytes ≡ Ok after
-    → after_tags (count - i) bytes ≡ total → after_tags (count - (i + 1)) after ≡ total
+pub goes_on : (count i : ℕ) (last : Option (List ℕ)) (bytes name after : List ℕ)
+    (total : Result (List ℕ) RecordError) → i < count → next_tag last bytes ≡ Ok (name, after)
+    → after_tags (count - i) last bytes ≡ total
+    → after_tags (count - (i + 1)) (Some name) after ≡ total
 unfolding after_tags
-goes_on count i bytes after total lt h so_far =
+goes_on count i last bytes name after total lt h so_far =
     let k : count - i ≡ suc (count - (i + 1)) = omega arith in
-    let one : after_tags (count - i) bytes ≡ after_tags (count - (i + 1)) after = rw (k, h) refl in
+    let one : after_tags (count - i) last bytes ≡ after_tags (count - (i + 1)) (Some name) after =
+    rw (k, h) refl in
     sym one ∙ so_far
 
-pub ends : (f : RecordError) (count i : ℕ) (bytes : List ℕ) (total : Result (List ℕ) RecordError) → i < count → after_tag bytes ≡ Err f
-    → after_tags (count - i) bytes ≡ total → total ≡ Err f
+pub ends : (f : RecordError) (count i : ℕ) (last : Option (List ℕ)) (bytes : List ℕ)
+    (total : Result (List ℕ) RecordError) → i < count → next_tag last bytes ≡ Err f
+    → after_tags (count - i) last bytes ≡ total → total ≡ Err f
 unfolding after_tags
-ends f count i bytes total lt h so_far =
+ends f count i last bytes total lt h so_far =
     let k : count - i ≡ suc (count - (i + 1)) = omega arith in
-    let one : after_tags (count - i) bytes ≡ Err f = rw (k, h) refl in
+    let one : after_tags (count - i) last bytes ≡ Err f = rw (k, h) refl in
     sym so_far ∙ one
 
-pub is_done : (count i : ℕ) (bytes : List ℕ) (total : Result (List ℕ) RecordError) → count ≤ i → after_tags (count - i) bytes ≡ total → total ≡ Ok bytes
+pub is_done : (count i : ℕ) (last : Option (List ℕ)) (bytes : List ℕ)
+    (total : Result (List ℕ) RecordError) → count ≤ i → after_tags (count - i) last bytes ≡ total
+    → total ≡ Ok bytes
 unfolding after_tags
-is_done count i bytes total le so_far =
+is_done count i last bytes total le so_far =
     let k : count - i ≡ 0 = omega arith in
-    let one : after_tags (count - i) bytes ≡ Ok bytes = rw k refl in
+    let one : after_tags (count - i) last bytes ≡ Ok bytes = rw k refl in
     sym so_far ∙ one

@@ -5,7 +5,10 @@ use Rattle.std.specs.Map.Iter.{deref_pair}
 use Rattle.std.specs.Int.{w32, w64, to_be_bytes}
 use Rattle.std.proofs.Math.ListN.{drop_of_length-le}
 use Rattle.std.proofs.lemmas.Grind.{flat_map-append}
-use Rattle.std.specs.Prelude.{option_map, IfSome}
+use Rattle.std.specs.Cmp.Lexicographic.{slice_cmp}
+use Rattle.std.specs.List.Sorted.{IsStrictlySortedBy}
+use Rattle.std.specs.Ordering.{nat_cmp}
+use Rattle.std.specs.Prelude.{option_map, true, IfSome}
 use Rattle.std.proofs.lemmas.Option.{slice_get-map, same_Some}
 use Rattle.std.proofs.lemmas.List.{append-nil, length-append}
 use Rattle.std.proofs.lemmas.List.Concat.{flat_map-cons}
@@ -13,11 +16,11 @@ use Rattle.chess.specs.Public.Positions.{State}
 use Rattle.chess.specs.Public.Moves.{after, HasMove}
 use Rattle.chess.specs.declared.moves.Move.{Move}
 use Rattle.pgn_text.specs.Public.Elements.{tag_of}
-use Rattle.pgn_text.specs.Public.GameTexts.{GameText, IsResult}
+use Rattle.pgn_text.specs.Public.GameTexts.{GameText, IsResult, tag_names}
 use Rattle.pgn_game.specs.Public.MainLines.{IsMainLine}
 use Rattle.pgn_game.specs.Public.Replays.{Replay}
 use Rattle.pgn_game.specs.Public.PlyCodes.{PlyCode, AreMarks, IsCode, AreCodes, FitsCode, code_bytes}
-use Rattle.pgn_game.specs.Public.PackedGames.{PackedGame, Tag, FitsTag, FitsRecord, IsPacked, with_length, name_bytes, name_size, tag_bytes, tags_size, body_size, tail_bytes, body_bytes, record_bytes, head_of, largest_body}
+use Rattle.pgn_game.specs.Public.PackedGames.{PackedGame, Tag, FitsTag, FitsRecord, IsPacked, with_length, name_bytes, name_size, tag_bytes, tags_size, body_size, tail_bytes, body_bytes, record_bytes, head_of, largest_body, is_origin}
 use Rattle.pgn_game.specs.Private.PackWords.{IsLinePlayed, AreMarksAfter, PutsFront, PutsHead, PutsPly, HasPutPlies, PutsPlies}
 use Rattle.pgn_game.proofs.OneReplay.{line_head, move_at}
 use Rattle.pgn_game.proofs.OnBoard.{line_legal}
@@ -181,16 +184,20 @@ body_length packed =
 -- what is kept of a game has a spelling, where its size is one
 pub record_fits : (packed : PackedGame) (start : State) (words : List (List ℕ)) (positions : List State) (played : List Move)
     → packed.number < 2 ^ 64 → packed.offset < 2 ^ 64 → IsResult packed.result → IsMainLine start words positions played → AreCodes start played packed.plies
-    → body_size packed.name packed.tags (length packed.plies) ≤ largest_body → FitsRecord packed
-record_fits packed start words positions played number offset ends line codes small = record {
+    → body_size packed.name packed.tags (length packed.plies) ≤ largest_body
+    → IsStrictlySortedBy (slice_cmp nat_cmp) (tag_names packed.tags)
+    → is_origin packed.number packed.offset packed.name ≡ true → FitsRecord packed
+record_fits packed start words positions played number offset ends line codes small ordered origin = record {
   number = number;
   offset = offset;
   name = name_fits packed.name (omega arith);
   count = omega (arith, count_below packed.tags);
   tags = tags_fit packed.tags (omega arith);
+  ordered = ordered;
   result = ends;
   plies = codes_fit start words positions played packed.plies line codes;
   size = omega (arith, body_length packed);
+  origin = origin;
 }
 
 regroup : (o s n f h a t c : List ℕ) → ((((o ++ (s ++ (n ++ f))) ++ h) ++ a) ++ t) ++ c ≡ o ++ (s ++ (n ++ (f ++ (h ++ (a ++ (t ++ c))))))
@@ -209,11 +216,12 @@ is_record_with name number offset game replay start check stuck codes first mark
 
 -- what was written, field by field, is the record of the game
 pub written : (name : Option (List ℕ)) (number offset : ℕ) (game : GameText) (replay : Replay) (old fronted headed named tagged new : List ℕ)
-    → number < 2 ^ 64 → offset < 2 ^ 64 → IsResult game.result → IsLinePlayed replay → body_size name game.tags (length replay.played) ≤ largest_body
-    → PutsFront number offset (body_size name game.tags (length replay.played)) old fronted → PutsHead name game.tags game.result replay fronted headed
+    → number < 2 ^ 64 → offset < 2 ^ 64 → IsStrictlySortedBy (slice_cmp nat_cmp) (tag_names game.tags)
+    → is_origin number offset name ≡ true → IsResult game.result → IsLinePlayed replay
+    → body_size name game.tags (length replay.played) ≤ largest_body → PutsFront number offset (body_size name game.tags (length replay.played)) old fronted → PutsHead name game.tags game.result replay fronted headed
     → named ≡ headed ++ name_bytes name → tagged ≡ named ++ flat_map tag_bytes game.tags → PutsPlies replay tagged new
     → (packed : PackedGame) × IsPacked name number offset game replay packed × FitsRecord packed × (new ≡ old ++ record_bytes packed)
-written name number offset game replay old fronted headed named tagged new number_fits offset_fits ends line small front head name_put tags_put plies =
+written name number offset game replay old fronted headed named tagged new number_fits offset_fits ordered origin ends line small front head name_put tags_put plies =
     let packed : PackedGame = record_with name number offset game head.0 head.1 plies.codes in
     let marks = subst (λ (P : State). AreMarks P head.0 head.1) (same_Some head.2.0 plies.start (sym head.2.1 ∙ plies.first)) head.2.2 in
     let is = is_record_with name number offset game replay plies.start head.0 head.1 plies.codes plies.first marks plies.are in
@@ -222,7 +230,7 @@ written name number offset game replay old fronted headed named tagged new numbe
     let same : body_size name game.tags (length plies.codes) ≡ body_size name game.tags (length replay.played) =
     ap (body_size name game.tags) (codes_count line.0 replay.played plies.codes codes) in
     let size : length (body_bytes packed) ≡ body_size name game.tags (length replay.played) = body_length packed ∙ same in
-    let fits = record_fits packed line.0 line.1 replay.positions replay.played number_fits offset_fits ends line.2 codes (omega (arith, same)) in (
+    let fits = record_fits packed line.0 line.1 replay.positions replay.played number_fits offset_fits ends line.2 codes (omega (arith, same)) ordered origin in (
       packed,
       is,
       fits,

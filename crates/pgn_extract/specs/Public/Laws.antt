@@ -1,11 +1,12 @@
 -- What holds of the entries of every text, of its marks, and of what is reported of it.
-use Rattle.std.specs.Prelude.{◌≡◌, ◌↔◌, Bool, true, false, ℕ, ◌+◌, ◌-◌, ◌^◌, ◌<◌, ◌≤◌, ◌==◌, List, [], ◌∷◌, ◌++◌, length, take, drop, count_by, codes, Option, Some, Ok, IfSome}
+use Rattle.std.specs.Prelude.{◌≡◌, ◌↔◌, Bool, true, false, ℕ, ◌+◌, ◌-◌, ◌^◌, ◌<◌, ◌≤◌, ◌==◌, List, [], ◌∷◌, ◌++◌, length, take, drop, count_by, codes, Option, Some, Ok, IfSome, IsTrue}
 use Rattle.std.specs.Io.KnownBytes.{Appends}
 use Rattle.pgn_text.specs.Public.Limits.{depth_limit, largest_offset}
 use Rattle.pgn_text.specs.Public.Stops.{IsLongestViablePrefix}
 use Rattle.pgn_text.specs.Public.Marks.{PieceKind, ReadableGame, UnreadableRest, TooLongBlock, MarkedPiece, AreMarkedPieces}
 use Rattle.pgn_text.specs.Public.Parts.{spelled}
-use Rattle.pgn_game.specs.Public.PackedGames.{longest_name}
+use Rattle.pgn_game.specs.Public.PackedGames.{longest_name, is_shown, is_shown_name}
+use Rattle.pgn_extract.specs.Public.Index.{shown_name}
 use Rattle.pgn_extract.specs.Public.Listing.{Entry, AreEntries, listing}
 use Rattle.pgn_extract.specs.Public.Exports.{as_it_stands, IsPieceExport, AreExports}
 use Rattle.pgn_extract.specs.Public.Notes.{IsLinePlace, IsNote, NamesByte, NamesStop}
@@ -73,12 +74,18 @@ TextHasOneExport =
     (aim : Aim) (number : ℕ) (pieces : List MarkedPiece) (text other : List ℕ)
     → AreExports aim number pieces text → AreExports aim number pieces other → text ≡ other
 
+-- lines show the name that they have for a path as it is, which is so of no name with a control character
+abbrev pub NamesAreShown : Type 0
+NamesAreShown = (path : List ℕ) → IsTrue (is_shown (shown_name path))
+
 -- a run packs each sound game of its input, and answers `Ok`. A search of what it wrote that lists and answers `Ok` writes the listing of the input
 abbrev pub PackIsListedAsItsText : Type 0
 PackIsListedAsItsText =
     (packing : Settings) (io : Io) (summary : Summary) (whole : List ℕ)
     → packing.mode ≡ modes.Export → PacksAll (aim_of packing) → IfSome packing.name (λ name. length name ≤ longest_name)
-    → packing.number ≤ 2 ^ 62 → packing.offset ≤ largest_offset → io.input.old.bytes ≡ Some whole → IsRun (job_of packing) io (Ok summary)
+    → IsTrue (is_shown_name packing.name) → 1 ≤ packing.number → packing.number ≤ 2 ^ 62
+    → packing.offset ≤ largest_offset → io.input.old.bytes ≡ Some whole
+    → IsRun (job_of packing) io (Ok summary)
     → (pieces : List MarkedPiece) × (bytes : List ℕ) × ArePieces (job_of packing) whole pieces × Adds io.out bytes
     × ((aim : Aim) (left out out' : Option (List ℕ)) (searched : Searched) (entries : List Entry) → aim.mode ≡ modes.List
     → IsSearch aim (Some bytes) left out out' (Ok searched) → AreEntries (of_all aim) packing.number pieces entries → Appends out out' (listing packing.name entries))

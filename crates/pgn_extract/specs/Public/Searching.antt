@@ -1,5 +1,5 @@
 -- The search of a pack: what is written of it is the listing of the text that was packed, or the marks of its sound games.
-use Rattle.std.specs.Prelude.{◌≡◌, ◌≢◌, ℕ, ◌+◌, ◌^◌, ◌<◌, ◌≤◌, List, [], ◌∷◌, ◌++◌, length, Option, None, Some, Result, IfSome, IfOk, IfErr}
+use Rattle.std.specs.Prelude.{◌≡◌, ◌≢◌, ℕ, ◌+◌, ◌^◌, ◌<◌, ◌≤◌, List, [], ◌∷◌, ◌++◌, length, Option, None, Some, Result, IfSome, IfOk, IfErr, IsTrue}
 use Rattle.std.specs.Io.KnownBytes.{Appends, Consumes}
 use Rattle.std.specs.List.{AllByRecursion}
 use Rattle.pgn_text.specs.Public.GameTexts.{GameText, IsGameText, ShowsGame, tag_in}
@@ -7,7 +7,8 @@ use Rattle.pgn_text.specs.Public.Limits.{block_limit, depth_limit, largest_offse
 use Rattle.pgn_text.specs.Public.Marks.{PieceKind, ReadableGame, UnreadableRest, TooLongBlock, MarkedPiece, AreMarkedPieces}
 use Rattle.pgn_text.specs.Public.Parts.{Part}
 use Rattle.pgn_game.specs.Public.Faults.{Fault}
-use Rattle.pgn_game.specs.Public.PackedGames.{PackedGame, FitsRecord, IsPacked, record_bytes, pack_bytes, longest_name}
+use Rattle.pgn_game.specs.Public.PackedGames.{PackedGame, FitsRecord, IsPacked, record_bytes, pack_bytes}
+use Rattle.pgn_game.specs.Public.PackedGames.{longest_name, is_shown_name}
 use Rattle.pgn_game.specs.Public.PackStreams.{HasNoRecord}
 use Rattle.pgn_game.specs.Public.Replays.{Replay, IsReplay}
 use Rattle.pgn_game.specs.Public.Starts.{fen_tag}
@@ -67,6 +68,8 @@ pub record PacksAll (packing : Aim) : Type 0 where
 pub record PacksText (packing : Aim) (number offset : ℕ) (text : List ℕ) (pieces : List MarkedPiece) (bytes : List ℕ) : Type 0 where
   pub all : PacksAll packing
   pub short : IfSome packing.name (λ name. length name ≤ longest_name)
+  pub shown : IsTrue (is_shown_name packing.name)
+  pub counted : 1 ≤ number
   pub few : number ≤ 2 ^ 62
   pub within : offset + length text ≤ largest_offset
   pub each : AreMarkedPieces block_limit depth_limit offset text pieces

@@ -1,5 +1,5 @@
 -- What holds of every game, whatever replays it.
-use Rattle.std.specs.Prelude.{◌≡◌, ◌⊎◌, ℕ, ◌+◌, ◌/◌, ◌%◌, ◌^◌, ◌==◌, ◌<◌, ◌≤◌, List, [], ◌∷◌, ◌++◌, length, Option, Some, IfSome, is_some}
+use Rattle.std.specs.Prelude.{◌≡◌, ◌⊎◌, ℕ, ◌+◌, ◌/◌, ◌%◌, ◌^◌, ◌==◌, ◌<◌, ◌≤◌, List, [], ◌∷◌, ◌++◌, length, Option, Some, IfSome, IsTrue, is_some}
 use Rattle.std.specs.List.{slice_get, AllByRecursion}
 use Rattle.chess.specs.Public.Positions.{State}
 use Rattle.chess.specs.Public.Moves.{after, IsPseudoLegal}
@@ -15,7 +15,7 @@ use Rattle.pgn_game.specs.Public.AllLines.{Line, spelled, own_words}
 use Rattle.pgn_game.specs.Public.MainLines.{main_words}
 use Rattle.pgn_game.specs.Public.Faults.{Fault, IsFault}
 use Rattle.pgn_game.specs.Public.Openings.{IsOpening}
-use Rattle.pgn_game.specs.Public.PackedGames.{PackedGame, FitsRecord, IsPacked, IsRecordOf, head_of, numbered_result, record_bytes, pack_bytes, longest_name}
+use Rattle.pgn_game.specs.Public.PackedGames.{PackedGame, FitsRecord, IsPacked, IsRecordOf, head_of, numbered_result, record_bytes, pack_bytes, longest_name, is_origin}
 use Rattle.pgn_game.specs.Public.PlyCodes.{PlyCode, IsCode, FitsCode, moved, code_bytes, code_of}
 use Rattle.pgn_game.specs.Public.Replays.{Replay, IsReplay, IsSoundGame}
 use Rattle.pgn_game.specs.Public.Exports.{AreMovetextTokens, IsReplayFor, IsExport}
@@ -160,13 +160,14 @@ GameHasOneSpelling =
     (name : Option (List ℕ)) (number offset : ℕ) (game : GameText) (bytes other : List ℕ)
     → IsRecordOf name number offset game bytes → IsRecordOf name number offset game other → bytes ≡ other
 
--- a game of a block always fits in a record, where its mark fits in 64 bits and its name is short
+-- a game of a block always fits in a record, where its mark fits in 64 bits, a run may meet it there, and its name is short
 abbrev pub GameOfABlockFits : Type 0
 GameOfABlockFits =
     (name : Option (List ℕ)) (number offset : ℕ) (game : GameText) (parts : List Part) (replay : Replay) (packed : PackedGame)
     → IsGameText game → ShowsGame game game.at parts → length game.text ≤ block_limit
     → IsReplay Main (tag_in fen_tag game.tags) game.elements replay → IsPacked name number offset game replay packed
-    → IfSome name (λ own. length own ≤ longest_name) → number < 2 ^ 64 → offset < 2 ^ 64 → FitsRecord packed
+    → IfSome name (λ own. length own ≤ longest_name) → number < 2 ^ 64 → offset < 2 ^ 64
+    → IsTrue (is_origin number offset name) → FitsRecord packed
 
 -- the head of a record shows how many tags its game has, whether it has a name, its result and the marks of its start
 pub record ShowsHead (game : PackedGame) (head : ℕ) : Type 0 where

@@ -1,11 +1,14 @@
 -- A record read from left to right, with the first fault that is met. No memory is taken: what is read shows stretches of the bytes.
-use Rattle.std.specs.Prelude.{◌≡◌, ℕ, zero, suc, ◌/◌, ◌%◌, Bool, true, false, List, length, take, drop, Option, Some, None, Result, Ok, Err, nat_lt, ◌==◌, if◌then◌else◌}
+use Rattle.std.specs.Prelude.{◌≡◌, ℕ, zero, suc, ◌/◌, ◌%◌, Bool, true, false, List, length, take, drop}
+use Rattle.std.specs.Prelude.{Option, Some, None, Result, Ok, Err, nat_lt, ◌==◌, if◌then◌else◌}
+use Rattle.std.specs.Cmp.Lexicographic.{slice_cmp}
+use Rattle.std.specs.Ordering.{is_lt, nat_cmp}
 use Rattle.std.specs.List.{flat_map}
 use Rattle.std.specs.Int.{Width, w32, w64, byte_len, from_be_bytes}
 use Rattle.pgn_game.specs.declared.pack.error.RecordError.{RecordError}
-use Rattle.pgn_game.specs.declared.pack.error.RecordError.TheVariants.{CutShort, TooLarge, PartOfPly}
+use Rattle.pgn_game.specs.declared.pack.error.RecordError.TheVariants.{CutShort, TooLarge, TagOrder, PartOfPly, NoOrigin}
 use Rattle.pgn_game.specs.Public.PlyCodes.{code_bytes}
-use Rattle.pgn_game.specs.Public.PackedGames.{PackedGame, FitsRecord, head_of, tail_bytes, largest_body}
+use Rattle.pgn_game.specs.Public.PackedGames.{PackedGame, FitsRecord, head_of, is_origin, tail_bytes, largest_body}
 
 -- what a step reads, handed to the next one; the fault that it meets, else
 abbrev pub and_then : {A B : Type 0} → Result A RecordError → (A → Result B RecordError) → Result B RecordError
@@ -60,14 +63,20 @@ name_at true bytes = and_then (text_at bytes) (λ name. Ok (Some name.0, name.1)
 abbrev pub tag_at : List ℕ → Result ((List ℕ × List ℕ) × List ℕ) RecordError
 tag_at bytes = and_then (text_at bytes) (λ name. and_then (text_at name.1) (λ contents. Ok ((name.0, contents.0), contents.1)))
 
--- what stands after the tag in front
-abbrev pub after_tag : List ℕ → Result (List ℕ) RecordError
-after_tag bytes = and_then (tag_at bytes) (λ tag. Ok tag.1)
+-- a tag with the name may stand after one with the last name: it is larger, byte by byte
+abbrev pub follows : Option (List ℕ) → List ℕ → Bool
+follows None name = true
+follows (Some last) name = is_lt (slice_cmp nat_cmp last name)
+
+-- the name of the tag in front, which follows the last one, and what stands after the tag
+abbrev pub next_tag : Option (List ℕ) → List ℕ → Result (List ℕ × List ℕ) RecordError
+next_tag last bytes =
+    and_then (tag_at bytes) (λ tag. if follows last tag.0.0 then Ok (tag.0.0, tag.1) else Err TagOrder)
 
 -- what stands after so many tags
-unfoldable pub after_tags : ℕ → List ℕ → Result (List ℕ) RecordError
-after_tags zero bytes = Ok bytes
-after_tags (suc n) bytes = and_then (after_tag bytes) (after_tags n)
+unfoldable pub after_tags : ℕ → Option (List ℕ) → List ℕ → Result (List ℕ) RecordError
+after_tags zero last bytes = Ok bytes
+after_tags (suc n) last bytes = and_then (next_tag last bytes) (λ tag. after_tags n (Some tag.0) tag.1)
 
 -- the record whose bytes after its size are these
 unfoldable pub body_at : List ℕ → Result RawRecord RecordError
@@ -76,9 +85,16 @@ body_at bytes =
     and_then (number_at w64 number.1) (λ offset.
     and_then (number_at w32 offset.1) (λ head.
     and_then (name_at (head.0 / 16 % 2 == 1) head.1) (λ name.
-    and_then (after_tags (head.0 / 32) name.1) (λ plies.
+    and_then (after_tags (head.0 / 32) None name.1) (λ plies.
     if length plies % 3 == 0
-    then Ok (record { number = number.0; offset = offset.0; head = head.0; name = name.0; tail = name.1; plies = plies })
+    then (if is_origin number.0 offset.0 name.0 then Ok (record {
+      number = number.0;
+      offset = offset.0;
+      head = head.0;
+      name = name.0;
+      tail = name.1;
+      plies = plies;
+    }) else Err NoOrigin)
     else Err PartOfPly)))))
 
 -- the size in front; one that is too large is refused before its bytes are asked for

@@ -1,10 +1,16 @@
 -- A packed game, and its one spelling: a record of a pack. Numbers are big-endian.
-use Rattle.std.specs.Prelude.{◌≡◌, ℕ, ◌+◌, ◌*◌, ◌^◌, ◌<◌, ◌≤◌, ◌==◌, if◌then◌else◌, Bool, List, [], ◌∷◌, ◌++◌, length, bytes_eq, codes, Option, Some, None, IfSome, option_map}
+use Rattle.std.specs.Prelude.{◌≡◌, ℕ, ◌+◌, ◌*◌, ◌^◌, ◌<◌, ◌≤◌, ◌==◌, ◌&&◌, ◌||◌, if◌then◌else◌, not}
+use Rattle.std.specs.Prelude.{Bool, true, false, IsTrue, nat_le, List, [], ◌∷◌, ◌++◌, length, bytes_eq}
+use Rattle.std.specs.Prelude.{codes, Option, Some, None, IfSome, option_map}
+use Rattle.std.specs.Cmp.Lexicographic.{slice_cmp}
+use Rattle.std.specs.List.Sorted.{IsStrictlySortedBy}
+use Rattle.std.specs.Ordering.{nat_cmp}
 use Rattle.std.specs.List.{flat_map, slice_get, AllByRecursion}
 use Rattle.std.specs.Int.{w32, w64, to_be_bytes}
 use Rattle.chess.specs.Public.Positions.{State}
-use Rattle.pgn_text.specs.Public.Limits.{block_limit}
-use Rattle.pgn_text.specs.Public.GameTexts.{GameText, IsResult, tag_in}
+use Rattle.pgn_text.specs.Public.Bytes.{begins}
+use Rattle.pgn_text.specs.Public.Limits.{block_limit, largest_offset}
+use Rattle.pgn_text.specs.Public.GameTexts.{GameText, IsResult, tag_in, tag_names}
 use Rattle.pgn_game.specs.Public.PlyCodes.{PlyCode, FitsCode, AreMarks, AreCodes, marks_number, code_bytes}
 use Rattle.pgn_game.specs.Public.Replays.{Replay, IsReplay}
 use Rattle.pgn_game.specs.Public.Starts.{fen_tag}
@@ -108,6 +114,25 @@ pub record FitsTag (tag : Tag) : Type 0 where
   pub name : length tag.0 < 2 ^ 32
   pub contents : length tag.1 < 2 ^ 32
 
+-- a control character stands in front of the bytes: one of ASCII, or of U+0080 to U+009F in UTF-8
+abbrev pub begins_control : List ℕ → Bool
+begins_control [] = false
+begins_control (b ∷ rest) =
+    nat_le b 31 || b == 127 || (b == 194 && begins (λ next. nat_le next 159) rest)
+
+-- lines show the name as it is: nowhere in it stands a control character
+abbrev pub is_shown : List ℕ → Bool
+is_shown [] = true
+is_shown (b ∷ rest) = not (begins_control (b ∷ rest)) && is_shown rest
+
+abbrev pub is_shown_name : Option (List ℕ) → Bool
+is_shown_name None = true
+is_shown_name (Some name) = is_shown name
+
+-- a run may meet a game with this number, at this offset, of a file with this name
+abbrev pub is_origin : ℕ → ℕ → Option (List ℕ) → Bool
+is_origin number offset name = nat_le 1 number && nat_le offset largest_offset && is_shown_name name
+
 -- the game has a spelling
 pub record FitsRecord (game : PackedGame) : Type 0 where
   pub number : game.number < 2 ^ 64
@@ -115,9 +140,12 @@ pub record FitsRecord (game : PackedGame) : Type 0 where
   pub name : IfSome game.name (λ name. length name < 2 ^ 32)
   pub count : length game.tags < 2 ^ 27
   pub tags : AllByRecursion FitsTag game.tags
+  -- a name stands once among them, and they ascend in the order of their names
+  pub ordered : IsStrictlySortedBy (slice_cmp nat_cmp) (tag_names game.tags)
   pub result : IsResult game.result
   pub plies : AllByRecursion FitsCode game.plies
   pub size : length (body_bytes game) ≤ largest_body
+  pub origin : IsTrue (is_origin game.number game.offset game.name)
 
 -- what is kept of the game with this name of its file and this number, at this offset, of which this is the replay: its tags and its result as they
 -- stand, the marks of the position that it starts from, and the codes of its main line

@@ -15,9 +15,15 @@ pub enum RecordError {
     /// The record says that it is larger than the record of any game.
     #[error("the record is too large")]
     TooLarge,
+    /// A tag stands twice, or before one whose name is smaller.
+    #[error("the tags are out of order")]
+    TagOrder,
     /// The bytes of its plies are no multiple of three.
     #[error("a ply is cut short")]
     PartOfPly,
+    /// Its number is 0, its offset past the largest one, or a control character in its file's name.
+    #[error("no game has this number, offset or file name")]
+    NoOrigin,
 }
 
 /// Why the record of a game is not appended.
@@ -26,6 +32,9 @@ pub enum PackError {
     /// It would be larger than the records that are read.
     #[error("the game is too large for a record")]
     TooLarge,
+    /// Its number is 0, its offset past the largest one, or a control character in its file's name.
+    #[error("no game has this number, offset or file name")]
+    NoOrigin,
     /// Memory was refused.
     #[error("out of memory")]
     OutOfMemory,

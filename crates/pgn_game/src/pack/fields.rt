@@ -1,9 +1,12 @@
 //! The fields of a record, each in front of bytes.
-ghost use Rattle.std.specs.Prelude.{◌≡◌, option_map};
+ghost use Rattle.std.specs.Prelude.{◌≡◌, None, option_map};
+ghost use Rattle.std.specs.Cmp.Lexicographic.{slice_cmp};
 ghost use Rattle.std.specs.Int.{w32, w64};
-ghost use Rattle.pgn_game.specs.Public.PackReading.{Gives, number_at, text_at, name_at, tag_at, after_tag, after_tags};
+ghost use Rattle.std.specs.Ordering.{is_lt, nat_cmp};
+ghost use Rattle.pgn_game.specs.Public.PackReading.{Gives, number_at, text_at, name_at, tag_at, follows, next_tag, after_tags};
 
 use crate::pack::error::RecordError;
+use std::cmp::Ordering;
 
 /// A number of four bytes, and what stands after it.
 pub(crate) fn u32_at(bytes: &[u8]) -> Result<(u32, &[u8]), RecordError>
@@ -32,6 +35,7 @@ pub(crate) fn u64_at(bytes: &[u8]) -> Result<(u64, &[u8]), RecordError>
 }
 
 /// A length and so many bytes: these, and what stands after them.
+#[inline(always)]
 #[tactic(auto, unfolding(crate::specs::Public::PackReading::text_at))]
 fn text_at(bytes: &[u8]) -> Result<(&[u8], &[u8]), RecordError>
     ensures { Gives (λ x. (x.0.now, x.1.now)) result (text_at bytes.now) }
@@ -64,22 +68,52 @@ pub(crate) fn tag_at(bytes: &[u8]) -> Result<((&[u8], &[u8]), &[u8]), RecordErro
     Ok(((name, contents), rest))
 }
 
-/// What stands after the tag in front.
-fn after_tag(bytes: &[u8]) -> Result<&[u8], RecordError>
-    ensures { Gives (λ rest. rest.now) result (after_tag bytes.now) }
+/// Whether a name is smaller than another one, byte by byte: most differ in their first bytes.
+#[inline(always)]
+fn is_below(name: &[u8], other: &[u8]) -> bool
+    ensures { result ≡ is_lt (slice_cmp nat_cmp name.now other.now) }
 {
-    let (_, rest) = text_at(bytes)?;
-    let (_, rest) = text_at(rest)?;
-    Ok(rest)
+    match (name, other) {
+        ([first, ..], [second, ..]) if *first != *second => *first < *second,
+        _ => name.cmp(other) == Ordering::Less,
+    }
+}
+
+/// Whether a tag with the name may stand after one with the last name.
+#[inline(always)]
+fn follows(last: Option<&[u8]>, name: &[u8]) -> bool
+    ensures { result ≡ follows (option_map (λ name. name.now) last.entry) name.now }
+{
+    match last {
+        None => true,
+        Some(last) => is_below(last, name),
+    }
+}
+
+/// The name of the tag in front, which follows the last one, and what stands after the tag.
+#[inline(always)]
+fn next_tag<'a>(last: Option<&[u8]>, bytes: &'a [u8]) -> Result<(&'a [u8], &'a [u8]), RecordError>
+    ensures { Gives (λ x. (x.0.now, x.1.now)) result
+        (next_tag (option_map (λ name. name.now) last.entry) bytes.now) }
+{
+    let (name, contents) = text_at(bytes)?;
+    let (_, rest) = text_at(contents)?;
+    if !follows(last, name) {
+        return Err(RecordError::TagOrder);
+    }
+    Ok((name, rest))
 }
 
 /// What stands after so many tags.
 pub(crate) fn after_tags(count: u32, bytes: &[u8]) -> Result<&[u8], RecordError>
-    ensures { Gives (λ rest. rest.now) result (after_tags count bytes.now) }
+    ensures { Gives (λ rest. rest.now) result (after_tags count None bytes.now) }
 {
+    let mut last = None;
     let mut rest = bytes;
     for _ in 0..count {
-        rest = after_tag(rest)?;
+        let (name, after) = next_tag(last, rest)?;
+        last = Some(name);
+        rest = after;
     }
     Ok(rest)
 }

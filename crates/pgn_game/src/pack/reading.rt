@@ -6,6 +6,7 @@ ghost use Rattle.pgn_game.specs.Public.PackReading.{Gives, raw_of, body_at, size
 
 use crate::pack::error::RecordError;
 use crate::pack::fields::{after_tags, name_at, tag_at, u32_at, u64_at};
+use crate::pack::origin::is_origin;
 use pgn_text::BLOCK_LIMIT;
 use std::marker::Model;
 
@@ -124,6 +125,9 @@ fn read_body(bytes: &[u8]) -> Result<RawRecord<'_>, RecordError>
     let plies = after_tags(head / 32, tail)?;
     if plies.len() % 3 != 0 {
         return Err(RecordError::PartOfPly);
+    }
+    if !is_origin(number, offset, name) {
+        return Err(RecordError::NoOrigin);
     }
     Ok(RawRecord {
         number,

@@ -1,15 +1,16 @@
 //! The record of a game, appended to bytes.
-ghost use Rattle.std.specs.Prelude.{◌≡◌, ◌↔◌, ◌<◌, ◌≤◌, ◌+◌, ◌^◌, ◌++◌, ℕ, List, length, min, option_map, OnOk, OnErr, IsErrOf};
+ghost use Rattle.std.specs.Prelude.{◌≡◌, ◌↔◌, ◌<◌, ◌≤◌, ◌+◌, ◌^◌, ◌++◌, ℕ, true, false, List, length, min};
+ghost use Rattle.std.specs.Prelude.{option_map, OnOk, OnErr, IsErrOf};
 ghost use Rattle.std.specs.List.{flat_map};
 ghost use Rattle.std.specs.Int.{w32, to_be_bytes};
 ghost use Rattle.pgn_text.specs.Public.GameTexts.{tag_in};
 ghost use Rattle.pgn_game.specs.Public.Starts.{fen_tag};
 ghost use Rattle.pgn_game.specs.Public.Replays.{IsSomeReplay};
-ghost use Rattle.pgn_game.specs.Public.PackedGames.{PackedGame, FitsRecord, IsPacked, with_length, name_bytes, tag_bytes, tags_size, body_size, record_bytes, largest_body, name_size, named_number, result_number, name_of};
+ghost use Rattle.pgn_game.specs.Public.PackedGames.{PackedGame, FitsRecord, IsPacked, with_length, name_bytes, tag_bytes, tags_size, body_size, record_bytes, largest_body, name_size, named_number, result_number, name_of, is_origin};
 ghost use Rattle.pgn_game.specs.Private.PackWords.{IsLinePlayed, AreMarksAfter, PutsFront, PutsHead, PutsPly, PutsPlies};
 
 use crate::pack::error::PackError;
-use crate::pack::origin::GameOrigin;
+use crate::pack::origin::{GameOrigin, is_origin};
 use crate::pack::ply::{Marks, coded_move};
 use crate::pack::reading::LARGEST_BODY;
 use crate::turns::replayed::Replayed;
@@ -87,6 +88,7 @@ fn put_size(
     ensures size { OnOk result (out.new.items ≡ out.old.items ++ to_be_bytes w32 (body_size (name_of origin.now) game.now.tags (length replayed.now.played))) }
     ensures within { OnOk result (body_size (name_of origin.now) game.now.tags (length replayed.now.played) ≤ largest_body) }
     ensures large { IsErrOf result PackError.TooLarge ↔ (largest_body < body_size (name_of origin.now) game.now.tags (length replayed.now.played)) }
+    ensures origin { IsErrOf result PackError.NoOrigin → ⊥ }
     ensures kept { (some : List ℕ) × (out.new.items ≡ out.old.items ++ some) }
 {
     let size = body_size(origin, game, replayed);
@@ -97,7 +99,8 @@ fn put_size(
     Ok(())
 }
 
-/// Appends the size of the record, and the number and the offset of the game.
+/// Appends the size of the record, and the number and the offset of the game. Answers an error where
+/// no run gives a game such a number, offset or file name.
 fn put_front(
     origin: &GameOrigin,
     game: &RawGame,
@@ -105,12 +108,18 @@ fn put_front(
     out: &mut Vec<u8>,
 ) -> Result<(), PackError>
     ensures front { OnOk result (PutsFront origin.now.number origin.now.offset (body_size (name_of origin.now) game.now.tags (length replayed.now.played)) out.old.items out.new.items) }
-    ensures placed { OnOk result ((origin.now.number < 2 ^ 64) × (origin.now.offset < 2 ^ 64)) }
+    ensures placed { OnOk result ((origin.now.number < 2 ^ 64) × (origin.now.offset < 2 ^ 64)
+        × (is_origin origin.now.number origin.now.offset (name_of origin.now) ≡ true)) }
+    ensures origin { IsErrOf result PackError.NoOrigin
+        → is_origin origin.now.number origin.now.offset (name_of origin.now) ≡ false }
     ensures within { OnOk result (body_size (name_of origin.now) game.now.tags (length replayed.now.played) ≤ largest_body) }
     ensures large { IsErrOf result PackError.TooLarge ↔ (largest_body < body_size (name_of origin.now) game.now.tags (length replayed.now.played)) }
     ensures kept { (some : List ℕ) × (out.new.items ≡ out.old.items ++ some) }
 {
     put_size(origin, game, replayed, out)?;
+    if !is_origin(origin.number, origin.offset, origin.name) {
+        return Err(PackError::NoOrigin);
+    }
     out.extend_from_slice(&origin.number.to_be_bytes())?;
     out.extend_from_slice(&origin.offset.to_be_bytes())?;
     Ok(())
@@ -222,6 +231,8 @@ fn put_fields(
     requires { IsLinePlayed replayed.now }
     ensures record { OnOk result ((packed : PackedGame) × IsPacked (name_of origin.now) origin.now.number origin.now.offset game.now replayed.now packed × FitsRecord packed × (out.new.items ≡ out.old.items ++ record_bytes packed)) }
     ensures large { IsErrOf result PackError.TooLarge ↔ (largest_body < body_size (name_of origin.now) game.now.tags (length replayed.now.played)) }
+    ensures origin { IsErrOf result PackError.NoOrigin
+        → is_origin origin.now.number origin.now.offset (name_of origin.now) ≡ false }
     ensures kept { (some : List ℕ) × (out.new.items ≡ out.old.items ++ some) }
 {
     game.invariant();
@@ -234,7 +245,8 @@ fn put_fields(
 }
 
 /// Appends the record of the game that comes from there: its name, its tags and its result as they stand, and the main line of the replay,
-/// which is one of the game. Where the record would be too large or memory is refused, nothing is appended.
+/// which is one of the game. Where the record would be too large, no run gives the game such a number, offset or file name, or memory is refused,
+/// nothing is appended.
 pub fn put_record(
     origin: &GameOrigin,
     game: &RawGame,
@@ -244,6 +256,8 @@ pub fn put_record(
     requires { IsSomeReplay (tag_in fen_tag game.now.tags) game.now.elements replayed.now }
     ensures record { OnOk result ((packed : PackedGame) × IsPacked (name_of origin.now) origin.now.number origin.now.offset game.now replayed.now packed × FitsRecord packed × (out.new.items ≡ out.old.items ++ record_bytes packed)) }
     ensures large { IsErrOf result PackError.TooLarge ↔ (largest_body < body_size (name_of origin.now) game.now.tags (length replayed.now.played)) }
+    ensures origin { IsErrOf result PackError.NoOrigin
+        → is_origin origin.now.number origin.now.offset (name_of origin.now) ≡ false }
     ensures left { OnErr result (out.new.items ≡ out.old.items) }
 {
     let length = out.len();

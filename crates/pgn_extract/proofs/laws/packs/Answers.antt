@@ -1,5 +1,6 @@
 -- The laws are lemmas.
 use Rattle.pgn_extract.proofs.PackFits.{packed_text, listed_pack}
+use Rattle.pgn_extract.proofs.ShownNames.{names_are_shown}
 use Rattle.pgn_extract.proofs.laws.packs.Goals as goal
 
 pub returns-clause-pack : goal.returns-clause-pack
@@ -7,3 +8,6 @@ returns-clause-pack c = packed_text
 
 pub returns-clause-listing : goal.returns-clause-listing
 returns-clause-listing c = listed_pack
+
+pub returns-clause-names : goal.returns-clause-names
+returns-clause-names c = names_are_shown

@@ -1,6 +1,9 @@
-use Rattle.std.proofs.Common.{◌≡◌, ◌-◌}
+use Rattle.std.proofs.Common.{◌≡◌, ◌-◌, None}
+use Rattle.std.specs.Prelude.{option_map}
 use Rattle.pgn_game.specs.Public.PackReading.{after_tags}
 use Rattle.pgn_game.proofs.pack.fields.after_tags.Given as goal
 
 abbrev pub invariant-loop : goal.invariant-loop
-invariant-loop l = after_tags (l.count - l.counter) l.rest ≡ after_tags l.count l.bytes
+invariant-loop l =
+    after_tags (l.count - l.counter) (option_map (λ name. name.now) l.last) l.rest
+    ≡ after_tags l.count None l.bytes
