@@ -1,8 +1,9 @@
 -- What the definitions refuse: a reason that is not why a text names no legal move. Each clause of
 -- each reason is needed here. So a text is refused for one reason.
-use Rattle.std.proofs.Common.{ℕ, List, Option, inl, inr, refl, subst}
+use Rattle.std.proofs.Common.{◌≡◌, ◌≢◌, ℕ, List, Option, None, Some, inl, inr, refl, subst}
 use Rattle.chess.specs.Public.Positions.{State}
-use Rattle.chess.specs.Public.Refusals.{IsMeant, IsSomeCastlingText, becoming, CanGoAs, IsRefusal}
+use Rattle.chess.specs.Public.Refusals.{IsFrom, IsMeant, IsSomeCastlingText, becoming, CanGoAs, IsRefusal}
+use Rattle.chess.specs.Public.Squares.{Place}
 use Rattle.chess.specs.Public.Laws.{TextHasOneRefusal}
 use Rattle.chess.specs.Public.San.{Agrees, Said, Spells, IsNamed}
 use Rattle.chess.specs.declared.board.man.Kind.{Kind}
@@ -63,6 +64,23 @@ no_legal_move_leaves P x m named (said, spells, meant, each) = named.legal.safe 
 
 no_king_left_by_none : (P : State) (x : List ℕ) → ((m : Move) → IsMeant P x m → ⊥) → IsRefusal P x LeavesKingAttacked → ⊥
 no_king_left_by_none P x none (said, spells, (m, meant), each) = none m meant
+
+-- a move from the square that has the fact is found, and no other move is
+no_move_overlooked : (fact : Move → Type 0) (s : Place) (m : Move) → m.from ≡ s → fact m
+    → IsFrom fact s None → ⊥
+no_move_overlooked fact s m from has none = none m from has
+
+no_second_move : (fact : Move → Type 0) (s : Place) (m n : Move) → n.from ≡ s → fact n → n ≢ m
+    → IsFrom fact s (Some m) → ⊥
+no_second_move fact s m n from has apart found = apart (found.2 n from has)
+
+no_move_from_elsewhere : (fact : Move → Type 0) (s : Place) (m : Move) → m.from ≢ s
+    → IsFrom fact s (Some m) → ⊥
+no_move_from_elsewhere fact s m elsewhere found = elsewhere found.0
+
+no_move_without_the_fact : (fact : Move → Type 0) (s : Place) (m : Move) → (fact m → ⊥)
+    → IsFrom fact s (Some m) → ⊥
+no_move_without_the_fact fact s m lacks found = lacks found.1
 
 -- where some man can go there, one can go as is said
 goes_as_said : (P : State) (x : List ℕ) (said : Said) → Spells x said

@@ -1,10 +1,10 @@
 -- Worked rows of the parts of games, of how they stand and of what is read off them; and what the
 -- definitions refuse.
-use Rattle.std.proofs.Common.{◌≡◌, ◌≢◌, ℕ, ◌+◌, Bool, true, false, ◌&&◌, ◌||◌, ◌<◌, List, [], ◌∷◌, ◌++◌, codes, length, refl, arith, None}
+use Rattle.std.proofs.Common.{◌≡◌, ◌≢◌, ℕ, ◌+◌, Bool, true, false, ◌&&◌, ◌||◌, ◌<◌, ◌≤◌, ◌∙◌, List, [], ◌∷◌, ◌++◌, codes, length, refl, ap, sym, take, drop, arith, None, IsTrue}
 use Rattle.std.specs.Borrow.{Bor}
 use Rattle.pgn_text.specs.Public.Elements.{tag_of}
 use Rattle.pgn_text.specs.Public.GameTexts.{HaveNames}
-use Rattle.pgn_text.specs.Public.Games.{MoveText, GlyphNumber, CommentText, VariationOpen, VariationClose, is_number, is_result_word, is_zero_castling, is_move_text, is_gap_part, is_tag, is_result, is_move, is_open, is_close, is_meant, Each, EachFrom, depth_after, begins_outside_gap, single_mark, double_mark, glyphs_of_marks, items_of_part, result_of}
+use Rattle.pgn_text.specs.Public.Games.{MoveText, GlyphNumber, CommentText, VariationOpen, VariationClose, is_number, is_result_word, is_zero_castling, is_move_text, is_gap_part, is_tag, is_result, is_move, is_open, is_close, is_meant, Each, EachFrom, MoveInLine, depth_after, begins_outside_gap, single_mark, double_mark, glyphs_of_marks, items_of_part, result_of}
 use Rattle.pgn_text.specs.Public.Left.{Left, IsPiece}
 use Rattle.pgn_text.specs.Public.LeftMarks.{IsMark, GivesMark, mark_place}
 use Rattle.pgn_text.specs.Public.Limits.{largest_offset}
@@ -188,6 +188,100 @@ comment_begins_in_a_gap = refl
 
 move_begins_outside : begins_outside_gap (Word (codes "e4") ∷ []) ≡ true
 move_begins_outside = refl
+
+-- A move stands before a variation in its own line: in `e4 (d4) (`, and in `e4 (e5 (`.
+
+move_before_a_variation :
+    MoveInLine (Word (codes "e4") ∷ Open ∷ Word (codes "d4") ∷ Close ∷ [])
+move_before_a_variation =
+    record {
+      earlier = [];
+      move = Word (codes "e4");
+      later = Open ∷ Word (codes "d4") ∷ Close ∷ [];
+      parted = refl;
+      is_move = refl;
+      same_depth = refl;
+      one_line = λ some more is. omega arith;
+    }
+
+move_in_a_variation : MoveInLine (Word (codes "e4") ∷ Open ∷ Word (codes "e5") ∷ [])
+move_in_a_variation =
+    record {
+      earlier = Word (codes "e4") ∷ Open ∷ [];
+      move = Word (codes "e5");
+      later = [];
+      parted = refl;
+      is_move = refl;
+      same_depth = refl;
+      one_line = within;
+    }
+  where
+    within : (some more : List Part) → [] ≡ some ++ more
+        → 1 ≤ depth_after (Word (codes "e4") ∷ Open ∷ Word (codes "e5") ∷ some)
+    within [] more is = omega arith
+    within (part ∷ some) more is = cc
+
+no_move_of_no_part : MoveInLine [] → ⊥
+no_move_of_no_part line = none line.earlier line.parted
+  where
+    none : (earlier : List Part) → [] ≡ earlier ++ line.move ∷ line.later → ⊥
+    none [] parted = cc
+    none (part ∷ earlier) parted = cc
+
+-- `1. (` has a number, and no move
+no_move_of_a_number : MoveInLine (Word (codes "1") ∷ []) → ⊥
+no_move_of_a_number line = none line.earlier line.move line.parted line.is_move
+  where
+    none : (earlier : List Part) (move : Part)
+        → Word (codes "1") ∷ [] ≡ earlier ++ move ∷ line.later → IsTrue (is_move move) → ⊥
+    none [] move parted is = let same : Word (codes "1") ≡ move = cc in
+        let number : false ≡ true = ap is_move same ∙ is in cc
+    none (first ∷ []) move parted is = cc
+    none (first ∷ second ∷ earlier) move parted is = cc
+
+-- `e4 ((` has a move of another line
+no_move_of_the_line_before : MoveInLine (Word (codes "e4") ∷ Open ∷ []) → ⊥
+no_move_of_the_line_before line =
+    none line.earlier line.move line.parted line.is_move line.same_depth
+  where
+    none : (earlier : List Part) (move : Part)
+        → Word (codes "e4") ∷ Open ∷ [] ≡ earlier ++ move ∷ line.later → IsTrue (is_move move)
+        → depth_after earlier ≡ 1 → ⊥
+    none [] move parted is depth = omega (arith, depth)
+    none (first ∷ []) move parted is depth =
+        let same : Open ≡ move = cc in let no : false ≡ true = ap is_move same ∙ is in cc
+    none (first ∷ second ∷ []) move parted is depth = cc
+    none (first ∷ second ∷ third ∷ earlier) move parted is depth = cc
+
+-- and `e4 (e5) ((` a move of a variation that is closed
+no_move_of_a_closed_variation :
+    MoveInLine (Word (codes "e4") ∷ Open ∷ Word (codes "e5") ∷ Close ∷ Open ∷ []) → ⊥
+no_move_of_a_closed_variation line =
+    none line.earlier line.move line.later line.parted line.is_move line.same_depth line.one_line
+  where
+    front : List Part
+    front = Word (codes "e4") ∷ Open ∷ Word (codes "e5") ∷ Close ∷ Open ∷ []
+
+    none : (earlier : List Part) (move : Part) (later : List Part) → front ≡ earlier ++ move ∷ later
+        → IsTrue (is_move move) → depth_after earlier ≡ 1
+        → ((some more : List Part) → later ≡ some ++ more
+        → 1 ≤ depth_after (earlier ++ move ∷ some)) → ⊥
+    none [] move later parted is depth line = omega (arith, depth)
+    none (a ∷ []) move later parted is depth line =
+        let same : Open ≡ move = cc in let no : false ≡ true = ap is_move same ∙ is in cc
+    none (a ∷ b ∷ []) move later parted is depth line =
+        let rest : later ≡ Close ∷ Open ∷ [] = ap (drop 3) (sym parted) in
+        let own : depth_after (a ∷ b ∷ move ∷ Close ∷ []) ≡ 0 =
+        ap (λ parts. depth_after (take 3 parts ++ Close ∷ [])) (sym parted) in
+        let within : 1 ≤ depth_after (a ∷ b ∷ move ∷ Close ∷ []) =
+        line (Close ∷ []) (Open ∷ []) rest in
+        omega (arith, own, within)
+    none (a ∷ b ∷ c ∷ []) move later parted is depth line =
+        let same : Close ≡ move = cc in let no : false ≡ true = ap is_move same ∙ is in cc
+    none (a ∷ b ∷ c ∷ d ∷ []) move later parted is depth line =
+        let same : Open ≡ move = cc in let no : false ≡ true = ap is_move same ∙ is in cc
+    none (a ∷ b ∷ c ∷ d ∷ e ∷ []) move later parted is depth line = cc
+    none (a ∷ b ∷ c ∷ d ∷ e ∷ f ∷ earlier) move later parted is depth line = cc
 
 -- What is read off parts.
 
