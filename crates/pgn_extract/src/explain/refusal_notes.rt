@@ -31,6 +31,15 @@ pub fn push_reason(alloc: Global, text: &mut Vec<u8>, error: &io::Error) -> Resu
     text.extend_from_slice(reason.as_bytes())
 }
 
+/// How standard input is read in place of the file that is refused.
+fn standard_input_note(refusal: &str) -> &'static [u8] {
+    if refusal == messages::CANNOT_OPEN_INPUT {
+        b"  without FILE standard input is read\n"
+    } else {
+        b"  standard input has the name /dev/stdin here\n"
+    }
+}
+
 /// A refusal of a file, and below it the name of the file and the system's reason.
 pub fn file_note(
     alloc: Global,
@@ -46,7 +55,7 @@ pub fn file_note(
     push_reason(alloc, &mut note, error)?;
     note.push(b'\n')?;
     if path == "-" {
-        note.extend_from_slice(b"  without FILE standard input is read\n")?;
+        note.extend_from_slice(standard_input_note(refusal))?;
     }
     Ok(note)
 }
