@@ -21,9 +21,10 @@ use Rattle.pgn_extract.specs.Public.Index.{mark, mark_line, shown_char, shown_na
 use Rattle.pgn_extract.specs.Public.Laws.{IsInOneOf, in_first, in_second, in_third, HasAMark}
 use Rattle.pgn_extract.specs.Public.Runs.{Passage}
 use Rattle.pgn_extract.specs.Public.Searching.{IsOfNoGame, HasNoGame, IsIndexOfSoundGames, none, keep, leave, IsSoundPiece, StopsAtLimit}
-use Rattle.pgn_extract.specs.Public.Several.{AtPath, BeginsPath, NamesUnopened, NoFile, Order, StopsAmong, StopsAtPath, WritesPaths, own_summary, summary_text}
+use Rattle.pgn_extract.specs.Public.Several.{AtPath, BeginsPath, NamesUnopened, NoFile, Order, StopsAmong, StopsAtPath, WritesPaths, name_at, order_at, own_summary, summary_text}
+use Rattle.pgn_extract.specs.declared.app.files.Task.{Task}
 use Rattle.pgn_extract.specs.declared.output.outcome.RunError.{RunError}
-use Rattle.pgn_extract.specs.declared.output.outcome.RunError.TheVariants.{InputTooLong, Read}
+use Rattle.pgn_extract.specs.declared.output.outcome.RunError.TheVariants.{InputTooLong, OutOfMemory, Read, Write}
 use Rattle.pgn_extract.specs.declared.output.outcome.Summary.{Summary}
 
 -- ---- a pack
@@ -105,6 +106,22 @@ a_shown : shown_name (codes "a") ≡ codes "a"
 a_shown = ap (λ cs. encode_utf8_all (map shown_char cs)) (chars-IsAscii (codes "a") is_ascii)
     ∙ encodes-IsAscii (codes "a") is_ascii
 
+-- each control character is shown as a question mark, and no other character is
+characters_shown : map shown_char (31 ∷ 32 ∷ 126 ∷ 127 ∷ 159 ∷ 160 ∷ [])
+    ≡ 63 ∷ 32 ∷ 126 ∷ 63 ∷ 63 ∷ 160 ∷ []
+characters_shown = refl
+
+-- lines have the name of the file that is read, whatever name they had
+named_as_shown : (own : Option (List ℕ)) → name_at true (codes "a") own ≡ Some (codes "a")
+named_as_shown own = ap (λ name. Some name) a_shown
+
+order_of_a_path : (task : Task) (path : List ℕ) → task.with_names ≡ true
+    → let order = order_at task path in
+    (order.job.aim.name ≡ Some (shown_name path)) × (order.job.number ≡ task.settings.number)
+    × (order.end ≡ task.end) × (order.summary ≡ task.summary)
+order_of_a_path task path named =
+    (ap (λ with_names. name_at with_names path task.settings.name) named, refl, refl, refl)
+
 -- the line is not just any, and it gives the name of the file
 named_a : NamesUnopened (codes "a") (codes "pgn-extract: cannot open input: a: gone" ++ 10 ∷ [])
 named_a = record {
@@ -183,6 +200,19 @@ no_output_there order path out err before after begins =
     nothing : (size : ℕ) → codes "x" ≡ take size [] → ⊥
     nothing zero is = cc
     nothing (suc size) is = cc
+
+-- also where a write fails, or memory runs out
+no_output_at_an_error : (order : Order) (path : List ℕ) (out err : Passage)
+    → out.old.bytes ≡ Some [] → out.new.bytes ≡ Some (codes "x")
+    → (StopsAtPath Write order path NoFile out err → ⊥)
+    × (StopsAtPath OutOfMemory order path NoFile out err → ⊥)
+no_output_at_an_error order path out err before after =
+    let none = no_output_there order path out err before after in (none, none)
+
+-- no read fails where no file is
+no_read_without_files : (order : List ℕ → Order) (paths : List (List ℕ)) (out err : Passage)
+    → StopsAmong order (λ path. NoFile) paths Read out err → ⊥
+no_read_without_files order paths out err stops = stops.there
 
 -- of a file that is not there no other line is begun
 no_other_line : (order : Order) (path : List ℕ) (out err : Passage) → err.old.bytes ≡ Some []

@@ -1,8 +1,10 @@
 -- What the definitions of what is asked for say of some options, and what they refuse.
-use Rattle.std.proofs.Common.{◌≡◌, ◌^◌, ◌-◌, true, false, ℕ, List, [], None, Some, codes, refl}
+use Rattle.std.proofs.Common.{◌≡◌, ◌^◌, ◌-◌, Bool, true, false, ℕ, nat_lt, length, List, [], ◌∷◌, ◌++◌, Option, None, Some, option_map, codes, ap, refl}
+use Rattle.std.specs.Borrow.{Bor}
 use Rattle.pgn_game.specs.declared.exports.notation.Notation.TheVariants.{San, Uci}
-use Rattle.pgn_extract.specs.Public.GivenMarks.{mark_in}
-use Rattle.pgn_extract.specs.Public.Requests.{asked, asks_names, begin_of, end_of, first_line, gives_mark, has_several_files, is_one_line, is_stretch, option_refusals}
+use Rattle.pgn_criteria.specs.declared.condition.Condition.{Condition}
+use Rattle.pgn_extract.specs.Public.GivenMarks.{GivenMark, mark_in}
+use Rattle.pgn_extract.specs.Public.Requests.{asked, asks_names, bad_mark, begin_of, end_of, first_line, gives_mark, has_several_files, is_one_line, is_stretch, option_refusals, refused, text_refusals}
 use Rattle.pgn_extract.specs.declared.app.command.Request.{Request}
 use Rattle.pgn_extract.specs.declared.settings.Form.TheVariants.{Standard, AsItStands, Line, Record}
 use Rattle.pgn_extract.specs.declared.settings.Mode.TheVariants as modes
@@ -195,6 +197,65 @@ one_file : (request : Request)
     → first_line (option_refusals (marked request)) ≡ None
 one_file request one mark = rw (mark, one) refl
 
+-- packs have no marks
+abbrev listed_pack : Request → Request
+listed_pack request = record (plain request) { list = true; packed = true }
+
+packs_have_no_marks : (request : Request) (text : Bor (List ℕ))
+    → RefusedWith (record (listed_pack request) { from = Some text }) packs_are_plain
+    × RefusedWith (record (listed_pack request) { until = Some text }) packs_are_plain
+    × RefusedWith (record (listed_pack request) { at = Some text }) packs_are_plain
+packs_have_no_marks request text = (refl, refl, refl)
+
+each_option_gives_a_mark : (request : Request) (text : Bor (List ℕ))
+    → (gives_mark (record (plain request) { from = Some text }) ≡ true)
+    × (gives_mark (record (plain request) { until = Some text }) ≡ true)
+    × (gives_mark (record (plain request) { at = Some text }) ≡ true)
+    × (gives_mark (plain request) ≡ false)
+each_option_gives_a_mark request text = (refl, refl, refl, refl)
+
+-- two files are several, and one is not
+two_files : (request : Request) (one two : Bor (List ℕ)) → request.files.items ≡ one ∷ two ∷ []
+    → has_several_files request ≡ true
+two_files request one two are =
+    ap (λ (files : List (Bor (List ℕ))). nat_lt 1 (length files)) are
+
+not_several_files : (request : Request) (one : Bor (List ℕ)) → request.files.items ≡ one ∷ []
+    → has_several_files request ≡ false
+not_several_files request one are =
+    ap (λ (files : List (Bor (List ℕ))). nat_lt 1 (length files)) are
+
+-- texts are refused that are no marks, an end that is not after the begin, and a line that is two
+bad_begin : (noted : Bool) (request : Request) (text : Bor (List ℕ)) → mark_in text.now ≡ None
+    → first_line (text_refusals noted (record (plain request) { from = Some text }))
+    ≡ Some (bad_mark noted)
+bad_begin noted request text bad = rw bad refl
+
+bad_end : (noted : Bool) (request : Request) (text : Bor (List ℕ)) → mark_in text.now ≡ None
+    → first_line (text_refusals noted (record (plain request) { until = Some text }))
+    ≡ Some (bad_mark noted)
+bad_end noted request text bad = rw bad refl
+
+end_at_the_begin : (noted : Bool) (request : Request) (text : Bor (List ℕ))
+    → mark_in text.now ≡ Some (record { number = 1; offset = 0 })
+    → first_line (text_refusals noted (record (plain request) { until = Some text }))
+    ≡ Some (codes "pgn-extract: --until is not after --from\n")
+end_at_the_begin noted request text first = rw first refl
+
+line_of_two : (noted : Bool) (request : Request) (condition : Bor (List ℕ))
+    → condition.now ≡ codes "mate\nor" → request.conditions.items ≡ condition ∷ []
+    → first_line (text_refusals noted (plain request))
+    ≡ Some (codes "pgn-extract: --where takes one line\n")
+line_of_two noted request condition two only = rw only (rw two refl)
+
+no_text_refused : (noted : Bool) (request : Request) → request.conditions.items ≡ []
+    → refused noted (plain request) ≡ None
+no_text_refused noted request none = rw none refl
+
+note_of_a_bad_mark : bad_mark true ≡ codes "pgn-extract: bad mark\n"
+    ++ codes "  a mark is N@O, as --index prints it; 1@0 is the first game's\n"
+note_of_a_bad_mark = refl
+
 -- a run ends after it begins, and a line is one
 stretches :
     (is_stretch (Some (record { number = 1; offset = 4 })) (Some 5) ≡ true)
@@ -241,6 +302,12 @@ each_asked : (request : Request)
 each_asked request =
     (refl, refl, refl, refl, refl, refl, refl, refl, refl, refl, refl, refl, refl, refl, refl)
 
+criteria_are_asked : (noted : Bool) (request : Request)
+    (criteria : Option (List (List (Condition (List ℕ))))) (chosen : Option (List GivenMark))
+    → let aim = asked noted request criteria chosen in
+    (aim.criteria ≡ criteria) × (aim.chosen ≡ chosen) × (aim.name ≡ None)
+criteria_are_asked noted request criteria chosen = (refl, refl, refl)
+
 each_style : (request : Request)
     → ((asked false (record (plain request) { no_comments = true }) None None).style.comments ≡ false)
     × ((asked false (record (plain request) { keep_commands = true }) None None).style.commands ≡ true)
@@ -254,6 +321,15 @@ without_marks : (request : Request)
     → (begin_of (plain request) ≡ Some (record { number = 1; offset = 0 }))
     × (end_of (plain request) ≡ Some (2 ^ 64 - 1))
 without_marks request = (refl, refl)
+
+with_marks : (request : Request) (text : Bor (List ℕ)) → text.now ≡ codes "2@22"
+    → (begin_of (record (plain request) { from = Some text })
+    ≡ Some (record { number = 2; offset = 22 }))
+    × (end_of (record (plain request) { until = Some text }) ≡ Some 22)
+with_marks request text is = (
+  ap mark_in is,
+  ap (λ bytes. option_map (λ (mark : GivenMark). mark.offset) (mark_in bytes)) is,
+)
 
 names : (request : Request) → has_several_files request ≡ true
     → (asks_names (plain request) ≡ true)

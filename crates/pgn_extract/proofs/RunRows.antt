@@ -5,16 +5,17 @@ use Rattle.pgn_text.specs.Public.Complete.{AreCompleteBlocks, AreCompletePieces}
 use Rattle.pgn_text.specs.Public.GameTexts.{GameText, IsGameText, tag_in}
 use Rattle.pgn_game.specs.Public.Starts.{fen_tag}
 use Rattle.std.specs.Borrow.{Bor}
-use Rattle.std.specs.Io.KnownBytes.{Appends}
+use Rattle.std.specs.Io.KnownBytes.{Appends, Keeps}
+use Rattle.std.specs.List.{AllByRecursion}
 use Rattle.pgn_game.specs.Public.Faults.{Fault}
 use Rattle.pgn_game.specs.Public.PackStreams.{HasNoRecord}
-use Rattle.pgn_game.specs.Public.PackedGames.{PackedGame, IsPacked, record_bytes}
+use Rattle.pgn_game.specs.Public.PackedGames.{FitsRecord, PackedGame, IsPacked, record_bytes}
 use Rattle.pgn_game.specs.Public.Replays.{Replay, IsReplay}
 use Rattle.pgn_game.specs.declared.exports.style.Style.{Style}
 use Rattle.pgn_game.specs.declared.replays.replayer.Lines.TheVariants.{All, Main}
-use Rattle.pgn_criteria.specs.Public.Meeting.{Heading}
+use Rattle.pgn_criteria.specs.Public.Meeting.{Heading, heading_of}
 use Rattle.pgn_text.specs.Public.Limits.{largest_offset}
-use Rattle.pgn_text.specs.Public.Marks.{MarkedPiece, TooLongBlock, AreMarkedPieces}
+use Rattle.pgn_text.specs.Public.Marks.{MarkedPiece, TooLongBlock, UnreadableRest, AreMarkedPieces}
 use Rattle.pgn_text.specs.Public.Parts.{Part}
 use Rattle.pgn_text.specs.Public.Tallies.{Tallied}
 use Rattle.pgn_extract.specs.Public.Aims.{Aim}
@@ -27,19 +28,20 @@ use Rattle.pgn_extract.specs.Public.Outcomes.{AppendsFront, BeginsAll, WritesCom
 use Rattle.pgn_extract.specs.Public.Requests.{option_refusals, refusals, text_refusals}
 use Rattle.pgn_extract.specs.Public.Resuming.{WritesRest, IsMarkAmong}
 use Rattle.pgn_extract.specs.Public.Runs.{Adds, AreWritten, ArePieces, Completed, Completes, Exports, Indexes, Io, Job, Lists, OnInput, Passage, Stream, stream_of, Exported, Indexed, IsBegun, IsCompleteOf, Listed, ListsRest, Rest, RestListed, Resumes, Stopped, Stops}
-use Rattle.pgn_extract.specs.Public.Searching.{AreGameRecords, ArePackLines, ArePieceRecords, AreRecordLines, AreRecords, BeginsWithRecords, HasNoGame, Searches, StopsAtBytes, StopsAtRead, StopsSearch, StopsWithin, IndexesWhatWasPacked, IsIndexOfSoundGames, IsPackOf, IsRecordListing, ListsWhatWasPacked, of_all}
+use Rattle.pgn_extract.specs.Public.Searching.{AreGameRecords, ArePackLines, ArePieceRecords, AreRecordLines, AreRecords, BeginsWithRecords, HasNoGame, Searches, StopsAtBytes, StopsAtRead, StopsSearch, StopsWithin, IndexesWhatWasPacked, IsIndexOfSoundGames, IsPackOf, IsRecordListing, IsSoundPiece, ListsWhatWasPacked, of_all}
 use Rattle.pgn_extract.specs.Public.Searching.AreGameRecords.{sound as sound_record, faulty as faulty_record}
-use Rattle.pgn_extract.specs.Public.Several.{AtPath, FileOf, IsReport, NoFile, Order, StopsInFile, Unknown, IsRead, WritesRead}
+use Rattle.pgn_extract.specs.Public.Several.{AtPath, FileOf, IsOfPath, IsReport, NamesUnopened, NoFile, Order, StopsInFile, Unknown, IsRead, WritesPaths, WritesRead}
 use Rattle.pgn_extract.specs.Private.SeveralPacks.{SearchesPath, SearchesPaths}
-use Rattle.pgn_extract.specs.Public.Verdicts.{AreVerdicts, FaultyGame, IsGameVerdict, Verdict, output_text}
+use Rattle.pgn_extract.specs.Public.Verdicts.{AreVerdicts, FaultyGame, IsGameVerdict, Verdict, fault_lines, output_text}
 use Rattle.pgn_extract.specs.Private.PackStops.{StopsAmongPacks, StopsAtPack, StopsInPack}
 use Rattle.pgn_extract.specs.declared.app.command.Request.{Request}
 use Rattle.pgn_extract.specs.declared.app.packs.PackFailure.{PackFailure}
-use Rattle.pgn_extract.specs.declared.app.packs.PackFailure.TheVariants.{Search}
+use Rattle.pgn_extract.specs.declared.app.packs.PackFailure.TheVariants.{Report, Search}
 use Rattle.pgn_extract.specs.declared.output.outcome.RunError.{RunError}
 use Rattle.pgn_extract.specs.declared.output.outcome.Summary.{Summary}
 use Rattle.pgn_extract.specs.declared.packed.searching.SearchError.{SearchError}
 use Rattle.pgn_extract.specs.declared.packed.searching.SearchError.TheVariants.{BadPack}
+use Rattle.pgn_extract.specs.declared.packed.searching.SearchError.TheVariants as errors
 use Rattle.pgn_extract.specs.declared.packed.searching.Searched.{Searched}
 use Rattle.pgn_extract.specs.declared.settings.Form.TheVariants.{Record, Standard}
 use Rattle.pgn_extract.specs.declared.settings.Mode.TheVariants as modes
@@ -162,6 +164,35 @@ no_file_where_none_is : (error : RunError) (order : Order) (out err : Passage)
     → StopsInFile error order NoFile out err → ⊥
 no_file_where_none_is error order out err stops = stops
 
+no_file_where_nothing_is_known : (error : RunError) (order : Order) (out err : Passage)
+    → StopsInFile error order Unknown out err → ⊥
+no_file_where_nothing_is_known error order out err stops = stops
+
+nothing_of_an_unknown_path : (order : Order) (path output report : List ℕ)
+    → IsOfPath order path Unknown output report → ⊥
+nothing_of_an_unknown_path order path output report is = is
+
+no_other_verdicts_of_a_report : (job : Job) (text output faults : List ℕ)
+    → ((pieces : List MarkedPiece) (verdicts : List Verdict)
+    → AreVerdicts job.aim job.number pieces verdicts → ⊥)
+    → IsReport job text output faults → ⊥
+no_other_verdicts_of_a_report job text output faults none is =
+    none is.pieces is.verdicts is.reported
+
+no_other_lines_of_a_report : (job : Job) (text output faults : List ℕ)
+    → ((verdicts : List Verdict) → faults ≡ fault_lines verdicts → ⊥)
+    → IsReport job text output faults → ⊥
+no_other_lines_of_a_report job text output faults none is = none is.verdicts is.lines
+
+no_report_unwritten : (order : Order) (text : List ℕ) (out err : Passage)
+    → ((report : List ℕ) → Adds err report → ⊥) → WritesRead order text out err → ⊥
+no_report_unwritten order text out err none writes = none writes.1 writes.4
+
+no_report_of_paths_unwritten : (order : List ℕ → Order) (known : List ℕ → AtPath)
+    (paths : List (List ℕ)) (out err : Passage)
+    → ((report : List ℕ) → Adds err report → ⊥) → WritesPaths order known paths out err → ⊥
+no_report_of_paths_unwritten order known paths out err none writes = none writes.1 writes.4
+
 -- Packs.
 
 no_record_of_no_game : (name : Option (List ℕ)) (number offset : ℕ) (parts : List Part)
@@ -176,6 +207,15 @@ no_record_of_no_game name number offset parts records unsound faultless are = el
 no_record_of_a_long_block : (name : Option (List ℕ)) (number offset : ℕ) (packed : PackedGame)
     → ArePieceRecords name TooLongBlock number offset (packed ∷ []) → ⊥
 no_record_of_a_long_block name number offset packed are = cc
+
+no_record_of_other_bytes : (name : Option (List ℕ)) (number offset : ℕ) (bytes : List ℕ)
+    (packed : PackedGame)
+    → ArePieceRecords name (UnreadableRest bytes) number offset (packed ∷ []) → ⊥
+no_record_of_other_bytes name number offset bytes packed are = cc
+
+no_sound_piece_but_games : (bytes : List ℕ)
+    → (IsSoundPiece TooLongBlock → ⊥) × (IsSoundPiece (UnreadableRest bytes) → ⊥)
+no_sound_piece_but_games bytes = (λ sound. sound, λ sound. sound)
 
 no_record_of_no_piece : (name : Option (List ℕ)) (number : ℕ) (packed : PackedGame)
     → AreRecords name number [] (packed ∷ []) → ⊥
@@ -192,6 +232,27 @@ no_empty_line_of_a_record aim packed is = none _ is
 no_line_of_no_record : (aim : Aim) → ArePackLines aim [] (codes "x") → ⊥
 no_line_of_no_record aim are = cc
 
+-- in both of its other modes a record has the lines of its game
+no_other_lines_in_a_mode : (aim : Aim) (packed : PackedGame) (text : List ℕ)
+    → (IsRecordListing aim packed text → ⊥)
+    → (AreRecordLines modes.List aim packed text → ⊥)
+    × (AreRecordLines modes.Export aim packed text → ⊥)
+no_other_lines_in_a_mode aim packed text none = (none, none)
+
+no_lines_of_another_record : (aim : Aim) (packed : PackedGame) (more : List PackedGame)
+    (text : List ℕ) → ((own : List ℕ) → AreRecordLines aim.mode aim packed own → ⊥)
+    → ArePackLines aim (packed ∷ more) text → ⊥
+no_lines_of_another_record aim packed more text none are = none are.0 are.3
+
+no_record_passed_over : (aim : Aim) (packed : PackedGame) (more : List PackedGame) (text : List ℕ)
+    → ((rest : List ℕ) → ArePackLines aim more rest → ⊥)
+    → ArePackLines aim (packed ∷ more) text → ⊥
+no_record_passed_over aim packed more text none are = none are.1 are.4
+
+no_record_that_does_not_fit : (aim : Aim) (whole rest text : List ℕ) (before : List PackedGame)
+    → (AllByRecursion FitsRecord before → ⊥) → BeginsWithRecords aim whole before rest text → ⊥
+no_record_that_does_not_fit aim whole rest text before none begins = none begins.fit
+
 no_byte_left_out : (aim : Aim) (whole rest text : List ℕ) → whole ≢ rest
     → BeginsWithRecords aim whole [] rest text → ⊥
 no_byte_left_out aim whole rest text other begins = other begins.parted
@@ -206,6 +267,19 @@ no_search_unwritten : (aim : Aim) (whole : List ℕ) (out out' : Option (List �
 no_search_unwritten aim whole out out' searched unwritten searches =
     unwritten searches.text searches.written
 
+no_record_uncounted : (aim : Aim) (whole : List ℕ) (out out' : Option (List ℕ))
+    (searched : Searched) (searches : Searches aim whole out out' searched)
+    → searched.records ≢ length searches.records → ⊥
+no_record_uncounted aim whole out out' searched searches other = other searches.counted
+
+no_search_of_other_bytes : (aim : Aim) (whole : List ℕ) (out out' : Option (List ℕ))
+    (searched : Searched)
+    → ((records : List PackedGame) (text : List ℕ)
+    → BeginsWithRecords aim whole records [] text → ⊥)
+    → Searches aim whole out out' searched → ⊥
+no_search_of_other_bytes aim whole out out' searched none searches =
+    none searches.records searches.text searches.read
+
 no_stop_at_the_end : (aim : Aim) (whole : List ℕ) (at : ℕ) (out out' : Option (List ℕ))
     → ((rest : List ℕ) → HasNoGame rest → ⊥) → StopsAtBytes aim whole at out out' → ⊥
 no_stop_at_the_end aim whole at out out' none stops = none stops.rest stops.bad
@@ -217,6 +291,20 @@ no_stop_before_a_record aim whole left out out' none stops = none stops.rest sto
 no_stop_unwritten : (aim : Aim) (whole : List ℕ) (out out' : Option (List ℕ))
     → ((text : List ℕ) → AppendsFront out out' text → ⊥) → StopsWithin aim whole out out' → ⊥
 no_stop_unwritten aim whole out out' unwritten stops = unwritten stops.text stops.written
+
+no_stop_of_other_bytes : (aim : Aim) (whole : List ℕ) (out out' : Option (List ℕ))
+    → ((before : List PackedGame) (rest text : List ℕ)
+    → BeginsWithRecords aim whole before rest text → ⊥)
+    → StopsWithin aim whole out out' → ⊥
+no_stop_of_other_bytes aim whole out out' none stops =
+    none stops.before stops.rest stops.text stops.read
+
+-- a beginning of the lines stands where a write fails, and where memory runs out
+no_stop_but_a_beginning : (aim : Aim) (whole : List ℕ) (left out out' : Option (List ℕ))
+    → (StopsWithin aim whole out out' → ⊥)
+    → (StopsSearch errors.Write aim whole left out out' → ⊥)
+    × (StopsSearch errors.OutOfMemory aim whole left out out' → ⊥)
+no_stop_but_a_beginning aim whole left out out' none = (none, none)
 
 no_bad_pack_unnamed : (aim : Aim) (whole : List ℕ) (at : ℕ) (left out out' : Option (List ℕ))
     → (StopsAtBytes aim whole at out out' → ⊥)
@@ -237,9 +325,33 @@ no_report_of_a_pack : (aim : Aim) (path whole : List ℕ) (out err : Passage) �
     → SearchesPath aim path (FileOf whole) out err → ⊥
 no_report_of_a_pack aim path whole out err other searched = other searched.1
 
+-- the line that names a pack that is not there is written, and a pack that is there is searched
+no_pack_unnamed : (aim : Aim) (path : List ℕ) (out err : Passage)
+    → ((line : List ℕ) → NamesUnopened path line → Adds err line → ⊥)
+    → SearchesPath aim path NoFile out err → ⊥
+no_pack_unnamed aim path out err none searched = none searched.1.0 searched.1.1 searched.1.2
+
+no_pack_unsearched : (aim : Aim) (path whole : List ℕ) (out err : Passage)
+    → ((searched : Searched)
+    → Searches aim whole out.old.bytes out.new.bytes searched → ⊥)
+    → SearchesPath aim path (FileOf whole) out err → ⊥
+no_pack_unsearched aim path whole out err none searched = none searched.0.0 searched.0.1
+
 nothing_after_the_last_pack : (aim : Aim) (known : List ℕ → AtPath) (out err : Passage)
     → out.new ≢ out.old → SearchesPaths aim known [] out err → ⊥
 nothing_after_the_last_pack aim known out err other searched = other searched.0
+
+no_report_after_the_last_pack : (aim : Aim) (known : List ℕ → AtPath) (out err : Passage)
+    → err.new ≢ err.old → SearchesPaths aim known [] out err → ⊥
+no_report_after_the_last_pack aim known out err other searched = other searched.1
+
+no_later_pack_passed_over : (aim : Aim) (known : List ℕ → AtPath) (path : List ℕ)
+    (more : List (List ℕ)) (out err : Passage)
+    → ((out_there err_there : Stream) → SearchesPaths aim known more
+    (record { old = out_there; new = out.new }) (record { old = err_there; new = err.new }) → ⊥)
+    → SearchesPaths aim known (path ∷ more) out err → ⊥
+no_later_pack_passed_over aim known path more out err unsearched searched =
+    unsearched searched.0 searched.1 searched.3
 
 no_pack_passed_over : (aim : Aim) (known : List ℕ → AtPath) (path : List ℕ) (more : List (List ℕ))
     (out err : Passage)
@@ -258,6 +370,59 @@ no_stop_at_no_pack aim known failure out err stops = none stops.before stops.par
     none : (before : List (List ℕ)) → [] ≡ before ++ stops.path ∷ stops.after → ⊥
     none [] parted = cc
     none (first ∷ more) parted = cc
+
+-- those before it were searched to their ends
+no_pack_before_unsearched : (aim : Aim) (known : List ℕ → AtPath) (paths : List (List ℕ))
+    (failure : PackFailure) (out err : Passage)
+    → ((before : List (List ℕ)) (out_there err_there : Stream) → SearchesPaths aim known before
+    (record { old = out.old; new = out_there }) (record { old = err.old; new = err_there }) → ⊥)
+    → StopsAmongPacks aim known paths failure out err → ⊥
+no_pack_before_unsearched aim known paths failure out err none stops =
+    none stops.before stops.out_there stops.err_there stops.whole
+
+-- no search stops where no file is, or where nothing is known
+no_search_without_files : (error : SearchError) (name : Bor (List ℕ)) (aim : Aim)
+    (paths : List (List ℕ)) (out err : Passage)
+    → StopsAmongPacks aim (λ path. NoFile) paths (Search name error) out err → ⊥
+no_search_without_files error name aim paths out err stops = stops.there
+
+no_stop_at_an_unknown_path : (failure : PackFailure) (aim : Aim) (path : List ℕ)
+    (out err : Passage) → StopsAtPack failure aim path Unknown out err → ⊥
+no_stop_at_an_unknown_path failure aim path out err stops = stops
+
+-- a pack that is not there leaves the output, and its line is begun
+no_output_of_no_pack : (error : RunError) (aim : Aim) (path : List ℕ) (out err : Passage)
+    → out.new ≢ out.old → StopsAtPack (Report error) aim path NoFile out err → ⊥
+no_output_of_no_pack error aim path out err other stops = other stops.0
+
+no_other_line_of_no_pack : (error : RunError) (aim : Aim) (path : List ℕ) (out err : Passage)
+    → ((line : List ℕ) → NamesUnopened path line
+    → AppendsFront err.old.bytes err.new.bytes line → ⊥)
+    → StopsAtPack (Report error) aim path NoFile out err → ⊥
+no_other_line_of_no_pack error aim path out err none stops = none stops.1.0 stops.1.1 stops.1.2
+
+-- where memory runs out as a pack is opened, nothing is written
+nothing_of_an_unopened_pack : (error : RunError) (aim : Aim) (path whole : List ℕ)
+    (out err : Passage) → (Keeps err.old.bytes err.new.bytes → ⊥)
+    → StopsAtPack (Report error) aim path (FileOf whole) out err → ⊥
+nothing_of_an_unopened_pack error aim path whole out err other stops = other stops.1
+
+no_output_of_an_unopened_pack : (error : RunError) (aim : Aim) (path whole : List ℕ)
+    (out err : Passage) → out.new ≢ out.old
+    → StopsAtPack (Report error) aim path (FileOf whole) out err → ⊥
+no_output_of_an_unopened_pack error aim path whole out err other stops = other stops.0
+
+-- in a pack a search stops alone, and leaves what it says
+no_report_stops_in_a_pack : (error : RunError) (aim : Aim) (path whole : List ℕ) (out : Passage)
+    → StopsInPack (Report error) aim path whole out → ⊥
+no_report_stops_in_a_pack error aim path whole out stops = stops
+
+no_other_stop_in_a_pack : (error : SearchError) (name : Bor (List ℕ)) (aim : Aim)
+    (path whole : List ℕ) (out : Passage)
+    → ((left : Option (List ℕ))
+    → StopsSearch error aim whole left out.old.bytes out.new.bytes → ⊥)
+    → StopsInPack (Search name error) aim path whole out → ⊥
+no_other_stop_in_a_pack error name aim path whole out none stops = none stops.1.0 stops.1.1
 
 -- and of a pack that failed nothing goes to standard error before its report
 no_line_of_a_failed_pack : (error : SearchError) (name : Bor (List ℕ)) (aim : Aim)
@@ -386,6 +551,16 @@ no_other_lines_of_a_record : (aim : Aim) (packed : PackedGame) (text : List ℕ)
     → IsRecordListing aim packed text → ⊥
 no_other_lines_of_a_record aim packed text game replay sound is_replay is_packed none is =
     let lines = is game replay sound is_replay is_packed in none lines.0 lines.2
+
+no_other_entries_of_a_record : (aim : Aim) (packed : PackedGame) (text : List ℕ)
+    (game : GameText) (replay : Replay) → IsGameText game
+    → IsReplay Main (tag_in fen_tag game.tags) game.elements replay
+    → IsPacked packed.name packed.number packed.offset game replay packed
+    → ((entries : List Entry)
+    → AreListed aim packed.number packed.offset (heading_of game) replay entries → ⊥)
+    → IsRecordListing aim packed text → ⊥
+no_other_entries_of_a_record aim packed text game replay sound is_replay is_packed none is =
+    let lines = is game replay sound is_replay is_packed in none lines.0 lines.1
 
 no_other_listing_is_found : (aim : Aim) (whole : List ℕ) (out out' : Option (List ℕ))
     (name : Option (List ℕ)) (number : ℕ) (pieces : List MarkedPiece) (entries : List Entry)
