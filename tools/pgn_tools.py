@@ -139,6 +139,8 @@ class Command:
 
     def end_with(self, fault):
         """Says why all ends: the status."""
+        # (nothing is left that is to be put away)
+        Signals.wait = False
         status, *reasons = fault.args if isinstance(fault, Fault) else (FAILED, reason_of(fault))
         if status < 0:
             signal.signal(-status, signal.SIG_DFL)
@@ -212,6 +214,9 @@ class Stream(io.RawIOBase):
         return True
 
     def write(self, text):
+        # (what a signal leaves in a buffer would wait for whoever reads)
+        if Signals.came:
+            raise Fault(-Signals.came)
         write(self.number, text)
         return len(text)
 
@@ -271,10 +276,17 @@ class Scratch:
     """The folder for temporary files, and the runs that go on. At the end neither is left."""
 
     def __init__(self, name):
+        # (a signal waits until somebody takes the folder away)
+        Signals.let_wait(True)
         self.made = tempfile.TemporaryDirectory(prefix=f"{name}-", dir=temporary_folder())
         self.folder, self.runs = self.made.name, set()
 
     def __enter__(self):
+        try:
+            Signals.let_wait(False)
+        except Fault:
+            self.__exit__()
+            raise
         return self
 
     def __exit__(self, *_):
