@@ -1,16 +1,16 @@
 -- What the first bytes of a pack show of the record in front, before all of it is read.
-use Rattle.std.proofs.Common.{◌≡◌, ℕ, ◌+◌, ◌-◌, ◌<◌, ◌≤◌, Bool, true, false, List, [], ◌++◌, length, take, drop, Option, Some, None, Ok, Err, refl, sym, ap, ◌∙◌, append_assoc, arith, take-append-drop, length-append, append-nil}
+use Rattle.std.proofs.Common.{◌≡◌, ℕ, ◌+◌, ◌-◌, ◌<◌, ◌≤◌, Bool, true, false, List, [], ◌++◌, length, take, drop, Option, Some, None, Ok, Err, refl, sym, ap, subst, ◌∙◌, append_assoc, arith, take-append-drop, length-append, append-nil}
 use Rattle.std.specs.Int.{w32, to_be_bytes, from_be_bytes}
-use Rattle.std.proofs.lemmas.List.{take_at, take-append-le, length-take-le}
+use Rattle.std.proofs.lemmas.List.{take_at, drop_at, take-append-le, length-take-le}
 use Rattle.pgn_text.specs.Public.Limits.{largest_offset}
 use Rattle.pgn_game.specs.Public.PackedGames.{PackedGame, FitsRecord, body_bytes, record_bytes, largest_body}
-use Rattle.pgn_game.specs.Public.PackReading.{record_at}
-use Rattle.pgn_game.specs.Private.PackSteps.{HoldsWhole, IsWhole, IsPart, ReadsOn, size_in}
+use Rattle.pgn_game.specs.Public.PackReading.{RawRecord, raw_of, body_at, record_at}
+use Rattle.pgn_game.specs.Private.PackSteps.{HoldsWhole, IsWhole, IsPart, ReadsOn, HasBody, size_in}
 use Rattle.pgn_game.specs.Public.PackStreams.{Window, IsRecord, HasNoRecord, PassesOn, StepGives}
 use Rattle.pgn_game.specs.declared.pack.error.RecordError.{RecordError}
 use Rattle.pgn_game.specs.declared.pack.records.RecordsError.{RecordsError}
 use Rattle.pgn_game.specs.declared.pack.records.RecordsError.TheVariants.{Read, OutOfMemory, BadPack, InputTooLong}
-use Rattle.pgn_game.proofs.RecordFacts.{record_again}
+use Rattle.pgn_game.proofs.RecordFacts.{IsInFront, body_again, record_again}
 use Rattle.pgn_game.proofs.RecordFields.{wide32}
 
 -- the size of a record in front, and how many bytes the record has
@@ -46,13 +46,35 @@ no_part bytes part game rest fits e =
     let four : 4 ≤ length bytes = omega (arith, all, long) in
     omega (arith, part.short four, sized, all, long)
 
--- the size of the record that was read in front
-pub size_read : (bytes rest : List ℕ) (game : PackedGame) → FitsRecord game → bytes ≡ record_bytes game ++ rest
-    → (length bytes - length rest ≤ length bytes) × IsRecord (take (length bytes - length rest) bytes)
-size_read bytes rest game fits e =
-    let all : length bytes ≡ length (record_bytes game) + length rest = ap length e ∙ length-append (record_bytes game) rest in
-    let size : length bytes - length rest ≡ length (record_bytes game) = omega (arith, all) in
-    (omega arith, (game, fits, ap (λ (n : ℕ). take n bytes) size ∙ ap (take (length (record_bytes game))) e ∙ take_at (record_bytes game) rest (length (record_bytes game)) refl))
+-- the body of a record is read as the game shows it
+pub body_held : (game : PackedGame) (held : List ℕ) → FitsRecord game → held ≡ record_bytes game
+    → body_at (drop 4 held) ≡ Ok (raw_of game)
+body_held game held fits is =
+    let size = length (body_bytes game) in
+    ap (λ (bytes : List ℕ). body_at (drop 4 bytes)) is
+    ∙ ap body_at (drop_at (to_be_bytes w32 size) (body_bytes game) 4 (wide32.len size))
+    ∙ body_again game fits
+
+-- the sizes of the record that was read in front
+pub sizes_read : (bytes rest : List ℕ) (raw : RawRecord) → IsInFront bytes (raw, rest)
+    → (length bytes - length rest ≤ length bytes)
+    × IsRecord (take (length bytes - length rest) bytes)
+    × HasBody (drop 4 (take (length bytes - length rest) bytes)) (length raw.plies)
+sizes_read bytes rest raw found =
+    let game = found.0 in
+    let long = length (record_bytes game) in
+    let all : length bytes ≡ long + length rest =
+    ap length found.3 ∙ length-append (record_bytes game) rest in
+    let size : length bytes - length rest ≡ long = omega (arith, all) in
+    let held = take (length bytes - length rest) bytes in
+    let front : held ≡ record_bytes game =
+    ap (λ (n : ℕ). take n bytes) size ∙ ap (take long) found.3
+    ∙ take_at (record_bytes game) rest long refl in
+    let body = body_held game held found.1 front in (
+      omega arith,
+      (game, found.1, front),
+      (raw, subst (λ (r : RawRecord). body_at (drop 4 held) ≡ Ok r) (sym found.2) body, refl),
+    )
 
 -- where no record was read of whole bytes, none stands in front of them, whatever comes after them
 pub none_read : (bytes : List ℕ) (fault : RecordError) → IsWhole bytes → record_at bytes ≡ Err fault → (more : List ℕ) → HasNoRecord (bytes ++ more)

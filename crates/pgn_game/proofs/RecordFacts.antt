@@ -1,5 +1,5 @@
 -- The two laws: what is read is spelled so, and what is spelled so is read.
-use Rattle.std.proofs.Common.{◌≡◌, ℕ, zero, suc, ◌*◌, ◌/◌, ◌%◌, ◌^◌, ◌<◌, ◌≤◌, ◌==◌, Bool, true, false, cond, eqb, ltb, List, [], ◌∷◌, ◌++◌, length, take, drop, Option, Some, None, Result, Ok, Err, refl, sym, ap, subst, ◌∙◌, append_assoc, arith}
+use Rattle.std.proofs.Common.{◌≡◌, ℕ, zero, suc, ◌-◌, ◌*◌, ◌/◌, ◌%◌, ◌^◌, ◌<◌, ◌≤◌, ◌==◌, Bool, true, false, cond, eqb, ltb, List, [], ◌∷◌, ◌++◌, length, take, drop, Option, Some, None, Result, Ok, Err, refl, sym, ap, subst, ◌∙◌, append_assoc, arith}
 use Rattle.std.specs.Prelude.{IfOk, IfSome, is_some}
 use Rattle.std.specs.List.{flat_map, AllByRecursion}
 use Rattle.std.specs.Int.{w32, w64, to_be_bytes}
@@ -12,6 +12,7 @@ use Rattle.pgn_game.specs.Public.PlyCodes.{PlyCode, FitsCode, marks_number, code
 use Rattle.pgn_game.specs.Public.PackedGames.{PackedGame, Tag, FitsTag, FitsRecord, with_length, name_bytes, numbered_result, tag_bytes, head_of, tail_bytes, body_bytes, record_bytes, largest_body, is_origin}
 use Rattle.pgn_game.specs.Public.PackReading.{Gives, RawRecord, raw_of, number_at, text_at, name_at, tag_at, follows}
 use Rattle.pgn_game.specs.Public.PackReading.{next_tag, after_tags, body_at, size_at, record_at}
+use Rattle.pgn_game.specs.Private.PackSteps.{HasBody}
 use Rattle.pgn_game.proofs.PlyCodeFacts.{code_takes, code_fits, pairs}
 use Rattle.pgn_game.proofs.HeadFacts.{name_takes, name_again, named_below, result_taken, result_is_below, head_taken, head_shows, mark_below}
 use Rattle.pgn_game.proofs.TagOrder.{AreRising, rising_is_sorted, sorted_is_rising}
@@ -178,7 +179,7 @@ body_takes bytes raw fits size e =
 three : (n : ℕ) → eqb (3 * n % 3) 0 ≡ true
 three n = let z : 3 * n % 3 ≡ 0 = omega arith in rw z refl
 
-body_again : (e : PackedGame) → FitsRecord e → body_at (body_bytes e) ≡ Ok (raw_of e)
+pub body_again : (e : PackedGame) → FitsRecord e → body_at (body_bytes e) ≡ Ok (raw_of e)
 unfolding body_at
 body_again e fits =
     let shows = head_shows e fits in
@@ -196,6 +197,56 @@ body_again e fits =
       whole,
       origin,
     ) refl
+
+-- where the first fields of a body are read, its plies are the last so many bytes
+pub plies_known : (number offset head : ℕ) (name : Option (List ℕ)) (bytes r0 r1 r2 tail : List ℕ)
+    (plies : ℕ) → IsBytes bytes → HasBody bytes plies → number_at w64 bytes ≡ Ok (number, r0)
+    → number_at w64 r0 ≡ Ok (offset, r1) → number_at w32 r1 ≡ Ok (head, r2)
+    → name_at (head / 16 % 2 == 1) r2 ≡ Ok (name, tail)
+    → (plies ≤ length tail) × (body_at bytes ≡ Ok (record {
+      number = number;
+      offset = offset;
+      head = head;
+      name = name;
+      tail = tail;
+      plies = drop (length tail - plies) tail;
+    }))
+unfolding body_at
+plies_known number offset head name bytes r0 r1 r2 tail plies fits body e0 e1 e2 e3 =
+    let made : List ℕ → RawRecord = λ rest. record {
+      number = number;
+      offset = offset;
+      head = head;
+      name = name;
+      tail = tail;
+      plies = rest;
+    } in
+    let origin = is_origin number offset name in
+    let checked : List ℕ → Result RawRecord RecordError =
+    λ rest. cond origin (Ok (made rest)) (Err NoOrigin) in
+    let end : List ℕ → Result RawRecord RecordError =
+    λ rest. cond (eqb (length rest % 3) 0) (checked rest) (Err PartOfPly) in
+    let read = after_tags (head / 32) None tail in
+    let all : body_at bytes ≡ (read >>= end) = rw (e0, e1, e2, e3) refl in
+    let last = bind_ok read end body.0 (sym all ∙ body.1) in
+    let rest = last.0 in
+    let whole = tested_so (eqb (length rest % 3) 0) PartOfPly (checked rest) body.0 last.2 in
+    let own = guard_ended origin NoOrigin (made rest) body.0 whole.1 in
+    let t0 = number_takes w64 (2 ^ 64) wide64 bytes number r0 fits e0 in
+    let t1 = number_takes w64 (2 ^ 64) wide64 r0 offset r1 t0.0.rest_fits e1 in
+    let t2 = number_takes w32 (2 ^ 32) wide32 r1 head r2 t1.0.rest_fits e2 in
+    let t3 = name_takes (head / 16 % 2 == 1) r2 name tail t2.0.rest_fits e3 in
+    let tags = tags_take (head / 32) None tail rest t3.0.rest_fits last.1 in
+    let text = flat_map tag_bytes tags.0 in
+    let size = ap length tags.3.parts ∙ length-append text rest in
+    let known : length rest ≡ plies = ap (λ (raw : RawRecord). length raw.plies) own.1 ∙ body.2 in
+    let from = length tail - plies in
+    let front : length text ≡ from = omega (arith, size, known) in
+    let cut : drop from tail ≡ rest =
+    ap (drop from) tags.3.parts ∙ drop_at text rest from front in (
+      omega (arith, size, known),
+      subst (λ (raw : RawRecord). body_at bytes ≡ Ok raw) (sym own.1 ∙ ap made (sym cut)) body.1,
+    )
 
 -- the record of a game stands in front, as it shows it, and these bytes after it
 abbrev pub IsInFront : List ℕ → RawRecord × List ℕ → Type 0

@@ -1,15 +1,23 @@
 -- What the parts of a step to the next record do.
-use Rattle.std.specs.Prelude.{◌≡◌, ◌≢◌, ℕ, ◌+◌, ◌<◌, ◌≤◌, Bool, true, false, List, [], ◌++◌, length, take, Option, Result, Ok, Err}
+use Rattle.std.specs.Prelude.{◌≡◌, ◌≢◌, ℕ, ◌+◌, ◌<◌, ◌≤◌, Bool, true, false, List, [], ◌++◌, length, take, drop, Option, Result, Ok, Err}
 use Rattle.std.specs.Int.{w32, from_be_bytes}
 use Rattle.std.specs.Io.KnownBytes.{Consumes, IsAtEnd}
 use Rattle.pgn_text.specs.Public.Limits.{largest_offset}
 use Rattle.pgn_game.specs.Public.PackedGames.{largest_body}
+use Rattle.pgn_game.specs.Public.PackReading.{RawRecord, body_at}
 use Rattle.pgn_game.specs.declared.pack.records.RecordsError.{RecordsError}
 use Rattle.pgn_game.specs.declared.pack.records.RecordsError.TheVariants.{Read, OutOfMemory, BadPack, InputTooLong}
 
--- the record lies within the bytes, and ends within the largest offset
-pub record EndsWithin (held : List ℕ) (size place : ℕ) : Type 0 where
+-- the bytes are those of a record after its size, so many of them those of its plies
+abbrev pub HasBody : List ℕ → ℕ → Type 0
+HasBody bytes plies =
+    (raw : RawRecord) × (body_at bytes ≡ Ok raw) × (length raw.plies ≡ plies)
+
+-- the record lies within the bytes, so many of its own are those of its plies, and it ends within
+-- the largest offset
+pub record LiesWithin (held : List ℕ) (size plies place : ℕ) : Type 0 where
   pub within : size ≤ length held
+  pub body : 0 < size → HasBody (drop 4 (take size held)) plies
   pub room : place + size ≤ largest_offset
 
 -- bytes are read after those that there are

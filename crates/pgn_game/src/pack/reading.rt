@@ -3,6 +3,7 @@ ghost use Rattle.std.specs.Prelude.{◌≡◌, ◌++◌, ◌/◌, ◌%◌, ◌==
 ghost use Rattle.pgn_text.specs.Public.GameTexts.{tag_in};
 ghost use Rattle.pgn_game.specs.Public.PackedGames.{PackedGame, FitsRecord, numbered_result, record_bytes};
 ghost use Rattle.pgn_game.specs.Public.PackReading.{Gives, raw_of, body_at, size_at, record_at};
+ghost use Rattle.pgn_game.specs.Private.PackSteps.{HasBody};
 
 use crate::pack::error::RecordError;
 use crate::pack::fields::{after_tags, name_at, tag_at, u32_at, u64_at};
@@ -129,6 +130,28 @@ fn read_body(bytes: &[u8]) -> Result<RawRecord<'_>, RecordError>
     if !is_origin(number, offset, name) {
         return Err(RecordError::NoOrigin);
     }
+    Ok(RawRecord {
+        number,
+        offset,
+        head,
+        name,
+        tail,
+        plies,
+    })
+}
+
+/// The record that was read of the same bytes before, and whose plies take so many of them: its tags
+/// are not read again.
+#[tactic(auto, unfolding(crate::specs::Public::PackReading::body_at))]
+pub(crate) fn read_again(bytes: &[u8], plies: usize) -> Result<RawRecord<'_>, RecordError>
+    requires { HasBody bytes.now plies }
+    ensures { Gives (λ x. x) result (body_at bytes.now) }
+{
+    let (number, rest) = u64_at(bytes)?;
+    let (offset, rest) = u64_at(rest)?;
+    let (head, rest) = u32_at(rest)?;
+    let (name, tail) = name_at(head / 16 % 2 == 1, rest)?;
+    let (_, plies) = tail.split_at(tail.len() - plies);
     Ok(RawRecord {
         number,
         offset,

@@ -6,10 +6,10 @@ ghost use Rattle.pgn_text.specs.Public.Tallies.{AppendsRead};
 ghost use Rattle.pgn_game.specs.Public.PackedGames.{PackedGame, FitsRecord, record_bytes};
 ghost use Rattle.pgn_game.specs.Public.PackReading.{raw_of};
 ghost use Rattle.pgn_game.specs.Public.PackStreams.{IsRecord, StepGives, fresh_window, HasNoRecord};
-ghost use Rattle.pgn_game.specs.Private.PackSteps.{HoldsWhole, IsWhole, IsPart};
+ghost use Rattle.pgn_game.specs.Private.PackSteps.{HoldsWhole, IsWhole, IsPart, HasBody};
 
 use crate::pack::fields::u32_at;
-use crate::pack::reading::{LARGEST_BODY, RawRecord, read};
+use crate::pack::reading::{LARGEST_BODY, RawRecord, read, read_again};
 use pgn_text::{Buffer, LARGEST_OFFSET, ReadError, Tally};
 use std::alloc::Global;
 use std::io::Read;
@@ -140,14 +140,16 @@ fn at_end(bytes: &[u8]) -> Result<bool, RecordsError>
     }
 }
 
-/// How many bytes the record in front has, or `None` where none stands there.
-fn size_of_record(bytes: &[u8]) -> Option<usize>
+/// How many bytes the record in front has, and how many of these its plies, or `None` where none
+/// stands there.
+fn sizes_of_record(bytes: &[u8]) -> Option<(usize, usize)>
     requires { IsWhole bytes.now }
     ensures { MatchOption result ((more : List ℕ) → HasNoRecord (bytes.now ++ more))
-        (λ size. (size ≤ length bytes.now) × IsRecord (take size bytes.now)) }
+        (λ sizes. (sizes.0 ≤ length bytes.now) × IsRecord (take sizes.0 bytes.now)
+        × HasBody (drop 4 (take sizes.0 bytes.now)) sizes.1) }
 {
     match read(bytes) {
-        Ok((_, rest)) => Some(bytes.len() - rest.len()),
+        Ok((record, rest)) => Some((bytes.len() - rest.len(), record.plies().len())),
         Err(_) => None,
     }
 }
@@ -161,20 +163,22 @@ pub struct Records {
     ahead: Ahead,
     /// How many bytes the record has.
     size: usize,
+    /// How many of these are the bytes of its plies.
+    plies: usize,
     /// How many bytes stand before it.
     place: u64,
 }
 
 impl Model for Records {
     ghost use Rattle.std.specs.Prelude.{take, drop};
-    ghost use Rattle.pgn_game.specs.Private.PackSteps.{EndsWithin};
+    ghost use Rattle.pgn_game.specs.Private.PackSteps.{LiesWithin};
     ghost use Rattle.pgn_game.specs.Public.PackStreams.{Window};
 
     ghost Value = { Window };
 
     ghost view = { λ r. record { current = take r.size r.ahead; ahead = drop r.size r.ahead; place = r.place } };
 
-    ghost invariant = { λ r. EndsWithin r.ahead r.size r.place };
+    ghost invariant = { λ r. LiesWithin r.ahead r.size r.plies r.place };
 }
 
 impl Records {
@@ -185,6 +189,7 @@ impl Records {
         Records {
             ahead: Ahead::new(alloc),
             size: 0,
+            plies: 0,
             place: 0,
         }
     }
@@ -210,13 +215,14 @@ impl Records {
         if !hold_whole(&mut self.ahead, input)? {
             return Ok(false);
         }
-        let Some(size) = size_of_record(self.ahead.bytes()) else {
+        let Some((size, plies)) = sizes_of_record(self.ahead.bytes()) else {
             return Err(RecordsError::BadPack);
         };
         if size as u64 > LARGEST_OFFSET - self.place {
             return Err(RecordsError::InputTooLong);
         }
         self.size = size;
+        self.plies = plies;
         Ok(true)
     }
 
@@ -225,7 +231,7 @@ impl Records {
         requires { IsRecord self.now.current }
         ensures { (game : PackedGame) × FitsRecord game × (self.now.current ≡ record_bytes game) × (result ≡ raw_of game) }
     {
-        let (record, _) = read(&self.ahead.bytes()[..self.size]).unwrap();
-        record
+        let record = &self.ahead.bytes()[..self.size];
+        read_again(&record[4..], self.plies).unwrap()
     }
 }
