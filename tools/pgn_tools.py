@@ -14,6 +14,7 @@ import subprocess
 import sys
 import tempfile
 from collections import deque
+from typing import NamedTuple
 
 FAULTY, REFUSED, FAILED = 1, 2, 3
 # What the program is called: the second name is that of Debian's package alone, which can stand
@@ -24,6 +25,8 @@ VERSION = re.compile(rb"pgn-extract [0-9]+\.[0-9]+\.[0-9]+ \(.*\n")
 RUN_BY = "PGN_EXTRACT_RUN_BY"
 BLOCK = 1 << 20
 SORT = "sort"
+# How many seconds a short run has to end by itself once it is told to.
+GRACE = 2
 # How many lines are shown of what a run reported that failed.
 SHOWN = 9
 NO_ROOM = (errno.ENOSPC, errno.EDQUOT, errno.EFBIG)
@@ -116,9 +119,7 @@ class Command:
         for named in candidates(self.place):
             path = os.path.abspath(shutil.which(named) or named)
             try:
-                asked = [path, "--version"]
-                streams = {"stdin": subprocess.DEVNULL, "stdout": subprocess.PIPE, "stderr": stderr}
-                version, fault = subprocess.run(asked, **streams).stdout, None
+                version, fault = asked([path, "--version"], reports=stderr).output, None
             except OSError as caught:
                 version, fault = b"", caught
             if VERSION.fullmatch(version):
@@ -153,9 +154,7 @@ class Command:
 
     def main(self, work):
         """Runs the command, and ends this process with its status."""
-        for wanted in (signal.SIGHUP, signal.SIGINT, signal.SIGTERM):
-            if signal.getsignal(wanted) != signal.SIG_IGN:
-                signal.signal(wanted, Signals.stop)
+        obey(Signals.stop)
         try:
             for stream in (1, 2):
                 os.fstat(stream)
@@ -272,6 +271,49 @@ class Signals:
             raise Fault(-cls.came)
 
 
+def obey(handler):
+    """Has the handler called at each signal that ends a command, but for those that are ignored by
+    the will of who began it."""
+    for number in (signal.SIGHUP, signal.SIGINT, signal.SIGTERM):
+        if signal.getsignal(number) != signal.SIG_IGN:
+            signal.signal(number, handler)
+
+
+def end_group(process, number=signal.SIGKILL):
+    """Ends a run that leads a group, and all that it began."""
+    with contextlib.suppress(ProcessLookupError):
+        os.killpg(process.pid, number)
+
+
+class Asked(NamedTuple):
+    """How a short run ended, and what it wrote."""
+
+    status: int
+    output: bytes
+    reports: bytes
+
+
+def asked(command, text=b"", reports=subprocess.PIPE):
+    """What a short run answers to a text. A signal ends it too, with all that it began."""
+    streams = {"stdin": subprocess.PIPE, "stdout": subprocess.PIPE, "stderr": reports}
+    Signals.let_wait(True)
+    try:
+        with subprocess.Popen(command, process_group=0, **streams) as process:
+            try:
+                Signals.let_wait(False)
+                output, said = process.communicate(text)
+            except BaseException:
+                # (a program that is being built takes away what it made)
+                end_group(process, signal.SIGTERM)
+                with contextlib.suppress(subprocess.TimeoutExpired):
+                    process.wait(GRACE)
+                end_group(process)
+                raise
+        return Asked(process.returncode, output, said)
+    finally:
+        Signals.let_wait(False)
+
+
 class Scratch:
     """The folder for temporary files, and the runs that go on. At the end neither is left."""
 
@@ -292,7 +334,7 @@ class Scratch:
     def __exit__(self, *_):
         Signals.let_wait(True)
         for run in self.runs:
-            run.process.kill()
+            end_group(run.process)
             run.process.wait()
         self.made.cleanup()
 
@@ -309,7 +351,7 @@ class Run:
         self.name, self.scratch = command[0], scratch
         Signals.let_wait(True)
         streams = {"stdout": subprocess.PIPE, "stderr": reports, "bufsize": BLOCK}
-        self.process = subprocess.Popen(command, **streams, **more)
+        self.process = subprocess.Popen(command, process_group=0, **streams, **more)
         scratch.runs.add(self)
         Signals.let_wait(False)
         self.reports = self.process.stderr or reports
