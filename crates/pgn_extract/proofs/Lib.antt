@@ -36,6 +36,8 @@ pub mod Sifted
 pub mod MarkedFacts
 pub mod MarkOrder
 pub mod MarkLineFacts
+pub mod LinesOfMarks
+pub mod LineRows
 pub mod OneOfThree
 pub mod OneReport
 pub mod OneVerdict

@@ -1,6 +1,10 @@
 -- Marks at the beginnings of lines of a run, as those that `--at` takes.
-use Rattle.std.specs.Prelude.{ℕ, ◌==◌, ◌||◌, Bool, not, if◌then◌else◌, List, [], ◌∷◌, ◌++◌, take, position, Option, None, Some, codes}
+use Rattle.std.specs.Prelude.{ℕ, ◌≡◌, ◌≢◌, ◌==◌, ◌||◌, ◌&&◌, ◌≤◌, ◌<◌, ◌⊎◌, ◌↔◌, Bool, true, nat_le}
+use Rattle.std.specs.Prelude.{nat_lt, not, if◌then◌else◌, List, [], ◌∷◌, ◌++◌, take, position}
+use Rattle.std.specs.Prelude.{Option, None, Some, codes}
+use Rattle.std.specs.Io.BufRead.{take_through}
 use Rattle.chess.specs.Public.Fen.{is_digit}
+use Rattle.pgn_extract.specs.Public.Choices.{is_among}
 use Rattle.pgn_extract.specs.Public.GivenMarks.{GivenMark, mark_in}
 
 -- a byte of a mark: a digit, or the sign between its numbers
@@ -33,7 +37,8 @@ first_mark [] = None
 first_mark (None ∷ more) = first_mark more
 first_mark (Some mark ∷ more) = Some mark
 
--- the mark of a line of a run over the file with this name: at the beginning of the line, or after the words that begin the report of a bad game;
+-- the mark of a line of a run over the file with this name: at the beginning of the line, or after
+-- the words that begin the report of a bad game;
 -- and so after the name, where lines have it
 abbrev pub line_mark : List ℕ → List ℕ → Option GivenMark
 line_mark name line =
@@ -41,3 +46,37 @@ line_mark name line =
     (front_mark line ∷ mark_of_rest (rest_after (codes "pgn-extract: game ") line)
     ∷ mark_of_rest (rest_after (name ++ codes ":") line)
     ∷ mark_of_rest (rest_after (codes "pgn-extract: " ++ name ++ codes ": game ") line) ∷ [])
+
+-- a line begins after these bytes: there are none, or the last of them is a line feed
+abbrev pub IsBeforeLine : List ℕ → Type 0
+IsBeforeLine bytes = (bytes ≡ []) ⊎ ((front : List ℕ) × (bytes ≡ front ++ 10 ∷ []))
+
+-- a line of a text, with its end: it goes through the next line feed, or to the end of the text
+pub record IsLineOf (text line : List ℕ) : Type 0 where
+  pub before : List ℕ
+  pub rest : List ℕ
+  pub parted : text ≡ before ++ rest
+  pub begins : IsBeforeLine before
+  pub some : rest ≢ []
+  pub is : line ≡ take_through 10 rest
+
+-- some line of the text has the mark, for a run over the file with this name
+abbrev pub HasMark : List ℕ → List ℕ → GivenMark → Type 0
+HasMark name text mark = (line : List ℕ) × IsLineOf text line × (line_mark name line ≡ Some mark)
+
+-- the mark stands in the stretch from one offset to before another
+abbrev pub IsWithin : ℕ → ℕ → GivenMark → Type 0
+IsWithin begin end mark = (begin ≤ mark.offset) × (mark.offset < end)
+
+-- the marks of a text's lines that stand in a stretch are these, and no others
+abbrev pub AreMarksOf : List ℕ → List ℕ → ℕ → ℕ → List GivenMark → Type 0
+AreMarksOf name text begin end marks = (number offset : ℕ)
+    → (is_among marks number offset ≡ true)
+    ↔ (IsWithin begin end (record { number = number; offset = offset })
+    × HasMark name text (record { number = number; offset = offset }))
+
+-- the pairs of numbers that a line adds: that of its mark, if it stands in the stretch
+abbrev pub pairs_of : ℕ → ℕ → Option GivenMark → List (ℕ × ℕ)
+pairs_of begin end None = []
+pairs_of begin end (Some mark) = if nat_le begin mark.offset && nat_lt mark.offset end then
+    (mark.number, mark.offset) ∷ [] else []

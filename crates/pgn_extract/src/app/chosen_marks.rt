@@ -1,5 +1,10 @@
 //! The file of `--at`: the marks of the games that are reported, and what is said of its lines.
-ghost use Rattle.std.specs.Prelude.{◌≡◌, false, OnOk};
+ghost use Rattle.std.specs.Prelude.{◌≡◌, ◌++◌, ℕ, List, [], Some, codes, false, map};
+ghost use Rattle.std.specs.Prelude.{IfOk, IfSome, OnOk};
+ghost use Rattle.pgn_extract.specs.Private.MarkLines.{AreMarksOf, line_mark, pairs_of};
+ghost use Rattle.pgn_extract.specs.Private.MarkOrder.{given_of};
+ghost use Rattle.pgn_extract.specs.Public.Choices.{is_among};
+ghost use Rattle.pgn_extract.specs.Public.Index.{shown_name};
 
 use crate::app::mark::Mark;
 use crate::app::mark_lines::{NamedLines, is_beside, is_elsewhere};
@@ -13,7 +18,7 @@ use crate::output::write_all::{finish, write_all};
 use pgn_text::Tally;
 use std::alloc::{AllocError, Global};
 use std::io;
-use std::io::{BufRead, BufReader, Read, Write};
+use std::io::{BufRead, BufReader, ErrorKind, Read, Write};
 
 /// The most bytes that are shown of a line without a mark.
 const SHOWN: usize = 60;
@@ -57,7 +62,9 @@ pub struct MarkNames {
 
 impl MarkNames {
     /// Those of these paths.
-    pub fn new(alloc: Global, marks: &str, games: &str) -> Result<MarkNames, AllocError> {
+    pub fn new(alloc: Global, marks: &str, games: &str) -> Result<MarkNames, AllocError>
+        ensures { IfOk result (λ names. names.games ≡ shown_name games.now) }
+    {
         Ok(MarkNames {
             marks: FileName::of_path(alloc, marks)?,
             games: FileName::of_path(alloc, games)?,
@@ -69,6 +76,8 @@ impl MarkNames {
 #[derive(Drop)]
 pub struct MarksFile {
     names: MarkNames,
+    /// How many lines are read.
+    lines: usize,
     /// The marks that stand in the stretch of the run, by their numbers and their offsets.
     pairs: Vec<(u64, u64)>,
     /// Whether some line has a mark of the games.
@@ -81,9 +90,12 @@ pub struct MarksFile {
 
 impl MarksFile {
     /// One without lines.
-    fn new(alloc: Global, names: MarkNames) -> MarksFile {
+    fn new(alloc: Global, names: MarkNames) -> MarksFile
+        ensures { result.pairs.items ≡ [] }
+    {
         MarksFile {
             names,
+            lines: 0,
             pairs: Vec::new(alloc),
             has_marks: false,
             others: Lines::new(alloc),
@@ -92,7 +104,11 @@ impl MarksFile {
     }
 
     /// Adds the mark of a line, where the run can meet it.
-    fn add_mark(&mut self, order: &Order<'_>, mark: Mark) -> Result<(), AllocError> {
+    fn add_mark(&mut self, order: &Order<'_>, mark: Mark) -> Result<(), AllocError>
+        ensures { OnOk result (self.new.pairs.items ≡ self.old.pairs.items
+            ++ pairs_of order.now.mark.offset order.now.end
+            (Some (record { number = mark.number; offset = mark.offset }))) }
+    {
         self.has_marks = true;
         if order.mark.offset <= mark.offset && mark.offset < order.end {
             self.pairs.push((mark.number, mark.offset))?;
@@ -100,20 +116,37 @@ impl MarksFile {
         Ok(())
     }
 
-    /// Adds a line with this number in which there is no mark of the games.
-    fn add_unmarked(
-        &mut self,
-        alloc: Global,
-        number: usize,
-        line: &[u8],
-    ) -> Result<(), AllocError> {
+    /// Adds a line in which there is no mark of the games.
+    fn add_unmarked(&mut self, alloc: Global, line: &[u8]) -> Result<(), AllocError>
+        ensures { self.new.pairs.items ≡ self.old.pairs.items }
+    {
         if is_beside(line) {
             return Ok(());
         }
         if is_elsewhere(line) {
-            return self.elsewhere.add(alloc, number, line);
+            return self.elsewhere.add(alloc, self.lines, line);
         }
-        self.others.add(alloc, number, line)
+        self.others.add(alloc, self.lines, line)
+    }
+
+    /// Adds the next line, which stands here with its end.
+    fn add_line(
+        &mut self,
+        alloc: Global,
+        order: &Order<'_>,
+        named: &NamedLines,
+        line: &[u8],
+    ) -> Result<(), AllocError>
+        ensures { OnOk result ((name : List ℕ) → named.now.line.items ≡ name ++ codes ":"
+            → named.now.report.items ≡ codes "pgn-extract: " ++ name ++ codes ": game "
+            → self.new.pairs.items ≡ self.old.pairs.items
+            ++ pairs_of order.now.mark.offset order.now.end (line_mark name line.now)) }
+    {
+        self.lines = self.lines.saturating_add(1);
+        match named.mark(line) {
+            Some(mark) => self.add_mark(order, mark),
+            None => self.add_unmarked(alloc, without_end(line)),
+        }
     }
 
     /// The line that refuses a file that has no mark of the games, but other lines.
@@ -135,9 +168,13 @@ impl MarksFile {
     }
 
     /// The marks, and what may be said of them at the end.
-    pub fn into_marks(self) -> (Marks, Unmarked) {
+    pub fn into_marks(self) -> (Marks, Unmarked)
+        ensures { (number offset : ℕ) → is_among result.0 number offset
+            ≡ is_among (map given_of self.pairs.items) number offset }
+    {
         let MarksFile {
             names,
+            lines: _,
             pairs,
             has_marks: _,
             others,
@@ -169,23 +206,23 @@ pub fn read_marks<R: Read + Drop>(
     input: R,
     order: &Order<'_>,
     names: MarkNames,
-) -> io::Result<MarksFile> {
-    let mut input = BufReader::new(alloc, input)?;
+) -> io::Result<MarksFile>
+    ensures { IfOk result (λ file. IfSome (R.remaining input) (λ text. AreMarksOf names.games text
+        order.now.mark.offset order.now.end (map given_of file.pairs.items))) }
+{
+    let mut reader = BufReader::new(alloc, input)?;
     let named = NamedLines::new(alloc, names.games.bytes())?;
     let mut file = MarksFile::new(alloc, names);
-    let mut buffer = Vec::new(alloc);
-    for number in 1..usize::MAX {
-        buffer.clear();
-        if input.read_until(b'\n', &mut buffer)? == 0 {
-            break;
+    let mut line = Vec::new(alloc);
+    for _ in 1..usize::MAX {
+        line.clear();
+        let read = reader.read_until(b'\n', &mut line)?;
+        if read == 0 {
+            return Ok(file);
         }
-        let line = without_end(&buffer);
-        match named.mark(line) {
-            Some(mark) => file.add_mark(order, mark)?,
-            None => file.add_unmarked(alloc, number, line)?,
-        }
+        file.add_line(alloc, order, &named, &line)?;
     }
-    Ok(file)
+    Err(io::Error::from(ErrorKind::FileTooLarge))
 }
 
 /// Appends a line: a number of things, and the parts that say what they are.
