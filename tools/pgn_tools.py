@@ -25,6 +25,8 @@ VERSION = re.compile(rb"pgn-extract [0-9]+\.[0-9]+\.[0-9]+ \(.*\n")
 RUN_BY = "PGN_EXTRACT_RUN_BY"
 BLOCK = 1 << 20
 SORT = "sort"
+# What begins a block of a text, and how long one may be that the program reads.
+EVENT_LINE, LONGEST_BLOCK = b'\n[Event "', 1 << 24
 # How many seconds a short run has to end by itself once it is told to.
 GRACE = 2
 # How many lines are shown of what a run reported that failed.
@@ -169,6 +171,24 @@ class Command:
 
 
 # Files and streams.
+
+
+class LastBlock:
+    """The block in which a text that grows ends: how long it is."""
+
+    def __init__(self):
+        self.size, self.end = 0, EVENT_LINE[:1]
+
+    def add(self, text):
+        """The text goes on: how long the block before its first Event line is, if it has one."""
+        seam = self.end + text
+        first, before = seam.find(EVENT_LINE), self.size
+        self.end = seam[1 - len(EVENT_LINE) :]
+        if first < 0:
+            self.size += len(text)
+            return None
+        self.size = len(seam) - seam.rfind(EVENT_LINE) - 1
+        return before + first + len(text) - len(seam) + 1
 
 
 def identity(seen):
