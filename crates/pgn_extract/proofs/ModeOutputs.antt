@@ -7,9 +7,9 @@ use Rattle.pgn_extract.specs.Public.Index.{index, index_line}
 use Rattle.pgn_extract.specs.Public.Listing.{Entry, entry_line, listing}
 use Rattle.pgn_extract.specs.Private.EntryRows.{AreGameEntries, sound, faulty, ArePieceEntries, AreEntryRows}
 use Rattle.pgn_extract.specs.Public.Exports.{IsGameExport, sound as exported, faulty as unexported, IsPieceExport, AreExports, faulty_text}
-use Rattle.pgn_extract.specs.Public.Runs.{Job, Io, Adds, Completes, Indexes, Exports}
+use Rattle.pgn_extract.specs.Public.Laws.{RunIndexes, RunExports}
+use Rattle.pgn_extract.specs.Public.Runs.{Adds}
 use Rattle.pgn_extract.specs.Public.Verdicts.{Verdict, SoundGame, FaultyGame, output_of, output_text, IsListed, IsExported, IsVerdictIn, IsPieceVerdict, AreVerdicts}
-use Rattle.pgn_extract.specs.declared.output.outcome.Summary.{Summary}
 use Rattle.pgn_extract.specs.Public.Aims.{Aim}
 use Rattle.pgn_extract.specs.declared.settings.Mode.TheVariants as modes
 use Rattle.pgn_extract.proofs.ChoiceFacts.{choice_of}
@@ -104,21 +104,17 @@ indexed_pieces aim indexes number (piece ∷ more) verdicts (verdict, rest, part
     ap output_text parted ∙ ap (λ t. t ++ output_text rest) (indexed_taken taken aim indexes number piece verdict is)
     ∙ ap (λ t. (if taken then index_line aim.name number piece else []) ++ t) (indexed_pieces aim indexes (number + 1) more rest others)
 
-module _ (job : Job) (io : Io) (whole : List ℕ) (summary : Summary) (e : Completes job io whole summary) where
-  -- a run for the index wrote it
-  pub indexes_of : job.aim.mode ≡ modes.Index → Indexes job io whole
-  indexes_of is = record {
-    pieces = e.pieces;
-    each = e.each;
-    indexed = subst (Adds io.out) (indexed_pieces job.aim is job.number e.pieces e.verdicts e.written.each) e.written.output;
-  }
+-- a complete run for the index wrote it
+pub run_indexes : RunIndexes
+run_indexes job io whole summary done is =
+    subst (Adds io.out)
+    (indexed_pieces job.aim is job.number done.pieces done.verdicts done.written.each)
+    done.written.output
 
-  -- a run for the export wrote it
-  pub exports_of : job.aim.mode ≡ modes.Export → Exports job io whole
-  exports_of is = record {
-    pieces = e.pieces;
-    each = e.each;
-    text = output_text e.verdicts;
-    are = exports_of_pieces job.aim is job.number e.pieces e.verdicts e.written.each;
-    exported = e.written.output;
-  }
+-- and one for the export that
+pub run_exports : RunExports
+run_exports job io whole summary done is = (
+  output_text done.verdicts,
+  exports_of_pieces job.aim is job.number done.pieces done.verdicts done.written.each,
+  done.written.output,
+)

@@ -11,11 +11,10 @@ use Rattle.pgn_text.proofs.MarkBounds.{mark_bounds}
 use Rattle.pgn_game.proofs.PackRoom.{game_fits}
 use Rattle.pgn_game.specs.Public.PackedGames.{PackedGame, FitsRecord, longest_name, is_origin, is_shown_name}
 use Rattle.pgn_game.specs.declared.replays.replayer.Lines.TheVariants.{Main}
-use Rattle.pgn_extract.specs.Public.Aims.{aim_of}
 use Rattle.pgn_extract.specs.Public.Laws.{PackIsListedAsItsText}
-use Rattle.pgn_extract.specs.Public.Runs.{job_of, Completes, Exports}
+use Rattle.pgn_extract.specs.Public.Runs.{job_of, Completes}
+use Rattle.pgn_extract.proofs.ModeOutputs.{run_exports}
 use Rattle.pgn_extract.specs.Public.Searching.{AreGameRecords, sound, faulty, ArePieceRecords, AreRecords, IsPackOf, PackedTextIsAPack}
-use Rattle.pgn_extract.specs.declared.settings.Mode.TheVariants as modes
 use Rattle.pgn_extract.proofs.GameExport.{own_replay}
 use Rattle.pgn_extract.proofs.PackTaken.{pieces_records}
 
@@ -105,17 +104,26 @@ some_input P input whole is holds = subst (λ (bytes : Option (List ℕ)). IfSom
 
 pub listed_pack : PackIsListedAsItsText
 listed_pack packing io summary whole exports all short shown counted few offset known run =
-    let exported : Exports (job_of packing) io whole = some_input (λ bytes. packing.mode ≡ modes.Export → Exports (job_of packing) io bytes) io.input.old.bytes whole known run.exports exports in
-    let done : Completes (job_of packing) io whole summary = some_input (λ bytes. Completes (job_of packing) io bytes summary) io.input.old.bytes whole known run.done.0 in
-    let pack : IsPackOf packing.name packing.number exported.pieces exported.text =
-    packed_text (aim_of packing) packing.number packing.offset (drop packing.offset whole) exported.pieces exported.text record {
+    let job = job_of packing in
+    let done : Completes job io whole summary =
+    some_input (λ bytes. Completes job io bytes summary) io.input.old.bytes whole known run.done.0 in
+    let (text, are, exported) = run_exports job io whole summary done exports in
+    let pack : IsPackOf packing.name packing.number done.pieces text =
+    packed_text job.aim packing.number packing.offset (drop packing.offset whole)
+    done.pieces text record {
       all = all;
       short = short;
       shown = shown;
       counted = counted;
       few = few;
       within = omega (arith, done.size, length-drop packing.offset whole);
-      each = exported.each;
-      exported = exported.are;
-    } in
-    (exported.pieces, exported.text, exported.each, exported.exported, λ aim left out out' searched entries list search are. search.lists list packing.name packing.number exported.pieces pack entries are)
+      each = done.each;
+      exported = are;
+    } in (
+      done.pieces,
+      text,
+      done.each,
+      exported,
+      λ aim left out out' searched entries list search found.
+          search.lists list packing.name packing.number done.pieces pack entries found,
+    )

@@ -1,13 +1,12 @@
 -- A run that reported the pieces of the rest reported what is reported of the whole from the mark on.
-use Rattle.std.proofs.Common.{◌≡◌, ℕ, ◌+◌, ◌≤◌, true, false, List, [], ◌∷◌, ◌++◌, length, drop, refl, sym, ap, ◌∙◌, subst, arith, Option}
-use Rattle.std.specs.Prelude.{nat_le, if◌then◌else◌, Some, None, Ok, Err, Result, IfOk, IfSome, OnOk}
+use Rattle.std.proofs.Common.{◌≡◌, ℕ, ◌+◌, ◌≤◌, true, false, List, [], ◌∷◌, ◌++◌, length, drop, refl, sym, ap, ◌∙◌, subst, arith}
+use Rattle.std.specs.Prelude.{nat_le, if◌then◌else◌}
 use Rattle.std.proofs.lemmas.Bool.Decides.{nat_tests}
 use Rattle.pgn_text.specs.Public.Marks.{MarkedPiece, AreMarkedPieces}
 use Rattle.pgn_text.proofs.ResumedText.{resumed_pieces}
-use Rattle.pgn_extract.specs.Public.Runs.{Job, Io, Completes, Resumes}
-use Rattle.pgn_extract.specs.Public.Resuming.{IsMarkAmong, WritesRest, verdicts_at_least}
+use Rattle.pgn_extract.specs.Public.Laws.{RunResumes}
+use Rattle.pgn_extract.specs.Public.Resuming.{verdicts_at_least}
 use Rattle.pgn_extract.specs.Public.Verdicts.{Verdict, AreVerdicts, IsSameReport}
-use Rattle.pgn_extract.specs.declared.output.outcome.Summary.{Summary}
 use Rattle.pgn_extract.specs.Public.Aims.{Aim}
 use Rattle.pgn_extract.proofs.OneReport.{same_report}
 
@@ -38,28 +37,27 @@ at_least_from aim number (piece ∷ before) after verdicts (verdict, rest, parte
     )
 
 -- what a run reported of the rest is what the whole has from the mark on
-pub resumes_of : (job : Job) (io : Io) (whole : List ℕ) (summary : Summary) → Completes job io whole summary → Resumes job io whole
-resumes_of job io whole summary ends = record { rest = rest_of }
-  where
-    rest_of : (pieces : List MarkedPiece) → AreMarkedPieces job.limit job.max_depth 0 whole pieces → (mark : IsMarkAmong job.number job.offset pieces)
-        → WritesRest job.aim job.number pieces (mark.piece ∷ mark.after) io.out.old.bytes io.out.new.bytes io.err.old.bytes io.err.new.bytes
-    rest_of pieces all mark =
-        let rest = mark.piece ∷ mark.after in
-        let same : ends.pieces ≡ rest = resumed_pieces job.limit job.max_depth whole mark.before mark.piece mark.after ends.pieces
-        (subst (AreMarkedPieces job.limit job.max_depth 0 whole) mark.parted all)
-        (subst (λ o. AreMarkedPieces job.limit job.max_depth o (drop o whole) ends.pieces) mark.placed ends.each) in
-        let own : AreVerdicts job.aim job.number rest ends.verdicts = subst (λ p. AreVerdicts job.aim job.number p ends.verdicts) same ends.written.each in record {
-          verdicts = ends.verdicts;
-          written = record { each = own; output = ends.written.output; faults = ends.written.faults };
-          same = λ verdicts verdict.
-              let from = at_least_from job.aim 1 mark.before rest verdicts (subst (λ p. AreVerdicts job.aim 1 p verdicts) mark.parted verdict) in
-              subst (IsSameReport job.aim ends.verdicts) (sym from.2 ∙ ap (λ n. verdicts_at_least n 1 verdicts) (sym mark.numbered))
-              (same_report job.aim (length mark.before + 1) rest ends.verdicts from.0 (subst (λ n. AreVerdicts job.aim n rest ends.verdicts) mark.numbered own) from.1);
-        }
-
--- a fact of an answer and of known bytes gives one of the bytes alone
-pub on_ok_some : {A E : Type 0} (r : Result A E) (o : Option (List ℕ)) (P : A → List ℕ → Type 0) (Q : List ℕ → Type 0)
-    → ((a : A) (w : List ℕ) → P a w → Q w) → IfOk r (λ a. IfSome o (P a)) → OnOk r (IfSome o Q)
-on_ok_some (Ok a) (Some w) P Q f h = f a w h
-on_ok_some (Ok a) None P Q f h = h
-on_ok_some (Err e) o P Q f h = h
+pub run_resumes : RunResumes
+run_resumes job io whole summary done pieces all mark =
+    let rest = mark.piece ∷ mark.after in
+    let same : done.pieces ≡ rest =
+    resumed_pieces job.limit job.max_depth whole mark.before mark.piece mark.after done.pieces
+    (subst (AreMarkedPieces job.limit job.max_depth 0 whole) mark.parted all)
+    (subst (λ o. AreMarkedPieces job.limit job.max_depth o (drop o whole) done.pieces)
+    mark.placed done.each) in
+    let own : AreVerdicts job.aim job.number rest done.verdicts =
+    subst (λ p. AreVerdicts job.aim job.number p done.verdicts) same done.written.each in record {
+      verdicts = done.verdicts;
+      written = record {
+        each = own;
+        output = done.written.output;
+        faults = done.written.faults;
+      };
+      same = λ verdicts verdict.
+          let from = at_least_from job.aim 1 mark.before rest verdicts
+          (subst (λ p. AreVerdicts job.aim 1 p verdicts) mark.parted verdict) in
+          subst (IsSameReport job.aim done.verdicts)
+          (sym from.2 ∙ ap (λ n. verdicts_at_least n 1 verdicts) (sym mark.numbered))
+          (same_report job.aim (length mark.before + 1) rest done.verdicts from.0
+          (subst (λ n. AreVerdicts job.aim n rest done.verdicts) mark.numbered own) from.1);
+    }

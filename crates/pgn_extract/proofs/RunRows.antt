@@ -27,7 +27,9 @@ use Rattle.pgn_extract.specs.Public.Listing.{AreEntries, Entry, IsMainReplayOf, 
 use Rattle.pgn_extract.specs.Public.Outcomes.{AppendsFront, BeginsAll, WritesComplete}
 use Rattle.pgn_extract.specs.Public.Requests.{option_refusals, refusals, text_refusals}
 use Rattle.pgn_extract.specs.Public.Resuming.{WritesRest, IsMarkAmong}
-use Rattle.pgn_extract.specs.Public.Runs.{Adds, AreWritten, ArePieces, Completed, Completes, Exports, Indexes, Io, Job, Lists, OnInput, Passage, Stream, stream_of, Exported, Indexed, IsBegun, IsCompleteOf, Listed, ListsRest, Rest, RestListed, Resumes, Stopped, Stops}
+use Rattle.pgn_extract.specs.Public.Runs.{Adds, AreWritten, ArePieces, Completed, Completes, Io}
+use Rattle.pgn_extract.specs.Public.Runs.{Job, Lists, OnInput, Passage, Stream, stream_of}
+use Rattle.pgn_extract.specs.Public.Runs.{IsBegun, IsCompleteOf, Listed, Stopped, Stops}
 use Rattle.pgn_extract.specs.Public.Searching.{AreGameRecords, ArePackLines, ArePieceRecords, AreRecordLines, AreRecords, BeginsWithRecords, HasNoGame, Searches, StopsAtBytes, StopsAtRead, StopsSearch, StopsWithin, IndexesWhatWasPacked, IsIndexOfSoundGames, IsPackOf, IsRecordListing, IsSoundPiece, ListsWhatWasPacked, of_all}
 use Rattle.pgn_extract.specs.Public.Searching.AreGameRecords.{sound as sound_record, faulty as faulty_record}
 use Rattle.pgn_extract.specs.Public.Several.{AtPath, FileOf, IsOfPath, IsReport, NamesUnopened, NoFile, Order, StopsInFile, Unknown, IsRead, WritesPaths, WritesRead}
@@ -127,26 +129,20 @@ no_run_unflushed : (job : Job) (io : Io) (summary : Summary) → io.out.new.flus
     → Completed job io summary → ⊥
 no_run_unflushed job io summary not_flushed done = let both = sym done.1 ∙ not_flushed in cc
 
-no_index_unwritten : (job : Job) (io : Io) (whole : List ℕ) → ((text : List ℕ)
-    → Adds io.out text → ⊥)
-    → Indexes job io whole → ⊥
-no_index_unwritten job io whole unwritten indexes = unwritten _ indexes.indexed
-
 no_listing_unwritten : (job : Job) (io : Io) (whole : List ℕ) → ((text : List ℕ)
     → Adds io.out text → ⊥)
     → Lists job io whole → ⊥
 no_listing_unwritten job io whole unwritten lists = unwritten _ lists.listed
+
+no_listing_of_no_pieces : (job : Job) (io : Io) (whole : List ℕ)
+    → ((pieces : List MarkedPiece) → ArePieces job whole pieces → ⊥) → Lists job io whole → ⊥
+no_listing_of_no_pieces job io whole none lists = none lists.pieces lists.each
 
 no_entry_unlisted : (job : Job) (io : Io) (whole : List ℕ)
     → ((pieces : List MarkedPiece) (entries : List Entry)
     → AreEntries job.aim job.number pieces entries → ⊥)
     → Lists job io whole → ⊥
 no_entry_unlisted job io whole none lists = none lists.pieces lists.entries lists.are
-
-no_export_unwritten : (job : Job) (io : Io) (whole : List ℕ) → ((text : List ℕ)
-    → Adds io.out text → ⊥)
-    → Exports job io whole → ⊥
-no_export_unwritten job io whole unwritten exports = unwritten exports.text exports.exported
 
 no_rest_unwritten : (aim : Aim) (number : ℕ) (pieces rest : List MarkedPiece)
     (out out' err err' : Option (List ℕ)) → ((verdicts : List Verdict)
@@ -486,55 +482,21 @@ no_small_input_stops_so job io whole known small stopped =
     no_fact_of_the_input_is_left io whole (λ text. Stops InputTooLong job io text) known
     (no_small_input_is_too_long job io whole small) stopped
 
--- in each mode it is what the mode says
-no_run_unindexed : (job : Job) (io : Io) (whole : List ℕ) → io.input.old.bytes ≡ Some whole
-    → job.aim.mode ≡ modes.Index → (Indexes job io whole → ⊥) → Indexed job io → ⊥
-no_run_unindexed job io whole known index none indexed =
-    no_fact_of_the_input_is_left io whole (λ text. job.aim.mode ≡ modes.Index → Indexes job io text)
-    known (λ says. none (says index)) indexed
-
+-- in the mode of the listing it is the listing
 no_run_unlisted : (job : Job) (io : Io) (whole : List ℕ) → io.input.old.bytes ≡ Some whole
     → job.aim.mode ≡ modes.List → (Lists job io whole → ⊥) → Listed job io → ⊥
 no_run_unlisted job io whole known list none listed =
     no_fact_of_the_input_is_left io whole (λ text. job.aim.mode ≡ modes.List → Lists job io text)
     known (λ says. none (says list)) listed
 
-no_rest_unlisted : (job : Job) (io : Io) (whole : List ℕ) → io.input.old.bytes ≡ Some whole
-    → job.aim.mode ≡ modes.List → (ListsRest job io whole → ⊥) → RestListed job io → ⊥
-no_rest_unlisted job io whole known list none listed =
-    no_fact_of_the_input_is_left io whole (λ text. job.aim.mode ≡ modes.List
-    → ListsRest job io text)
-    known (λ says. none (says list)) listed
-
-no_run_unexported : (job : Job) (io : Io) (whole : List ℕ) → io.input.old.bytes ≡ Some whole
-    → job.aim.mode ≡ modes.Export → (Exports job io whole → ⊥) → Exported job io → ⊥
-no_run_unexported job io whole known export none exported =
-    no_fact_of_the_input_is_left io whole (λ text. job.aim.mode ≡ modes.Export
-    → Exports job io text)
-    known (λ says. none (says export)) exported
-
-no_run_unresumed : (job : Job) (io : Io) (whole : List ℕ) → io.input.old.bytes ≡ Some whole
-    → (Resumes job io whole → ⊥) → Rest job io → ⊥
-no_run_unresumed job io whole known none rest =
-    no_fact_of_the_input_is_left io whole (λ text. Resumes job io text) known none rest
-
 -- from a mark on it is the rest
 no_other_rest_is_listed : (job : Job) (io : Io) (whole : List ℕ) (pieces : List MarkedPiece)
     (entries : List Entry) → AreMarkedPieces job.limit job.max_depth 0 whole pieces
     → IsMarkAmong job.number job.offset pieces → AreEntries job.aim 1 pieces entries
     → (Adds io.out (listing job.aim.name (entries_at_least job.number entries)) → ⊥)
-    → ListsRest job io whole → ⊥
+    → Lists job io whole → ⊥
 no_other_rest_is_listed job io whole pieces entries each mark are none lists =
     none (lists.rest pieces each mark entries are)
-
-no_other_rest_is_reported : (job : Job) (io : Io) (whole : List ℕ) (pieces : List MarkedPiece)
-    → AreMarkedPieces job.limit job.max_depth 0 whole pieces
-    → (mark : IsMarkAmong job.number job.offset pieces)
-    → (WritesRest job.aim job.number pieces (mark.piece ∷ mark.after) io.out.old.bytes
-    io.out.new.bytes io.err.old.bytes io.err.new.bytes → ⊥)
-    → Resumes job io whole → ⊥
-no_other_rest_is_reported job io whole pieces each mark none resumes =
-    none (resumes.rest pieces each mark)
 
 no_file_unread : (order : Order) (text : List ℕ) (out err : Passage)
     → ((output report : List ℕ) → IsRead order text output report → ⊥)

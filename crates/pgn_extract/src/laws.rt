@@ -1,7 +1,14 @@
 //! What holds of every text, whatever lists or reports it. Each law is the contract of a function that does nothing.
 
 ghost use Rattle.pgn_extract.specs.Public.Searching.{PackedTextIsAPack};
-ghost use Rattle.pgn_extract.specs.Public.Laws.{PiecesHaveOneListing, EachPieceHasAMark, TextHasAReport, TextHasOneReport, ExportsAreWritten, TextHasOneExport, PackIsListedAsItsText, NamesAreShown, FirstChangesNoExport, PieceIsInOneExport, NoteNamesTheStop, NoNotes, PartsJoin, PartsAreReported};
+ghost use Rattle.pgn_extract.specs.Public.Laws.{PiecesHaveOneListing, EachPieceHasAMark};
+ghost use Rattle.pgn_extract.specs.Public.Laws.{TextHasAReport, TextHasOneReport};
+ghost use Rattle.pgn_extract.specs.Public.Laws.{ExportsAreWritten, TextHasOneExport};
+ghost use Rattle.pgn_extract.specs.Public.Laws.{PackIsListedAsItsText, NamesAreShown};
+ghost use Rattle.pgn_extract.specs.Public.Laws.{FirstChangesNoExport, PieceIsInOneExport};
+ghost use Rattle.pgn_extract.specs.Public.Laws.{NoteNamesTheStop, NoNotes};
+ghost use Rattle.pgn_extract.specs.Public.Laws.{PartsJoin, PartsAreReported};
+ghost use Rattle.pgn_extract.specs.Public.Laws.{RunIndexes, RunExports, RunResumes};
 
 /// The pieces of each text have entries, and these are one list: the plies of its sound games that are within the bounds and whose position
 /// meets the criteria, or the least such of each game, each once, in the order of the games and their plies.
@@ -56,4 +63,12 @@ pub fn packs()
     ensures pack { PackedTextIsAPack }
     ensures listing { PackIsListedAsItsText }
     ensures names { NamesAreShown }
+{}
+
+/// What a complete run wrote in the modes that do not list, and where it began at a mark. All of it
+/// follows from what `run` ensures at `Ok`.
+pub fn complete_runs()
+    ensures indexes { RunIndexes }
+    ensures exports { RunExports }
+    ensures resumes { RunResumes }
 {}

@@ -17,6 +17,7 @@ ghost use Rattle.pgn_extract.specs.Public.Verdicts.{Verdict, AreVerdicts, IsSame
 
 use crate::app::files::{Files, Task, run_files};
 use crate::engine::run;
+use crate::laws::complete_runs;
 use crate::output::outcome::{RunError, Summary};
 use crate::packed::searching::{SearchError, Searched, search};
 use crate::settings::{Mode, Settings};
@@ -108,6 +109,7 @@ fn run_over(alloc: Global, text: &[u8], settings: &Settings) -> Result<Written, 
     let mut input = Tally::new(text);
     let mut out = Tally::new(Vec::new(alloc));
     let mut err = Tally::new(Vec::new(alloc));
+    complete_runs();
     match run(alloc, &mut input, &mut out, &mut err, settings) {
         Ok(_) => Ok(Written {
             out: out.into_inner(),
@@ -163,6 +165,7 @@ pub fn resume_text<'a>(
         → IsMarkAmong settings.now.number settings.now.offset pieces → (entries : List Entry) → AreEntries (aim_of settings.now) 1 pieces entries
         → out.new.inner.items ≡ out.old.inner.items ++ listing settings.now.name (entries_at_least settings.now.number entries)) }
 {
+    complete_runs();
     run(alloc, input, out, err, settings)
 }
 

@@ -6,12 +6,12 @@ use Rattle.pgn_text.specs.Public.Stops.{IsLongestViablePrefix}
 use Rattle.pgn_text.specs.Public.Marks.{PieceKind, ReadableGame, UnreadableRest, TooLongBlock, MarkedPiece, AreMarkedPieces}
 use Rattle.pgn_text.specs.Public.Parts.{spelled}
 use Rattle.pgn_game.specs.Public.PackedGames.{longest_name, is_shown, is_shown_name}
-use Rattle.pgn_extract.specs.Public.Index.{shown_name}
+use Rattle.pgn_extract.specs.Public.Index.{index, shown_name}
 use Rattle.pgn_extract.specs.Public.Listing.{Entry, AreEntries, listing}
 use Rattle.pgn_extract.specs.Public.Exports.{as_it_stands, IsPieceExport, AreExports}
 use Rattle.pgn_extract.specs.Public.Notes.{IsLinePlace, IsNote, NamesByte, NamesStop}
-use Rattle.pgn_extract.specs.Public.Resuming.{IsMarkAmong}
-use Rattle.pgn_extract.specs.Public.Runs.{Io, job_of, ArePieces, Adds, IsRun}
+use Rattle.pgn_extract.specs.Public.Resuming.{IsMarkAmong, WritesRest}
+use Rattle.pgn_extract.specs.Public.Runs.{Io, Job, job_of, ArePieces, Adds, Completes, IsRun}
 use Rattle.pgn_extract.specs.Public.Searching.{IsSearch, PacksAll, of_all}
 use Rattle.pgn_extract.specs.Public.Verdicts.{Verdict, AreVerdicts, IsSameReport, output_text, fault_lines, is_faulty}
 use Rattle.pgn_extract.specs.Public.Aims.{Aim, aim_of}
@@ -192,3 +192,29 @@ PartsAreReported =
     → AreMarkedPieces limit max_depth offset (drop offset text) second → AreVerdicts aim number second rest
     → (output_text all ≡ output_text front ++ output_text rest) × (fault_lines all ≡ fault_lines front ++ fault_lines rest)
     × (count_by is_faulty all ≡ count_by is_faulty front + count_by is_faulty rest)
+
+-- What a run wrote that is complete, of an input whose bytes are known.
+
+-- In the mode of the index the output grew by exactly the index of the pieces that are chosen,
+abbrev pub RunIndexes : Type 0
+RunIndexes =
+    (job : Job) (io : Io) (whole : List ℕ) (summary : Summary)
+    (done : Completes job io whole summary) → job.aim.mode ≡ modes.Index
+    → Adds io.out (index job.aim.chosen job.aim.name job.number done.pieces)
+
+-- and in that of the export by the exports of the games among them.
+abbrev pub RunExports : Type 0
+RunExports =
+    (job : Job) (io : Io) (whole : List ℕ) (summary : Summary)
+    (done : Completes job io whole summary) → job.aim.mode ≡ modes.Export
+    → (text : List ℕ) × AreExports job.aim job.number done.pieces text × Adds io.out text
+
+-- Begun at a mark of one of the pieces of the whole input, the run reported just those from it on,
+-- as a run over the whole reports them.
+abbrev pub RunResumes : Type 0
+RunResumes =
+    (job : Job) (io : Io) (whole : List ℕ) (summary : Summary) → Completes job io whole summary
+    → (pieces : List MarkedPiece) → AreMarkedPieces job.limit job.max_depth 0 whole pieces
+    → (mark : IsMarkAmong job.number job.offset pieces)
+    → WritesRest job.aim job.number pieces (mark.piece ∷ mark.after)
+    io.out.old.bytes io.out.new.bytes io.err.old.bytes io.err.new.bytes

@@ -1,15 +1,13 @@
 -- The words of the contract of `run`, in the order in which they are best read: what is asked, what is met, and what stands then.
-use Rattle.std.specs.Prelude.{◌≡◌, ◌↔◌, ◌⊎◌, ℕ, ◌^◌, ◌<◌, ◌≤◌, Bool, true, false, List, ◌∷◌, length, take, drop, count_by, Option, Result, IfSome, IfOk, IfErr, OnOk, IsErrOf}
+use Rattle.std.specs.Prelude.{◌≡◌, ◌↔◌, ◌⊎◌, ℕ, ◌^◌, ◌<◌, ◌≤◌, Bool, true, false, List, length, take, drop, count_by, Option, Result, IfSome, IfOk, IfErr, OnOk, IsErrOf}
 use Rattle.std.specs.Io.KnownBytes.{Appends}
 use Rattle.pgn_text.specs.Public.Limits.{block_limit, depth_limit, largest_offset}
 use Rattle.pgn_text.specs.Public.Marks.{MarkedPiece, AreMarkedPieces}
 use Rattle.pgn_text.specs.Public.Tallies.{Tallied}
 use Rattle.pgn_extract.specs.Public.Aims.{Aim, aim_of}
-use Rattle.pgn_extract.specs.Public.Exports.{AreExports}
-use Rattle.pgn_extract.specs.Public.Index.{index}
 use Rattle.pgn_extract.specs.Public.Listing.{Entry, AreEntries, entries_at_least, listing}
 use Rattle.pgn_extract.specs.Public.Outcomes.{Writes, WritesComplete, BeginsAll}
-use Rattle.pgn_extract.specs.Public.Resuming.{IsMarkAmong, WritesRest}
+use Rattle.pgn_extract.specs.Public.Resuming.{IsMarkAmong}
 use Rattle.pgn_extract.specs.Public.Verdicts.{Verdict, is_faulty}
 use Rattle.pgn_extract.specs.declared.output.outcome.RunError.{RunError}
 use Rattle.pgn_extract.specs.declared.output.outcome.RunError.TheVariants.{Read, Write, OutOfMemory, InputTooLong}
@@ -99,52 +97,21 @@ pub record Completes (job : Job) (io : Io) (whole : List ℕ) (summary : Summary
 abbrev pub Completed : Job → Io → Summary → Type 0
 Completed job io summary = OnInput io (λ whole. Completes job io whole summary) × (io.out.new.flushed ≡ true) × (io.err.new.flushed ≡ true)
 
--- In the mode of the index the output grew by exactly the index of the pieces that are chosen,
-pub record Indexes (job : Job) (io : Io) (whole : List ℕ) : Type 0 where
-  pub pieces : List MarkedPiece
-  pub each : ArePieces job whole pieces
-  pub indexed : Adds io.out (index job.aim.chosen job.aim.name job.number pieces)
-
-abbrev pub Indexed : Job → Io → Type 0
-Indexed job io = OnInput io (λ whole. job.aim.mode ≡ mode.Index → Indexes job io whole)
-
--- in that of the listing by the listing of their entries,
+-- In the mode of the listing the output grew by exactly the listing of their entries; and where the
+-- run began at a mark of the whole input, by exactly the lines of the whole listing from that game on.
 pub record Lists (job : Job) (io : Io) (whole : List ℕ) : Type 0 where
   pub pieces : List MarkedPiece
   pub each : ArePieces job whole pieces
   pub entries : List Entry
   pub are : AreEntries job.aim job.number pieces entries
   pub listed : Adds io.out (listing job.aim.name entries)
+  pub rest : (all : List MarkedPiece) → AreMarkedPieces job.limit job.max_depth 0 whole all
+      → IsMarkAmong job.number job.offset all
+      → (found : List Entry) → AreEntries job.aim 1 all found
+      → Adds io.out (listing job.aim.name (entries_at_least job.number found))
 
 abbrev pub Listed : Job → Io → Type 0
 Listed job io = OnInput io (λ whole. job.aim.mode ≡ mode.List → Lists job io whole)
-
--- which, where the run began at a mark of the whole input, are the lines of the whole listing from that game on,
-pub record ListsRest (job : Job) (io : Io) (whole : List ℕ) : Type 0 where
-  pub rest : (pieces : List MarkedPiece) → AreMarkedPieces job.limit job.max_depth 0 whole pieces → IsMarkAmong job.number job.offset pieces
-      → (entries : List Entry) → AreEntries job.aim 1 pieces entries → Adds io.out (listing job.aim.name (entries_at_least job.number entries))
-
-abbrev pub RestListed : Job → Io → Type 0
-RestListed job io = OnInput io (λ whole. job.aim.mode ≡ mode.List → ListsRest job io whole)
-
--- and in that of the export by the exports of the games among them.
-pub record Exports (job : Job) (io : Io) (whole : List ℕ) : Type 0 where
-  pub pieces : List MarkedPiece
-  pub each : ArePieces job whole pieces
-  pub text : List ℕ
-  pub are : AreExports job.aim job.number pieces text
-  pub exported : Adds io.out text
-
-abbrev pub Exported : Job → Io → Type 0
-Exported job io = OnInput io (λ whole. job.aim.mode ≡ mode.Export → Exports job io whole)
-
--- Begun at a mark of one of the pieces of the whole input, the run reported just those from it on, as a run over the whole reports them.
-pub record Resumes (job : Job) (io : Io) (whole : List ℕ) : Type 0 where
-  pub rest : (pieces : List MarkedPiece) → AreMarkedPieces job.limit job.max_depth 0 whole pieces → (mark : IsMarkAmong job.number job.offset pieces)
-      → WritesRest job.aim job.number pieces (mark.piece ∷ mark.after) io.out.old.bytes io.out.new.bytes io.err.old.bytes io.err.new.bytes
-
-abbrev pub Rest : Job → Io → Type 0
-Rest job io = OnInput io (λ whole. Resumes job io whole)
 
 -- At an error: the pieces of the complete blocks among some bytes from the offset on are reported, and nothing else;
 abbrev pub IsCompleteOf : Job → Io → List ℕ → Type 0
@@ -171,13 +138,10 @@ pub record FaultsAre (result : Result Summary RunError) (io : Io) : Type 0 where
   pub write : IsErrOf result Write ↔ ((io.out.new.faulted ≡ true) ⊎ (io.err.new.faulted ≡ true))
   pub alone : (io.out.new.faulted ≡ true) × (io.err.new.faulted ≡ true) → ⊥
 
--- So a run ends.
+-- So a run ends; `lists` is the listing theorem. What a complete run wrote in the other modes
+-- follows from `done`: the laws `RunIndexes`, `RunExports` and `RunResumes`.
 pub record IsRun (job : Job) (io : Io) (result : Result Summary RunError) : Type 0 where
   pub done : IfOk result (Completed job io)
-  pub indexes : OnOk result (Indexed job io)
   pub lists : OnOk result (Listed job io)
-  pub lists_rest : OnOk result (RestListed job io)
-  pub exports : OnOk result (Exported job io)
-  pub resumes : OnOk result (Rest job io)
   pub stopped : IfErr result (Stopped job io)
   pub faults : FaultsAre result io

@@ -1,0 +1,10 @@
+use Rattle.pgn_extract.proofs.ModeOutputs.{run_indexes, run_exports}
+use Rattle.pgn_extract.proofs.Resumed.{run_resumes}
+use Rattle.pgn_extract.proofs.laws.complete_runs.Goals as goal
+
+pub returns : goal.returns
+returns c = record {
+  indexes = run_indexes;
+  exports = run_exports;
+  resumes = run_resumes;
+}
