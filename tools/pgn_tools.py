@@ -27,8 +27,8 @@ BLOCK = 1 << 20
 SORT = "sort"
 # What begins a block of a text, and how long one may be that the program reads.
 EVENT_LINE, LONGEST_BLOCK = b'\n[Event "', 1 << 24
-# How many seconds a short run has to end by itself once it is told to.
-GRACE = 2
+# How many seconds a short run has to end by itself once it is told to: a build takes ten of them.
+GRACE = 15
 # How many lines are shown of what a run reported that failed.
 SHOWN = 9
 NO_ROOM = (errno.ENOSPC, errno.EDQUOT, errno.EFBIG)
