@@ -33,7 +33,7 @@ use pgn_text::is_contents;
 use std::alloc::{AllocError, Global};
 
 /// Why the lines of a packed game are not added.
-#[derive(Clone, Copy, Debug, PartialEq, Eq)]
+#[derive(Clone, Copy)]
 pub enum PackedFault {
     /// It is the record of no game: its FEN tag spells no position, or its codes tell no line of legal moves.
     NoGame,

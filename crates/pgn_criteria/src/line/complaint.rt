@@ -107,7 +107,7 @@ const TURNED: &str = "either: fen, flip fen, material or turn, with or without n
 const OTHER_WAY: &str = "not: a condition; either stands in front of not";
 
 /// The words that a condition begins with, or that stand before one.
-#[derive(Clone, Copy, PartialEq, Eq)]
+#[derive(Clone, Copy)]
 enum Key {
     Fen,
     Tag,

@@ -3,7 +3,7 @@ use clap::{Arg, ArgAction, Command, Error, value_parser};
 use std::alloc::{AllocError, Global};
 
 /// What the arguments ask for, as texts.
-#[derive(Debug, Drop)]
+#[derive(Drop)]
 pub struct Request<'a> {
     /// `--index` was given.
     pub index: bool,
@@ -111,214 +111,240 @@ const AFTER_HELP: &str =
     2 the arguments or the criteria were refused or a file could not be opened,\n\
     3 the run failed. The manual: man pgn-extract.";
 
-/// An option without a value.
-fn flag<'a>(alloc: Global, name: &'a str, help: &'a str) -> Arg<'a> {
-    Arg::new(alloc, name)
-        .long(name)
-        .action(ArgAction::SetTrue)
-        .help(help)
+/// What stands after the name of an option.
+enum Takes {
+    Nothing,
+    /// A text, by what help calls it.
+    Text(&'static str),
+    /// The same, any number of times.
+    Texts(&'static str),
+    /// A ply.
+    Ply,
+    /// How long lines are.
+    Width,
 }
 
-/// An option that is a text.
-fn text_option<'a>(alloc: Global, name: &'a str, value: &'a str, help: &'a str) -> Arg<'a> {
-    Arg::new(alloc, name)
-        .long(name)
-        .value_name(value)
-        .help(help)
+/// An option: its name, its letter, what it takes and what help says of it.
+struct Choice {
+    name: &'static str,
+    letter: Option<char>,
+    takes: Takes,
+    help: &'static str,
 }
 
-/// An option for a bound on the plies.
-fn ply_option<'a>(alloc: Global, name: &'a str, help: &'a str) -> Arg<'a> {
-    text_option(alloc, name, "N", help).value_parser(value_parser!(u32))
+/// A row of the tables below: its letter, its name, what it takes, and what help says of it.
+macro_rules! choice {
+    ($name:expr, $help:expr $(,)?) => {
+        choice!($name, Takes::Nothing, $help)
+    };
+    ($name:expr, $takes:expr, $help:expr $(,)?) => {
+        Choice { name: $name, letter: None, takes: $takes, help: $help }
+    };
+    ($letter:expr, $name:expr, $takes:expr, $help:expr $(,)?) => {
+        Choice { name: $name, letter: Some($letter), takes: $takes, help: $help }
+    };
 }
 
-/// The options for what is written.
-fn mode_options<'a>(alloc: Global, command: Command<'a>) -> Result<Command<'a>, AllocError> {
-    command
-        .next_help_heading("Output, if not the games themselves")
-        .arg(flag(
-            alloc,
-            "list",
-            "N@O P for each position looked for: the number\n\
-             and offset of its game, and its ply",
-        ))?
-        .arg(flag(
-            alloc,
-            "fen",
-            "With --list, show each position after its ply, in FEN",
-        ))?
-        .arg(flag(
-            alloc,
-            "next",
-            "With --list, show the move that is played from there\n\
-             (- at the end of the game)",
-        ))?
-        .arg(flag(
-            alloc,
-            "packed",
-            "With --list or --index, the FILEs are packs: lines of\n\
-             the games that were packed, lists much sooner",
-        ))?
-        .arg(flag(
-            alloc,
-            "index",
-            "N@O for each readable game; no move is played",
-        ))?
-        .arg(flag(
-            alloc,
-            "moves",
-            "N@O, FEN with _ for blanks (- is the usual start)\n\
-             and the moves of each game, on one line",
-        ))?
-        .arg(flag(alloc, "uci", "The same with moves as e2e4, e7e8q, e1g1"))?
-        .arg(flag(
-            alloc,
-            "pack",
-            "A pack: a record of each game, which holds its tags\n\
-             and its moves for searches",
-        ))
-}
+/// What is written.
+const MODES: &[Choice] = &[
+    choice!(
+        "list",
+        "N@O P for each position looked for: the number\n\
+         and offset of its game, and its ply",
+    ),
+    choice!(
+        "fen",
+        "With --list, show each position after its ply, in FEN"
+    ),
+    choice!(
+        "next",
+        "With --list, show the move that is played from there\n\
+         (- at the end of the game)",
+    ),
+    choice!(
+        "packed",
+        "With --list or --index, the FILEs are packs: lines of\n\
+         the games that were packed, lists much sooner",
+    ),
+    choice!("index", "N@O for each readable game; no move is played"),
+    choice!(
+        "moves",
+        "N@O, FEN with _ for blanks (- is the usual start)\n\
+         and the moves of each game, on one line",
+    ),
+    choice!("uci", "The same with moves as e2e4, e7e8q, e1g1"),
+    choice!(
+        "pack",
+        "A pack: a record of each game, which holds its tags\n\
+         and its moves for searches",
+    ),
+];
 
-/// The options for what is looked for.
-fn search_options<'a>(alloc: Global, command: Command<'a>) -> Result<Command<'a>, AllocError> {
-    command
-        .next_help_heading("Positions looked for")
-        .arg(text_option(
-            alloc,
-            "criteria",
-            "FILE",
-            "Only those that meet the criteria in FILE, or\n\
-             of an example (carlsbad)\n\
-             [default: all]",
-        ))?
-        .arg(text_option(
-            alloc,
-            "where",
-            "LINE",
-            "A line of criteria, after those of FILE; any number\n\
-                 of times",
-        )
-        .action(ArgAction::Append))?
-        .arg(ply_option(
-            alloc,
-            "min-ply",
-            "None before ply N; ply 0 is the position before\n\
-             the first move [default: 0]",
-        ))?
-        .arg(ply_option(alloc, "max-ply", "None after ply N [default: 4294967295]"))?
-        .arg(flag(alloc, "first", "List only the first of each game"))
-}
+/// What is looked for.
+const SEARCHES: &[Choice] = &[
+    choice!(
+        "criteria",
+        Takes::Text("FILE"),
+        "Only those that meet the criteria in FILE, or\n\
+         of an example (carlsbad)\n\
+         [default: all]",
+    ),
+    choice!(
+        "where",
+        Takes::Texts("LINE"),
+        "A line of criteria, after those of FILE; any number\n\
+         of times",
+    ),
+    choice!(
+        "min-ply",
+        Takes::Ply,
+        "None before ply N; ply 0 is the position before\n\
+         the first move [default: 0]",
+    ),
+    choice!(
+        "max-ply",
+        Takes::Ply,
+        "None after ply N [default: 4294967295]"
+    ),
+    choice!("first", "List only the first of each game"),
+];
 
-/// The options for which games are written, and whether unchanged.
-fn choice_options<'a>(alloc: Global, command: Command<'a>) -> Result<Command<'a>, AllocError> {
-    command
-        .next_help_heading("Games that are written")
-        .arg(flag(
-            alloc,
-            "others",
-            "Those without a position looked for, not those with",
-        ))?
-        .arg(flag(
-            alloc,
-            "faulty",
-            "The bad ones, unchanged, not the legal ones",
-        ))?
-        .arg(flag(alloc, "as-is", "Write each unchanged, byte for byte"))
-}
+/// Which games are written, and whether unchanged.
+const CHOICES: &[Choice] = &[
+    choice!(
+        "others",
+        "Those without a position looked for, not those with"
+    ),
+    choice!("faulty", "The bad ones, unchanged, not the legal ones"),
+    choice!("as-is", "Write each unchanged, byte for byte"),
+];
 
-/// The options for how games are written.
-fn style_options<'a>(alloc: Global, command: Command<'a>) -> Result<Command<'a>, AllocError> {
-    let no_variations = "Leave variations out; then the main line alone\n\
-         must be legal";
-    let width = text_option(
-        alloc,
+/// How games are written.
+const STYLES: &[Choice] = &[
+    choice!('C', "no-comments", Takes::Nothing, "Leave comments out"),
+    choice!(
+        "keep-commands",
+        "End no line within a command of a comment, as\n\
+         [%clk 0:01:00]",
+    ),
+    choice!(
+        'N',
+        "no-glyphs",
+        Takes::Nothing,
+        "Leave NAGs ($1, !, ?) out"
+    ),
+    choice!(
+        'V',
+        "no-variations",
+        Takes::Nothing,
+        "Leave variations out; then the main line alone\n\
+         must be legal",
+    ),
+    choice!(
+        "roster",
+        "Keep only the seven tags of the roster, and FEN and\n\
+         SetUp of a game with FEN",
+    ),
+    choice!(
+        'w',
         "width",
-        "N",
+        Takes::Width,
         "Fill lines of moves up to N bytes, 1 to 9999\n\
          [default: 79]",
-    );
-    command
-        .next_help_heading("Games as they are written")
-        .arg(flag(alloc, "no-comments", "Leave comments out").short('C'))?
-        .arg(flag(
-            alloc,
-            "keep-commands",
-            "End no line within a command of a comment, as\n\
-             [%clk 0:01:00]",
-        ))?
-        .arg(flag(alloc, "no-glyphs", "Leave NAGs ($1, !, ?) out").short('N'))?
-        .arg(flag(alloc, "no-variations", no_variations).short('V'))?
-        .arg(flag(
-            alloc,
-            "roster",
-            "Keep only the seven tags of the roster, and FEN and\n\
-             SetUp of a game with FEN",
-        ))?
-        .arg(
-            width
-                .short('w')
-                .value_parser(value_parser!(u16).range(1..=9999)),
-        )
+    ),
+];
+
+/// What goes to standard error.
+const REPORTS: &[Choice] = &[
+    choice!(
+        "explain",
+        "Say after the line of each bad game where it stops\n\
+         being one, and why; the same of a refused line of\n\
+         criteria; why a file cannot be read, or is no PGN",
+    ),
+    choice!(
+        "summary",
+        "Say at the end how many games were read, and how many\n\
+         were bad",
+    ),
+    choice!(
+        "progress",
+        "Show on a terminal how far the input is read, not\n\
+         only once a run has lasted two seconds",
+    ),
+    choice!("no-progress", "Never show that"),
+];
+
+/// Where the input begins and ends, and its name.
+const INPUTS: &[Choice] = &[
+    choice!(
+        "from",
+        Takes::Text("N@O"),
+        "Begin at the game with this mark, as another run printed\n\
+         it [default: 1@0]",
+    ),
+    choice!(
+        "until",
+        Takes::Text("N@O"),
+        "End before the game with this mark\n\
+         [default: the end of the input]",
+    ),
+    choice!(
+        "at",
+        Takes::Text("MARKS"),
+        "Report only the games whose marks begin the lines of\n\
+         the file MARKS: of a list, an index, or reports",
+    ),
+    choice!(
+        "with-names",
+        "Begin each line with the name of its FILE, as is done\n\
+         with two or more",
+    ),
+    choice!("no-names", "Leave names out"),
+];
+
+/// All of them under their headings, in the order of help.
+const GROUPS: [(&str, &[Choice]); 6] = [
+    ("Output, if not the games themselves", MODES),
+    ("Positions looked for", SEARCHES),
+    ("Games that are written", CHOICES),
+    ("Games as they are written", STYLES),
+    ("Reports, on standard error", REPORTS),
+    ("Input", INPUTS),
+];
+
+/// The option as `clap` takes it.
+fn option_of<'a>(alloc: Global, choice: &Choice) -> Arg<'a> {
+    let arg = Arg::new(alloc, choice.name)
+        .long(choice.name)
+        .help(choice.help);
+    let arg = match choice.takes {
+        Takes::Nothing => arg.action(ArgAction::SetTrue),
+        Takes::Text(name) => arg.value_name(name),
+        Takes::Texts(name) => arg.value_name(name).action(ArgAction::Append),
+        Takes::Ply => arg.value_name("N").value_parser(value_parser!(u32)),
+        Takes::Width => arg
+            .value_name("N")
+            .value_parser(value_parser!(u16).range(1..=9999)),
+    };
+    match choice.letter {
+        Some(letter) => arg.short(letter),
+        None => arg,
+    }
 }
 
-/// The options for what goes to standard error.
-fn report_options<'a>(alloc: Global, command: Command<'a>) -> Result<Command<'a>, AllocError> {
-    command
-        .next_help_heading("Reports, on standard error")
-        .arg(flag(
-            alloc,
-            "explain",
-            "Say after the line of each bad game where it stops\n\
-             being one, and why; the same of a refused line of\n\
-             criteria; why a file cannot be read, or is no PGN",
-        ))?
-        .arg(flag(
-            alloc,
-            "summary",
-            "Say at the end how many games were read, and how many\n\
-             were bad",
-        ))?
-        .arg(flag(
-            alloc,
-            "progress",
-            "Show on a terminal how far the input is read, not\n\
-             only once a run has lasted two seconds",
-        ))?
-        .arg(flag(alloc, "no-progress", "Never show that"))
-}
-
-/// The options for where the input begins and ends, and for its name.
-fn input_options<'a>(alloc: Global, command: Command<'a>) -> Result<Command<'a>, AllocError> {
-    command
-        .next_help_heading("Input")
-        .arg(text_option(
-            alloc,
-            "from",
-            "N@O",
-            "Begin at the game with this mark, as another run printed\n\
-             it [default: 1@0]",
-        ))?
-        .arg(text_option(
-            alloc,
-            "until",
-            "N@O",
-            "End before the game with this mark\n\
-             [default: the end of the input]",
-        ))?
-        .arg(text_option(
-            alloc,
-            "at",
-            "MARKS",
-            "Report only the games whose marks begin the lines of\n\
-             the file MARKS: of a list, an index, or reports",
-        ))?
-        .arg(flag(
-            alloc,
-            "with-names",
-            "Begin each line with the name of its FILE, as is done\n\
-             with two or more",
-        ))?
-        .arg(flag(alloc, "no-names", "Leave names out"))
+/// The command with these options under a heading.
+fn with_options<'a>(
+    alloc: Global,
+    command: Command<'a>,
+    heading: &'static str,
+    choices: &[Choice],
+) -> Result<Command<'a>, AllocError> {
+    let mut command = command.next_help_heading(heading);
+    for choice in choices {
+        command = command.arg(option_of(alloc, choice))?;
+    }
+    Ok(command)
 }
 
 /// The options that print a text and end the program.
@@ -349,12 +375,11 @@ fn make_command<'a>(alloc: Global) -> Result<Command<'a>, AllocError> {
         .disable_help_flag(true)
         .disable_version_flag(true)
         .arg(file)?;
-    let command = mode_options(alloc, command)?;
-    let command = search_options(alloc, command)?;
-    let command = choice_options(alloc, command)?;
-    let command = style_options(alloc, command)?;
-    let command = report_options(alloc, command)?;
-    help_options(alloc, input_options(alloc, command)?)
+    let mut command = command;
+    for (heading, choices) in GROUPS {
+        command = with_options(alloc, command, heading, choices)?;
+    }
+    help_options(alloc, command)
 }
 
 /// Reads the arguments, of which the first is the program's name.
