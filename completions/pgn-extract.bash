@@ -1,6 +1,6 @@
 # Completion of the options of pgn-extract, and of the commands beside it, in bash.
 _pgn_extract() {
-    local word before options
+    local word before option
     _pgn_extract_words
     case $before in
     --criteria)
@@ -14,30 +14,58 @@ _pgn_extract() {
     --min-ply | --max-ply | --from | --until | -w | --width) return ;;
     esac
     if [[ $word == -* ]]; then
-        mapfile -t COMPREPLY < <(compgen -W '--list --fen --next --packed --index --moves --uci --pack --criteria --where --min-ply --max-ply --first --others --faulty --as-is -C --no-comments -N --no-glyphs
-            -V --no-variations --keep-commands --roster -w --width --explain --summary --progress --no-progress --from --until --at --with-names --no-names
-            -h --help --version' -- "$word")
-        # --list, --index, --moves, --uci and --pack exclude each other, what only a list shows, and most of what chooses games; --others and --faulty exclude each other; names too. A pack is searched as a whole, for plain lines.
-        options=" ${COMP_WORDS[*]:0:COMP_CWORD} "
-        [[ $options == *' --list '* ]] && _pgn_extract_without --index --others --faulty --as-is --moves --uci --pack
-        [[ $options == *' --packed '* ]] && _pgn_extract_without --fen --next --others --faulty --as-is --moves --uci --pack --from --until --at --with-names --no-names
-        [[ $options =~ ' '--(fen|next|from|until|at)' ' ]] && _pgn_extract_without --packed
-        [[ $options == *' --index '* ]] && _pgn_extract_without --list --fen --next --others --faulty --as-is --moves --uci --pack
-        [[ $options == *' --moves '* ]] && _pgn_extract_without --list --fen --next --packed --index --faulty --as-is --uci --pack
-        [[ $options == *' --uci '* ]] && _pgn_extract_without --list --fen --next --packed --index --faulty --as-is --moves --pack
-        [[ $options == *' --pack '* ]] && _pgn_extract_without --list --fen --next --packed --index --faulty --as-is --moves --uci -C --no-comments -N --no-glyphs -V --no-variations --keep-commands --roster -w --width
-        [[ $options == *' --others '* ]] && _pgn_extract_without --list --fen --next --packed --index --faulty
-        [[ $options == *' --faulty '* ]] && _pgn_extract_without --list --fen --next --packed --index --others --moves --uci --pack
-        [[ $options == *' --as-is '* ]] && _pgn_extract_without --list --fen --next --packed --index --moves --uci --pack
-        [[ $options == *' --progress '* ]] && _pgn_extract_without --no-progress
-        [[ $options == *' --no-progress '* ]] && _pgn_extract_without --progress
-        [[ $options == *' --with-names '* ]] && _pgn_extract_without --packed --no-names
-        [[ $options == *' --no-names '* ]] && _pgn_extract_without --packed --with-names
+        mapfile -t COMPREPLY < <(compgen -W "$_pgn_extract_options" -- "$word")
+        for option in "${COMP_WORDS[@]:0:COMP_CWORD}"; do
+            _pgn_extract_excluded "$option"
+        done
     else
         mapfile -t COMPREPLY < <(compgen -f -- "$word")
     fi
     return 0
 }
+# (written by tools/completions)
+_pgn_extract_options='--list --fen --next --packed --index --moves --uci --pack --criteria --where
+    --min-ply --max-ply --first --others --faulty --as-is -C --no-comments --keep-commands -N
+    --no-glyphs -V --no-variations --roster -w --width --explain --summary --progress --no-progress
+    --from --until --at --with-names --no-names -h --help --version'
+# Takes out what the program refuses beside an option.
+_pgn_extract_excluded() {
+    case $1 in
+    --list) _pgn_extract_without --index --moves --uci --pack --others --faulty --as-is ;;
+    --fen) _pgn_extract_without --packed --index --moves --uci --pack --others --faulty --as-is ;;
+    --next) _pgn_extract_without --packed --index --moves --uci --pack --others --faulty \
+        --as-is ;;
+    --packed) _pgn_extract_without --fen --next --moves --uci --pack --others --faulty --as-is \
+        --from --until --at --with-names --no-names ;;
+    --index) _pgn_extract_without --list --fen --next --moves --uci --pack --others --faulty \
+        --as-is ;;
+    --moves) _pgn_extract_without --list --fen --next --packed --index --uci --pack --faulty \
+        --as-is ;;
+    --uci) _pgn_extract_without --list --fen --next --packed --index --moves --pack --faulty \
+        --as-is ;;
+    --pack) _pgn_extract_without --list --fen --next --packed --index --moves --uci --faulty \
+        --as-is -C --no-comments --keep-commands -N --no-glyphs -V --no-variations --roster -w \
+        --width ;;
+    --others) _pgn_extract_without --list --fen --next --packed --index --faulty ;;
+    --faulty) _pgn_extract_without --list --fen --next --packed --index --moves --uci --pack \
+        --others ;;
+    --as-is) _pgn_extract_without --list --fen --next --packed --index --moves --uci --pack ;;
+    -C | --no-comments) _pgn_extract_without --pack ;;
+    --keep-commands) _pgn_extract_without --pack ;;
+    -N | --no-glyphs) _pgn_extract_without --pack ;;
+    -V | --no-variations) _pgn_extract_without --pack ;;
+    --roster) _pgn_extract_without --pack ;;
+    -w | --width) _pgn_extract_without --pack ;;
+    --progress) _pgn_extract_without --no-progress ;;
+    --no-progress) _pgn_extract_without --progress ;;
+    --from) _pgn_extract_without --packed ;;
+    --until) _pgn_extract_without --packed ;;
+    --at) _pgn_extract_without --packed ;;
+    --with-names) _pgn_extract_without --packed --no-names ;;
+    --no-names) _pgn_extract_without --packed --with-names ;;
+    esac
+}
+# (end)
 # Takes options out of what is offered.
 _pgn_extract_without() {
     local offered=() option
