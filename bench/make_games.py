@@ -20,6 +20,8 @@ STEPS = {
     "K": (-11, -10, -9, -1, 1, 9, 10, 11),
 }
 START = "RNBQKBNR"
+# The men of Black and of White.
+MEN = ("pnbrqk", "PNBRQK")
 
 
 def square_name(square):
@@ -43,31 +45,24 @@ class Position:
         self.rights = set("KQkq")
         self.passed = None
 
-    def is_own(self, man):
-        return man.isalpha() and man.isupper() == self.white
-
     def is_enemy(self, man):
-        return man.isalpha() and man.isupper() != self.white
+        return man in MEN[not self.white]
 
     def is_attacked(self, square, by_white):
         board = self.board
         back = -10 if by_white else 10
-        pawn = "P" if by_white else "p"
-        if board[square + back - 1] == pawn or board[square + back + 1] == pawn:
+        pawn, knight, bishop, rook, queen, king = MEN[by_white]
+        if pawn in (board[square + back - 1], board[square + back + 1]):
             return True
-        for kind in "NK":
-            man = kind if by_white else kind.lower()
-            if any(board[square + step] == man for step in STEPS[kind]):
-                return True
-        for kind in "BR":
-            men = (kind, "Q") if by_white else (kind.lower(), "q")
-            for step in STEPS[kind]:
-                at = square + step
-                while board[at] == ".":
-                    at += step
-                if board[at] in men:
-                    return True
-        return False
+        if knight in [board[square + step] for step in STEPS["N"]]:
+            return True
+        if king in [board[square + step] for step in STEPS["K"]]:
+            return True
+        return any(
+            board[self.next_man(square, step)] in (man, queen)
+            for kind, man in (("B", bishop), ("R", rook))
+            for step in STEPS[kind]
+        )
 
     def king(self, white):
         return self.board.index("K" if white else "k")
@@ -76,9 +71,10 @@ class Position:
         return self.is_attacked(self.king(self.white), not self.white)
 
     def pseudo_legal(self):
+        board, own, others = self.board, MEN[self.white], MEN[not self.white]
         for square in range(21, 99):
-            man = self.board[square]
-            if not self.is_own(man):
+            man = board[square]
+            if man not in own:
                 continue
             kind = man.upper()
             if kind == "P":
@@ -86,9 +82,9 @@ class Position:
                 continue
             for step in STEPS[kind]:
                 at = square + step
-                while self.board[at] == "." or self.is_enemy(self.board[at]):
+                while board[at] == "." or board[at] in others:
                     yield (square, at, "")
-                    if kind in "NK" or self.board[at] != ".":
+                    if kind in "NK" or board[at] != ".":
                         break
                     at += step
         yield from self.castling_moves()
@@ -137,11 +133,32 @@ class Position:
         after.white = not self.white
         return after
 
+    def next_man(self, square, step):
+        """The square of the first man on the line from a square, or of the border."""
+        square += step
+        while self.board[square] == ".":
+            square += step
+        return square
+
+    def pinned(self, king):
+        """The squares of the men that keep an enemy on a line from the king."""
+        own, (_, _, bishop, rook, queen, _) = MEN[self.white], MEN[not self.white]
+        for kind, man in (("B", bishop), ("R", rook)):
+            for step in STEPS[kind]:
+                at = self.next_man(king, step)
+                if self.board[at] in own and self.board[self.next_man(at, step)] in (man, queen):
+                    yield at
+
     def legal(self):
+        king = self.king(self.white)
+        bound, is_in_check = {king, *self.pinned(king)}, self.in_check()
         for move in self.pseudo_legal():
-            after = self.play(move)
-            if not after.is_attacked(after.king(self.white), after.white):
-                yield move, after
+            # (no other move leaves a king attacked that is not attacked now)
+            if is_in_check or move[0] in bound or move[1] == self.passed:
+                after = self.play(move)
+                if after.is_attacked(after.king(self.white), after.white):
+                    continue
+            yield move
 
     def san(self, move, after, moves):
         source, target, promotion = move
@@ -153,7 +170,7 @@ class Position:
             text = (square_name(source)[0] + "x" if takes else "") + square_name(target)
             text += "=" + promotion if promotion else ""
         else:
-            rivals = [m[0] for m, _ in moves if m[1] == target and m[0] != source and self.board[m[0]] == self.board[source]]
+            rivals = [m[0] for m in moves if m[1] == target and m[0] != source and self.board[m[0]] == self.board[source]]
             name = square_name(source)
             if not rivals:
                 name = ""
@@ -175,9 +192,9 @@ def played(chance):
         moves = list(position.legal())
         if not moves:
             break
-        move, after = chance.choice(moves)
-        other, beyond = chance.choice(moves)
-        line.append((position.san(move, after, moves), position.san(other, beyond, moves)))
+        move, other = chance.choice(moves), chance.choice(moves)
+        after = position.play(move)
+        line.append((position.san(move, after, moves), position.san(other, position.play(other), moves)))
         position = after
     mated = line and line[-1][0].endswith("#")
     return line, ("0-1" if position.white else "1-0") if mated else "1/2-1/2"
