@@ -13,6 +13,8 @@ A script is a docstring and a function over a Setup that counts its cases:
 
 - The program under test is what `--program` names, else the one that the gate built. No variable of the environment changes it.
 - A tool that looks for a program by PGN_EXTRACT is given the one under test: `setup.run_tool`.
+- Of a command in Python of which many runs are made, `harness.run_copied` makes one in a quarter of
+  the time; its starts, limits and signals are tried by `run`.
 - With `--few` a script tries little of each kind, and with `--until-failed` it ends at the first failed case, for tests/mutants. A script of several sweeps has `--only SWEEP` too: `harness.run_sweeps`.
 - The current folder is a private one, which is gone at the end.
 - What a script raises is one failed case more, and no case at all is a failure too.
@@ -156,6 +158,13 @@ def run(command, text=b"", seconds=60, **more):
         # (of a thread too, which would go on with the next run)
         sys.exit(1)
     return Ended(OVERDUE if is_overdue else running.returncode, out or b"", err or b"")
+
+
+def keep_files():
+    """Gives no process that is begun what this one was given open, but for the streams."""
+    for it in map(int, os.listdir("/proc/self/fd")):
+        with contextlib.suppress(OSError):
+            os.set_inheritable(it, it <= 2)
 
 
 class Begun(NamedTuple):
@@ -636,6 +645,7 @@ def main(document, try_all, add_options=None):
     """Runs a script's cases in a private folder, and gives the status that it ends with."""
     options = read_arguments(document, add_options)
     stop_by_signals()
+    keep_files()
     setup = Setup(options.program.resolve(), options.few, options)
     setup.is_until_failed = options.until_failed
     came_from = os.getcwd()
