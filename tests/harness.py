@@ -266,7 +266,7 @@ def become(words, environment):
         exec(code_of(words[0]), {"__name__": "__main__", "__file__": words[0]})
         status = 0
     except SystemExit as ended:
-        status = ended.code or 0
+        status = ended.code if isinstance(ended.code, int) else bool(ended.code)
     except BaseException:
         sys.excepthook(*sys.exc_info())
     finally:
