@@ -8,7 +8,7 @@ use Rattle.pgn_game.specs.Public.Starts.{fen_tag}
 use Rattle.pgn_game.proofs.OneReplay.{line_length}
 use Rattle.pgn_criteria.specs.Public.Meeting.{heading_of, Heading}
 use Rattle.pgn_criteria.specs.declared.condition.Condition.{Condition}
-use Rattle.pgn_extract.specs.Public.Aims.{Aim, IsMet}
+use Rattle.pgn_extract.specs.Public.Aims.{Aim, GameId, IsMet}
 use Rattle.pgn_extract.specs.Private.Blockwise.{IsGameWritten, IsGivenText, TakesAll}
 use Rattle.pgn_extract.specs.Public.Exports.{HasEntry, IsSelected, written_lines}
 
@@ -21,10 +21,10 @@ first_is_entry aim tags replay all some =
       ((omega (arith, all.from_start), omega arith, met), (λ only before less. absurd (omega (arith, less)))),
     )
 
-pub all_written : (aim : Aim) (number offset : ℕ) (game : GameText) (replay : Replay) (text : List ℕ) → TakesAll aim
-    → IsReplay (written_lines aim) (tag_in fen_tag game.tags) game.elements replay → IsGivenText aim.form aim number offset game text
-    → IsGameWritten aim number offset game replay text
-all_written aim number offset game replay text all is given =
+pub all_written : (aim : Aim) (id : GameId) (game : GameText) (replay : Replay) (text : List ℕ) → TakesAll aim
+    → IsReplay (written_lines aim) (tag_in fen_tag game.tags) game.elements replay → IsGivenText aim.form aim id game text
+    → IsGameWritten aim id game replay text
+all_written aim id game replay text all is given =
     let tags = heading_of game in
     let count : length replay.positions ≡ length replay.played + 1 = line_length is.start (main_words game.elements 0) replay.positions replay.played is.line in
     let some : 0 < length replay.positions = omega (arith, count) in

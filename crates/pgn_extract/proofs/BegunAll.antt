@@ -5,9 +5,10 @@ use Rattle.pgn_text.specs.Public.Marks.{AreMarkedPieces}
 use Rattle.pgn_extract.specs.Private.Blockwise.{BeginsFirst}
 use Rattle.pgn_extract.specs.Public.Outcomes.{AppendsFront, BeginsAll}
 use Rattle.pgn_extract.specs.Public.Verdicts.{output_text, fault_lines}
-use Rattle.pgn_extract.specs.Public.Aims.{Aim}
+use Rattle.pgn_extract.specs.Public.Aims.{Aim, GameId}
 use Rattle.pgn_extract.proofs.SomeReport.{rest_reported}
 use Rattle.pgn_extract.proofs.VerdictFacts.{output_text-append, fault_lines-append, verdicts-append}
+use Rattle.pgn_extract.specs.Public.GivenMarks.{game_id}
 
 take_front : (size : ℕ) (xs ys : List ℕ) → take size xs ≡ take (length (take size xs)) (xs ++ ys)
 take_front zero xs ys = refl
@@ -19,18 +20,18 @@ pub front_longer : (old new : Option (List ℕ)) (xs ys : List ℕ) → AppendsF
 front_longer old new xs ys front =
     (length (take front.0 xs), subst (Appends old new) (take_front front.0 xs ys) front.1)
 
-pub begun_all : (aim : Aim) (limit max_depth number offset : ℕ) (bytes : List ℕ) (out out' err err' : Option (List ℕ))
-    → BeginsFirst aim limit max_depth number offset bytes out out' err err'
-    → BeginsAll aim limit max_depth number offset bytes out out' err err'
-begun_all aim limit max_depth number offset bytes out out' err err' b =
+pub begun_all : (aim : Aim) (limit max_depth : ℕ) (id : GameId) (bytes : List ℕ) (out out' err err' : Option (List ℕ))
+    → BeginsFirst aim limit max_depth id bytes out out' err err'
+    → BeginsAll aim limit max_depth id bytes out out' err err'
+begun_all aim limit max_depth id bytes out out' err err' b =
     let first = b.written in
-    let pieces = subst (AreMarkedPieces limit max_depth offset bytes) first.parted b.each in
-    let later = rest_reported aim limit max_depth (number + length first.before) offset bytes first.before first.after pieces in
+    let pieces = subst (AreMarkedPieces limit max_depth id.offset bytes) first.parted b.each in
+    let later = rest_reported aim limit max_depth (game_id (id.number + length first.before) id.offset) bytes first.before first.after pieces in
     record {
       pieces = first.before ++ first.after;
       each = pieces;
       verdicts = first.verdicts ++ later.0;
-      written = verdicts-append aim number first.before first.after first.verdicts later.0 first.each later.1;
+      written = verdicts-append aim id.number first.before first.after first.verdicts later.0 first.each later.1;
       output = subst (AppendsFront out out') (sym (output_text-append first.verdicts later.0))
           (front_longer out out' (output_text first.verdicts) (output_text later.0) first.output);
       faults = subst (AppendsFront err err') (sym (fault_lines-append first.verdicts later.0))

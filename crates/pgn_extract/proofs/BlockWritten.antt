@@ -9,7 +9,7 @@ use Rattle.pgn_extract.specs.Public.Outcomes.{AppendsFront}
 use Rattle.pgn_extract.specs.Private.RunParts.{WriteFaultsAre}
 use Rattle.pgn_extract.specs.Public.Runs.{Passage}
 use Rattle.pgn_extract.specs.declared.engine.report.Report.{Report}
-use Rattle.pgn_extract.specs.Public.Aims.{Aim}
+use Rattle.pgn_extract.specs.Public.Aims.{Aim, GameId}
 use Rattle.pgn_extract.proofs.Gathered.{gathers_begun}
 use Rattle.pgn_extract.proofs.Writing.{appends_none, appends_join}
 
@@ -26,21 +26,21 @@ written_soundly faults = (
 )
 
 -- a block of which nothing is reported
-pub begins_none : (aim : Aim) (limit max_depth number offset : ℕ) (block : List ℕ) (out err : Option (List ℕ))
-    → BeginsBlock aim limit max_depth number offset block out out err err
-begins_none aim limit max_depth number offset block out err =
-    let own = of_block_exist limit max_depth offset block in
+pub begins_none : (aim : Aim) (limit max_depth : ℕ) (id : GameId) (block : List ℕ) (out err : Option (List ℕ))
+    → BeginsBlock aim limit max_depth id block out out err err
+begins_none aim limit max_depth id block out err =
+    let own = of_block_exist limit max_depth id.offset block in
     record {
       own = own.0;
       each = own.1;
       written = record { before = []; after = own.0; parted = refl; verdicts = []; each = refl; output = front_none out _; faults = front_none err _ };
     }
 
-module _ {aim : Aim} {report : Report} {limit max_depth number offset : ℕ} {block : List ℕ} {out out' err err' : Option (List ℕ)}
-    (of : GathersBlock aim report limit max_depth number offset block out out' err err') where
+module _ {aim : Aim} {report : Report} {limit max_depth : ℕ} {id : GameId} {block : List ℕ} {out out' err err' : Option (List ℕ)}
+    (of : GathersBlock aim report limit max_depth id block out out' err err') where
   -- a block whose report is written to its end
   pub writes_rest : {out'' err'' : Option (List ℕ)} → Appends out' out'' report.output.items → Appends err' err'' report.faults.items
-      → WritesBlock aim limit max_depth number offset block out out'' err err'' (record { games = report.games; faulty = report.faulty; met = report.met })
+      → WritesBlock aim limit max_depth id block out out'' err err'' (record { games = report.games; faulty = report.faulty; met = report.met })
   writes_rest {out''} {err''} output faults = record {
     own = of.own;
     each = of.each;
@@ -58,7 +58,7 @@ module _ {aim : Aim} {report : Report} {limit max_depth number offset : ℕ} {bl
 
   -- a block whose report is written up to somewhere
   pub begins_rest : {out'' err'' : Option (List ℕ)} → AppendsFront out' out'' report.output.items → AppendsFront err' err'' report.faults.items
-      → BeginsBlock aim limit max_depth number offset block out out'' err err''
+      → BeginsBlock aim limit max_depth id block out out'' err err''
   begins_rest output faults = record {
     own = of.own;
     each = of.each;

@@ -2,37 +2,41 @@
 use Rattle.std.proofs.Common.{◌≡◌, ◌≢◌, ℕ, true, false, List, [], ◌∷◌, ◌++◌, codes, Option, None, Some, refl, sym, ap, ◌∙◌, subst}
 use Rattle.pgn_text.specs.Public.Marks.{MarkedPiece, ReadableGame}
 use Rattle.pgn_text.specs.Public.Parts.{Part}
-use Rattle.pgn_extract.specs.Public.Aims.{Aim}
-use Rattle.pgn_extract.specs.Public.Choices.{IfChosen, is_among, is_chosen, is_mark_of}
+use Rattle.pgn_extract.specs.Public.Aims.{Aim, GameId}
+use Rattle.pgn_extract.specs.Public.Choices.{id_of, IfChosen, is_among, is_chosen, is_mark_of}
 use Rattle.pgn_extract.specs.Public.Exports.{AreExports}
-use Rattle.pgn_extract.specs.Public.GivenMarks.{GivenMark}
 use Rattle.pgn_extract.specs.Public.Index.{index, mark_line}
 use Rattle.pgn_extract.specs.Public.Listing.{Entry, IsPlyOfGame}
 use Rattle.pgn_extract.specs.Private.MarkLines.{first_mark, front_mark, front_of, is_mark_byte, line_mark, mark_of_rest, rest_after}
 use Rattle.pgn_extract.specs.Public.Searching.{PacksAll, of_all}
 use Rattle.pgn_extract.specs.Public.Verdicts.{IsVerdict, SoundGame, output_of}
 use Rattle.pgn_extract.proofs.ChoiceFacts.{when_passed}
+use Rattle.pgn_extract.specs.Public.GivenMarks.{game_id}
 
 -- ---- pieces
 
 -- a mark has the number and the offset of its piece
-number_and_offset : is_mark_of 2 22 (record { number = 2; offset = 22 }) ∷ is_mark_of 2 23 (record { number = 2; offset = 22 })
-    ∷ is_mark_of 3 22 (record { number = 2; offset = 22 }) ∷ [] ≡ true ∷ false ∷ false ∷ []
+number_and_offset : is_mark_of (game_id 2 22) (game_id 2 22) ∷ is_mark_of (game_id 2 23) (game_id 2 22)
+    ∷ is_mark_of (game_id 3 22) (game_id 2 22) ∷ [] ≡ true ∷ false ∷ false ∷ []
 number_and_offset = refl
 
--- the marks of the first game and of the third
-abbrev two_marks : List GivenMark
-two_marks = record { number = 3; offset = 44 } ∷ record { number = 1; offset = 0 } ∷ []
+-- its two numbers are all that there is of it
+id_of_its_numbers : (id : GameId) → game_id id.number id.offset ≡ id
+id_of_its_numbers id = refl
 
-chosen_by_a_mark : is_among two_marks 1 0 ∷ is_among two_marks 2 22 ∷ is_among two_marks 3 44 ∷ is_among two_marks 3 0 ∷ []
+-- the marks of the first game and of the third
+abbrev two_marks : List GameId
+two_marks = game_id 3 44 ∷ game_id 1 0 ∷ []
+
+chosen_by_a_mark : is_among two_marks (game_id 1 0) ∷ is_among two_marks (game_id 2 22) ∷ is_among two_marks (game_id 3 44) ∷ is_among two_marks (game_id 3 0) ∷ []
     ≡ true ∷ false ∷ true ∷ false ∷ []
 chosen_by_a_mark = refl
 
-each_is_chosen_without_marks : (number offset : ℕ) → is_chosen None number offset ≡ true
-each_is_chosen_without_marks number offset = refl
+each_is_chosen_without_marks : (id : GameId) → is_chosen None id ≡ true
+each_is_chosen_without_marks id = refl
 
-none_is_chosen_by_no_mark : (number offset : ℕ) → is_chosen (Some []) number offset ≡ false
-none_is_chosen_by_no_mark number offset = refl
+none_is_chosen_by_no_mark : (id : GameId) → is_chosen (Some []) id ≡ false
+none_is_chosen_by_no_mark id = refl
 
 -- of one that is passed over only the other fact holds
 no_fact_of_the_other : IfChosen false (List ℕ) ⊥ → ⊥
@@ -42,29 +46,29 @@ no_fact_of_the_other is = is
 no_verdict_without_a_mark : (aim : Aim) (parts : List Part) (text : List ℕ) → aim.chosen ≡ Some two_marks → text ≢ []
     → IsVerdict aim 2 (record { offset = 22; kind = ReadableGame parts }) (SoundGame text) → ⊥
 no_verdict_without_a_mark aim parts text chosen some is =
-    let passed = ap (λ (marks : Option (List GivenMark)). is_chosen marks 2 22) chosen in
-    let same = when_passed (is_chosen aim.chosen 2 22) _ passed is in
+    let passed = ap (λ (marks : Option (List GameId)). is_chosen marks (game_id 2 22)) chosen in
+    let same = when_passed (is_chosen aim.chosen (game_id 2 22)) _ passed is in
     some (ap output_of same)
 
 -- and it has no entry
 no_entry_without_a_mark : (aim : Aim) (number : ℕ) (pieces : List MarkedPiece) (entry : Entry) → aim.chosen ≡ Some []
     → IsPlyOfGame aim number pieces entry → ⊥
 no_entry_without_a_mark aim number pieces entry none is =
-    let chosen = subst (λ (marks : Option (List GivenMark)). is_chosen marks entry.number entry.offset ≡ true) none is.chosen in cc
+    let chosen = subst (λ (marks : Option (List GameId)). is_chosen marks entry.id ≡ true) none is.chosen in cc
 
 -- nor is it exported
 no_export_without_a_mark : (aim : Aim) (piece : MarkedPiece) (text : List ℕ) → aim.chosen ≡ Some [] → text ≢ []
     → AreExports aim 1 (piece ∷ []) text → ⊥
 no_export_without_a_mark aim piece text none some (own, rest, parted, is, empty) =
-    let passed = ap (λ (marks : Option (List GivenMark)). is_chosen marks 1 piece.offset) none in
-    let nothing = when_passed (is_chosen aim.chosen 1 piece.offset) _ passed is in
+    let passed = ap (λ (marks : Option (List GameId)). is_chosen marks (id_of 1 piece)) none in
+    let nothing = when_passed (is_chosen aim.chosen (id_of 1 piece)) _ passed is in
     some (parted ∙ ap (λ t. t ++ rest) nothing ∙ empty)
 
 -- the index has the lines of those that are chosen
 index_of_two : (name : Option (List ℕ)) (parts : List Part)
     → index (Some two_marks) name 1 (record { offset = 0; kind = ReadableGame parts } ∷ record { offset = 22; kind = ReadableGame parts }
     ∷ record { offset = 44; kind = ReadableGame parts } ∷ [])
-    ≡ mark_line name 1 0 ++ (mark_line name 3 44 ++ [])
+    ≡ mark_line name (game_id 1 0) ++ (mark_line name (game_id 3 44) ++ [])
 index_of_two name parts = refl
 
 -- a run that reports only some games packs not all
@@ -84,7 +88,7 @@ fronts = refl
 
 marks_in_front : front_mark (codes "12@34 5") ∷ front_mark (codes "12@34: unreadable") ∷ front_mark (codes "12@34") ∷ front_mark (codes "12 34") ∷ front_mark []
     ∷ front_mark (codes "0@34 5") ∷ front_mark (codes "1@2@3") ∷ []
-    ≡ Some (record { number = 12; offset = 34 }) ∷ Some (record { number = 12; offset = 34 }) ∷ Some (record { number = 12; offset = 34 }) ∷ None ∷ None ∷ None
+    ≡ Some (game_id 12 34) ∷ Some (game_id 12 34) ∷ Some (game_id 12 34) ∷ None ∷ None ∷ None
     ∷ None ∷ []
 marks_in_front = refl
 
@@ -92,18 +96,18 @@ what_follows_a_prefix : rest_after (codes "ab") (codes "abc") ∷ rest_after (co
     ∷ rest_after (codes "ab") (codes "cab") ∷ [] ≡ Some (codes "c") ∷ Some [] ∷ None ∷ None ∷ []
 what_follows_a_prefix = refl
 
-mark_of_what_follows : mark_of_rest (Some (codes "1@2")) ∷ mark_of_rest None ∷ [] ≡ Some (record { number = 1; offset = 2 }) ∷ None ∷ []
+mark_of_what_follows : mark_of_rest (Some (codes "1@2")) ∷ mark_of_rest None ∷ [] ≡ Some (game_id 1 2) ∷ None ∷ []
 mark_of_what_follows = refl
 
-first_of_marks : first_mark (None ∷ Some (record { number = 1; offset = 2 }) ∷ Some (record { number = 3; offset = 4 }) ∷ []) ∷ first_mark [] ∷ []
-    ≡ Some (record { number = 1; offset = 2 }) ∷ None ∷ []
+first_of_marks : first_mark (None ∷ Some (game_id 1 2) ∷ Some (game_id 3 4) ∷ []) ∷ first_mark [] ∷ []
+    ≡ Some (game_id 1 2) ∷ None ∷ []
 first_of_marks = refl
 
 -- each form of a line of a run over a.pgn
 forms_of_lines : line_mark (codes "a.pgn") (codes "2@22 13") ∷ line_mark (codes "a.pgn") (codes "pgn-extract: game 2@22: unreadable")
     ∷ line_mark (codes "a.pgn") (codes "a.pgn:2@22 - e4") ∷ line_mark (codes "a.pgn") (codes "pgn-extract: a.pgn: game 2@22: unreadable") ∷ []
-    ≡ Some (record { number = 2; offset = 22 }) ∷ Some (record { number = 2; offset = 22 }) ∷ Some (record { number = 2; offset = 22 })
-    ∷ Some (record { number = 2; offset = 22 }) ∷ []
+    ≡ Some (game_id 2 22) ∷ Some (game_id 2 22) ∷ Some (game_id 2 22)
+    ∷ Some (game_id 2 22) ∷ []
 forms_of_lines = refl
 
 -- the name is that of the file, and a mark stands right after it

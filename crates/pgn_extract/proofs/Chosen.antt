@@ -5,10 +5,11 @@ use Rattle.std.proofs.lemmas.List.Elements.{Contains-append_right}
 use Rattle.pgn_extract.specs.Public.Listing.{Entry, Ascend}
 use Rattle.pgn_extract.specs.Public.GameReports.{AreChosen}
 use Rattle.pgn_extract.specs.Public.GameReports.AreChosen.{none, keep, leave}
+use Rattle.pgn_extract.specs.declared.marks.GameId.{GameId}
 
 -- the entry of a game at a ply
-abbrev pub entry_at : ℕ → ℕ → ℕ → List ℕ → Entry
-entry_at number offset ply shown = record { number = number; offset = offset; ply = ply; shown = shown }
+abbrev pub entry_at : GameId → ℕ → List ℕ → Entry
+entry_at id ply shown = record { id = id; ply = ply; shown = shown }
 
 -- nothing is among none
 pub none_in : {A : Type 0} (x : A) → Contains [] x → ⊥
@@ -25,15 +26,15 @@ Rise [] = Unit {0}
 Rise (ply ∷ more) = ((later : ℕ) → Contains more later → ply < later) × Rise more
 
 -- what an entry that is chosen is
-pub record IsPicked (number offset : ℕ) (P : ℕ → Type 0) (S : ℕ → List ℕ → Type 0) (all : List ℕ) (entry : Entry) : Type 0 where
-  pub is : entry ≡ entry_at number offset entry.ply entry.shown
+pub record IsPicked (id : GameId) (P : ℕ → Type 0) (S : ℕ → List ℕ → Type 0) (all : List ℕ) (entry : Entry) : Type 0 where
+  pub is : entry ≡ entry_at id entry.ply entry.shown
   pub among : Contains all entry.ply
   pub fact : P entry.ply
   pub shows : S entry.ply entry.shown
 
-module _ (number offset : ℕ) (P : ℕ → Type 0) (S : ℕ → List ℕ → Type 0) where
+module _ (id : GameId) (P : ℕ → Type 0) (S : ℕ → List ℕ → Type 0) where
   -- among others too
-  picked_after : (first : ℕ) (all : List ℕ) (entry : Entry) → IsPicked number offset P S all entry → IsPicked number offset P S (first ∷ all) entry
+  picked_after : (first : ℕ) (all : List ℕ) (entry : Entry) → IsPicked id P S all entry → IsPicked id P S (first ∷ all) entry
   picked_after first all entry of = record {
     is = of.is;
     among = Contains-append_right (first ∷ []) all entry.ply of.among;
@@ -42,56 +43,56 @@ module _ (number offset : ℕ) (P : ℕ → Type 0) (S : ℕ → List ℕ → Ty
   }
 
   -- what is chosen is among all, and has the fact
-  pub chosen_from : (all : List ℕ) (chosen : List Entry) → AreChosen number offset P S all chosen → (entry : Entry) → Contains chosen entry
-      → IsPicked number offset P S all entry
+  pub chosen_from : (all : List ℕ) (chosen : List Entry) → AreChosen id P S all chosen → (entry : Entry) → Contains chosen entry
+      → IsPicked id P S all entry
   chosen_from _ _ none entry has = absurd (none_in entry has)
   chosen_from _ _ (keep first shown all chosen holds shows more) entry has =
-      elim (in_front (entry_at number offset first shown) chosen entry has) [
+      elim (in_front (entry_at id first shown) chosen entry has) [
         | inl is ↦
-            subst (IsPicked number offset P S (first ∷ all)) is (record { is = refl; among = (0, omega arith, refl); fact = holds; shows = shows })
+            subst (IsPicked id P S (first ∷ all)) is (record { is = refl; among = (0, omega arith, refl); fact = holds; shows = shows })
         | inr later ↦ picked_after first all entry (chosen_from all chosen more entry later)
       ]
   chosen_from _ _ (leave first all chosen fails more) entry has = picked_after first all entry (chosen_from all chosen more entry has)
 
   -- their order stays
-  pub chosen_ascend : (all : List ℕ) (chosen : List Entry) → AreChosen number offset P S all chosen → Rise all → Ascend chosen
+  pub chosen_ascend : (all : List ℕ) (chosen : List Entry) → AreChosen id P S all chosen → Rise all → Ascend chosen
   chosen_ascend _ _ none up = tt
   chosen_ascend _ _ (keep first shown all chosen holds shows more) up = (
     λ later has.
         let of = chosen_from all chosen more later has in
-        inr (sym (ap (λ (e : Entry). e.number) of.is), up.0 later.ply of.among),
+        inr (sym (ap (λ (e : Entry). e.id.number) of.is), up.0 later.ply of.among),
     chosen_ascend all chosen more up.1,
   )
   chosen_ascend _ _ (leave first all chosen fails more) up = chosen_ascend all chosen more up.1
 
   -- where each is decided, and something is shown of each, some are chosen
   pub some_chosen : (all : List ℕ) → ((ply : ℕ) → Contains all ply → P ply ⊎ (P ply → ⊥))
-      → ((ply : ℕ) → Contains all ply → (shown : List ℕ) × S ply shown) → (chosen : List Entry) × AreChosen number offset P S all chosen
+      → ((ply : ℕ) → Contains all ply → (shown : List ℕ) × S ply shown) → (chosen : List Entry) × AreChosen id P S all chosen
   some_chosen [] decides shows = ([], none)
   some_chosen (first ∷ all) decides shows =
       let later = some_chosen all (λ ply has. decides ply (Contains-append_right (first ∷ []) all ply has))
       (λ ply has. shows ply (Contains-append_right (first ∷ []) all ply has)) in
       let own = shows first (0, omega arith, refl) in
       elim (decides first (0, omega arith, refl)) [
-        | inl holds ↦ (entry_at number offset first own.0 ∷ later.0, keep first own.0 all later.0 holds own.1 later.1)
+        | inl holds ↦ (entry_at id first own.0 ∷ later.0, keep first own.0 all later.0 holds own.1 later.1)
         | inr fails ↦ (later.0, leave first all later.0 fails later.1)
       ]
 
   -- where one text is shown of each ply
   module _ (one : (ply : ℕ) (x y : List ℕ) → S ply x → S ply y → x ≡ y) where
     -- the entry of each ply that is among all and has the fact is chosen
-    pub chosen_all : (all : List ℕ) (chosen : List Entry) → AreChosen number offset P S all chosen → (entry : Entry)
-        → IsPicked number offset P S all entry → Contains chosen entry
+    pub chosen_all : (all : List ℕ) (chosen : List Entry) → AreChosen id P S all chosen → (entry : Entry)
+        → IsPicked id P S all entry → Contains chosen entry
     chosen_all _ _ none entry of = absurd (none_in entry.ply of.among)
     chosen_all _ _ (keep first shown all chosen held shows more) entry of =
         elim (in_front first all entry.ply of.among) [
           | inl is ↦
               let same : shown ≡ entry.shown = one entry.ply shown entry.shown (subst (λ n. S n shown) is shows) of.shows in
-              let whole : entry_at number offset first shown ≡ entry =
-              ap (λ n. entry_at number offset n shown) is ∙ ap (entry_at number offset entry.ply) same ∙ sym of.is in
+              let whole : entry_at id first shown ≡ entry =
+              ap (λ n. entry_at id n shown) is ∙ ap (entry_at id entry.ply) same ∙ sym of.is in
               (0, omega arith, whole)
           | inr later ↦
-              Contains-append_right (entry_at number offset first shown ∷ []) chosen entry
+              Contains-append_right (entry_at id first shown ∷ []) chosen entry
               (chosen_all all chosen more entry (record { is = of.is; among = later; fact = of.fact; shows = of.shows }))
         ]
     chosen_all _ _ (leave first all chosen fails more) entry of =
@@ -101,20 +102,20 @@ module _ (number offset : ℕ) (P : ℕ → Type 0) (S : ℕ → List ℕ → Ty
         ]
 
     -- in one way
-    pub one_chosen : (all : List ℕ) (xs ys : List Entry) → AreChosen number offset P S all xs → AreChosen number offset P S all ys → xs ≡ ys
+    pub one_chosen : (all : List ℕ) (xs ys : List Entry) → AreChosen id P S all xs → AreChosen id P S all ys → xs ≡ ys
     one_chosen _ _ _ none none = refl
     one_chosen _ _ _ (keep first shown all xs held shows more) (keep _ other _ ys also showing others) =
-        ap (λ (t : List ℕ). entry_at number offset first t ∷ xs) (one first shown other shows showing)
-        ∙ ap (λ (t : List Entry). entry_at number offset first other ∷ t) (one_chosen all xs ys more others)
+        ap (λ (t : List ℕ). entry_at id first t ∷ xs) (one first shown other shows showing)
+        ∙ ap (λ (t : List Entry). entry_at id first other ∷ t) (one_chosen all xs ys more others)
     one_chosen _ _ _ (keep first shown all xs held shows more) (leave _ _ ys fails others) = absurd (fails held)
     one_chosen _ _ _ (leave first all xs fails more) (keep _ other _ ys held showing others) = absurd (fails held)
     one_chosen _ _ _ (leave first all xs fails more) (leave _ _ ys also others) = one_chosen all xs ys more others
 
 -- the same are chosen by a fact that says the same
-pub chosen_by : (number offset : ℕ) (P Q : ℕ → Type 0) (S : ℕ → List ℕ → Type 0) → ((ply : ℕ) → P ply → Q ply) → ((ply : ℕ) → Q ply → P ply)
-    → (all : List ℕ) (chosen : List Entry) → AreChosen number offset P S all chosen → AreChosen number offset Q S all chosen
-chosen_by number offset P Q S to from _ _ none = none
-chosen_by number offset P Q S to from _ _ (keep first shown all chosen holds shows more) =
-    keep first shown all chosen (to first holds) shows (chosen_by number offset P Q S to from all chosen more)
-chosen_by number offset P Q S to from _ _ (leave first all chosen fails more) =
-    leave first all chosen (λ holds. fails (from first holds)) (chosen_by number offset P Q S to from all chosen more)
+pub chosen_by : (id : GameId) (P Q : ℕ → Type 0) (S : ℕ → List ℕ → Type 0) → ((ply : ℕ) → P ply → Q ply) → ((ply : ℕ) → Q ply → P ply)
+    → (all : List ℕ) (chosen : List Entry) → AreChosen id P S all chosen → AreChosen id Q S all chosen
+chosen_by id P Q S to from _ _ none = none
+chosen_by id P Q S to from _ _ (keep first shown all chosen holds shows more) =
+    keep first shown all chosen (to first holds) shows (chosen_by id P Q S to from all chosen more)
+chosen_by id P Q S to from _ _ (leave first all chosen fails more) =
+    leave first all chosen (λ holds. fails (from first holds)) (chosen_by id P Q S to from all chosen more)

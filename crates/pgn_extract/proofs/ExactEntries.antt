@@ -1,5 +1,5 @@
 -- The entries of pieces in a row: which they are, and their order.
-use Rattle.std.proofs.Common.{◌≡◌, ℕ, ◌+◌, ◌<◌, ◌≤◌, zero, suc, Bool, true, false, List, [], ◌∷◌, ◌++◌, length, Option, Some, refl, sym, ap, ◌∙◌, subst, arith, inl, inr}
+use Rattle.std.proofs.Common.{◌≡◌, ℕ, ◌+◌, ◌<◌, ◌≤◌, zero, suc, Bool, true, false, List, [], ◌∷◌, ◌++◌, length, Option, Some, refl, sym, ap, ap₂, ◌∙◌, subst, arith, inl, inr}
 use Rattle.std.specs.List.{Contains, slice_get}
 use Rattle.std.proofs.lemmas.Bool.{cases_lt}
 use Rattle.std.proofs.lemmas.List.Elements.{Contains-append_left, Contains-append_right, Contains-append_cases}
@@ -11,14 +11,15 @@ use Rattle.pgn_game.proofs.OneReplay.{one_replay, no_fault}
 use Rattle.pgn_game.specs.Public.Replays.{Replay, IsReplay, IsMainReplay}
 use Rattle.pgn_game.specs.declared.replays.replayer.Lines.TheVariants.{Main}
 use Rattle.pgn_game.specs.Public.Starts.{fen_tag}
-use Rattle.pgn_extract.specs.Public.Aims.{Aim, IsEntry}
-use Rattle.pgn_extract.specs.Public.Choices.{is_chosen, IfChosen}
+use Rattle.pgn_extract.specs.Public.Aims.{Aim, GameId, IsEntry}
+use Rattle.pgn_extract.specs.Public.Choices.{id_of, is_chosen, IfChosen}
 use Rattle.pgn_extract.proofs.ChoiceFacts.{by_choice, when_taken}
 use Rattle.pgn_extract.proofs.Chosen.{entry_at, none_in, in_front, Rise, IsPicked, chosen_from, chosen_all, chosen_ascend}
 use Rattle.pgn_extract.proofs.FieldTexts.{one_text}
 use Rattle.pgn_extract.specs.Public.Listing.{Entry, AreFields, heading_in, IsPlyOfGame, IsEarlier, Ascend, AreEntries}
 use Rattle.pgn_extract.specs.Public.GameReports.{plies_of, IsReplayOf}
 use Rattle.pgn_extract.specs.Private.EntryRows.{AreGameEntries, sound, faulty, ArePieceEntries, AreEntryRows}
+use Rattle.pgn_extract.specs.Public.GivenMarks.{game_id}
 
 -- a replay of the main line alone is said in two ways
 main_of : {fen : Option (List ℕ)} {items : List Item} {replay : Replay} → IsReplay Main fen items replay → IsMainReplay fen items replay
@@ -49,35 +50,35 @@ has_ply ply (position ∷ more) at low high =
     ]
 
 -- what an entry of a game with a replay is
-abbrev pub IsOfGame : Aim → ℕ → ℕ → List Part → Replay → Entry → Type 0
-IsOfGame aim number offset parts replay entry =
-    IsPicked number offset (IsEntry aim (heading_in parts) replay) (AreFields aim.fields replay) (plies_of 0 replay.positions) entry
+abbrev pub IsOfGame : Aim → GameId → List Part → Replay → Entry → Type 0
+IsOfGame aim id parts replay entry =
+    IsPicked id (IsEntry aim (heading_in parts) replay) (AreFields aim.fields replay) (plies_of 0 replay.positions) entry
 
 -- the entries of a piece are those of one game
-own_ply : (aim : Aim) (kind : PieceKind) (number offset : ℕ) (own : List Entry) → ArePieceEntries aim kind number offset own → (entry : Entry) → Contains own entry
-    → (parts : List Part) × (replay : Replay) × (kind ≡ ReadableGame parts) × IsReplayOf Main parts replay × IsOfGame aim number offset parts replay entry
-own_ply aim (ReadableGame parts) number offset own (sound replay is these) entry has =
-    let of = chosen_from number offset (IsEntry aim (heading_in parts) replay) (AreFields aim.fields replay) (plies_of 0 replay.positions) own these entry has in
+own_ply : (aim : Aim) (kind : PieceKind) (id : GameId) (own : List Entry) → ArePieceEntries aim kind id own → (entry : Entry) → Contains own entry
+    → (parts : List Part) × (replay : Replay) × (kind ≡ ReadableGame parts) × IsReplayOf Main parts replay × IsOfGame aim id parts replay entry
+own_ply aim (ReadableGame parts) id own (sound replay is these) entry has =
+    let of = chosen_from id (IsEntry aim (heading_in parts) replay) (AreFields aim.fields replay) (plies_of 0 replay.positions) own these entry has in
     (parts, replay, refl, is, of)
-own_ply aim (ReadableGame parts) number offset own (faulty fault is none) entry has = absurd (none_in entry (subst (λ e. Contains e entry) none has))
-own_ply aim (UnreadableRest bytes) number offset own none entry has = absurd (none_in entry (subst (λ e. Contains e entry) none has))
-own_ply aim TooLongBlock number offset own none entry has = absurd (none_in entry (subst (λ e. Contains e entry) none has))
+own_ply aim (ReadableGame parts) id own (faulty fault is none) entry has = absurd (none_in entry (subst (λ e. Contains e entry) none has))
+own_ply aim (UnreadableRest bytes) id own none entry has = absurd (none_in entry (subst (λ e. Contains e entry) none has))
+own_ply aim TooLongBlock id own none entry has = absurd (none_in entry (subst (λ e. Contains e entry) none has))
 
 -- and all of them, where it is sound
-own_has : (aim : Aim) (number offset : ℕ) (parts : List Part) (own : List Entry) → AreGameEntries aim number offset parts own
-    → (replay : Replay) → IsReplayOf Main parts replay → (entry : Entry) → entry ≡ entry_at number offset entry.ply entry.shown
+own_has : (aim : Aim) (id : GameId) (parts : List Part) (own : List Entry) → AreGameEntries aim id parts own
+    → (replay : Replay) → IsReplayOf Main parts replay → (entry : Entry) → entry ≡ entry_at id entry.ply entry.shown
     → entry.ply < length replay.positions → IsEntry aim (heading_in parts) replay entry.ply → AreFields aim.fields replay entry.ply entry.shown → Contains own entry
-own_has aim number offset parts own (sound first is these) replay also entry marked less listed shows =
+own_has aim id parts own (sound first is these) replay also entry marked less listed shows =
     let same : replay ≡ first = sym (one_replay Main (first_tag fen_tag parts) (items_of parts) first replay is also) in
     let here : entry.ply < length first.positions = subst (λ (r : Replay). entry.ply < length r.positions) same less in
-    chosen_all number offset (IsEntry aim (heading_in parts) first) (AreFields aim.fields first) (one_text aim.fields first) (plies_of 0 first.positions) own these entry
+    chosen_all id (IsEntry aim (heading_in parts) first) (AreFields aim.fields first) (one_text aim.fields first) (plies_of 0 first.positions) own these entry
     (record {
       is = marked;
       among = has_ply 0 first.positions entry.ply (omega arith) (omega arith);
       fact = subst (λ (r : Replay). IsEntry aim (heading_in parts) r entry.ply) same listed;
       shows = subst (λ (r : Replay). AreFields aim.fields r entry.ply entry.shown) same shows;
     })
-own_has aim number offset parts own (faulty fault is none) replay also entry marked less listed shows =
+own_has aim id parts own (faulty fault is none) replay also entry marked less listed shows =
     absurd (no_fault Main (first_tag fen_tag parts) (items_of parts) fault (replay, also) is)
 
 -- a piece that has entries is chosen
@@ -92,19 +93,18 @@ to_ply aim number [] entries none entry has = absurd (none_in entry (subst (λ e
 to_ply aim number (piece ∷ more) entries (own, rest, parted, here, others) entry has =
     elim (Contains-append_cases own rest entry (subst (λ e. Contains e entry) parted has)) [
       | inl first ↦
-          let taken = taken_piece (is_chosen aim.chosen number piece.offset) own here entry first in
-          let of = own_ply aim piece.kind number piece.offset own taken.1 entry first in
+          let taken = taken_piece (is_chosen aim.chosen (id_of number piece)) own here entry first in
+          let of = own_ply aim piece.kind (id_of number piece) own taken.1 entry first in
           let place = of.4 in
-          let numbered : entry.number ≡ number = ap (λ (e : Entry). e.number) place.is in
-          let offset : entry.offset ≡ piece.offset = ap (λ (e : Entry). e.offset) place.is in
+          let same : entry.id ≡ id_of number piece = ap (λ (e : Entry). e.id) place.is in
+          let numbered : entry.id.number ≡ number = ap (λ (i : GameId). i.number) same in
           record {
             place = 0;
             parts = of.0;
             replay = of.1;
-            game = ap (λ (p : MarkedPiece). Some p) (ap (λ k. record { offset = piece.offset; kind = k }) of.2 ∙ ap (λ n. record { offset = n; kind = ReadableGame of.0 }) (sym offset));
+            game = ap (λ (p : MarkedPiece). Some p) (ap (λ k. record { offset = piece.offset; kind = k }) of.2 ∙ ap (λ (i : GameId). record { offset = i.offset; kind = ReadableGame of.0 }) (sym same));
             numbered = numbered ∙ omega arith;
-            chosen =
-                subst (λ n. is_chosen aim.chosen n entry.offset ≡ true) (sym numbered) (subst (λ o. is_chosen aim.chosen number o ≡ true) (sym offset) taken.0);
+            chosen = subst (λ i. is_chosen aim.chosen i ≡ true) (sym same) taken.0;
             is_replay = main_of of.3;
             within = within_plies of.1.positions entry.ply place.among;
             listed = place.fact;
@@ -132,16 +132,16 @@ pub from_ply : (aim : Aim) (number : ℕ) (pieces : List MarkedPiece) (entries :
 from_ply aim number pieces entries are entry of = by_place number pieces entries are of.place of.game of.numbered
   where
     by_place : (number : ℕ) (pieces : List MarkedPiece) (entries : List Entry) → AreEntryRows aim number pieces entries
-        → (place : ℕ) → slice_get pieces place ≡ Some (record { offset = entry.offset; kind = ReadableGame of.parts }) → entry.number ≡ number + place → Contains entries entry
+        → (place : ℕ) → slice_get pieces place ≡ Some (record { offset = entry.id.offset; kind = ReadableGame of.parts }) → entry.id.number ≡ number + place → Contains entries entry
     by_place number [] entries are place none numbered = absurd (cc)
     by_place number (piece ∷ more) entries (own, rest, parted, here, others) zero game numbered =
-        let is : piece ≡ record { offset = entry.offset; kind = ReadableGame of.parts } = cc in
-        let same : entry.number ≡ number = omega arith in
-        let taken : is_chosen aim.chosen number piece.offset ≡ true =
-        subst (λ n. is_chosen aim.chosen n piece.offset ≡ true) same (subst (λ (p : MarkedPiece). is_chosen aim.chosen entry.number p.offset ≡ true) (sym is) of.chosen) in
-        let own_here = when_taken (is_chosen aim.chosen number piece.offset) _ taken here in
-        let has = own_has aim number entry.offset of.parts own (subst (λ (p : MarkedPiece). ArePieceEntries aim p.kind number p.offset own) is own_here)
-        of.replay (replay_of of.is_replay) entry (ap (λ n. entry_at n entry.offset entry.ply entry.shown) same) of.within of.listed of.shows in
+        let is : piece ≡ record { offset = entry.id.offset; kind = ReadableGame of.parts } = cc in
+        let same_number : entry.id.number ≡ number = omega arith in
+        let same : entry.id ≡ id_of number piece = ap₂ game_id same_number (sym (ap (λ (p : MarkedPiece). p.offset) is)) in
+        let taken : is_chosen aim.chosen (id_of number piece) ≡ true = subst (λ i. is_chosen aim.chosen i ≡ true) same of.chosen in
+        let own_here = when_taken (is_chosen aim.chosen (id_of number piece)) _ taken here in
+        let has = own_has aim (id_of number piece) of.parts own (subst (λ (p : MarkedPiece). ArePieceEntries aim p.kind (id_of number piece) own) is own_here)
+        of.replay (replay_of of.is_replay) entry (ap (λ i. entry_at i entry.ply entry.shown) same) of.within of.listed of.shows in
         subst (λ e. Contains e entry) (sym parted) (Contains-append_left own rest entry has)
     by_place number (piece ∷ more) entries (own, rest, parted, here, others) (suc place) game numbered =
         subst (λ e. Contains e entry) (sym parted)
@@ -167,24 +167,24 @@ ascend-append (x ∷ xs) ys before after cross = (
 )
 
 -- the entries of a piece are in order
-ascend_own : (aim : Aim) (kind : PieceKind) (number offset : ℕ) (own : List Entry) → ArePieceEntries aim kind number offset own → Ascend own
-ascend_own aim (ReadableGame parts) number offset own (sound replay is these) =
-    chosen_ascend number offset (IsEntry aim (heading_in parts) replay) (AreFields aim.fields replay) (plies_of 0 replay.positions) own these (plies_rise 0 replay.positions)
-ascend_own aim (ReadableGame parts) number offset own (faulty fault is none) = subst Ascend (sym none) tt
-ascend_own aim (UnreadableRest bytes) number offset own none = subst Ascend (sym none) tt
-ascend_own aim TooLongBlock number offset own none = subst Ascend (sym none) tt
+ascend_own : (aim : Aim) (kind : PieceKind) (id : GameId) (own : List Entry) → ArePieceEntries aim kind id own → Ascend own
+ascend_own aim (ReadableGame parts) id own (sound replay is these) =
+    chosen_ascend id (IsEntry aim (heading_in parts) replay) (AreFields aim.fields replay) (plies_of 0 replay.positions) own these (plies_rise 0 replay.positions)
+ascend_own aim (ReadableGame parts) id own (faulty fault is none) = subst Ascend (sym none) tt
+ascend_own aim (UnreadableRest bytes) id own none = subst Ascend (sym none) tt
+ascend_own aim TooLongBlock id own none = subst Ascend (sym none) tt
 
 -- the entries of pieces are in order
 pub entries_ascend : (aim : Aim) (number : ℕ) (pieces : List MarkedPiece) (entries : List Entry) → AreEntryRows aim number pieces entries → Ascend entries
 entries_ascend aim number [] entries none = subst Ascend (sym none) tt
 entries_ascend aim number (piece ∷ more) entries (own, rest, parted, here, others) =
     subst Ascend (sym parted)
-    (ascend-append own rest (by_choice (is_chosen aim.chosen number piece.offset) (λ _. ascend_own aim piece.kind number piece.offset own) (λ _ none. subst Ascend (sym none) tt) here) (entries_ascend aim (number + 1) more rest others)
+    (ascend-append own rest (by_choice (is_chosen aim.chosen (id_of number piece)) (λ _. ascend_own aim piece.kind (id_of number piece) own) (λ _ none. subst Ascend (sym none) tt) here) (entries_ascend aim (number + 1) more rest others)
     (λ x y has other.
-    let taken = taken_piece (is_chosen aim.chosen number piece.offset) own here x has in
-    let first = own_ply aim piece.kind number piece.offset own taken.1 x has in
+    let taken = taken_piece (is_chosen aim.chosen (id_of number piece)) own here x has in
+    let first = own_ply aim piece.kind (id_of number piece) own taken.1 x has in
     let second = to_ply aim (number + 1) more rest others y other in
-    let low : x.number ≡ number = ap (λ (e : Entry). e.number) first.4.is in
+    let low : x.id.number ≡ number = ap (λ (e : Entry). e.id.number) first.4.is in
     let high = second.numbered in
     inl (omega arith)))
 

@@ -16,7 +16,7 @@ use Rattle.pgn_game.specs.Public.Starts.{fen_tag}
 use Rattle.pgn_game.specs.declared.replays.replayer.Lines.TheVariants.{Main}
 use Rattle.pgn_game.proofs.PackStreamFacts.{record_size}
 use Rattle.pgn_extract.proofs.ChoiceFacts.{none_met}
-use Rattle.pgn_extract.specs.Public.Aims.{Aim}
+use Rattle.pgn_extract.specs.Public.Aims.{Aim, GameId}
 use Rattle.pgn_extract.specs.Public.Index.{mark, mark_line, shown_char, shown_name, titled}
 use Rattle.pgn_extract.specs.Public.Laws.{IsInOneOf, in_first, in_second, in_third, HasAMark}
 use Rattle.pgn_extract.specs.Public.Runs.{Passage}
@@ -26,6 +26,7 @@ use Rattle.pgn_extract.specs.declared.app.files.Task.{Task}
 use Rattle.pgn_extract.specs.declared.output.outcome.RunError.{RunError}
 use Rattle.pgn_extract.specs.declared.output.outcome.RunError.TheVariants.{InputTooLong, OutOfMemory, Read, Write}
 use Rattle.pgn_extract.specs.declared.output.outcome.Summary.{Summary}
+use Rattle.pgn_extract.specs.Public.Choices.{id_of}
 
 -- ---- a pack
 
@@ -53,16 +54,16 @@ no_first_record_is_too_long aim whole out out' stops first =
 
 -- ---- an index of the sound games
 
-no_empty_line : (name : Option (List ℕ)) (number offset : ℕ) (text : List ℕ)
-    → mark_line name number offset ++ text ≡ [] → ⊥
-no_empty_line name number offset text is =
-    let long : length (mark_line name number offset ++ text) ≡ 0 = ap length is in
+no_empty_line : (name : Option (List ℕ)) (id : GameId) (text : List ℕ)
+    → mark_line name id ++ text ≡ [] → ⊥
+no_empty_line name id text is =
+    let long : length (mark_line name id ++ text) ≡ 0 = ap length is in
     omega (
       arith,
       long,
-      length-append (mark_line name number offset) text,
+      length-append (mark_line name id) text,
       length-append
-          (titled (codes ":") name ++ mark number offset) (10 ∷ []),
+          (titled (codes ":") name ++ mark id) (10 ∷ []),
     )
 
 -- a sound game is not left out, and no other piece has a mark
@@ -71,15 +72,14 @@ no_game_left_out : (name : Option (List ℕ)) (number : ℕ) (piece : MarkedPiec
 no_game_left_out name number piece sound index = of_text [] refl index
   where
     of_text : (text : List ℕ) → text ≡ [] → IsIndexOfSoundGames name number (piece ∷ []) text → ⊥
-    of_text text empty (keep number piece more rest is after) = no_empty_line name number
-        piece.offset rest empty
+    of_text text empty (keep number piece more rest is after) = no_empty_line name (id_of number piece) rest empty
     of_text text empty (leave number piece more rest unsound after) = unsound sound
 
 no_other_piece : (name : Option (List ℕ)) (number : ℕ) (piece : MarkedPiece)
     → (IsSoundPiece piece.kind → ⊥)
-    → IsIndexOfSoundGames name number (piece ∷ []) (mark_line name number piece.offset) → ⊥
-no_other_piece name number piece unsound index = of_text (mark_line name number piece.offset)
-    (no_empty_line name number piece.offset []) index
+    → IsIndexOfSoundGames name number (piece ∷ []) (mark_line name (id_of number piece)) → ⊥
+no_other_piece name number piece unsound index = of_text (mark_line name (id_of number piece))
+    (no_empty_line name (id_of number piece) []) index
   where
     of_rest : (number : ℕ) (text : List ℕ) → IsIndexOfSoundGames name number [] text → text ≡ []
     of_rest number text (none same) = refl
@@ -117,7 +117,7 @@ named_as_shown own = ap (λ name. Some name) a_shown
 
 order_of_a_path : (task : Task) (path : List ℕ) → task.with_names ≡ true
     → let order = order_at task path in
-    (order.job.aim.name ≡ Some (shown_name path)) × (order.job.number ≡ task.settings.number)
+    (order.job.aim.name ≡ Some (shown_name path)) × (order.job.id.number ≡ task.settings.number)
     × (order.end ≡ task.end) × (order.summary ≡ task.summary)
 order_of_a_path task path named =
     (ap (λ with_names. name_at with_names path task.settings.name) named, refl, refl, refl)

@@ -20,7 +20,7 @@ use Rattle.pgn_game.proofs.OneReplay.{one_move, one_start}
 use Rattle.pgn_criteria.specs.Public.Meeting.{heading_of, Heading, SomeHold}
 use Rattle.pgn_criteria.specs.declared.condition.Condition.{Condition}
 use Rattle.pgn_criteria.proofs.MeetFacts.{meets_at}
-use Rattle.pgn_extract.specs.Public.Aims.{Aim, IsWanted, IsEntry}
+use Rattle.pgn_extract.specs.Public.Aims.{Aim, GameId, IsWanted, IsEntry}
 use Rattle.pgn_extract.specs.Private.Finding.{AsksFor, IsOfGame, StopsAtFault, StopsInLine, GoesOnWith, IsPlayedTo, Finds, ShowsPosition, ShowsNext, ShowsHere}
 use Rattle.pgn_extract.specs.Public.GameReports.{plies_of, AreChosen, AreListed}
 use Rattle.pgn_extract.specs.Public.GameReports.AreChosen.{none, keep, leave}
@@ -105,13 +105,13 @@ pub stops_moved : (game : GameText) {line : PlayedLine} {before : List State} {p
 stops_moved game to old new some written fault met = (inr (to.start, to.is_start, to.faults fault met), some, written)
 
 -- where no position is asked yet, none is an entry if nothing can be met
-pub finds_none : (aim : Aim) (number offset : ℕ) (game : GameText) (asked : List (List (Condition (List ℕ)))) (text : List ℕ) (on : Bool) → AsksFor aim game asked
-    → (on ≡ false → length asked ≡ 0) → Finds aim number offset game [] text text on
-finds_none aim number offset game asked text on asks off = record {
+pub finds_none : (aim : Aim) (id : GameId) (game : GameText) (asked : List (List (Condition (List ℕ)))) (text : List ℕ) (on : Bool) → AsksFor aim game asked
+    → (on ≡ false → length asked ≡ 0) → Finds aim id game [] text text on
+finds_none aim id game asked text on asks off = record {
   found = [];
   written = sym (append-nil text);
   completes = λ replay own rest is later chosen.
-      subst (λ ps. AreChosen number offset (IsEntry aim (heading_of game) replay) (AreFields aim.fields replay) (plies_of 0 ps) later) (sym is) chosen;
+      subst (λ ps. AreChosen id (IsEntry aim (heading_of game) replay) (AreFields aim.fields replay) (plies_of 0 ps) later) (sym is) chosen;
   quiet = λ is first replay own rest at n less. absurd (omega arith);
   shut = λ is replay own rest at n low within entry. let met = (asks replay own n within).1 entry.0.2 in no_met replay n met.position asked (off is) met.hold;
 }
@@ -121,21 +121,21 @@ finds_none aim number offset game asked text on asks off = record {
     no_met replay ply P (first ∷ more) empty hold = absurd (omega arith)
 
 -- and where one may be
-pub finds_open : (aim : Aim) (number offset : ℕ) (game : GameText) (text : List ℕ) → Finds aim number offset game [] text text true
-finds_open aim number offset game text = record {
+pub finds_open : (aim : Aim) (id : GameId) (game : GameText) (text : List ℕ) → Finds aim id game [] text text true
+finds_open aim id game text = record {
   found = [];
   written = sym (append-nil text);
   completes = λ replay own rest is later chosen.
-      subst (λ ps. AreChosen number offset (IsEntry aim (heading_of game) replay) (AreFields aim.fields replay) (plies_of 0 ps) later) (sym is) chosen;
+      subst (λ ps. AreChosen id (IsEntry aim (heading_of game) replay) (AreFields aim.fields replay) (plies_of 0 ps) later) (sym is) chosen;
   quiet = λ is first replay own rest at n less. absurd (omega arith);
   shut = λ off. absurd (cc);
 }
 
 -- all are asked
-pub finds_all : {aim : Aim} {number offset : ℕ} {game : GameText} {asked : List State} {old new : List ℕ} {on : Bool} (all : Finds aim number offset game asked old new on)
-    (replay : Replay) → IsOfGame game replay → replay.positions ≡ asked → AreListed aim number offset (heading_of game) replay all.found
-finds_all {aim} {number} {offset} {game} {asked} all replay own is =
-    subst (AreListed aim number offset (heading_of game) replay) (append-nil all.found) (all.completes replay own [] (is ∙ sym (append-nil asked)) [] none)
+pub finds_all : {aim : Aim} {id : GameId} {game : GameText} {asked : List State} {old new : List ℕ} {on : Bool} (all : Finds aim id game asked old new on)
+    (replay : Replay) → IsOfGame game replay → replay.positions ≡ asked → AreListed aim id (heading_of game) replay all.found
+finds_all {aim} {id} {game} {asked} all replay own is =
+    subst (AreListed aim id (heading_of game) replay) (append-nil all.found) (all.completes replay own [] (is ∙ sym (append-nil asked)) [] none)
 
 pub at_seam : (before : List State) (P : State) (rest : List State) → slice_get (before ++ P ∷ rest) (length before) ≡ Some P
 at_seam [] P rest = refl
@@ -146,7 +146,7 @@ pub seam_within : (positions before : List State) (P : State) (rest : List State
 seam_within positions before P rest is = slice_get_within positions (length before) P (ap (λ ps. slice_get ps (length before)) is ∙ at_seam before P rest)
 
 -- one more position
-module _ {aim : Aim} {number offset : ℕ} {game : GameText} {before : List State} {old new : List ℕ} {on : Bool} (P : State) (so_far : Finds aim number offset game before old new on) where
+module _ {aim : Aim} {id : GameId} {game : GameText} {before : List State} {old new : List ℕ} {on : Bool} (P : State) (so_far : Finds aim id game before old new on) where
   joined : (replay : Replay) (rest : List State) → replay.positions ≡ (before ++ P ∷ []) ++ rest → replay.positions ≡ before ++ P ∷ rest
   joined replay rest is = is ∙ append_assoc before (P ∷ []) rest
 
@@ -159,20 +159,20 @@ module _ {aim : Aim} {number offset : ℕ} {game : GameText} {before : List Stat
       → (n : ℕ) → n < length before + 1 → IsWanted aim (heading_of game) replay n → ⊥)
       → (still ≡ false → (replay : Replay) → IsOfGame game replay → (rest : List State) → replay.positions ≡ before ++ P ∷ rest
       → (n : ℕ) → length before + 1 ≤ n → n < length replay.positions → IsEntry aim (heading_of game) replay n → ⊥)
-      → Finds aim number offset game (before ++ P ∷ []) old new still
+      → Finds aim id game (before ++ P ∷ []) old new still
   leaves_one still fails quiet shut = record {
     found = so_far.found;
     written = so_far.written;
     completes = λ replay own rest is later chosen.
         so_far.completes replay own (P ∷ rest) (joined replay rest is) later
         (leave (length before) (plies_of (length before + 1) rest) later (fails replay own rest (joined replay rest is))
-        (subst (λ n. AreChosen number offset (IsEntry aim (heading_of game) replay) (AreFields aim.fields replay) (plies_of n rest) later) grown chosen));
+        (subst (λ n. AreChosen id (IsEntry aim (heading_of game) replay) (AreFields aim.fields replay) (plies_of n rest) later) grown chosen));
     quiet = λ is first replay own rest at n less. quiet is first replay own rest (joined replay rest at) n (subst (λ k. n < k) grown less);
     shut = λ is replay own rest at n low within. shut is replay own rest (joined replay rest at) n (subst (λ k. k ≤ n) grown low) within;
   }
 
   -- it is no longer on
-  pub leaves_shut : on ≡ false → Finds aim number offset game (before ++ P ∷ []) old new false
+  pub leaves_shut : on ≡ false → Finds aim id game (before ++ P ∷ []) old new false
   leaves_shut off =
       leaves_one false
       (λ replay own rest is.
@@ -181,7 +181,7 @@ module _ {aim : Aim} {number offset : ℕ} {game : GameText} {before : List Stat
       (λ same replay own rest is n low within. so_far.shut off replay own (P ∷ rest) is n (omega arith) within)
 
   -- the last ply that is looked for is past
-  pub leaves_past : aim.max_ply < length before → Finds aim number offset game (before ++ P ∷ []) old new false
+  pub leaves_past : aim.max_ply < length before → Finds aim id game (before ++ P ∷ []) old new false
   leaves_past past =
       leaves_one false
       (λ replay own rest is entry. let most = entry.0.1 in omega arith)
@@ -190,7 +190,7 @@ module _ {aim : Aim} {number offset : ℕ} {game : GameText} {before : List Stat
 
   -- it is not wanted
   pub leaves_unwanted : on ≡ true → ((replay : Replay) → IsOfGame game replay → (rest : List State) → replay.positions ≡ before ++ P ∷ rest → IsWanted aim (heading_of game) replay (length before) → ⊥)
-      → Finds aim number offset game (before ++ P ∷ []) old new true
+      → Finds aim id game (before ++ P ∷ []) old new true
   leaves_unwanted still fails =
       leaves_one true
       (λ replay own rest is entry. fails replay own rest is entry.0)
@@ -204,24 +204,24 @@ module _ {aim : Aim} {number offset : ℕ} {game : GameText} {before : List Stat
   pub keeps_one : {next : List ℕ} (shown : List ℕ) → on ≡ true
       → ((replay : Replay) → IsOfGame game replay → (rest : List State) → replay.positions ≡ before ++ P ∷ rest → IsWanted aim (heading_of game) replay (length before))
       → ((replay : Replay) → IsOfGame game replay → (rest : List State) → replay.positions ≡ before ++ P ∷ rest → AreFields aim.fields replay (length before) shown)
-      → next ≡ new ++ entry_line aim.name (entry_at number offset (length before) shown) → Finds aim number offset game (before ++ P ∷ []) old next (not aim.first)
+      → next ≡ new ++ entry_line aim.name (entry_at id (length before) shown) → Finds aim id game (before ++ P ∷ []) old next (not aim.first)
   keeps_one {next} shown still wanted shows added = record {
     found = so_far.found ++ entry ∷ [];
     written = added ∙ ap (λ t. t ++ entry_line aim.name entry) so_far.written ∙ append_assoc old (listing aim.name so_far.found) (entry_line aim.name entry)
         ∙ ap (λ t. old ++ t) (ap (λ t. listing aim.name so_far.found ++ t) (sym (append-nil (entry_line aim.name entry))) ∙ sym (listing-append aim.name so_far.found (entry ∷ [])));
     completes = λ replay own rest is later chosen.
-        subst (AreListed aim number offset (heading_of game) replay) (sym (append_assoc so_far.found (entry ∷ []) later))
+        subst (AreListed aim id (heading_of game) replay) (sym (append_assoc so_far.found (entry ∷ []) later))
         (so_far.completes replay own (P ∷ rest) (joined replay rest is) (entry ∷ later)
         (keep (length before) shown (plies_of (length before + 1) rest) later (listed replay own rest (joined replay rest is))
         (shows replay own rest (joined replay rest is))
-        (subst (λ n. AreChosen number offset (IsEntry aim (heading_of game) replay) (AreFields aim.fields replay) (plies_of n rest) later) grown chosen)));
+        (subst (λ n. AreChosen id (IsEntry aim (heading_of game) replay) (AreFields aim.fields replay) (plies_of n rest) later) grown chosen)));
     quiet = λ is first replay own rest at n less. let no : not aim.first ≡ false = ap not first in absurd (both_ways (not aim.first) no is);
     shut = λ is replay own rest at n low within is_entry.
         is_entry.1 (not-false aim.first is) (length before) (let size = grown in omega arith) (wanted replay own rest (joined replay rest at));
   }
     where
       entry : Entry
-      entry = entry_at number offset (length before) shown
+      entry = entry_at id (length before) shown
 
       listed : (replay : Replay) → IsOfGame game replay → (rest : List State) → replay.positions ≡ before ++ P ∷ rest → IsEntry aim (heading_of game) replay (length before)
       listed replay own rest is = (wanted replay own rest is, λ first n less earlier. so_far.quiet still first replay own (P ∷ rest) is n less earlier)

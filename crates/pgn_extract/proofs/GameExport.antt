@@ -17,6 +17,7 @@ use Rattle.pgn_game.specs.declared.replays.replayer.Lines.TheVariants.{Main}
 use Rattle.pgn_game.specs.declared.exports.style.Style.{Style}
 use Rattle.pgn_extract.specs.Public.Exports.{IsExportOf}
 use Rattle.pgn_extract.specs.Public.GameReports.{IsReplayOf}
+use Rattle.pgn_extract.specs.declared.marks.GameId.{GameId}
 
 -- what is replayed of parts is replayed of a game that they make
 pub own_replay : (lines : Lines) (game : GameText) (parts : List Part) (replay : Replay) → ShowsGame game game.at parts → IsReplayOf lines parts replay
@@ -57,9 +58,9 @@ some_export_of_parts style parts game is shows replay sound =
     (export.0, (game, is, shows, export.1))
 
 -- the record is one of each game that has these tags, elements and result
-record_alike : (name : Option (List ℕ)) (number offset : ℕ) (game other : GameText) (bytes : List ℕ) → other.tags ≡ game.tags → other.elements ≡ game.elements
-    → other.result ≡ game.result → IsRecordOf name number offset other bytes → IsRecordOf name number offset game bytes
-record_alike name number offset game other bytes tags elements result own = record {
+record_alike : (name : Option (List ℕ)) (id : GameId) (game other : GameText) (bytes : List ℕ) → other.tags ≡ game.tags → other.elements ≡ game.elements
+    → other.result ≡ game.result → IsRecordOf name id.number id.offset other bytes → IsRecordOf name id.number id.offset game bytes
+record_alike name id game other bytes tags elements result own = record {
   replay = own.replay;
   is_replay =
       subst (λ (items : List Item). IsReplay Main (tag_in fen_tag game.tags) items own.replay) elements
@@ -80,17 +81,17 @@ record_alike name number offset game other bytes tags elements result own = reco
 }
 
 -- a record of the game that these parts make
-abbrev IsPartsRecord : Option (List ℕ) → ℕ → ℕ → List Part → List ℕ → Type 0
-IsPartsRecord name number offset parts text = (game : GameText) × IsGameText game × ShowsGame game game.at parts × IsRecordOf name number offset game text
+abbrev IsPartsRecord : Option (List ℕ) → GameId → List Part → List ℕ → Type 0
+IsPartsRecord name id parts text = (game : GameText) × IsGameText game × ShowsGame game game.at parts × IsRecordOf name id.number id.offset game text
 
-pub one_record_of_parts : (name : Option (List ℕ)) (number offset : ℕ) (parts : List Part) (text other : List ℕ)
-    → IsPartsRecord name number offset parts text → IsPartsRecord name number offset parts other → text ≡ other
-one_record_of_parts name number offset parts text other (game, is, shows, own) (second, also, seen, written) =
+pub one_record_of_parts : (name : Option (List ℕ)) (id : GameId) (parts : List Part) (text other : List ℕ)
+    → IsPartsRecord name id parts text → IsPartsRecord name id parts other → text ≡ other
+one_record_of_parts name id parts text other (game, is, shows, own) (second, also, seen, written) =
     let same = one_game_text parts game second is also shows seen in
-    one_spelling name number offset game text other own (record_alike name number offset game second other (sym same.0) (sym same.1) (sym same.2) written)
+    one_spelling name id.number id.offset game text other own (record_alike name id game second other (sym same.0) (sym same.1) (sym same.2) written)
 
-pub some_record_of_parts : (name : Option (List ℕ)) (number offset : ℕ) (parts : List Part) (game : GameText) → IsGameText game → ShowsGame game game.at parts
-    → (replay : Replay) → IsReplayOf Main parts replay → (text : List ℕ) × IsPartsRecord name number offset parts text
-some_record_of_parts name number offset parts game is shows replay sound =
-    let written = a_record name number offset game (replay, own_replay Main game parts replay shows sound) in
+pub some_record_of_parts : (name : Option (List ℕ)) (id : GameId) (parts : List Part) (game : GameText) → IsGameText game → ShowsGame game game.at parts
+    → (replay : Replay) → IsReplayOf Main parts replay → (text : List ℕ) × IsPartsRecord name id parts text
+some_record_of_parts name id parts game is shows replay sound =
+    let written = a_record name id.number id.offset game (replay, own_replay Main game parts replay shows sound) in
     (written.0, (game, is, shows, written.1))

@@ -8,9 +8,9 @@ use Rattle.pgn_text.specs.Public.Marks.{marked, within as in_limit}
 use Rattle.pgn_text.specs.Public.Pieces as spec
 use Rattle.pgn_text.specs.declared.game.pieces.PieceStart.{PieceStart}
 use Rattle.pgn_text.specs.declared.game.pieces.PieceStart.TheVariants.{Game, Unreadable}
-use Rattle.pgn_extract.specs.Public.Aims.{Aim}
-use Rattle.pgn_extract.specs.Private.Blockwise.{Gathers, GathersBlock, Passes, BeginsBlock, AddsVerdict, IsPieceOf, IsMarkReport, IsMarkVerdict}
-use Rattle.pgn_extract.specs.Public.Choices.{is_chosen, IfChosen}
+use Rattle.pgn_extract.specs.Public.Aims.{Aim, GameId}
+use Rattle.pgn_extract.specs.Private.Blockwise.{id_at, Gathers, GathersBlock, Passes, BeginsBlock, AddsVerdict, IsPieceOf, IsMarkReport, IsMarkVerdict}
+use Rattle.pgn_extract.specs.Public.Choices.{id_of, is_chosen, IfChosen}
 use Rattle.pgn_extract.specs.Public.Index.{mark_line}
 use Rattle.pgn_extract.specs.Public.Outcomes.{AppendsFront}
 use Rattle.pgn_extract.specs.Public.Verdicts.{Verdict, SoundGame, is_faulty, IsPieceVerdict, IsVerdict, IsVerdictIn}
@@ -20,44 +20,45 @@ use Rattle.pgn_extract.proofs.ChoiceFacts.{choice_of}
 use Rattle.pgn_extract.proofs.GameVerdict.{unreadable_there}
 use Rattle.pgn_extract.proofs.Gathered.{gathers_none, gathers_more, gathers_passed}
 use Rattle.pgn_extract.proofs.Listed.{piece_in, begun_of}
+use Rattle.pgn_extract.specs.Public.GivenMarks.{game_id}
 use Rattle.pgn_criteria.proofs.SpanFacts.{at_most_one}
 
 -- whether the piece is chosen, by the same place
-at_place : (aim : Aim) (number offset place at : ℕ) (shown : spec.Piece) (verdict : Verdict) → place ≡ at
-    → IfChosen (is_chosen aim.chosen number (offset + place)) (IsPieceVerdict (marked offset shown).kind aim number (marked offset shown).offset verdict) (verdict ≡ SoundGame [])
-    → IfChosen (is_chosen aim.chosen number (offset + at)) (IsPieceVerdict (marked offset shown).kind aim number (marked offset shown).offset verdict) (verdict ≡ SoundGame [])
-at_place aim number offset place at shown verdict is has =
-    subst (λ n. IfChosen (is_chosen aim.chosen number (offset + n)) (IsPieceVerdict (marked offset shown).kind aim number (marked offset shown).offset verdict) (verdict ≡ SoundGame [])) is has
+at_place : (aim : Aim) (id : GameId) (place at : ℕ) (shown : spec.Piece) (verdict : Verdict) → place ≡ at
+    → IfChosen (is_chosen aim.chosen (id_at id place)) (IsPieceVerdict (marked id.offset shown).kind aim (id_of id.number (marked id.offset shown)) verdict) (verdict ≡ SoundGame [])
+    → IfChosen (is_chosen aim.chosen (id_at id at)) (IsPieceVerdict (marked id.offset shown).kind aim (id_of id.number (marked id.offset shown)) verdict) (verdict ≡ SoundGame [])
+at_place aim id place at shown verdict is has =
+    subst (λ n. IfChosen (is_chosen aim.chosen (id_at id n)) (IsPieceVerdict (marked id.offset shown).kind aim (id_of id.number (marked id.offset shown)) verdict) (verdict ≡ SoundGame [])) is has
 
 -- what is reported of the mark of a piece that is chosen is the index's verdict on it
-own_mark : (aim : Aim) (number offset : ℕ) (block : List ℕ) (mark : PieceStart) (shown : spec.Piece) (verdict : Verdict)
-    → aim.mode ≡ modes.Index → IsMark mark shown → IsPieceOf offset block shown → IsMarkVerdict aim number offset block mark verdict
-    → IsPieceVerdict (marked offset shown).kind aim number (marked offset shown).offset verdict
-own_mark aim number offset block (Game place) (spec.Game at parts) verdict index is among by =
-    subst (λ m. IsVerdictIn m aim number (offset + at) parts verdict) (sym index) (by ∙ ap (λ n. SoundGame (mark_line aim.name number (offset + n))) is)
-own_mark aim number offset block (Game place) (spec.Unreadable at bytes) verdict index is among by = absurd is
-own_mark aim number offset block (Unreadable place) (spec.Game at parts) verdict index is among by = absurd is
-own_mark aim number offset block (Unreadable place) (spec.Unreadable at bytes) verdict index is among by =
-    unreadable_there aim number offset block place at bytes verdict is among by
+own_mark : (aim : Aim) (id : GameId) (block : List ℕ) (mark : PieceStart) (shown : spec.Piece) (verdict : Verdict)
+    → aim.mode ≡ modes.Index → IsMark mark shown → IsPieceOf id.offset block shown → IsMarkVerdict aim id block mark verdict
+    → IsPieceVerdict (marked id.offset shown).kind aim (id_of id.number (marked id.offset shown)) verdict
+own_mark aim id block (Game place) (spec.Game at parts) verdict index is among by =
+    subst (λ m. IsVerdictIn m aim (id_at id at) parts verdict) (sym index) (by ∙ ap (λ n. SoundGame (mark_line aim.name (id_at id n))) is)
+own_mark aim id block (Game place) (spec.Unreadable at bytes) verdict index is among by = absurd is
+own_mark aim id block (Unreadable place) (spec.Game at parts) verdict index is among by = absurd is
+own_mark aim id block (Unreadable place) (spec.Unreadable at bytes) verdict index is among by =
+    unreadable_there aim id block place at bytes verdict is among by
 
 -- and so it is of each piece
-mark_is_verdict : (aim : Aim) (number offset : ℕ) (block : List ℕ) (mark : PieceStart) (shown : spec.Piece) (verdict : Verdict)
-    → aim.mode ≡ modes.Index → IsMark mark shown → IsPieceOf offset block shown
-    → IsMarkReport aim number offset block mark verdict → IsVerdict aim number (marked offset shown) verdict
-mark_is_verdict aim number offset block (Game place) (spec.Game at parts) verdict index is among by =
-    at_place aim number offset place at (spec.Game at parts) verdict is
-    (choice_of (is_chosen aim.chosen number (offset + place)) (own_mark aim number offset block (Game place) (spec.Game at parts) verdict index is among) (λ none. none) by)
-mark_is_verdict aim number offset block (Game place) (spec.Unreadable at bytes) verdict index is among by = absurd is
-mark_is_verdict aim number offset block (Unreadable place) (spec.Game at parts) verdict index is among by = absurd is
-mark_is_verdict aim number offset block (Unreadable place) (spec.Unreadable at bytes) verdict index is among by =
-    at_place aim number offset place at (spec.Unreadable at bytes) verdict is
-    (choice_of (is_chosen aim.chosen number (offset + place)) (own_mark aim number offset block (Unreadable place) (spec.Unreadable at bytes) verdict index is among) (λ none. none) by)
+mark_is_verdict : (aim : Aim) (id : GameId) (block : List ℕ) (mark : PieceStart) (shown : spec.Piece) (verdict : Verdict)
+    → aim.mode ≡ modes.Index → IsMark mark shown → IsPieceOf id.offset block shown
+    → IsMarkReport aim id block mark verdict → IsVerdict aim id.number (marked id.offset shown) verdict
+mark_is_verdict aim id block (Game place) (spec.Game at parts) verdict index is among by =
+    at_place aim id place at (spec.Game at parts) verdict is
+    (choice_of (is_chosen aim.chosen (id_at id place)) (own_mark aim id block (Game place) (spec.Game at parts) verdict index is among) (λ none. none) by)
+mark_is_verdict aim id block (Game place) (spec.Unreadable at bytes) verdict index is among by = absurd is
+mark_is_verdict aim id block (Unreadable place) (spec.Game at parts) verdict index is among by = absurd is
+mark_is_verdict aim id block (Unreadable place) (spec.Unreadable at bytes) verdict index is among by =
+    at_place aim id place at (spec.Unreadable at bytes) verdict is
+    (choice_of (is_chosen aim.chosen (id_at id place)) (own_mark aim id block (Unreadable place) (spec.Unreadable at bytes) verdict index is among) (λ none. none) by)
 
 -- the marks of some pieces are given, and the pieces reported by the index
-pub record Indexed (aim : Aim) (start now : Left) (report : Report) (number offset : ℕ) (out out' err err' : Option (List ℕ)) : Type 0 where
+pub record Indexed (aim : Aim) (start now : Left) (report : Report) (id : GameId) (out out' err err' : Option (List ℕ)) : Type 0 where
   pub done : List spec.Piece
   pub completes : (more : List spec.Piece) → ArePiecesLeft depth_limit now more → ArePiecesLeft depth_limit start (done ++ more)
-  pub written : Gathers aim report out out' err err' number (map (marked offset) done)
+  pub written : Gathers aim report out out' err err' id.number (map (marked id.offset) done)
   pub games : report.games ≡ length done
   pub faulty : report.faulty ≤ length done
   pub few : length done ≤ now.at
@@ -65,13 +66,13 @@ pub record Indexed (aim : Aim) (start now : Left) (report : Report) (number offs
   pub same : now.block ≡ start.block
 
 -- at the start none is given
-pub indexed_none : (aim : Aim) (start : Left) (block : List ℕ) (report : Report) (number offset : ℕ) (out err : Option (List ℕ))
-    → start ≡ record { block = block; file_start = offset == 0; at = 0; failed = false } → report.output.items ≡ [] → report.faults.items ≡ []
-    → report.games ≡ 0 → report.faulty ≡ 0 → Indexed aim start start report number offset out out err err
-indexed_none aim start block report number offset out err is output faults games faulty = record {
+pub indexed_none : (aim : Aim) (start : Left) (block : List ℕ) (report : Report) (id : GameId) (out err : Option (List ℕ))
+    → start ≡ record { block = block; file_start = id.offset == 0; at = 0; failed = false } → report.output.items ≡ [] → report.faults.items ≡ []
+    → report.games ≡ 0 → report.faulty ≡ 0 → Indexed aim start start report id out out err err
+indexed_none aim start block report id out err is output faults games faulty = record {
   done = [];
   completes = λ more left. left;
-  written = gathers_none aim report number out err output faults games faulty;
+  written = gathers_none aim report id.number out err output faults games faulty;
   games = games;
   faulty = omega arith;
   few = omega arith;
@@ -79,25 +80,25 @@ indexed_none aim start block report number offset out err is output faults games
   same = refl;
 }
 
-module _ {aim : Aim} {start now : Left} {report : Report} {number offset : ℕ} {out out' err err' : Option (List ℕ)}
-    (l : Indexed aim start now report number offset out out' err err') where
+module _ {aim : Aim} {start now : Left} {report : Report} {id : GameId} {out out' err err' : Option (List ℕ)}
+    (l : Indexed aim start now report id out out' err err') where
   -- one more mark
   pub indexed_more : {next : Left} {report' : Report} {here : ℕ} (block : List ℕ) (mark : PieceStart)
-      → start ≡ record { block = block; file_start = offset == 0; at = 0; failed = false } → aim.mode ≡ modes.Index → TakesMark depth_limit now next mark
-      → here ≡ number + report.games → (verdict : Verdict) × IsMarkReport aim here offset block mark verdict × AddsVerdict report report' verdict 1
-      → Indexed aim start next report' number offset out out' err err'
+      → start ≡ record { block = block; file_start = id.offset == 0; at = 0; failed = false } → aim.mode ≡ modes.Index → TakesMark depth_limit now next mark
+      → here ≡ id.number + report.games → (verdict : Verdict) × IsMarkReport aim (game_id here id.offset) block mark verdict × AddsVerdict report report' verdict 1
+      → Indexed aim start next report' id out out' err err'
   indexed_more {next} {report'} {here} block mark begins index takes is (verdict, by, adds) = record {
     done = l.done ++ takes.shown ∷ [];
     completes = λ more left.
         subst (ArePiecesLeft depth_limit start) (sym (append_assoc l.done (takes.shown ∷ []) more)) (l.completes (takes.shown ∷ more) (takes.completes more left));
     written =
-        let among = piece_in start next block offset l.done takes.shown begins (λ more left. l.completes (takes.shown ∷ more) (takes.completes more left)) in
-        let more = gathers_more l.written report' here (marked offset takes.shown) (is ∙ ap (λ n. number + n) l.written.games) (
+        let among = piece_in start next block id.offset l.done takes.shown begins (λ more left. l.completes (takes.shown ∷ more) (takes.completes more left)) in
+        let more = gathers_more l.written report' here (marked id.offset takes.shown) (is ∙ ap (λ n. id.number + n) l.written.games) (
           verdict,
-          mark_is_verdict aim here offset block mark takes.shown verdict index takes.is among by,
+          mark_is_verdict aim (game_id here id.offset) block mark takes.shown verdict index takes.is among by,
           adds,
         ) in
-        subst (Gathers aim report' out out' err err' number) (sym (map_push (marked offset) l.done takes.shown)) more;
+        subst (Gathers aim report' out out' err err' id.number) (sym (map_push (marked id.offset) l.done takes.shown)) more;
     games = let old = l.games in let new = adds.games in omega (arith, length-append l.done (takes.shown ∷ []));
     faulty =
         let old = l.faulty in let new = adds.faulty in let once = at_most_one (is_faulty verdict) in
@@ -109,7 +110,7 @@ module _ {aim : Aim} {start now : Left} {report : Report} {number offset : ℕ} 
 
   -- what is gathered is passed on
   pub indexed_passed : {report' : Report} {out'' err'' : Option (List ℕ)} → Passes report report' out' out'' err' err''
-      → Indexed aim start now report' number offset out out'' err err''
+      → Indexed aim start now report' id out out'' err err''
   indexed_passed passes = record {
     done = l.done;
     completes = l.completes;
@@ -122,18 +123,18 @@ module _ {aim : Aim} {start now : Left} {report : Report} {number offset : ℕ} 
   }
 
   -- a beginning of what is gathered is written
-  pub indexed_begun : {out'' err'' : Option (List ℕ)} (block : List ℕ) → start ≡ record { block = block; file_start = offset == 0; at = 0; failed = false } → length block ≤ block_limit
+  pub indexed_begun : {out'' err'' : Option (List ℕ)} (block : List ℕ) → start ≡ record { block = block; file_start = id.offset == 0; at = 0; failed = false } → length block ≤ block_limit
       → AppendsFront out' out'' report.output.items → AppendsFront err' err'' report.faults.items
-      → BeginsBlock aim block_limit depth_limit number offset block out out'' err err''
+      → BeginsBlock aim block_limit depth_limit id block out out'' err err''
   indexed_begun block is fits output faults = begun_of start now block l.done is fits l.completes l.written output faults
 
   -- all of them, where none is left
-  pub indexed_all : (block : List ℕ) → start ≡ record { block = block; file_start = offset == 0; at = 0; failed = false } → length block ≤ block_limit
-      → ArePiecesLeft depth_limit now [] → GathersBlock aim report block_limit depth_limit number offset block out out' err err'
+  pub indexed_all : (block : List ℕ) → start ≡ record { block = block; file_start = id.offset == 0; at = 0; failed = false } → length block ≤ block_limit
+      → ArePiecesLeft depth_limit now [] → GathersBlock aim report block_limit depth_limit id block out out' err err'
   indexed_all block is fits end = record {
-    own = map (marked offset) l.done;
+    own = map (marked id.offset) l.done;
     each = in_limit fits l.done (subst (λ (s : Left). ArePiecesLeft depth_limit s l.done) is
         (subst (ArePiecesLeft depth_limit start) (append-nil l.done) (l.completes [] end))) refl;
     written = l.written;
-    few = let f = l.few in let w = l.within in omega (arith, length-map l.done (marked offset), ap length l.same, ap (λ (s : Left). length s.block) is);
+    few = let f = l.few in let w = l.within in omega (arith, length-map l.done (marked id.offset), ap length l.same, ap (λ (s : Left). length s.block) is);
   }

@@ -9,19 +9,19 @@ use Rattle.pgn_extract.proofs.OneReport.{same_report}
 use Rattle.pgn_extract.proofs.VerdictFacts.{output_text-append, fault_lines-append, verdicts-append, count_by-join, same_output, same_faulty}
 
 pub parts_join : PartsJoin
-parts_join aim limit max_depth number offset text before piece after all whole first second front rest one two =
-    let size = piece.offset - offset in
+parts_join aim limit max_depth id text before piece after all whole first second front rest one two =
+    let size = piece.offset - id.offset in
     let same_before : first ≡ before =
-    one_marked_pieces limit max_depth offset (take size text) first before one.each
-    (front_of_text limit max_depth offset text before piece after whole.each) in
+    one_marked_pieces limit max_depth id.offset (take size text) first before one.each
+    (front_of_text limit max_depth id.offset text before piece after whole.each) in
     let same_after : second ≡ piece ∷ after =
     one_marked_pieces limit max_depth piece.offset (drop size text) second (piece ∷ after) two.each
-    (resumes limit max_depth offset text before piece after whole.each) in
-    let verdicts_after = subst (λ p. AreVerdicts aim (number + length first) p rest) same_after two.written in
+    (resumes limit max_depth id.offset text before piece after whole.each) in
+    let verdicts_after = subst (λ p. AreVerdicts aim (id.number + length first) p rest) same_after two.written in
     let both =
-    verdicts-append aim number before (piece ∷ after) front rest (subst (λ p. AreVerdicts aim number p front) same_before one.written)
-    (subst (λ p. AreVerdicts aim (number + length p) (piece ∷ after) rest) same_before verdicts_after) in
-    let joined = same_report aim number (before ++ piece ∷ after) all (front ++ rest) whole.written both in record {
+    verdicts-append aim id.number before (piece ∷ after) front rest (subst (λ p. AreVerdicts aim id.number p front) same_before one.written)
+    (subst (λ p. AreVerdicts aim (id.number + length p) (piece ∷ after) rest) same_before verdicts_after) in
+    let joined = same_report aim id.number (before ++ piece ∷ after) all (front ++ rest) whole.written both in record {
       same_before = same_before;
       same_after = same_after;
       reported = joined;

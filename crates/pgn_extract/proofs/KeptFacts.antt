@@ -12,7 +12,7 @@ use Rattle.pgn_game.specs.Public.Replays.{Replay}
 use Rattle.pgn_criteria.specs.Public.Meeting.{Heading, heading_of, Meets, IsFirst}
 use Rattle.pgn_criteria.specs.declared.condition.Condition.{Condition}
 use Rattle.pgn_criteria.proofs.OpeningFacts.{met_alike}
-use Rattle.pgn_extract.specs.Public.Aims.{Aim, IsMet, IsWanted}
+use Rattle.pgn_extract.specs.Public.Aims.{Aim, GameId, IsMet, IsWanted}
 use Rattle.pgn_extract.specs.Public.Exports.{HasEntry}
 use Rattle.pgn_extract.specs.Private.Finding.{IsOfGame, Finds, ShowsPosition}
 use Rattle.pgn_extract.specs.Public.Listing.{IsFenField, IsNextMove, IsNextField, AreFields}
@@ -86,35 +86,35 @@ module _ (aim : Aim) (game : GameText) (kept : Replay) (own : IsOfGame game kept
       subst (λ n. AreFields fields replay n shown) (sym at) (fields_there fields kept replay same.0 same.1 ply shown are)
 
 -- the line that is kept is looked through up to a ply
-pub record IsLookedThrough (aim : Aim) (number offset : ℕ) (game : GameText) (kept : Replay) (ply : ℕ) (old new : List ℕ) (on : Bool) : Type 0 where
+pub record IsLookedThrough (aim : Aim) (id : GameId) (game : GameText) (kept : Replay) (ply : ℕ) (old new : List ℕ) (on : Bool) : Type 0 where
   pub before : List State
   pub rest : List State
   pub parts : kept.positions ≡ before ++ rest
   pub count : length before ≡ ply
-  pub finds : Finds aim number offset game before old new on
+  pub finds : Finds aim id game before old new on
 
 -- at first none is
-pub looked_none : (aim : Aim) (number offset : ℕ) (game : GameText) (kept : Replay) (alternatives : List (List (Condition (List ℕ)))) (text : List ℕ)
-    → aim.criteria ≡ Some alternatives → IsLookedThrough aim number offset game kept 0 text text true
-looked_none aim number offset game kept alternatives text given = record {
+pub looked_none : (aim : Aim) (id : GameId) (game : GameText) (kept : Replay) (alternatives : List (List (Condition (List ℕ)))) (text : List ℕ)
+    → aim.criteria ≡ Some alternatives → IsLookedThrough aim id game kept 0 text text true
+looked_none aim id game kept alternatives text given = record {
   before = [];
   rest = kept.positions;
   parts = refl;
   count = refl;
-  finds = finds_none aim number offset game alternatives text true
+  finds = finds_none aim id game alternatives text true
       (λ replay own ply within. same_met (heading_of game) replay aim.criteria alternatives alternatives ply given (λ met. met, λ met. met))
       (λ off. absurd (false≢true (sym off)));
 }
 
 -- and one ply further
-pub looks_on : {aim : Aim} {number offset : ℕ} {game : GameText} {kept : Replay} {ply : ℕ} {old new next : List ℕ} {on still : Bool}
-    → IsLookedThrough aim number offset game kept ply old new on → ply < length kept.positions
+pub looks_on : {aim : Aim} {id : GameId} {game : GameText} {kept : Replay} {ply : ℕ} {old new next : List ℕ} {on still : Bool}
+    → IsLookedThrough aim id game kept ply old new on → ply < length kept.positions
     → ((before : List State) (P : State) (rest : List State) → kept.positions ≡ before ++ P ∷ rest → length before ≡ ply
-    → Finds aim number offset game before old new on → Finds aim number offset game (before ++ P ∷ []) old next still)
-    → IsLookedThrough aim number offset game kept (ply + 1) old next still
-looks_on {aim} {number} {offset} {game} {kept} {ply} {old} {new} {next} {on} {still} at within goes = on_from at.rest at.parts
+    → Finds aim id game before old new on → Finds aim id game (before ++ P ∷ []) old next still)
+    → IsLookedThrough aim id game kept (ply + 1) old next still
+looks_on {aim} {id} {game} {kept} {ply} {old} {new} {next} {on} {still} at within goes = on_from at.rest at.parts
   where
-    on_from : (rest : List State) → kept.positions ≡ at.before ++ rest → IsLookedThrough aim number offset game kept (ply + 1) old next still
+    on_from : (rest : List State) → kept.positions ≡ at.before ++ rest → IsLookedThrough aim id game kept (ply + 1) old next still
     on_from [] parts =
         let size : length kept.positions ≡ length at.before = ap length (parts ∙ append-nil at.before) in
         absurd (omega (arith, size, at.count, within))
@@ -127,8 +127,8 @@ looks_on {aim} {number} {offset} {game} {kept} {ply} {old} {new} {next} {on} {st
     }
 
 -- at the end it is the whole line
-pub looks_whole : {aim : Aim} {number offset : ℕ} {game : GameText} {kept : Replay} {ply : ℕ} {old new : List ℕ} {on : Bool}
-    (at : IsLookedThrough aim number offset game kept ply old new on) → length kept.positions ≤ ply → kept.positions ≡ at.before
+pub looks_whole : {aim : Aim} {id : GameId} {game : GameText} {kept : Replay} {ply : ℕ} {old new : List ℕ} {on : Bool}
+    (at : IsLookedThrough aim id game kept ply old new on) → length kept.positions ≤ ply → kept.positions ≡ at.before
 looks_whole {kept = kept} {ply = ply} at end = whole at.rest at.parts
   where
     whole : (rest : List State) → kept.positions ≡ at.before ++ rest → kept.positions ≡ at.before

@@ -4,7 +4,8 @@ use Rattle.std.proofs.Common.{◌≡◌, ◌<◌, inl, inr, List, ℕ, [], ◌�
 use Rattle.std.proofs.Common.{refl, sym, ap, arith}
 use Rattle.pgn_extract.specs.Private.MarkLines.{AreMarksOf, IsBeforeLine, IsLineOf, IsWithin}
 use Rattle.pgn_extract.specs.Private.MarkLines.{pairs_of}
-use Rattle.pgn_extract.proofs.LinesOfMarks.{first_or_later, given, none_of_none}
+use Rattle.pgn_extract.proofs.LinesOfMarks.{first_or_later, none_of_none}
+use Rattle.pgn_extract.specs.Public.GivenMarks.{game_id}
 
 -- ---- lines
 
@@ -63,14 +64,14 @@ no_line_after_a_letter before =
 -- ---- marks
 
 -- the stretch has its first offset, and not its end
-stretch : IsWithin 22 44 (given 2 22)
+stretch : IsWithin 22 44 (game_id 2 22)
 stretch = (omega arith, omega arith)
 
-not_its_end : IsWithin 22 44 (given 3 44) → ⊥
+not_its_end : IsWithin 22 44 (game_id 3 44) → ⊥
 not_its_end within = let beyond : 44 < 44 = within.1 in omega arith
 
-pairs_in_a_stretch : pairs_of 22 44 (Some (given 2 22)) ∷ pairs_of 22 44 (Some (given 3 44))
-    ∷ pairs_of 22 44 (Some (given 1 0)) ∷ pairs_of 22 44 None ∷ []
+pairs_in_a_stretch : pairs_of 22 44 (Some (game_id 2 22)) ∷ pairs_of 22 44 (Some (game_id 3 44))
+    ∷ pairs_of 22 44 (Some (game_id 1 0)) ∷ pairs_of 22 44 None ∷ []
     ≡ ((2, 22) ∷ []) ∷ [] ∷ [] ∷ [] ∷ []
 pairs_in_a_stretch = refl
 
@@ -85,9 +86,9 @@ none_left_out are =
       some = λ none. cc;
       is = refl;
     } in
-    let asked = (are 2 22).1 ((omega arith, omega arith), (codes "2@22 13\n", line, refl)) in cc
+    let asked = (are (game_id 2 22)).1 ((omega arith, omega arith), (codes "2@22 13\n", line, refl)) in cc
 
 -- and none is added, as one beside the stretch
-none_added : AreMarksOf (codes "a.pgn") (codes "2@22 13\n") 0 22 (given 2 22 ∷ []) → ⊥
+none_added : AreMarksOf (codes "a.pgn") (codes "2@22 13\n") 0 22 (game_id 2 22 ∷ []) → ⊥
 none_added are =
-    let beyond : 22 < 22 = ((are 2 22).0 refl).0.1 in omega arith
+    let beyond : 22 < 22 = ((are (game_id 2 22)).0 refl).0.1 in omega arith

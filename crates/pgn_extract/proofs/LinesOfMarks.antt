@@ -11,10 +11,11 @@ use Rattle.std.proofs.lemmas.List.Folds.{list_any-append}
 use Rattle.std.specs.Io.BufRead.{take_through, drop_through, DropsThrough}
 use Rattle.std.specs.Io.KnownBytes.{IsAtEnd, prepend_known}
 use Rattle.pgn_extract.specs.Public.Choices.{is_among, is_mark_of}
-use Rattle.pgn_extract.specs.Public.GivenMarks.{GivenMark}
 use Rattle.pgn_extract.specs.Private.MarkLines.{AreMarksOf, HasMark, IsBeforeLine, IsLineOf}
 use Rattle.pgn_extract.specs.Private.MarkLines.{IsWithin, line_mark, pairs_of}
 use Rattle.pgn_extract.specs.Private.MarkOrder.{given_of}
+use Rattle.pgn_extract.specs.declared.marks.GameId.{GameId}
+use Rattle.pgn_extract.specs.Public.GivenMarks.{game_id}
 
 -- past a line feed within the text stands what follows the first one
 past_feed : (front rest : List ℕ)
@@ -100,7 +101,7 @@ later text line of =
     }
 
 -- the marks of a text are that of its first line and those of the others
-module _ (name text : List ℕ) (mark : GivenMark) where
+module _ (name text : List ℕ) (mark : GameId) where
   mark_parts : HasMark name text mark
       → (line_mark name (take_through 10 text)
       ≡ Some mark) ⊎ HasMark name (drop_through 10 text) mark
@@ -118,13 +119,10 @@ module _ (name text : List ℕ) (mark : GivenMark) where
   mark_later has = (has.0, later text has.0 has.1, has.2)
 
 -- an empty text has none
-no_mark : (name : List ℕ) (mark : GivenMark) → HasMark name [] mark → ⊥
+no_mark : (name : List ℕ) (mark : GameId) → HasMark name [] mark → ⊥
 no_mark name mark has = has.1.some (none_of_none has.1.before has.1.rest (sym has.1.parted))
 
 -- ---- what is gathered
-
-abbrev pub given : ℕ → ℕ → GivenMark
-given number offset = record { number = number; offset = offset }
 
 either : (a b : Bool) → (a || b) ≡ true → (a ≡ true) ⊎ (b ≡ true)
 either true b is = inl refl
@@ -137,16 +135,14 @@ or_second : (a b : Bool) → b ≡ true → (a || b) ≡ true
 or_second true b is = refl
 or_second false b is = is
 
-same_number : (number offset : ℕ) (mark : GivenMark) → is_mark_of number offset mark ≡ true
-    → mark.number ≡ number
-same_number number offset mark is = grind (arith, nat_tests, is)
+same_mark : (id mark : GameId) → is_mark_of id mark ≡ true → mark ≡ id
+same_mark id mark is =
+    let number : mark.number ≡ id.number = grind (arith, nat_tests, is) in
+    let offset : mark.offset ≡ id.offset = grind (arith, nat_tests, is) in
+    ap₂ game_id number offset
 
-same_offset : (number offset : ℕ) (mark : GivenMark) → is_mark_of number offset mark ≡ true
-    → mark.offset ≡ offset
-same_offset number offset mark is = grind (arith, nat_tests, is)
-
-its_own : (number offset : ℕ) → is_mark_of number offset (given number offset) ≡ true
-its_own number offset = grind (arith, nat_tests)
+its_own : (id : GameId) → is_mark_of id id ≡ true
+its_own id = grind (arith, nat_tests)
 
 not_before : (begin end offset : ℕ) → (nat_le begin offset && nat_lt offset end) ≡ true
     → begin ≤ offset
@@ -160,66 +156,58 @@ between : (begin end offset : ℕ) → begin ≤ offset → offset < end
     → (nat_le begin offset && nat_lt offset end) ≡ true
 between begin end offset low high = grind (arith, nat_tests, low, high)
 
-module _ (begin end number offset : ℕ) where
+module _ (begin end : ℕ) (id : GameId) where
   -- the mark that a line adds
-  its_mark : (mark : Option GivenMark)
-      → is_among (map given_of (pairs_of begin end mark)) number offset ≡ true
-      → IsWithin begin end (given number offset) × (mark ≡ Some (given number offset))
+  its_mark : (mark : Option GameId) → is_among (map given_of (pairs_of begin end mark)) id ≡ true
+      → IsWithin begin end id × (mark ≡ Some id)
   its_mark None is = absurd cc
   its_mark (Some mark) is =
       elim (cases_Bool (nat_le begin mark.offset && nat_lt mark.offset end)) [
         | inl within ↦
-            elim (either (is_mark_of number offset mark) false (rw within at is)) [
+            elim (either (is_mark_of id mark) false (rw within at is)) [
               | inl same ↦
-                  let n = same_number number offset mark same in
-                  let o = same_offset number offset mark same in
+                  let is = same_mark id mark same in
                   let low = not_before begin end mark.offset within in
                   let high = not_after begin end mark.offset within in
-                  ((omega arith, omega arith), ap Some (ap₂ given n o))
+                  (subst (IsWithin begin end) is (low, high), ap Some is)
               | inr none ↦ absurd cc
             ]
         | inr outside ↦ absurd (let none = rw outside at is in cc)
       ]
 
-  adds : (mark : Option GivenMark) → mark ≡ Some (given number offset)
-      → IsWithin begin end (given number offset)
-      → is_among (map given_of (pairs_of begin end mark)) number offset ≡ true
+  adds : (mark : Option GameId) → mark ≡ Some id → IsWithin begin end id
+      → is_among (map given_of (pairs_of begin end mark)) id ≡ true
   adds mark is within =
-      rw is (rw (between begin end offset within.0 within.1) (or_first (is_mark_of number offset
-      (given number offset)) false (its_own number offset)))
+      rw is (rw (between begin end id.offset within.0 within.1)
+      (or_first (is_mark_of id id) false (its_own id)))
 
   -- those before and that one
-  all_of : (pairs more : List (ℕ × ℕ))
-      → is_among (map given_of (pairs ++ more)) number offset
-      ≡ (is_among (map given_of pairs) number offset || is_among
-      (map given_of more) number offset)
+  all_of : (pairs more : List (ℕ × ℕ)) → is_among (map given_of (pairs ++ more)) id
+      ≡ (is_among (map given_of pairs) id || is_among (map given_of more) id)
   all_of pairs more =
-      ap (λ marks. is_among marks number offset) (map-append given_of pairs more)
-      ∙ list_any-append (is_mark_of number offset) (map given_of pairs) (map given_of more)
+      ap (λ marks. is_among marks id) (map-append given_of pairs more)
+      ∙ list_any-append (is_mark_of id) (map given_of pairs) (map given_of more)
 
 -- a line of the text has the mark, which stands in the stretch
-abbrev pub IsAsked : List ℕ → List ℕ → ℕ → ℕ → ℕ → ℕ → Type 0
-IsAsked name text begin end number offset = IsWithin begin end (given number offset)
-    × HasMark name text (given number offset)
+abbrev pub IsAsked : List ℕ → List ℕ → ℕ → ℕ → GameId → Type 0
+IsAsked name text begin end id = IsWithin begin end id × HasMark name text id
 
 -- the pairs are those of the lines before a rest of the text
 pub record AreGathered (name text : List ℕ) (begin end : ℕ) (pairs : List (ℕ
     × ℕ)) (rest : List ℕ) : Type 0 where
-  pub each : (number offset : ℕ) → is_among (map given_of pairs) number offset ≡ true
-      → IsAsked name text begin end number offset
-  pub lost : (number offset : ℕ) → IsAsked name text begin end number offset
-      → (is_among (map given_of pairs) number offset
-      ≡ true) ⊎ IsAsked name rest begin end number offset
-  pub later : (number offset : ℕ) → IsAsked name rest begin end number offset
-      → IsAsked name text begin end number offset
+  pub each : (id : GameId) → is_among (map given_of pairs) id ≡ true
+      → IsAsked name text begin end id
+  pub lost : (id : GameId) → IsAsked name text begin end id
+      → (is_among (map given_of pairs) id ≡ true) ⊎ IsAsked name rest begin end id
+  pub later : (id : GameId) → IsAsked name rest begin end id → IsAsked name text begin end id
 
 module _ (name text : List ℕ) (begin end : ℕ) where
   -- before any is read
   pub none_gathered : AreGathered name text begin end [] text
   none_gathered = record {
-    each = λ number offset is. absurd cc;
-    lost = λ number offset has. inr has;
-    later = λ number offset has. has;
+    each = λ id is. absurd cc;
+    lost = λ id has. inr has;
+    later = λ id has. has;
   }
 
   -- one line more
@@ -231,43 +219,43 @@ module _ (name text : List ℕ) (begin end : ℕ) where
       let mark = line_mark name (take_through 10 rest) in
       let own = pairs_of begin end mark in
       record {
-        each = λ number offset is.
-            elim (either _ _ (sym (all_of begin end number offset pairs own) ∙ is)) [
-              | inl earlier ↦ before.each number offset earlier
+        each = λ id is.
+            elim (either _ _ (sym (all_of begin end id pairs own) ∙ is)) [
+              | inl earlier ↦ before.each id earlier
               | inr here ↦
-                  let its = its_mark begin end number offset mark here in
-                  before.later number offset (
+                  let its = its_mark begin end id mark here in
+                  before.later id (
                     its.0,
                     mark_first name rest
-                        (given number offset) some its.1,
+                        id some its.1,
                   )
             ];
-        lost = λ number offset has.
-            elim (before.lost number offset has) [
-              | inl earlier ↦ inl (all_of begin end number offset pairs own ∙ or_first _ _ earlier)
+        lost = λ id has.
+            elim (before.lost id has) [
+              | inl earlier ↦ inl (all_of begin end id pairs own ∙ or_first _ _ earlier)
               | inr left ↦
-                  elim (mark_parts name rest (given number offset) left.1) [
-                    | inl here ↦ inl (all_of begin end number offset pairs own
-                        ∙ or_second _ _ (adds begin end number offset mark here left.0))
+                  elim (mark_parts name rest id left.1) [
+                    | inl here ↦ inl (all_of begin end id pairs own
+                        ∙ or_second _ _ (adds begin end id mark here left.0))
                     | inr more ↦ inr (left.0, more)
                   ]
             ];
-        later = λ number offset has. before.later number offset (
+        later = λ id has. before.later id (
           has.0,
           mark_later name rest
-              (given number offset) has.1,
+              id has.1,
         );
       }
 
   -- and all
   pub all_gathered : (pairs : List (ℕ × ℕ)) → AreGathered name text begin end pairs []
       → AreMarksOf name text begin end (map given_of pairs)
-  all_gathered pairs all = λ number offset. (
-    all.each number offset,
+  all_gathered pairs all = λ id. (
+    all.each id,
     λ has.
-        elim (all.lost number offset has) [
+        elim (all.lost id has) [
           | inl is ↦ is
-          | inr none ↦ absurd (no_mark name (given number offset) none.1)
+          | inr none ↦ absurd (no_mark name id none.1)
         ],
   )
 

@@ -15,10 +15,10 @@ use Rattle.std.proofs.lemmas.Map.Keys.{sorted_tail}
 use Rattle.std.proofs.lemmas.Map.Views.{All-after_first}
 use Rattle.pgn_extract.specs.Private.MarkOrder.{AreInOrder, given_of}
 use Rattle.pgn_extract.specs.Public.Choices.{is_among, is_mark_of}
-use Rattle.pgn_extract.specs.Public.GivenMarks.{GivenMark}
+use Rattle.pgn_extract.specs.declared.marks.GameId.{GameId}
 
 -- a test of marks, over the pairs that they are made of
-any_of_pairs : (test : GivenMark → Bool) (pairs : List (ℕ × ℕ)) → list_any test (map given_of pairs) ≡ list_any (λ pair. test (given_of pair)) pairs
+any_of_pairs : (test : GameId → Bool) (pairs : List (ℕ × ℕ)) → list_any test (map given_of pairs) ≡ list_any (λ pair. test (given_of pair)) pairs
 any_of_pairs test [] = refl
 any_of_pairs test (x ∷ xs) = ap (λ b. test (given_of x) || b) (any_of_pairs test xs)
 
@@ -28,31 +28,31 @@ none_at test [] none = refl
 none_at test (x ∷ xs) none = rw (none 0 x (omega arith)) (none_at test xs (λ k d less. none (suc k) d (omega arith)))
 
 -- a pair that is not equal fails the test
-fails_below : (x : ℕ × ℕ) (number offset : ℕ) → ordering_then (nat_cmp x.0 number) (nat_cmp x.1 offset) ≡ Less → is_mark_of number offset (given_of x) ≡ false
-fails_below x number offset is = grind (arith, nat_tests, is)
+fails_below : (x : ℕ × ℕ) (id : GameId) → ordering_then (nat_cmp x.0 id.number) (nat_cmp x.1 id.offset) ≡ Less → is_mark_of id (given_of x) ≡ false
+fails_below x id is = grind (arith, nat_tests, is)
 
-fails_above : (x : ℕ × ℕ) (number offset : ℕ) → ordering_then (nat_cmp x.0 number) (nat_cmp x.1 offset) ≡ Greater → is_mark_of number offset (given_of x) ≡ false
-fails_above x number offset is = grind (arith, nat_tests, is)
+fails_above : (x : ℕ × ℕ) (id : GameId) → ordering_then (nat_cmp x.0 id.number) (nat_cmp x.1 id.offset) ≡ Greater → is_mark_of id (given_of x) ≡ false
+fails_above x id is = grind (arith, nat_tests, is)
 
-passes : (x : ℕ × ℕ) (number offset : ℕ) → ordering_then (nat_cmp x.0 number) (nat_cmp x.1 offset) ≡ Equal → is_mark_of number offset (given_of x) ≡ true
-passes x number offset is = grind (arith, nat_tests, is)
+passes : (x : ℕ × ℕ) (id : GameId) → ordering_then (nat_cmp x.0 id.number) (nat_cmp x.1 id.offset) ≡ Equal → is_mark_of id (given_of x) ≡ true
+passes x id is = grind (arith, nat_tests, is)
 
-module _ (pairs : List (ℕ × ℕ)) (sorted : AreInOrder pairs) (number offset : ℕ) where
-  rise : IsNonDecreasingBy (λ (y : ℕ × ℕ). ordering_index (ordering_then (nat_cmp y.0 number) (nat_cmp y.1 offset))) pairs
-  rise = searchable_from_sorted (then_total (on_total (λ (x : ℕ × ℕ). x.0) nat_cmp_total) (on_total (λ (x : ℕ × ℕ). x.1) nat_cmp_total)) (λ x. x) pairs (number, offset) sorted
+module _ (pairs : List (ℕ × ℕ)) (sorted : AreInOrder pairs) (id : GameId) where
+  rise : IsNonDecreasingBy (λ (y : ℕ × ℕ). ordering_index (ordering_then (nat_cmp y.0 id.number) (nat_cmp y.1 id.offset))) pairs
+  rise = searchable_from_sorted (then_total (on_total (λ (x : ℕ × ℕ). x.0) nat_cmp_total) (on_total (λ (x : ℕ × ℕ). x.1) nat_cmp_total)) (λ x. x) pairs (id.number, id.offset) sorted
 
-  pub found : (at : ℕ) → IsSearchInRange (Ok at) (length pairs) → IsBinarySearchResult (λ (y : ℕ × ℕ). ordering_then (nat_cmp y.0 number) (nat_cmp y.1 offset)) pairs (Ok at)
-      → is_among (map given_of pairs) number offset ≡ true
+  pub found : (at : ℕ) → IsSearchInRange (Ok at) (length pairs) → IsBinarySearchResult (λ (y : ℕ × ℕ). ordering_then (nat_cmp y.0 id.number) (nat_cmp y.1 id.offset)) pairs (Ok at)
+      → is_among (map given_of pairs) id ≡ true
   found at within equal =
-      any_of_pairs (is_mark_of number offset) pairs ∙ list_any_at (λ pair. is_mark_of number offset (given_of pair)) pairs at (0, 0) within (passes _ number offset (equal (0, 0)))
+      any_of_pairs (is_mark_of id) pairs ∙ list_any_at (λ pair. is_mark_of id (given_of pair)) pairs at (0, 0) within (passes _ id (equal (0, 0)))
 
-  pub not_found : (at : ℕ) → IsBinarySearchResult (λ (y : ℕ × ℕ). ordering_then (nat_cmp y.0 number) (nat_cmp y.1 offset)) pairs (Err at)
-      → is_among (map given_of pairs) number offset ≡ false
+  pub not_found : (at : ℕ) → IsBinarySearchResult (λ (y : ℕ × ℕ). ordering_then (nat_cmp y.0 id.number) (nat_cmp y.1 id.offset)) pairs (Err at)
+      → is_among (map given_of pairs) id ≡ false
   not_found at parted =
-      any_of_pairs (is_mark_of number offset) pairs ∙ none_at (λ pair. is_mark_of number offset (given_of pair)) pairs (λ k d less.
+      any_of_pairs (is_mark_of id) pairs ∙ none_at (λ pair. is_mark_of id (given_of pair)) pairs (λ k d less.
       elim (cases_lt k at) [
-        | inl below ↦ fails_below _ number offset ((parted rise).0 k d (omega arith) below)
-        | inr above ↦ fails_above _ number offset ((parted rise).1 k d above less)
+        | inl below ↦ fails_below _ id ((parted rise).0 k d (omega arith) below)
+        | inr above ↦ fails_above _ id ((parted rise).1 k d above less)
       ])
 
 -- the order of pairs
@@ -81,19 +81,19 @@ deduped_in_order pairs sorted =
     in_order _ (IsStrictlySortedBy-dedup (then_total (on_total (λ (x : ℕ × ℕ). x.0) nat_cmp_total) (on_total (λ (x : ℕ × ℕ). x.1) nat_cmp_total)) ties pairs sorted)
 
 -- the test of a pair beside an equal one
-again : (x y : ℕ × ℕ) (number offset : ℕ) (rest : Bool) → ((x.0 == y.0) && (x.1 == y.1)) ≡ true
-    → (is_mark_of number offset (given_of y) || rest) ≡ (is_mark_of number offset (given_of y) || (is_mark_of number offset (given_of x) || rest))
-again x y number offset rest same = grind (arith, nat_tests, same)
+again : (x y : ℕ × ℕ) (id : GameId) (rest : Bool) → ((x.0 == y.0) && (x.1 == y.1)) ≡ true
+    → (is_mark_of id (given_of y) || rest) ≡ (is_mark_of id (given_of y) || (is_mark_of id (given_of x) || rest))
+again x y id rest same = grind (arith, nat_tests, same)
 
-any_of_deduped : (k : ℕ × ℕ) (xs : List (ℕ × ℕ)) (number offset : ℕ)
-    → list_any (λ pair. is_mark_of number offset (given_of pair)) (dedup_from (λ x y. (x.0 == y.0) && (x.1 == y.1)) k xs)
-    ≡ (is_mark_of number offset (given_of k) || list_any (λ pair. is_mark_of number offset (given_of pair)) xs)
-any_of_deduped k [] number offset = refl
-any_of_deduped k (x ∷ xs) number offset =
-    by_same ((x.0 == k.0) && (x.1 == k.1)) refl (any_of_deduped k xs number offset) (any_of_deduped x xs number offset)
+any_of_deduped : (k : ℕ × ℕ) (xs : List (ℕ × ℕ)) (id : GameId)
+    → list_any (λ pair. is_mark_of id (given_of pair)) (dedup_from (λ x y. (x.0 == y.0) && (x.1 == y.1)) k xs)
+    ≡ (is_mark_of id (given_of k) || list_any (λ pair. is_mark_of id (given_of pair)) xs)
+any_of_deduped k [] id = refl
+any_of_deduped k (x ∷ xs) id =
+    by_same ((x.0 == k.0) && (x.1 == k.1)) refl (any_of_deduped k xs id) (any_of_deduped x xs id)
   where
     test : ℕ × ℕ → Bool
-    test pair = is_mark_of number offset (given_of pair)
+    test pair = is_mark_of id (given_of pair)
 
     eq : ℕ × ℕ → ℕ × ℕ → Bool
     eq x y = (x.0 == y.0) && (x.1 == y.1)
@@ -101,14 +101,14 @@ any_of_deduped k (x ∷ xs) number offset =
     by_same : (same : Bool) → ((x.0 == k.0) && (x.1 == k.1)) ≡ same
         → list_any test (dedup_from eq k xs) ≡ (test k || list_any test xs) → list_any test (dedup_from eq x xs) ≡ (test x || list_any test xs)
         → list_any test (if same then dedup_from eq k xs else (k ∷ dedup_from eq x xs)) ≡ (test k || (test x || list_any test xs))
-    by_same true same here there = here ∙ again x k number offset (list_any test xs) same
+    by_same true same here there = here ∙ again x k id (list_any test xs) same
     by_same false same here there = ap (λ b. test k || b) there
 
-pub same_marks : (pairs : List (ℕ × ℕ)) (number offset : ℕ)
-    → is_among (map given_of (dedup (λ x y. (x.0 == y.0) && (x.1 == y.1)) pairs)) number offset ≡ is_among (map given_of pairs) number offset
-same_marks [] number offset = refl
-same_marks (x ∷ xs) number offset = any_of_pairs (is_mark_of number offset) _ ∙ any_of_deduped x xs number offset ∙ sym (any_of_pairs (is_mark_of number offset) (x ∷ xs))
+pub same_marks : (pairs : List (ℕ × ℕ)) (id : GameId)
+    → is_among (map given_of (dedup (λ x y. (x.0 == y.0) && (x.1 == y.1)) pairs)) id ≡ is_among (map given_of pairs) id
+same_marks [] id = refl
+same_marks (x ∷ xs) id = any_of_pairs (is_mark_of id) _ ∙ any_of_deduped x xs id ∙ sym (any_of_pairs (is_mark_of id) (x ∷ xs))
 
-pub same_permuted : (pairs others : List (ℕ × ℕ)) (number offset : ℕ) → IsPermutation pairs others → is_among (map given_of pairs) number offset ≡ is_among (map given_of others) number offset
-same_permuted pairs others number offset moved =
-    any_of_pairs (is_mark_of number offset) pairs ∙ list_any-IsPermutation (λ pair. is_mark_of number offset (given_of pair)) pairs others moved ∙ sym (any_of_pairs (is_mark_of number offset) others)
+pub same_permuted : (pairs others : List (ℕ × ℕ)) (id : GameId) → IsPermutation pairs others → is_among (map given_of pairs) id ≡ is_among (map given_of others) id
+same_permuted pairs others id moved =
+    any_of_pairs (is_mark_of id) pairs ∙ list_any-IsPermutation (λ pair. is_mark_of id (given_of pair)) pairs others moved ∙ sym (any_of_pairs (is_mark_of id) others)

@@ -19,10 +19,10 @@ use Rattle.pgn_criteria.specs.Public.ByMarks.{has_marks, NoneMeets, IsNextMet}
 use Rattle.pgn_criteria.specs.Public.Meeting.{heading_of}
 use Rattle.pgn_criteria.specs.Public.Sieves.{codes_in}
 use Rattle.pgn_criteria.specs.Public.Walks.{Sight, IsSightOf, stepped}
-use Rattle.pgn_extract.specs.Public.Aims.{Aim, IsMet}
+use Rattle.pgn_extract.specs.Public.Aims.{Aim, GameId, IsMet}
 use Rattle.pgn_extract.specs.Private.Finding.{GoesOnAt}
 use Rattle.pgn_extract.specs.Private.MarkedPacked.{AreMetWith}
-use Rattle.pgn_extract.specs.Private.Packed.{IsOfRecord}
+use Rattle.pgn_extract.specs.Private.Packed.{raw_id, IsOfRecord}
 use Rattle.pgn_extract.proofs.Found.{at_seam, finds_open, leaves_unwanted}
 use Rattle.pgn_extract.proofs.KeptFacts.{unwanted_there}
 use Rattle.pgn_extract.proofs.PackedFacts.{IsWalkedTo, IsListedOf, begins, first_is, kept_start, walked_by, walked_all, walked_enough}
@@ -44,18 +44,18 @@ next_shorter set (c ∷ codes) turn side left next = elim next [
 ]
 
 -- the plies are looked through up to one, after which this side is to move and these codes are left
-pub record IsMarkedTo (aim : Aim) (number offset : ℕ) (game : GameText) (replay : Replay) (packed : PackedGame) (side : Side) (rest : List PlyCode) (old new : List ℕ) (on : Bool) : Type 0 where
+pub record IsMarkedTo (aim : Aim) (id : GameId) (game : GameText) (replay : Replay) (packed : PackedGame) (side : Side) (rest : List PlyCode) (old new : List ℕ) (on : Bool) : Type 0 where
   pub ply : ℕ
   pub seen : Sight
   pub turn : seen.turn ≡ side
-  pub at : IsWalkedTo aim number offset game replay packed seen ply old new on
+  pub at : IsWalkedTo aim id game replay packed seen ply old new on
   pub left : drop ply packed.plies ≡ rest
   pub size : ply + length rest ≡ length packed.plies
 
 module _ {raw : RawRecord} {game : GameText} {replay : Replay} {packed : PackedGame} (own : IsOfRecord raw game replay packed) (aim : Aim) (set : ℕ)
     (met : AreMetWith set (heading_of game) aim.criteria) where
   abbrev Marked : Side → List PlyCode → List ℕ → List ℕ → Bool → Type 0
-  Marked side rest old new on = IsMarkedTo aim raw.number raw.offset game replay packed side rest old new on
+  Marked side rest old new on = IsMarkedTo aim (raw_id raw) game replay packed side rest old new on
 
   -- the bytes spell as many codes as there are
   pub size_of : (bytes : List ℕ) → bytes ≡ raw.plies → length (codes_in bytes) ≡ length packed.plies
@@ -98,7 +98,7 @@ module _ {raw : RawRecord} {game : GameText} {replay : Replay} {packed : PackedG
         packed_head = (raw_of packed).head
 
     pub marked_first : {old next : List ℕ} {still : Bool} (r : Bool) → r ≡ has_marks set turn (raw.head % 2 == 1) (raw.head / 2 % 2 == 1)
-        → GoesOnAt aim raw.number raw.offset replay 0 r old next true still → Marked turn (codes_in raw.plies) old next still
+        → GoesOnAt aim (raw_id raw) replay 0 r old next true still → Marked turn (codes_in raw.plies) old next still
     marked_first {old} {next} {still} r is goes =
         let start = own.is_replay.start in
         let from = begins own in
@@ -120,7 +120,7 @@ module _ {raw : RawRecord} {game : GameText} {replay : Replay} {packed : PackedG
             codes = subst (λ (Q : State). AreCodes Q replay.played packed.plies) (kept_start own) own.kept.plies;
             finds = goes game (Main, own.is_replay)
                 (told_at start packed.check packed.stuck start_marks turn start_turn [] from.0 from.1 0 refl r (sym start_told ∙ sym is)) [] start from.0 from.1 refl old
-                (finds_open aim raw.number raw.offset game old);
+                (finds_open aim (raw_id raw) game old);
           };
           left = sym codes;
           size = let count = ap length codes in omega (arith, count);
@@ -132,7 +132,7 @@ module _ {raw : RawRecord} {game : GameText} {replay : Replay} {packed : PackedG
     next_left = sym (drop-drop 1 to.ply packed.plies) ∙ ap (λ (cs : List PlyCode). drop 1 cs) to.left
 
     pub marked_on : {next : List ℕ} {still : Bool} (side : Side) → side ≡ opposite from → (r : Bool) → has_marks set side c.check c.stuck ≡ r → (n : ℕ)
-        → n + length rest ≡ length packed.plies → GoesOnAt aim raw.number raw.offset replay n r new next on still → Marked side rest old next still
+        → n + length rest ≡ length packed.plies → GoesOnAt aim (raw_id raw) replay n r new next on still → Marked side rest old next still
     marked_on {next} {still} side turned r is n size goes =
         let size_is = to.size in
         let same : to.ply + 1 ≡ n = omega (arith, size, size_is) in
@@ -149,7 +149,7 @@ module _ {raw : RawRecord} {game : GameText} {replay : Replay} {packed : PackedG
         }
 
   -- where it is not met nothing is added
-  goes_past : (ply : ℕ) (text : List ℕ) → GoesOnAt aim raw.number raw.offset replay ply false text text true true
+  goes_past : (ply : ℕ) (text : List ℕ) → GoesOnAt aim (raw_id raw) replay ply false text text true true
   goes_past ply text other of_game reports before P rest parts count start found =
       leaves_unwanted P found refl (unwanted_there aim other replay of_game ply false reports before P count refl)
 
@@ -177,15 +177,15 @@ module _ {raw : RawRecord} {game : GameText} {replay : Replay} {packed : PackedG
     | inr there ↦ pass_to codes (opposite turn) side left (pass_one turn c codes to there.0) there.1
   ]
 
-  pub pass_all : {old new : List ℕ} (codes : List PlyCode) (turn : Side) → Marked turn codes old new true → NoneMeets set turn codes → IsListedOf aim raw.number raw.offset game replay old new
+  pub pass_all : {old new : List ℕ} (codes : List PlyCode) (turn : Side) → Marked turn codes old new true → NoneMeets set turn codes → IsListedOf aim (raw_id raw) game replay old new
   pass_all [] turn to none = let size_is = to.size in walked_all own to.at (omega (arith, size_is))
   pass_all (c ∷ codes) turn to none = pass_all codes (opposite turn) (pass_one turn c codes to none.0) none.1
 
-  pub marked_enough : {old new : List ℕ} {on : Bool} (codes : List PlyCode) (turn : Side) → Marked turn codes old new on → on ≡ false → IsListedOf aim raw.number raw.offset game replay old new
+  pub marked_enough : {old new : List ℕ} {on : Bool} (codes : List PlyCode) (turn : Side) → Marked turn codes old new on → on ≡ false → IsListedOf aim (raw_id raw) game replay old new
   marked_enough codes turn to off = walked_enough own to.at off
 
   -- neither the start nor a ply is met
   pub pass_whole : (turn : Side) (first : (P : State) × (slice_get replay.positions 0 ≡ Some P) × (P.turn ≡ turn)) (text : List ℕ)
-      → has_marks set turn (raw.head % 2 == 1) (raw.head / 2 % 2 == 1) ≡ false → NoneMeets set turn (codes_in raw.plies) → IsListedOf aim raw.number raw.offset game replay text text
+      → has_marks set turn (raw.head % 2 == 1) (raw.head / 2 % 2 == 1) ≡ false → NoneMeets set turn (codes_in raw.plies) → IsListedOf aim (raw_id raw) game replay text text
   pass_whole turn first text fails none =
       pass_all (codes_in raw.plies) turn (marked_first turn first false (sym fails) (goes_past 0 text)) none

@@ -68,19 +68,19 @@ one_listing aim number pieces entries others are also =
     one_ascending entries others are.ascend also.ascend (λ e has. (also.exact e).1 ((are.exact e).0 has)) (λ e has. (are.exact e).1 ((also.exact e).0 has))
 
 -- which entries of some have at least a number
-kept_all : (least : ℕ) (entries : List Entry) (e : Entry) → Contains entries e → least ≤ e.number → Contains (entries_at_least least entries) e
+kept_all : (least : ℕ) (entries : List Entry) (e : Entry) → Contains entries e → least ≤ e.id.number → Contains (entries_at_least least entries) e
 kept_all least [] e has low = absurd (none_in e has)
 kept_all least (x ∷ xs) e has low =
-    elim (cases_lt x.number least) [
+    elim (cases_lt x.id.number least) [
       | inl below ↦
-          let out : nat_le least x.number ≡ false = grind (arith, nat_tests) in
+          let out : nat_le least x.id.number ≡ false = grind (arith, nat_tests) in
           subst (λ b. Contains (cond b (x ∷ entries_at_least least xs) (entries_at_least least xs)) e) (sym out)
           (elim (in_front x xs e has) [
-            | inl is ↦ (let same : x.number ≡ e.number = ap (λ (z : Entry). z.number) is in absurd (omega arith))
+            | inl is ↦ (let same : x.id.number ≡ e.id.number = ap (λ (z : Entry). z.id.number) is in absurd (omega arith))
             | inr later ↦ kept_all least xs e later low
           ])
       | inr above ↦
-          let in_it : nat_le least x.number ≡ true = grind (arith, nat_tests) in
+          let in_it : nat_le least x.id.number ≡ true = grind (arith, nat_tests) in
           subst (λ b. Contains (cond b (x ∷ entries_at_least least xs) (entries_at_least least xs)) e) (sym in_it)
           (elim (in_front x xs e has) [
             | inl is ↦ subst (Contains (x ∷ entries_at_least least xs)) is (has_first x (entries_at_least least xs))
@@ -88,18 +88,18 @@ kept_all least (x ∷ xs) e has low =
           ])
     ]
 
-kept_from : (least : ℕ) (entries : List Entry) (e : Entry) → Contains (entries_at_least least entries) e → Contains entries e × (least ≤ e.number)
+kept_from : (least : ℕ) (entries : List Entry) (e : Entry) → Contains (entries_at_least least entries) e → Contains entries e × (least ≤ e.id.number)
 kept_from least [] e has = absurd (none_in e has)
 kept_from least (x ∷ xs) e has =
-    elim (cases_lt x.number least) [
+    elim (cases_lt x.id.number least) [
       | inl below ↦
-          let out : nat_le least x.number ≡ false = grind (arith, nat_tests) in
+          let out : nat_le least x.id.number ≡ false = grind (arith, nat_tests) in
           let of = kept_from least xs e (subst (λ b. Contains (cond b (x ∷ entries_at_least least xs) (entries_at_least least xs)) e) out has) in
           (has_other x xs e of.0, of.1)
       | inr above ↦
-          let in_it : nat_le least x.number ≡ true = grind (arith, nat_tests) in
+          let in_it : nat_le least x.id.number ≡ true = grind (arith, nat_tests) in
           elim (in_front x (entries_at_least least xs) e (subst (λ b. Contains (cond b (x ∷ entries_at_least least xs) (entries_at_least least xs)) e) in_it has)) [
-            | inl is ↦ (subst (Contains (x ∷ xs)) is (has_first x xs), subst (λ (z : Entry). least ≤ z.number) is (omega arith))
+            | inl is ↦ (subst (Contains (x ∷ xs)) is (has_first x xs), subst (λ (z : Entry). least ≤ z.id.number) is (omega arith))
             | inr later ↦ (let of = kept_from least xs e later in (has_other x xs e of.0, of.1))
           ]
     ]
@@ -108,12 +108,12 @@ kept_from least (x ∷ xs) e has =
 kept_ascend : (least : ℕ) (entries : List Entry) → Ascend entries → Ascend (entries_at_least least entries)
 kept_ascend least [] up = tt
 kept_ascend least (x ∷ xs) up =
-    elim (cases_lt x.number least) [
+    elim (cases_lt x.id.number least) [
       | inl below ↦
-          let out : nat_le least x.number ≡ false = grind (arith, nat_tests) in
+          let out : nat_le least x.id.number ≡ false = grind (arith, nat_tests) in
           subst (λ b. Ascend (cond b (x ∷ entries_at_least least xs) (entries_at_least least xs))) (sym out) (kept_ascend least xs up.1)
       | inr above ↦
-          let in_it : nat_le least x.number ≡ true = grind (arith, nat_tests) in
+          let in_it : nat_le least x.id.number ≡ true = grind (arith, nat_tests) in
           subst (λ b. Ascend (cond b (x ∷ entries_at_least least xs) (entries_at_least least xs))) (sym in_it)
           (λ later has. up.0 later (kept_from least xs later has).0, kept_ascend least xs up.1)
     ]
@@ -141,7 +141,7 @@ of_whole aim before rest number e of = record {
 }
 
 -- a ply of a game of the whole with no lower number is one of the rest
-of_rest : (aim : Aim) (before rest : List MarkedPiece) (number : ℕ) (e : Entry) → IsPlyOfGame aim number (before ++ rest) e → length before + number ≤ e.number
+of_rest : (aim : Aim) (before rest : List MarkedPiece) (number : ℕ) (e : Entry) → IsPlyOfGame aim number (before ++ rest) e → length before + number ≤ e.id.number
     → IsPlyOfGame aim (length before + number) rest e
 of_rest aim before rest number e of low =
     let n = of.numbered in
@@ -217,12 +217,12 @@ ply_listed aim number pieces e of = record {
 
 -- the pieces of each text have entries
 pub some_listing : PiecesHaveOneListing
-some_listing aim limit max_depth number offset text pieces each =
-    let reported = some_report (listing_aim aim) limit max_depth number offset text pieces each in
-    let rows = of_pieces (listing_aim aim) refl number pieces reported.0 reported.1 in
-    let listed = are_entries (listing_aim aim) number pieces rows.0 rows.1 in
-    let are : AreEntries aim number pieces rows.0 = record {
-      exact = λ e. (λ has. listed_ply aim number pieces e ((listed.exact e).0 has), λ of. (listed.exact e).1 (ply_listed aim number pieces e of));
+some_listing aim limit max_depth id text pieces each =
+    let reported = some_report (listing_aim aim) limit max_depth id text pieces each in
+    let rows = of_pieces (listing_aim aim) refl id.number pieces reported.0 reported.1 in
+    let listed = are_entries (listing_aim aim) id.number pieces rows.0 rows.1 in
+    let are : AreEntries aim id.number pieces rows.0 = record {
+      exact = λ e. (λ has. listed_ply aim id.number pieces e ((listed.exact e).0 has), λ of. (listed.exact e).1 (ply_listed aim id.number pieces e of));
       ascend = listed.ascend;
     } in
-    (rows.0, are, λ others also. one_listing aim number pieces others rows.0 also are)
+    (rows.0, are, λ others also. one_listing aim id.number pieces others rows.0 also are)

@@ -7,15 +7,15 @@ use Rattle.pgn_game.specs.Public.Exports.{lines_with}
 use Rattle.pgn_game.specs.Public.Replays.{Replay}
 use Rattle.pgn_game.specs.Public.Starts.{fen_tag}
 use Rattle.pgn_game.proofs.OneReplay.{one_replay, no_fault}
-use Rattle.pgn_extract.specs.Public.Aims.{Aim}
+use Rattle.pgn_extract.specs.Public.Aims.{Aim, GameId}
 use Rattle.pgn_extract.specs.Public.Exports.{as_it_stands, IsWritten, selected, unselected, IsGameExport, sound, faulty}
 use Rattle.pgn_extract.specs.Public.Laws.{as_they_stand, IsInOneOf, in_first, in_second, in_third, PieceIsInOneExport}
 use Rattle.pgn_extract.specs.declared.settings.Select.TheVariants.{Matching, Others, Faulty}
 
-module _ (aim : Aim) (number offset : ℕ) (parts : List Part) where
+module _ (aim : Aim) (id : GameId) (parts : List Part) where
   -- a sound game has an entry or none, and is not faulty
-  sound_in_one : (replay : Replay) (x y z : List ℕ) → IsWritten (as_they_stand Matching aim) number offset parts replay x
-      → IsWritten (as_they_stand Others aim) number offset parts replay y → IsWritten (as_they_stand Faulty aim) number offset parts replay z
+  sound_in_one : (replay : Replay) (x y z : List ℕ) → IsWritten (as_they_stand Matching aim) id parts replay x
+      → IsWritten (as_they_stand Others aim) id parts replay y → IsWritten (as_they_stand Faulty aim) id parts replay z
       → IsInOneOf (as_it_stands (spelled parts)) x y z
   sound_in_one replay x y z a b (selected never text) = absurd never
   sound_in_one replay x y z (selected has text) (selected none also) (unselected never empty) = absurd (none has)
@@ -23,14 +23,14 @@ module _ (aim : Aim) (number offset : ℕ) (parts : List Part) where
   sound_in_one replay x y z (unselected none nothing) (selected also text) (unselected unmet empty) = in_second nothing text empty
   sound_in_one replay x y z (unselected none nothing) (unselected never also) (unselected unmet empty) = absurd (never none)
 
-  game_in_one : (x y z : List ℕ) → IsGameExport (as_they_stand Matching aim) number offset parts x → IsGameExport (as_they_stand Others aim) number offset parts y
-      → IsGameExport (as_they_stand Faulty aim) number offset parts z → IsInOneOf (as_it_stands (spelled parts)) x y z
+  game_in_one : (x y z : List ℕ) → IsGameExport (as_they_stand Matching aim) id parts x → IsGameExport (as_they_stand Others aim) id parts y
+      → IsGameExport (as_they_stand Faulty aim) id parts z → IsInOneOf (as_it_stands (spelled parts)) x y z
   game_in_one x y z (sound replay is a) (sound other also b) (sound third same c) =
       let lines = lines_with aim.style.variations in
       let second : other ≡ replay = one_replay lines (first_tag fen_tag parts) (items_of parts) other replay also is in
       let last : third ≡ replay = one_replay lines (first_tag fen_tag parts) (items_of parts) third replay same is in
-      sound_in_one replay x y z a (subst (λ (r : Replay). IsWritten (as_they_stand Others aim) number offset parts r y) second b)
-      (subst (λ (r : Replay). IsWritten (as_they_stand Faulty aim) number offset parts r z) last c)
+      sound_in_one replay x y z a (subst (λ (r : Replay). IsWritten (as_they_stand Others aim) id parts r y) second b)
+      (subst (λ (r : Replay). IsWritten (as_they_stand Faulty aim) id parts r z) last c)
   game_in_one x y z (faulty fault is a) (faulty other also b) (faulty third same c) = in_third a b c
   game_in_one x y z (sound replay is a) (faulty other also b) c =
       absurd (no_fault (lines_with aim.style.variations) (first_tag fen_tag parts) (items_of parts) other (replay, is) also)
@@ -42,6 +42,6 @@ module _ (aim : Aim) (number offset : ℕ) (parts : List Part) where
       absurd (no_fault (lines_with aim.style.variations) (first_tag fen_tag parts) (items_of parts) fault (replay, same) is)
 
 pub piece_in_one : PieceIsInOneExport
-piece_in_one aim number offset (ReadableGame parts) x y z a b c = game_in_one aim number offset parts x y z a b c
-piece_in_one aim number offset (UnreadableRest bytes) x y z a b c = in_third a b c
-piece_in_one aim number offset TooLongBlock x y z a b c = in_first a b c
+piece_in_one aim id (ReadableGame parts) x y z a b c = game_in_one aim id parts x y z a b c
+piece_in_one aim id (UnreadableRest bytes) x y z a b c = in_third a b c
+piece_in_one aim id TooLongBlock x y z a b c = in_first a b c

@@ -17,6 +17,9 @@ use Rattle.pgn_extract.proofs.ModeOutputs.{run_exports}
 use Rattle.pgn_extract.specs.Public.Searching.{AreGameRecords, sound, faulty, ArePieceRecords, AreRecords, IsPackOf, PackedTextIsAPack}
 use Rattle.pgn_extract.proofs.GameExport.{own_replay}
 use Rattle.pgn_extract.proofs.PackTaken.{pieces_records}
+use Rattle.pgn_extract.specs.declared.marks.GameId.{GameId}
+use Rattle.pgn_extract.specs.Public.GivenMarks.{game_id}
+use Rattle.pgn_extract.specs.Public.Choices.{id_of}
 
 both_parts : {X : Type 0} (P : X → Type 0) (xs ys : List X) → AllByRecursion P xs → AllByRecursion P ys → AllByRecursion P (xs ++ ys)
 both_parts P [] ys here there = there
@@ -51,26 +54,26 @@ small_of_blocks max_depth offset [] marks none = subst (AllByRecursion IsSmall) 
 small_of_blocks max_depth offset (block ∷ more) marks (own, rest, parted, here, others) =
     subst (AllByRecursion IsSmall) (sym parted) (both_parts IsSmall own rest (small_of_block max_depth offset block own here) (small_of_blocks max_depth (offset + length block) more rest others))
 
-is_met_there : (number offset : ℕ) (name : Option (List ℕ)) → 1 ≤ number → offset ≤ largest_offset
-    → IsTrue (is_shown_name name) → IsTrue (is_origin number offset name)
-is_met_there number offset name counted placed shown =
-    let first : nat_le 1 number ≡ true = grind (arith, nat_tests) in
-    let second : nat_le offset largest_offset ≡ true = grind (arith, nat_tests) in
+is_met_there : (id : GameId) (name : Option (List ℕ)) → 1 ≤ id.number → id.offset ≤ largest_offset
+    → IsTrue (is_shown_name name) → IsTrue (is_origin id.number id.offset name)
+is_met_there id name counted placed shown =
+    let first : nat_le 1 id.number ≡ true = grind (arith, nat_tests) in
+    let second : nat_le id.offset largest_offset ≡ true = grind (arith, nat_tests) in
     rw (first, second, shown) refl
 
-record_fits : (name : Option (List ℕ)) (number offset : ℕ) (parts : List Part) (records : List PackedGame) → IfSome name (λ own. length own ≤ longest_name)
-    → number < 2 ^ 64 → offset < 2 ^ 64 → IsTrue (is_origin number offset name) → length (spelled parts) ≤ block_limit → AreGameRecords name number offset parts records → AllByRecursion FitsRecord records
-record_fits name number offset parts records short number_fits offset_fits origin small (sound game replay packed good shows is packs one) =
+record_fits : (name : Option (List ℕ)) (id : GameId) (parts : List Part) (records : List PackedGame) → IfSome name (λ own. length own ≤ longest_name)
+    → id.number < 2 ^ 64 → id.offset < 2 ^ 64 → IsTrue (is_origin id.number id.offset name) → length (spelled parts) ≤ block_limit → AreGameRecords name id parts records → AllByRecursion FitsRecord records
+record_fits name id parts records short number_fits offset_fits origin small (sound game replay packed good shows is packs one) =
     let own = own_replay Main game parts replay shows is in
     let text : length game.text ≤ block_limit = omega (arith, ap length shows.text) in
-    subst (AllByRecursion FitsRecord) (sym one) (game_fits name number offset game parts replay packed good shows text own packs short number_fits offset_fits origin, tt)
-record_fits name number offset parts records short number_fits offset_fits origin small (faulty fault is none) = subst (AllByRecursion FitsRecord) (sym none) tt
+    subst (AllByRecursion FitsRecord) (sym one) (game_fits name id.number id.offset game parts replay packed good shows text own packs short number_fits offset_fits origin, tt)
+record_fits name id parts records short number_fits offset_fits origin small (faulty fault is none) = subst (AllByRecursion FitsRecord) (sym none) tt
 
-piece_fits : (name : Option (List ℕ)) (number offset : ℕ) (kind : PieceKind) (records : List PackedGame) → IfSome name (λ own. length own ≤ longest_name)
-    → number < 2 ^ 64 → offset < 2 ^ 64 → IsTrue (is_origin number offset name) → IsSmallKind kind → ArePieceRecords name kind number offset records → AllByRecursion FitsRecord records
-piece_fits name number offset (ReadableGame parts) records short number_fits offset_fits origin small are = record_fits name number offset parts records short number_fits offset_fits origin small are
-piece_fits name number offset (UnreadableRest bytes) records short number_fits offset_fits origin small none = subst (AllByRecursion FitsRecord) (sym none) tt
-piece_fits name number offset TooLongBlock records short number_fits offset_fits origin small none = subst (AllByRecursion FitsRecord) (sym none) tt
+piece_fits : (name : Option (List ℕ)) (id : GameId) (kind : PieceKind) (records : List PackedGame) → IfSome name (λ own. length own ≤ longest_name)
+    → id.number < 2 ^ 64 → id.offset < 2 ^ 64 → IsTrue (is_origin id.number id.offset name) → IsSmallKind kind → ArePieceRecords name kind id records → AllByRecursion FitsRecord records
+piece_fits name id (ReadableGame parts) records short number_fits offset_fits origin small are = record_fits name id parts records short number_fits offset_fits origin small are
+piece_fits name id (UnreadableRest bytes) records short number_fits offset_fits origin small none = subst (AllByRecursion FitsRecord) (sym none) tt
+piece_fits name id TooLongBlock records short number_fits offset_fits origin small none = subst (AllByRecursion FitsRecord) (sym none) tt
 
 -- a piece has no more pieces before it than bytes
 pieces_fit : (name : Option (List ℕ)) (number max_depth offset : ℕ) (text : List ℕ) (before more : List MarkedPiece) (records : List PackedGame)
@@ -80,20 +83,20 @@ pieces_fit : (name : Option (List ℕ)) (number max_depth offset : ℕ) (text : 
 pieces_fit name number max_depth offset text before [] records short shown counted few bounded each small none = subst (AllByRecursion FitsRecord) (sym none) tt
 pieces_fit name number max_depth offset text before (piece ∷ more) records short shown counted few bounded each small (own, rest, parted, here, others) =
     let bounds = mark_bounds block_limit max_depth offset text before piece more each in
-    let origin = is_met_there number piece.offset name counted (omega (arith, bounds.1)) shown in
-    let first = piece_fits name number piece.offset piece.kind own short (omega (arith, bounds.0, bounds.1)) (omega (arith, bounds.1)) origin small.0 here in
+    let origin = is_met_there (id_of number piece) name counted (omega (arith, bounds.1)) shown in
+    let first = piece_fits name (id_of number piece) piece.kind own short (omega (arith, bounds.0, bounds.1)) (omega (arith, bounds.1)) origin small.0 here in
     let next : AreMarkedPieces block_limit max_depth offset text ((before ++ piece ∷ []) ++ more) =
     subst (AreMarkedPieces block_limit max_depth offset text) (sym (append_assoc before (piece ∷ []) more)) each in
     let count : number + 1 ≤ 2 ^ 62 + length (before ++ piece ∷ []) = omega (arith, length-append before (piece ∷ [])) in
     subst (AllByRecursion FitsRecord) (sym parted) (both_parts FitsRecord own rest first (pieces_fit name (number + 1) max_depth offset text (before ++ piece ∷ []) more rest short shown (omega arith) count bounded next small.1 others))
 
 pub packed_text : PackedTextIsAPack
-packed_text packing number offset text pieces bytes packs =
-    let taken = pieces_records packing number pieces bytes packs.all packs.exported in
-    let small = small_of_blocks depth_limit offset packs.each.blocks pieces packs.each.each in record {
+packed_text packing id text pieces bytes packs =
+    let taken = pieces_records packing id.number pieces bytes packs.all packs.exported in
+    let small = small_of_blocks depth_limit id.offset packs.each.blocks pieces packs.each.each in record {
       records = taken.0;
       are = taken.1;
-      fit = pieces_fit packing.name number depth_limit offset text [] pieces taken.0 packs.short packs.shown packs.counted (omega (arith, packs.few)) packs.within packs.each small taken.1;
+      fit = pieces_fit packing.name id.number depth_limit id.offset text [] pieces taken.0 packs.short packs.shown packs.counted (omega (arith, packs.few)) packs.within packs.each small taken.1;
       packed = taken.2;
     }
 
@@ -109,7 +112,7 @@ listed_pack packing io summary whole exports all short shown counted few offset 
     some_input (λ bytes. Completes job io bytes summary) io.input.old.bytes whole known run.done.0 in
     let (text, are, exported) = run_exports job io whole summary done exports in
     let pack : IsPackOf packing.name packing.number done.pieces text =
-    packed_text job.aim packing.number packing.offset (drop packing.offset whole)
+    packed_text job.aim (game_id packing.number packing.offset) (drop packing.offset whole)
     done.pieces text record {
       all = all;
       short = short;

@@ -1,5 +1,5 @@
 -- The listing of a pack is that of the text that was packed, and its index is that of the sound games.
-use Rattle.std.proofs.Common.{◌≡◌, ◌⊎◌, ℕ, ◌+◌, inl, inr, List, [], ◌∷◌, ◌++◌, Option, refl, sym, ap, ◌∙◌, subst, append_assoc, append-nil}
+use Rattle.std.proofs.Common.{◌≡◌, ◌⊎◌, ℕ, ◌+◌, inl, inr, List, [], ◌∷◌, ◌++◌, Option, refl, sym, ap, ap₂, ◌∙◌, subst, append_assoc, append-nil}
 use Rattle.pgn_text.specs.Public.GameTexts.{GameText, ShowsGame}
 use Rattle.pgn_text.specs.Public.Games.{items_of, first_tag}
 use Rattle.pgn_text.specs.Public.Marks.{PieceKind, ReadableGame, UnreadableRest, TooLongBlock, MarkedPiece}
@@ -10,7 +10,7 @@ use Rattle.pgn_game.specs.Public.PackedGames.{PackedGame, IsPacked, pack_bytes}
 use Rattle.pgn_game.specs.Public.Starts.{fen_tag}
 use Rattle.pgn_game.specs.declared.replays.replayer.Lines.TheVariants.{Main}
 use Rattle.pgn_criteria.specs.Public.Meeting.{Heading, heading_of}
-use Rattle.pgn_extract.specs.Public.Aims.{Aim}
+use Rattle.pgn_extract.specs.Public.Aims.{Aim, GameId}
 use Rattle.pgn_extract.specs.Private.EntryRows.{AreGameEntries, sound as sound_rows, faulty as faulty_rows, ArePieceEntries, AreEntryRows}
 use Rattle.pgn_extract.specs.Public.GameReports.{AreListed}
 use Rattle.pgn_extract.specs.Public.Index.{mark_line}
@@ -22,6 +22,8 @@ use Rattle.pgn_extract.proofs.ExactEntries.{are_entries}
 use Rattle.pgn_extract.proofs.GameExport.{own_replay}
 use Rattle.pgn_extract.proofs.ModeOutputs.{listing-append}
 use Rattle.pgn_extract.proofs.OneListing.{one_listing}
+use Rattle.pgn_extract.specs.Public.GivenMarks.{game_id}
+use Rattle.pgn_extract.specs.Public.Choices.{id_of}
 
 -- the lines of records, and then of others
 lines_cut : (aim : Aim) (own rest : List PackedGame) (text : List ℕ) → ArePackLines aim (own ++ rest) text
@@ -48,10 +50,10 @@ same_heading : (game : GameText) (at : ℕ) (parts : List Part) → ShowsGame ga
 same_heading game at parts shows = λ i. record { named = λ name. shows.tags name i; result = shows.result i }
 
 -- what is listed of a record is listed of the game
-game_rows : (aim : Aim) → aim.mode ≡ modes.List → (name : Option (List ℕ)) (number offset : ℕ) (parts : List Part) (own : List PackedGame) (text : List ℕ)
-    → AreGameRecords name number offset parts own → ArePackLines aim own text
-    → (rows : List Entry) × AreGameEntries (of_all aim) number offset parts rows × (text ≡ listing name rows)
-game_rows aim list name number offset parts own text (sound game replay packed good shows is packs one) listed =
+game_rows : (aim : Aim) → aim.mode ≡ modes.List → (name : Option (List ℕ)) (id : GameId) (parts : List Part) (own : List PackedGame) (text : List ℕ)
+    → AreGameRecords name id parts own → ArePackLines aim own text
+    → (rows : List Entry) × AreGameEntries (of_all aim) id parts rows × (text ≡ listing name rows)
+game_rows aim list name id parts own text (sound game replay packed good shows is packs one) listed =
     let (lines, others, parted, of, none) = subst (λ r. ArePackLines aim r text) one listed in
     let played = own_replay Main game parts replay shows is in
     let own_mark : IsPacked packed.name packed.number packed.offset game replay packed = record {
@@ -67,22 +69,22 @@ game_rows aim list name number offset parts own text (sound game replay packed g
     } in
     let here : IsRecordListing aim packed lines = subst (λ (m : Mode). AreRecordLines m aim packed lines) list of in
     let found = here game replay good played own_mark in
-    let headed : AreListed aim packed.number packed.offset (heading_in parts) replay found.0 =
-    subst (λ (heading : Heading). AreListed aim packed.number packed.offset heading replay found.0) (same_heading game game.at parts shows) found.1 in
-    let numbered : AreListed aim number packed.offset (heading_in parts) replay found.0 = subst (λ (n : ℕ). AreListed aim n packed.offset (heading_in parts) replay found.0) packs.number headed in
-    let marked : AreListed aim number offset (heading_in parts) replay found.0 = subst (λ (o : ℕ). AreListed aim number o (heading_in parts) replay found.0) packs.offset numbered in (
+    let headed : AreListed aim (game_id packed.number packed.offset) (heading_in parts) replay found.0 =
+    subst (λ (heading : Heading). AreListed aim (game_id packed.number packed.offset) heading replay found.0) (same_heading game game.at parts shows) found.1 in
+    let marked : AreListed aim id (heading_in parts) replay found.0 =
+    subst (λ (i : GameId). AreListed aim i (heading_in parts) replay found.0) (ap₂ game_id packs.number packs.offset) headed in (
       found.0,
       sound_rows replay is marked,
       parted ∙ ap (λ t. lines ++ t) none ∙ append-nil lines ∙ found.2 ∙ ap (λ (title : Option (List ℕ)). listing title found.0) packs.name,
     )
-game_rows aim list name number offset parts own text (faulty fault is none) listed = ([], faulty_rows fault is refl, subst (λ r. ArePackLines aim r text) none listed)
+game_rows aim list name id parts own text (faulty fault is none) listed = ([], faulty_rows fault is refl, subst (λ r. ArePackLines aim r text) none listed)
 
-piece_rows : (aim : Aim) → aim.mode ≡ modes.List → (name : Option (List ℕ)) (kind : PieceKind) (number offset : ℕ) (own : List PackedGame) (text : List ℕ)
-    → ArePieceRecords name kind number offset own → ArePackLines aim own text
-    → (rows : List Entry) × ArePieceEntries (of_all aim) kind number offset rows × (text ≡ listing name rows)
-piece_rows aim list name (ReadableGame parts) number offset own text are listed = game_rows aim list name number offset parts own text are listed
-piece_rows aim list name (UnreadableRest bytes) number offset own text none listed = ([], refl, subst (λ r. ArePackLines aim r text) none listed)
-piece_rows aim list name TooLongBlock number offset own text none listed = ([], refl, subst (λ r. ArePackLines aim r text) none listed)
+piece_rows : (aim : Aim) → aim.mode ≡ modes.List → (name : Option (List ℕ)) (kind : PieceKind) (id : GameId) (own : List PackedGame) (text : List ℕ)
+    → ArePieceRecords name kind id own → ArePackLines aim own text
+    → (rows : List Entry) × ArePieceEntries (of_all aim) kind id rows × (text ≡ listing name rows)
+piece_rows aim list name (ReadableGame parts) id own text are listed = game_rows aim list name id parts own text are listed
+piece_rows aim list name (UnreadableRest bytes) id own text none listed = ([], refl, subst (λ r. ArePackLines aim r text) none listed)
+piece_rows aim list name TooLongBlock id own text none listed = ([], refl, subst (λ r. ArePackLines aim r text) none listed)
 
 all_rows : (aim : Aim) → aim.mode ≡ modes.List → (name : Option (List ℕ)) (number : ℕ) (pieces : List MarkedPiece) (records : List PackedGame) (text : List ℕ)
     → AreRecords name number pieces records → ArePackLines aim records text
@@ -90,7 +92,7 @@ all_rows : (aim : Aim) → aim.mode ≡ modes.List → (name : Option (List ℕ)
 all_rows aim list name number [] records text none listed = ([], refl, subst (λ r. ArePackLines aim r text) none listed)
 all_rows aim list name number (piece ∷ more) records text (own, rest, parted, here, others) listed =
     let cut = lines_cut aim own rest text (subst (λ r. ArePackLines aim r text) parted listed) in
-    let first = piece_rows aim list name piece.kind number piece.offset own cut.0 here cut.3 in
+    let first = piece_rows aim list name piece.kind (id_of number piece) own cut.0 here cut.3 in
     let later = all_rows aim list name (number + 1) more rest cut.1 others cut.4 in (
       first.0 ++ later.0,
       (first.0, later.0, refl, first.1, later.1),
@@ -114,31 +116,31 @@ packed_listing aim list whole records text read name number pieces pack entries 
 -- ---- the index
 
 -- the line of a piece in the index: its mark where it is a sound game, and else nothing
-abbrev IsPieceLine : Option (List ℕ) → ℕ → ℕ → PieceKind → List ℕ → Type 0
-IsPieceLine name number offset kind line =
-    (IsSoundPiece kind × (line ≡ mark_line name number offset)) ⊎ ((IsSoundPiece kind → ⊥) × (line ≡ []))
+abbrev IsPieceLine : Option (List ℕ) → GameId → PieceKind → List ℕ → Type 0
+IsPieceLine name id kind line =
+    (IsSoundPiece kind × (line ≡ mark_line name id)) ⊎ ((IsSoundPiece kind → ⊥) × (line ≡ []))
 
-game_line : (aim : Aim) → aim.mode ≡ modes.Index → (name : Option (List ℕ)) (number offset : ℕ) (parts : List Part) (own : List PackedGame) (text : List ℕ)
-    → AreGameRecords name number offset parts own → ArePackLines aim own text → IsPieceLine name number offset (ReadableGame parts) text
-game_line aim index name number offset parts own text (sound game replay packed good shows is packs one) lines =
+game_line : (aim : Aim) → aim.mode ≡ modes.Index → (name : Option (List ℕ)) (id : GameId) (parts : List Part) (own : List PackedGame) (text : List ℕ)
+    → AreGameRecords name id parts own → ArePackLines aim own text → IsPieceLine name id (ReadableGame parts) text
+game_line aim index name id parts own text (sound game replay packed good shows is packs one) lines =
     let (line, others, parted, of, empty) = subst (λ r. ArePackLines aim r text) one lines in
-    let marked : line ≡ mark_line packed.name packed.number packed.offset = subst (λ (m : Mode). AreRecordLines m aim packed line) index of in
+    let marked : line ≡ mark_line packed.name (game_id packed.number packed.offset) = subst (λ (m : Mode). AreRecordLines m aim packed line) index of in
     inl (
       (replay, is),
-      parted ∙ ap (λ t. line ++ t) empty ∙ append-nil line ∙ marked ∙ ap (λ (title : Option (List ℕ)). mark_line title packed.number packed.offset) packs.name
-          ∙ ap (λ n. mark_line name n packed.offset) packs.number ∙ ap (λ o. mark_line name number o) packs.offset,
+      parted ∙ ap (λ t. line ++ t) empty ∙ append-nil line ∙ marked ∙ ap (λ (title : Option (List ℕ)). mark_line title (game_id packed.number packed.offset)) packs.name
+          ∙ ap (mark_line name) (ap₂ game_id packs.number packs.offset),
     )
-game_line aim index name number offset parts own text (faulty fault is empty) lines =
+game_line aim index name id parts own text (faulty fault is empty) lines =
     inr (λ good. no_fault Main (first_tag fen_tag parts) (items_of parts) fault good is, subst (λ r. ArePackLines aim r text) empty lines)
 
-piece_line : (aim : Aim) → aim.mode ≡ modes.Index → (name : Option (List ℕ)) (kind : PieceKind) (number offset : ℕ) (own : List PackedGame) (text : List ℕ)
-    → ArePieceRecords name kind number offset own → ArePackLines aim own text → IsPieceLine name number offset kind text
-piece_line aim index name (ReadableGame parts) number offset own text are lines = game_line aim index name number offset parts own text are lines
-piece_line aim index name (UnreadableRest bytes) number offset own text empty lines = inr (λ no. no, subst (λ r. ArePackLines aim r text) empty lines)
-piece_line aim index name TooLongBlock number offset own text empty lines = inr (λ no. no, subst (λ r. ArePackLines aim r text) empty lines)
+piece_line : (aim : Aim) → aim.mode ≡ modes.Index → (name : Option (List ℕ)) (kind : PieceKind) (id : GameId) (own : List PackedGame) (text : List ℕ)
+    → ArePieceRecords name kind id own → ArePackLines aim own text → IsPieceLine name id kind text
+piece_line aim index name (ReadableGame parts) id own text are lines = game_line aim index name id parts own text are lines
+piece_line aim index name (UnreadableRest bytes) id own text empty lines = inr (λ no. no, subst (λ r. ArePackLines aim r text) empty lines)
+piece_line aim index name TooLongBlock id own text empty lines = inr (λ no. no, subst (λ r. ArePackLines aim r text) empty lines)
 
 -- the index of pieces, and of one more before them
-one_before : (name : Option (List ℕ)) (number : ℕ) (piece : MarkedPiece) (more : List MarkedPiece) (line text : List ℕ) → IsPieceLine name number piece.offset piece.kind line
+one_before : (name : Option (List ℕ)) (number : ℕ) (piece : MarkedPiece) (more : List MarkedPiece) (line text : List ℕ) → IsPieceLine name (id_of number piece) piece.kind line
     → IsIndexOfSoundGames name (number + 1) more text → IsIndexOfSoundGames name number (piece ∷ more) (line ++ text)
 one_before name number piece more line text (inl (good, is)) rest =
     subst (λ t. IsIndexOfSoundGames name number (piece ∷ more) (t ++ text)) (sym is) (keep number piece more text good rest)
@@ -151,7 +153,7 @@ sound_index aim index name number [] records text empty lines = subst (IsIndexOf
 sound_index aim index name number (piece ∷ more) records text (own, rest, parted, here, others) lines =
     let cut = lines_cut aim own rest text (subst (λ r. ArePackLines aim r text) parted lines) in
     subst (IsIndexOfSoundGames name number (piece ∷ more)) (sym cut.2)
-    (one_before name number piece more cut.0 cut.1 (piece_line aim index name piece.kind number piece.offset own cut.0 here cut.3)
+    (one_before name number piece more cut.0 cut.1 (piece_line aim index name piece.kind (id_of number piece) own cut.0 here cut.3)
     (sound_index aim index name (number + 1) more rest cut.1 others cut.4))
 
 -- whatever text the bytes are the pack of, the marks of their records are the index of its sound games

@@ -14,11 +14,10 @@ use Rattle.pgn_game.specs.declared.replays.replayer.Lines.{Lines}
 use Rattle.pgn_game.specs.declared.replays.replayer.Lines.TheVariants.{Main}
 use Rattle.pgn_criteria.specs.Public.Meeting.{Heading}
 use Rattle.pgn_criteria.specs.declared.condition.Condition.{Condition}
-use Rattle.pgn_extract.specs.Public.Aims.{Aim, IsMet}
+use Rattle.pgn_extract.specs.Public.Aims.{Aim, GameId, IsMet}
 use Rattle.pgn_extract.specs.Public.Exports.{HasEntry, IsSelected, IsWritten, selected, unselected, IsTextOf, sound as exported, faulty as unexported, IsPieceExport, AreExports, faulty_text, lines_in}
-use Rattle.pgn_extract.specs.Public.Choices.{is_chosen}
+use Rattle.pgn_extract.specs.Public.Choices.{id_of, is_chosen}
 use Rattle.pgn_extract.specs.Public.GameReports.{IsReplayOf, IsFaultOf}
-use Rattle.pgn_extract.specs.Public.GivenMarks.{GivenMark}
 use Rattle.pgn_extract.specs.Public.Listing.{heading_in}
 use Rattle.pgn_extract.specs.Public.Searching.{AreGameRecords, sound, faulty, ArePieceRecords, AreRecords, PacksAll}
 use Rattle.pgn_extract.specs.declared.settings.Form.{Form}
@@ -39,14 +38,14 @@ is_selected packing parts replay all is =
     subst (λ (select : Select). IsSelected select (HasEntry packing (heading_in parts) replay)) (sym all.select) (has_first packing (heading_in parts) replay all (omega (arith, count)))
 
 -- the record of a sound game
-sound_record : (packing : Aim) (number offset : ℕ) (parts : List Part) (replay : Replay) (text : List ℕ) → PacksAll packing → IsReplayOf Main parts replay
-    → IsWritten packing number offset parts replay text → (records : List PackedGame) × AreGameRecords packing.name number offset parts records × (text ≡ pack_bytes records)
-sound_record packing number offset parts replay text all is (selected entry of) =
-    let (game, good, shows, kept) = subst (λ (form : Form). IsTextOf form packing number offset parts text) all.form of in
+sound_record : (packing : Aim) (id : GameId) (parts : List Part) (replay : Replay) (text : List ℕ) → PacksAll packing → IsReplayOf Main parts replay
+    → IsWritten packing id parts replay text → (records : List PackedGame) × AreGameRecords packing.name id parts records × (text ≡ pack_bytes records)
+sound_record packing id parts replay text all is (selected entry of) =
+    let (game, good, shows, kept) = subst (λ (form : Form). IsTextOf form packing id parts text) all.form of in
     let items : IsReplay Main (tag_in fen_tag game.tags) (items_of parts) kept.replay = subst (λ (list : List Item). IsReplay Main (tag_in fen_tag game.tags) list kept.replay) shows.elements kept.is_replay in
     let played : IsReplayOf Main parts kept.replay = subst (λ (fen : Option (List ℕ)). IsReplay Main fen (items_of parts) kept.replay) (shows.tags fen_tag) items in
     (kept.packed ∷ [], sound game kept.replay kept.packed good shows played kept.is_packed refl, kept.spells ∙ sym (append-nil (record_bytes kept.packed)))
-sound_record packing number offset parts replay text all is (unselected none empty) = absurd (none (is_selected packing parts replay all is))
+sound_record packing id parts replay text all is (unselected none empty) = absurd (none (is_selected packing parts replay all is))
 
 -- the lines that must be sound
 main_alone : (packing : Aim) → PacksAll packing → lines_in packing.form packing.style ≡ Main
@@ -56,21 +55,21 @@ main_alone packing all = ap (λ (form : Form). lines_in form packing.style) all.
 nothing : (packing : Aim) (bytes text : List ℕ) → PacksAll packing → text ≡ faulty_text modes.Export packing.select bytes → text ≡ []
 nothing packing bytes text all is = is ∙ ap (λ (select : Select). faulty_text modes.Export select bytes) all.select
 
-piece_records : (packing : Aim) (number offset : ℕ) (kind : PieceKind) (text : List ℕ) → PacksAll packing → IsPieceExport packing number offset kind text
-    → (records : List PackedGame) × ArePieceRecords packing.name kind number offset records × (text ≡ pack_bytes records)
-piece_records packing number offset (ReadableGame parts) text all (exported replay is written) =
-    sound_record packing number offset parts replay text all (subst (λ (lines : Lines). IsReplayOf lines parts replay) (main_alone packing all) is) written
-piece_records packing number offset (ReadableGame parts) text all (unexported fault is written) =
+piece_records : (packing : Aim) (id : GameId) (kind : PieceKind) (text : List ℕ) → PacksAll packing → IsPieceExport packing id kind text
+    → (records : List PackedGame) × ArePieceRecords packing.name kind id records × (text ≡ pack_bytes records)
+piece_records packing id (ReadableGame parts) text all (exported replay is written) =
+    sound_record packing id parts replay text all (subst (λ (lines : Lines). IsReplayOf lines parts replay) (main_alone packing all) is) written
+piece_records packing id (ReadableGame parts) text all (unexported fault is written) =
     ([], faulty fault (subst (λ (lines : Lines). IsFaultOf lines parts fault) (main_alone packing all) is) refl, nothing packing (spelled parts) text all written)
-piece_records packing number offset (UnreadableRest bytes) text all written = ([], refl, nothing packing bytes text all written)
-piece_records packing number offset TooLongBlock text all written = ([], refl, written)
+piece_records packing id (UnreadableRest bytes) text all written = ([], refl, nothing packing bytes text all written)
+piece_records packing id TooLongBlock text all written = ([], refl, written)
 
 pub pieces_records : (packing : Aim) (number : ℕ) (pieces : List MarkedPiece) (bytes : List ℕ) → PacksAll packing → AreExports packing number pieces bytes
     → (records : List PackedGame) × AreRecords packing.name number pieces records × (bytes ≡ pack_bytes records)
 pieces_records packing number [] bytes all none = ([], refl, none)
 pieces_records packing number (piece ∷ more) bytes all (own, rest, parted, here, others) =
-    let taken = ap (λ (chosen : Option (List GivenMark)). is_chosen chosen number piece.offset) all.chosen in
-    let first = piece_records packing number piece.offset piece.kind own all (when_taken (is_chosen packing.chosen number piece.offset) _ taken here) in
+    let taken = ap (λ (chosen : Option (List GameId)). is_chosen chosen (id_of number piece)) all.chosen in
+    let first = piece_records packing (id_of number piece) piece.kind own all (when_taken (is_chosen packing.chosen (id_of number piece)) _ taken here) in
     let later = pieces_records packing (number + 1) more rest all others in (
       first.0 ++ later.0,
       (first.0, later.0, refl, first.1, later.1),

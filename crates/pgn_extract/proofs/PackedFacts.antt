@@ -24,11 +24,11 @@ use Rattle.pgn_criteria.specs.Public.Meeting.{heading_of}
 use Rattle.pgn_criteria.specs.Public.Walks.{Sight, IsSightOf, stepped}
 use Rattle.pgn_criteria.specs.declared.condition.Condition.{Condition}
 use Rattle.pgn_criteria.proofs.WalkFacts.{step_shows_next_position}
-use Rattle.pgn_extract.specs.Public.Aims.{Aim}
+use Rattle.pgn_extract.specs.Public.Aims.{Aim, GameId}
 use Rattle.pgn_extract.specs.Private.Finding.{AsksFor, Finds}
 use Rattle.pgn_extract.specs.Public.GameReports.{AreListed}
 use Rattle.pgn_extract.specs.Public.Listing.{Entry, listing}
-use Rattle.pgn_extract.specs.Private.Packed.{PutsRecord, IsOfRecord, HasNoText, HasItsMarks, GoesOnSeen, ListsRecord}
+use Rattle.pgn_extract.specs.Private.Packed.{raw_id, PutsRecord, IsOfRecord, HasNoText, HasItsMarks, GoesOnSeen, ListsRecord}
 use Rattle.pgn_extract.specs.Public.Searching.{AreRecordLines, IsOfNoGame, IsRecordListing}
 use Rattle.pgn_extract.specs.declared.settings.Mode.{Mode}
 use Rattle.pgn_extract.specs.declared.settings.Mode.TheVariants as modes
@@ -78,7 +78,7 @@ module _ {raw : RawRecord} {game : GameText} {replay : Replay} {packed : PackedG
 -- ---- plies
 
 -- the walk shows the position after so many plies: what is left of the codes is that of what is left of the line; and the entries so far are found
-pub record IsWalkedTo (aim : Aim) (number offset : ℕ) (game : GameText) (replay : Replay) (packed : PackedGame) (seen : Sight) (ply : ℕ) (old new : List ℕ) (on : Bool) : Type 0 where
+pub record IsWalkedTo (aim : Aim) (id : GameId) (game : GameText) (replay : Replay) (packed : PackedGame) (seen : Sight) (ply : ℕ) (old new : List ℕ) (on : Bool) : Type 0 where
   pub before : List State
   pub here : State
   pub later : List State
@@ -89,14 +89,14 @@ pub record IsWalkedTo (aim : Aim) (number offset : ℕ) (game : GameText) (repla
   pub sight : IsSightOf here seen
   pub line : IsMainLine here words (here ∷ later) moves
   pub codes : AreCodes here moves (drop ply packed.plies)
-  pub finds : Finds aim number offset game (before ++ here ∷ []) old new on
+  pub finds : Finds aim id game (before ++ here ∷ []) old new on
 
 -- at the start
-pub walked_none : {aim : Aim} {number offset : ℕ} {raw : RawRecord} {game : GameText} {replay : Replay} {packed : PackedGame} {seen : Sight} {old new : List ℕ} {on still : Bool}
+pub walked_none : {aim : Aim} {id : GameId} {raw : RawRecord} {game : GameText} {replay : Replay} {packed : PackedGame} {seen : Sight} {old new : List ℕ} {on still : Bool}
     (asked : List (List (Condition (List ℕ)))) → IsOfRecord raw game replay packed → AsksFor aim game asked → (on ≡ false → length asked ≡ 0)
-    → (P : State) × (slice_get replay.positions 0 ≡ Some P) × IsSightOf P seen → GoesOnSeen aim number offset asked seen 0 old new on still
-    → IsWalkedTo aim number offset game replay packed seen 0 old new still
-walked_none {aim} {number} {offset} {raw} {game} {replay} {packed} {seen} {old} {new} {on} {still} asked own asks off (P, here, sight) goes =
+    → (P : State) × (slice_get replay.positions 0 ≡ Some P) × IsSightOf P seen → GoesOnSeen aim id asked seen 0 old new on still
+    → IsWalkedTo aim id game replay packed seen 0 old new still
+walked_none {aim} {id} {raw} {game} {replay} {packed} {seen} {old} {new} {on} {still} asked own asks off (P, here, sight) goes =
     let start = own.is_replay.start in
     let from = begins own in
     let same : P ≡ start = same_Some P start (sym here ∙ first_is own) in
@@ -111,7 +111,7 @@ walked_none {aim} {number} {offset} {raw} {game} {replay} {packed} {seen} {old} 
       sight = subst (λ (Q : State). IsSightOf Q seen) same sight;
       line = subst (λ (ps : List State). IsMainLine start (main_words game.elements 0) ps replay.played) from.1 own.is_replay.line;
       codes = subst (λ (Q : State). AreCodes Q replay.played packed.plies) (kept_start own) own.kept.plies;
-      finds = goes game asks [] start refl (subst (λ (Q : State). IsSightOf Q seen) same sight) old (finds_none aim number offset game asked old on asks off);
+      finds = goes game asks [] start refl (subst (λ (Q : State). IsSightOf Q seen) same sight) old (finds_none aim id game asked old on asks off);
     }
 
 -- one more ply of the line
@@ -148,12 +148,12 @@ next_ply here later (word ∷ words) (m ∷ moves) c more (n, rest, others, posi
           (subst (λ (cs : List PlyCode). AreCodes (after here m) moves cs) (sym (same_rest c d more left codes_is)) are);
     }
 
-pub walked_by : {aim : Aim} {number offset : ℕ} {game : GameText} {replay : Replay} {packed : PackedGame} {seen : Sight} {ply : ℕ} {old new next : List ℕ} {on still : Bool}
-    (c : PlyCode) → IsWalkedTo aim number offset game replay packed seen ply old new on → drop ply packed.plies ≡ c ∷ drop (ply + 1) packed.plies
+pub walked_by : {aim : Aim} {id : GameId} {game : GameText} {replay : Replay} {packed : PackedGame} {seen : Sight} {ply : ℕ} {old new next : List ℕ} {on still : Bool}
+    (c : PlyCode) → IsWalkedTo aim id game replay packed seen ply old new on → drop ply packed.plies ≡ c ∷ drop (ply + 1) packed.plies
     → ((before : List State) (P : State) (rest : List State) → replay.positions ≡ before ++ P ∷ rest → length before ≡ ply + 1 → IsSightOf P (stepped seen c)
-    → Finds aim number offset game before old new on → Finds aim number offset game (before ++ P ∷ []) old next still)
-    → IsWalkedTo aim number offset game replay packed (stepped seen c) (ply + 1) old next still
-walked_by {aim} {number} {offset} {game} {replay} {packed} {seen} {ply} {old} {new} {next} {on} {still} c at front goes =
+    → Finds aim id game before old new on → Finds aim id game (before ++ P ∷ []) old next still)
+    → IsWalkedTo aim id game replay packed (stepped seen c) (ply + 1) old next still
+walked_by {aim} {id} {game} {replay} {packed} {seen} {ply} {old} {new} {next} {on} {still} c at front goes =
     let one = next_ply at.here at.later at.words at.moves c (drop (ply + 1) packed.plies) at.line (subst (AreCodes at.here at.moves) front at.codes) in
     let before = at.before ++ at.here ∷ [] in
     let count : length before ≡ ply + 1 = length-append at.before (at.here ∷ []) ∙ ap (λ n. n + 1) at.count in
@@ -174,45 +174,45 @@ walked_by {aim} {number} {offset} {game} {replay} {packed} {seen} {ply} {old} {n
       finds = goes before (after at.here one.m) one.rest parts count sight at.finds;
     }
 
-pub walked_on : {aim : Aim} {number offset : ℕ} {game : GameText} {replay : Replay} {packed : PackedGame} {seen : Sight} {ply : ℕ} {old new next : List ℕ} {on still : Bool}
-    (asked : List (List (Condition (List ℕ)))) (c : PlyCode) (beyond : Sight) → IsWalkedTo aim number offset game replay packed seen ply old new on
+pub walked_on : {aim : Aim} {id : GameId} {game : GameText} {replay : Replay} {packed : PackedGame} {seen : Sight} {ply : ℕ} {old new next : List ℕ} {on still : Bool}
+    (asked : List (List (Condition (List ℕ)))) (c : PlyCode) (beyond : Sight) → IsWalkedTo aim id game replay packed seen ply old new on
     → drop ply packed.plies ≡ c ∷ drop (ply + 1) packed.plies → AsksFor aim game asked → beyond ≡ stepped seen c
-    → GoesOnSeen aim number offset asked beyond (ply + 1) new next on still → IsWalkedTo aim number offset game replay packed beyond (ply + 1) old next still
-walked_on {aim} {number} {offset} {game} {replay} {packed} {seen} {ply} {old} {new} {next} {on} {still} asked c beyond at front asks step goes =
-    subst (λ s. IsWalkedTo aim number offset game replay packed s (ply + 1) old next still) (sym step)
+    → GoesOnSeen aim id asked beyond (ply + 1) new next on still → IsWalkedTo aim id game replay packed beyond (ply + 1) old next still
+walked_on {aim} {id} {game} {replay} {packed} {seen} {ply} {old} {new} {next} {on} {still} asked c beyond at front asks step goes =
+    subst (λ s. IsWalkedTo aim id game replay packed s (ply + 1) old next still) (sym step)
     (walked_by c at front (λ before P rest parts count sight found. goes game asks before P count (subst (IsSightOf P) (sym step) sight) old found))
 
 -- ---- the end
 
 -- what is listed of a game
-abbrev pub IsListedOf : Aim → ℕ → ℕ → GameText → Replay → List ℕ → List ℕ → Type 0
-IsListedOf aim number offset game replay old new =
-    (entries : List Entry) × AreListed aim number offset (heading_of game) replay entries × (new ≡ old ++ listing aim.name entries)
+abbrev pub IsListedOf : Aim → GameId → GameText → Replay → List ℕ → List ℕ → Type 0
+IsListedOf aim id game replay old new =
+    (entries : List Entry) × AreListed aim id (heading_of game) replay entries × (new ≡ old ++ listing aim.name entries)
 
 pub line_ended : (here : State) (later : List State) (words : List (List ℕ)) (moves : List Move) → IsMainLine here words (here ∷ later) moves → AreCodes here moves [] → later ≡ []
 line_ended here later [] moves line codes = same_rest here here later [] line.0
 line_ended here later (word ∷ words) [] (n, rest, others, positions_is, moves_is, named, line) codes = absurd (no_cell n others moves_is)
 line_ended here later (word ∷ words) (m ∷ moves) line (c, more, is, code, are) = absurd (no_cell c more is)
 
-module _ {aim : Aim} {number offset : ℕ} {raw : RawRecord} {game : GameText} {replay : Replay} {packed : PackedGame} {seen : Sight} {ply : ℕ} {old new : List ℕ} {on : Bool}
-    (own : IsOfRecord raw game replay packed) (at : IsWalkedTo aim number offset game replay packed seen ply old new on) where
+module _ {aim : Aim} {id : GameId} {raw : RawRecord} {game : GameText} {replay : Replay} {packed : PackedGame} {seen : Sight} {ply : ℕ} {old new : List ℕ} {on : Bool}
+    (own : IsOfRecord raw game replay packed) (at : IsWalkedTo aim id game replay packed seen ply old new on) where
   -- all plies are walked
-  pub walked_all : length packed.plies ≤ ply → IsListedOf aim number offset game replay old new
+  pub walked_all : length packed.plies ≤ ply → IsListedOf aim id game replay old new
   walked_all past =
       let ended : at.later ≡ [] = line_ended at.here at.later at.words at.moves at.line (subst (AreCodes at.here at.moves) (drop_of_length-le packed.plies past) at.codes) in
       let whole : replay.positions ≡ at.before ++ at.here ∷ [] = at.parts ∙ ap (λ (ps : List State). at.before ++ at.here ∷ ps) ended in
       (at.finds.found, finds_all at.finds replay (Main, own.is_replay) whole, at.finds.written)
 
-  shut_rest : (later asked : List State) → Finds aim number offset game asked old new false → Finds aim number offset game (asked ++ later) old new false
-  shut_rest [] asked finds = subst (λ (ps : List State). Finds aim number offset game ps old new false) (sym (append-nil asked)) finds
+  shut_rest : (later asked : List State) → Finds aim id game asked old new false → Finds aim id game (asked ++ later) old new false
+  shut_rest [] asked finds = subst (λ (ps : List State). Finds aim id game ps old new false) (sym (append-nil asked)) finds
   shut_rest (P ∷ later) asked finds =
-      subst (λ (ps : List State). Finds aim number offset game ps old new false) (append_assoc asked (P ∷ []) later)
+      subst (λ (ps : List State). Finds aim id game ps old new false) (append_assoc asked (P ∷ []) later)
       (shut_rest later (asked ++ P ∷ []) (leaves_shut P finds refl))
 
   -- no later one may be an entry
-  pub walked_enough : on ≡ false → IsListedOf aim number offset game replay old new
+  pub walked_enough : on ≡ false → IsListedOf aim id game replay old new
   walked_enough off =
-      let all = shut_rest at.later (at.before ++ at.here ∷ []) (subst (Finds aim number offset game (at.before ++ at.here ∷ []) old new) off at.finds) in
+      let all = shut_rest at.later (at.before ++ at.here ∷ []) (subst (Finds aim id game (at.before ++ at.here ∷ []) old new) off at.finds) in
       (all.found, finds_all all replay (Main, own.is_replay) (at.parts ∙ sym (append_assoc at.before (at.here ∷ []) at.later)), all.written)
 
 -- ---- of whatever game
@@ -236,8 +236,8 @@ puts_record aim raw old new mode lists = (
   λ packed fits shows. listed_lines aim packed lists.0.0 mode (λ game replay text is_replay kept.
       let own : IsOfRecord raw game replay packed = record { fits = fits; shows = shows; text = text; is_replay = is_replay; kept = kept } in
       let of = lists.1 game replay packed own in
-      let there : (entries : List Entry) × AreListed aim (raw_of packed).number (raw_of packed).offset (heading_of game) replay entries × (new ≡ old ++ listing (raw_of packed).name entries) =
-      subst (λ (r : RawRecord). (entries : List Entry) × AreListed aim r.number r.offset (heading_of game) replay entries × (new ≡ old ++ listing r.name entries)) (sym shows) of in
+      let there : (entries : List Entry) × AreListed aim (raw_id (raw_of packed)) (heading_of game) replay entries × (new ≡ old ++ listing (raw_of packed).name entries) =
+      subst (λ (r : RawRecord). (entries : List Entry) × AreListed aim (raw_id r) (heading_of game) replay entries × (new ≡ old ++ listing r.name entries)) (sym shows) of in
       (there.0, there.1, appended_same old lists.0.0 (listing packed.name there.0) (sym lists.0.1 ∙ there.2))),
 )
 

@@ -6,30 +6,30 @@ use Rattle.pgn_game.specs.Public.Replays.{Replay}
 use Rattle.pgn_text.specs.Public.GameTexts.{GameText}
 use Rattle.pgn_criteria.specs.Public.Meeting.{Heading, heading_of, Meets}
 use Rattle.pgn_criteria.specs.declared.condition.Condition.{Condition}
-use Rattle.pgn_extract.specs.Public.Aims.{Aim, IsMet}
+use Rattle.pgn_extract.specs.Public.Aims.{Aim, GameId, IsMet}
 use Rattle.pgn_extract.specs.Private.Finding.{IsOfGame, AsksFor}
 use Rattle.pgn_extract.specs.Public.Listing.{Entry}
 use Rattle.pgn_extract.specs.Public.GameReports.{plies_of, AreChosen}
 use Rattle.pgn_extract.specs.Public.GameReports.AreChosen.{none, leave}
 use Rattle.pgn_extract.proofs.FieldTexts.{some_position}
 
-module _ (number offset : ℕ) (P : ℕ → Type 0) (S : ℕ → List ℕ → Type 0) where
+module _ (id : GameId) (P : ℕ → Type 0) (S : ℕ → List ℕ → Type 0) where
   -- of positions in a row the first are left
   pub leaves : (ply count : ℕ) (positions : List State) (chosen : List Entry) → ((n : ℕ) → ply ≤ n → n < ply + count → P n → ⊥)
-      → AreChosen number offset P S (plies_of (ply + count) (drop count positions)) chosen → AreChosen number offset P S (plies_of ply positions) chosen
+      → AreChosen id P S (plies_of (ply + count) (drop count positions)) chosen → AreChosen id P S (plies_of ply positions) chosen
   leaves ply zero positions chosen fail later =
       let same : ply + 0 ≡ ply = omega arith in
-      subst (λ n. AreChosen number offset P S (plies_of n positions) chosen) same later
+      subst (λ n. AreChosen id P S (plies_of n positions) chosen) same later
   leaves ply (suc count) [] chosen fail later = later
   leaves ply (suc count) (position ∷ more) chosen fail later =
       let next : ply + suc count ≡ ply + 1 + count = omega arith in
       leave ply (plies_of (ply + 1) more) chosen (fail ply (omega arith) (omega arith))
       (leaves (ply + 1) count more chosen (λ n low high. fail n (omega arith) (omega arith))
-      (subst (λ n. AreChosen number offset P S (plies_of n (drop count more)) chosen) next later))
+      (subst (λ n. AreChosen id P S (plies_of n (drop count more)) chosen) next later))
 
   -- and all are
   pub leaves_all : (ply : ℕ) (positions : List State) → ((n : ℕ) → ply ≤ n → n < ply + length positions → P n → ⊥)
-      → AreChosen number offset P S (plies_of ply positions) []
+      → AreChosen id P S (plies_of ply positions) []
   leaves_all ply [] fail = none
   leaves_all ply (position ∷ more) fail =
       leave ply (plies_of (ply + 1) more) [] (fail ply (omega arith) (omega arith)) (leaves_all (ply + 1) more (λ n low high. fail n (omega arith) (omega arith)))

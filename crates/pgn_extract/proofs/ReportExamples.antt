@@ -9,7 +9,7 @@ use Rattle.pgn_game.specs.Public.Faults.{AmbiguousMove, BadStart, IllegalMove}
 use Rattle.pgn_game.specs.Public.Replays.{Replay}
 use Rattle.pgn_game.specs.declared.exports.style.Style.{Style}
 use Rattle.pgn_game.specs.declared.replays.replayer.Lines.TheVariants.{All, Main}
-use Rattle.pgn_extract.specs.Public.Aims.{Aim}
+use Rattle.pgn_extract.specs.Public.Aims.{Aim, GameId}
 use Rattle.pgn_extract.specs.Public.Exports.{HasEntry, IsPieceExport, IsSelected, IsWritten, faulty_text, lines_in, selected, unselected}
 use Rattle.pgn_extract.specs.Public.Choices.{is_chosen}
 use Rattle.pgn_extract.specs.Public.GameReports.{cause_text}
@@ -23,10 +23,11 @@ use Rattle.pgn_extract.proofs.TwoFiles.{plain}
 use Rattle.pgn_extract.specs.declared.settings.Form.TheVariants.{AsItStands, Record, Standard}
 use Rattle.pgn_extract.specs.declared.settings.Mode.TheVariants as modes
 use Rattle.pgn_extract.specs.declared.settings.Select.TheVariants.{Faulty, Matching}
+use Rattle.pgn_extract.specs.Public.GivenMarks.{game_id}
 
 -- ---- lines
 
-fault_line_is : fault_text None 2 5 (codes "unreadable")
+fault_line_is : fault_text None (game_id 2 5) (codes "unreadable")
     ≡ codes "pgn-extract: game 2@5: unreadable" ++ 10 ∷ []
 fault_line_is =
     ap (λ d. codes "pgn-extract: game " ++ (d ++ 64 ∷ decimal 5) ++ codes ": " ++ codes "unreadable"
@@ -36,10 +37,9 @@ fault_line_is =
     (decimal_digit 5 (omega arith))
 
 -- in a run over several files it has the name of the file
-named_fault_line : (number offset : ℕ) (cause : List ℕ)
-    → fault_text (Some (codes "a.pgn")) number offset cause
-    ≡ codes "pgn-extract: a.pgn: game " ++ mark number offset ++ codes ": " ++ cause ++ 10 ∷ []
-named_fault_line number offset cause = refl
+named_fault_line : (id : GameId) (cause : List ℕ) → fault_text (Some (codes "a.pgn")) id cause
+    ≡ codes "pgn-extract: a.pgn: game " ++ mark id ++ codes ": " ++ cause ++ 10 ∷ []
+named_fault_line id cause = refl
 
 causes_are : (cause_text BadStart ≡ codes "bad position")
     × (cause_text (IllegalMove (codes "Qxh8") 1) ≡ codes "illegal move Qxh8 at ply 1")
@@ -55,7 +55,7 @@ index_is : (name : Option (List ℕ)) (parts : List Part) (bytes : List ℕ)
     → index None name 1 (record { offset = 0; kind = UnreadableRest bytes }
     ∷ record { offset = 9; kind = ReadableGame parts } ∷ record { offset = 20; kind = TooLongBlock }
     ∷ record { offset = 31; kind = ReadableGame parts } ∷ [])
-    ≡ mark_line name 2 9 ++ (mark_line name 4 31 ++ [])
+    ≡ mark_line name (game_id 2 9) ++ (mark_line name (game_id 4 31) ++ [])
 index_is name parts bytes = refl
 
 -- ---- what a line of a list shows
@@ -92,36 +92,35 @@ lines_are : (style : Style) → (lines_in Record style ≡ Main)
 lines_are style = (refl, refl, refl)
 
 -- no sound game is written among the faulty ones, and no faulty one among those that are sought
-no_sound_game : (aim : Aim) (number offset : ℕ) (parts : List Part) (replay : Replay)
-    → aim.select ≡ Faulty → IsWritten aim number offset parts replay (codes "x") → ⊥
-no_sound_game aim number offset parts replay faulty (selected is text) =
+no_sound_game : (aim : Aim) (id : GameId) (parts : List Part) (replay : Replay)
+    → aim.select ≡ Faulty → IsWritten aim id parts replay (codes "x") → ⊥
+no_sound_game aim id parts replay faulty (selected is text) =
     subst (λ select. IsSelected select (HasEntry aim (heading_in parts) replay)) faulty is
-no_sound_game aim number offset parts replay faulty (unselected is none) = cc
+no_sound_game aim id parts replay faulty (unselected is none) = cc
 
-no_faulty_bytes : (aim : Aim) (number offset : ℕ) (bytes : List ℕ) → aim.select ≡ Matching
-    → IsPieceExport aim number offset (UnreadableRest bytes) (codes "x") → ⊥
-no_faulty_bytes aim number offset bytes matching is =
+no_faulty_bytes : (aim : Aim) (id : GameId) (bytes : List ℕ) → aim.select ≡ Matching
+    → IsPieceExport aim id (UnreadableRest bytes) (codes "x") → ⊥
+no_faulty_bytes aim id bytes matching is =
     let none : codes "x" ≡ [] = is
     ∙ ap (λ select. faulty_text modes.Export select bytes) matching in cc
 
 -- ---- what is reported
 
 -- nothing is listed of a faulty game, and its line is not empty
-nothing_listed : (aim : Aim) (number offset : ℕ) (parts : List Part) (line note : List ℕ)
-    → IsListed aim (FaultyGame (codes "x") line note) number offset parts → ⊥
-nothing_listed aim number offset parts line note (fault, first, is, noted, none) = cc
+nothing_listed : (aim : Aim) (id : GameId) (parts : List Part) (line note : List ℕ)
+    → IsListed aim (FaultyGame (codes "x") line note) id parts → ⊥
+nothing_listed aim id parts line note (fault, first, is, noted, none) = cc
 
-no_fault_unsaid : (aim : Aim) (number offset : ℕ) (parts : List Part) (text note : List ℕ)
-    → IsExported aim (FaultyGame text [] note) number offset parts → ⊥
-no_fault_unsaid aim number offset parts text note (fault, first, is, noted, written) = cc
+no_fault_unsaid : (aim : Aim) (id : GameId) (parts : List Part) (text note : List ℕ)
+    → IsExported aim (FaultyGame text [] note) id parts → ⊥
+no_fault_unsaid aim id parts text note (fault, first, is, noted, written) = cc
 
 -- bytes that are no game are not sound
-not_sound : (aim : Aim) (number offset : ℕ) (bytes text : List ℕ)
-    → is_chosen aim.chosen number offset ≡ true
-    → IsVerdict aim number (record { offset = offset; kind = UnreadableRest bytes })
+not_sound : (aim : Aim) (id : GameId) (bytes text : List ℕ) → is_chosen aim.chosen id ≡ true
+    → IsVerdict aim id.number (record { offset = id.offset; kind = UnreadableRest bytes })
     (SoundGame text) → ⊥
-not_sound aim number offset bytes text taken is =
-    let by = when_taken (is_chosen aim.chosen number offset) _ taken is in
+not_sound aim id bytes text taken is =
+    let by = when_taken (is_chosen aim.chosen id) _ taken is in
     let same = by.3 in cc
 
 -- nothing is written of no piece

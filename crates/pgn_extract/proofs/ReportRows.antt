@@ -8,9 +8,9 @@ use Rattle.pgn_criteria.specs.declared.condition.Condition.{Condition}
 use Rattle.pgn_text.specs.Public.Games.{first_tag}
 use Rattle.pgn_text.specs.Public.Marks.{ReadableGame, UnreadableRest, TooLongBlock}
 use Rattle.pgn_text.specs.Public.Parts.{Part, Star, Tag}
-use Rattle.pgn_extract.specs.Public.Aims.{Aim, IsMet}
+use Rattle.pgn_extract.specs.Public.Aims.{Aim, GameId, IsMet}
 use Rattle.pgn_extract.specs.Public.GameReports.{AreChosen, plies_of}
-use Rattle.pgn_extract.specs.Public.GivenMarks.{is_number, mark_of, mark_around}
+use Rattle.pgn_extract.specs.Public.GivenMarks.{game_id, is_number, mark_of, mark_around}
 use Rattle.pgn_extract.specs.Public.Index.{index_line, mark, mark_line}
 use Rattle.pgn_extract.specs.Public.Listing.{Ascend, Entry, IsEarlier, IsPlyOfGame, entries_at_least, entry_line, heading_in}
 use Rattle.pgn_extract.specs.Public.Notes.{AreLines, indented}
@@ -33,15 +33,14 @@ no_number_of_20_digits : is_number (codes "00000000000000000001") ∷ is_number 
     ≡ false ∷ false ∷ false ∷ []
 no_number_of_20_digits = refl
 
-mark_of_two_numbers : mark_of (Some 3) (Some 8) ≡ Some (record { number = 3; offset = 8 })
+mark_of_two_numbers : mark_of (Some 3) (Some 8) ≡ Some (game_id 3 8)
 mark_of_two_numbers = refl
 
 no_mark_of_game_0 : mark_of (Some 0) (Some 8) ∷ mark_of None (Some 8) ∷ mark_of (Some 3) None ∷ []
     ≡ None ∷ None ∷ None ∷ []
 no_mark_of_game_0 = refl
 
-numbers_around_the_sign : mark_around (codes "3@8") (Some 1)
-    ≡ Some (record { number = 3; offset = 8 })
+numbers_around_the_sign : mark_around (codes "3@8") (Some 1) ≡ Some (game_id 3 8)
 numbers_around_the_sign = refl
 
 no_mark_without_a_sign : mark_around (codes "3@8") None ≡ None
@@ -166,7 +165,7 @@ mark_is_refused noted request = (_, refl)
 -- Lines.
 
 line_of_a_game : (name : Option (List ℕ)) (parts : List Part)
-    → index_line name 2 (record { offset = 5; kind = ReadableGame parts }) ≡ mark_line name 2 5
+    → index_line name 2 (record { offset = 5; kind = ReadableGame parts }) ≡ mark_line name (game_id 2 5)
 line_of_a_game name parts = refl
 
 no_line_of_other_pieces : (name : Option (List ℕ)) (bytes : List ℕ)
@@ -175,8 +174,8 @@ no_line_of_other_pieces : (name : Option (List ℕ)) (bytes : List ℕ)
 no_line_of_other_pieces name bytes = refl
 
 line_of_an_entry :
-    entry_line (Some (codes "a")) (record { number = 2; offset = 5; ply = 3; shown = codes " e4" })
-    ≡ (codes "a:" ++ mark 2 5) ++ 32 ∷ decimal 3 ++ (codes " e4" ++ 10 ∷ [])
+    entry_line (Some (codes "a")) (record { id = game_id 2 5; ply = 3; shown = codes " e4" })
+    ≡ (codes "a:" ++ mark (game_id 2 5)) ++ 32 ∷ decimal 3 ++ (codes " e4" ++ 10 ∷ [])
 line_of_an_entry = refl
 
 heading_has_the_first_tag : heading_in (Tag [] (codes "A") [] (codes "b") [] ∷ Star ∷ [])
@@ -197,7 +196,7 @@ no_entry_stands_twice : (entry : Entry) → Ascend (entry ∷ entry ∷ []) → 
 no_entry_stands_twice entry ascend =
     no_entry_is_earlier_than_itself entry (ascend.0 entry (0, omega arith, refl))
 
-earlier_entries_are_left_out : (first second : Entry) → first.number ≡ 1 → second.number ≡ 2
+earlier_entries_are_left_out : (first second : Entry) → first.id.number ≡ 1 → second.id.number ≡ 2
     → entries_at_least 2 (first ∷ second ∷ []) ≡ second ∷ []
 earlier_entries_are_left_out first second one two = rw one (rw two refl)
 
@@ -210,9 +209,9 @@ no_wanted_ply_is_left : (aim : Aim) (tags : Heading) (replay : Replay) (ply : �
     → IsMet (Some criteria) tags replay ply → ⊥
 no_wanted_ply_is_left aim tags replay ply criteria none met = none met
 
-no_entry_of_no_ply : (number offset : ℕ) (P : ℕ → Type 0) (S : ℕ → List ℕ → Type 0) (entry : Entry)
-    → AreChosen number offset P S [] (entry ∷ []) → ⊥
-no_entry_of_no_ply number offset P S entry are = elim are [ ]
+no_entry_of_no_ply : (id : GameId) (P : ℕ → Type 0) (S : ℕ → List ℕ → Type 0) (entry : Entry)
+    → AreChosen id P S [] (entry ∷ []) → ⊥
+no_entry_of_no_ply id P S entry are = elim are [ ]
 
 lines_are_indented : indented (codes "a" ∷ codes "b" ∷ []) ≡ codes "  a" ++ 10 ∷ (codes "  b"
     ++ 10 ∷ [])
@@ -261,14 +260,13 @@ no_game_is_unreadable : (aim : Aim) (offset : ℕ) (bytes line text : List ℕ)
     → IsUnreadableVerdict aim offset bytes line (SoundGame text) → ⊥
 no_game_is_unreadable aim offset bytes line text is = let verdict = is.3 in cc
 
-no_fault_in_the_index : (aim : Aim) (number offset : ℕ) (parts : List Part)
-    (text line note : List ℕ)
-    → IsVerdictIn modes.Index aim number offset parts (FaultyGame text line note) → ⊥
-no_fault_in_the_index aim number offset parts text line note is = cc
+no_fault_in_the_index : (aim : Aim) (id : GameId) (parts : List Part)
+    (text line note : List ℕ) → IsVerdictIn modes.Index aim id parts (FaultyGame text line note) → ⊥
+no_fault_in_the_index aim id parts text line note is = cc
 
-no_long_block_is_sound : (aim : Aim) (number offset : ℕ) (text : List ℕ)
-    → IsPieceVerdict TooLongBlock aim number offset (SoundGame text) → ⊥
-no_long_block_is_sound aim number offset text is = let verdict = is.2 in cc
+no_long_block_is_sound : (aim : Aim) (id : GameId) (text : List ℕ)
+    → IsPieceVerdict TooLongBlock aim id (SoundGame text) → ⊥
+no_long_block_is_sound aim id text is = let verdict = is.2 in cc
 
 positions_have_plies : (one two : State) → plies_of 4 (one ∷ two ∷ []) ≡ 4 ∷ 5 ∷ []
 positions_have_plies one two = refl

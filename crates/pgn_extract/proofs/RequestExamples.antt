@@ -3,19 +3,20 @@ use Rattle.std.proofs.Common.{◌≡◌, ◌^◌, ◌-◌, Bool, true, false, �
 use Rattle.std.specs.Borrow.{Bor}
 use Rattle.pgn_game.specs.declared.exports.notation.Notation.TheVariants.{San, Uci}
 use Rattle.pgn_criteria.specs.declared.condition.Condition.{Condition}
-use Rattle.pgn_extract.specs.Public.GivenMarks.{GivenMark, mark_in}
+use Rattle.pgn_extract.specs.Public.GivenMarks.{game_id, mark_in}
 use Rattle.pgn_extract.specs.Public.Requests.{asked, asks_names, bad_mark, begin_of, end_of, first_line, gives_mark, has_several_files, is_one_line, is_stretch, option_refusals, refused, text_refusals}
 use Rattle.pgn_extract.specs.declared.app.command.Request.{Request}
 use Rattle.pgn_extract.specs.declared.settings.Form.TheVariants.{Standard, AsItStands, Line, Record}
 use Rattle.pgn_extract.specs.declared.settings.Mode.TheVariants as modes
 use Rattle.pgn_extract.specs.declared.settings.Select.TheVariants.{Matching, Others, Faulty}
+use Rattle.pgn_extract.specs.declared.marks.GameId.{GameId}
 
 -- ---- marks
 
 marks :
-    (mark_in (codes "1@0") ≡ Some (record { number = 1; offset = 0 }))
-    × (mark_in (codes "007@0120") ≡ Some (record { number = 7; offset = 120 }))
-    × (mark_in (codes "4611686018427387904@4611686018427387904") ≡ Some (record { number = 2 ^ 62; offset = 2 ^ 62 }))
+    (mark_in (codes "1@0") ≡ Some (game_id 1 0))
+    × (mark_in (codes "007@0120") ≡ Some (game_id 7 120))
+    × (mark_in (codes "4611686018427387904@4611686018427387904") ≡ Some (game_id (2 ^ 62) (2 ^ 62)))
 marks = (refl, refl, refl)
 
 no_marks :
@@ -237,7 +238,7 @@ bad_end : (noted : Bool) (request : Request) (text : Bor (List ℕ)) → mark_in
 bad_end noted request text bad = rw bad refl
 
 end_at_the_begin : (noted : Bool) (request : Request) (text : Bor (List ℕ))
-    → mark_in text.now ≡ Some (record { number = 1; offset = 0 })
+    → mark_in text.now ≡ Some (game_id 1 0)
     → first_line (text_refusals noted (record (plain request) { until = Some text }))
     ≡ Some (codes "pgn-extract: --until is not after --from\n")
 end_at_the_begin noted request text first = rw first refl
@@ -258,8 +259,8 @@ note_of_a_bad_mark = refl
 
 -- a run ends after it begins, and a line is one
 stretches :
-    (is_stretch (Some (record { number = 1; offset = 4 })) (Some 5) ≡ true)
-    × (is_stretch (Some (record { number = 1; offset = 5 })) (Some 5) ≡ false)
+    (is_stretch (Some (game_id 1 4)) (Some 5) ≡ true)
+    × (is_stretch (Some (game_id 1 5)) (Some 5) ≡ false)
 stretches = (refl, refl)
 
 lines :
@@ -303,7 +304,7 @@ each_asked request =
     (refl, refl, refl, refl, refl, refl, refl, refl, refl, refl, refl, refl, refl, refl, refl)
 
 criteria_are_asked : (noted : Bool) (request : Request)
-    (criteria : Option (List (List (Condition (List ℕ))))) (chosen : Option (List GivenMark))
+    (criteria : Option (List (List (Condition (List ℕ))))) (chosen : Option (List GameId))
     → let aim = asked noted request criteria chosen in
     (aim.criteria ≡ criteria) × (aim.chosen ≡ chosen) × (aim.name ≡ None)
 criteria_are_asked noted request criteria chosen = (refl, refl, refl)
@@ -317,18 +318,16 @@ each_style : (request : Request)
     × ((asked false (record (plain request) { width = Some 40 }) None None).style.width ≡ 40)
 each_style request = (refl, refl, refl, refl, refl, refl)
 
-without_marks : (request : Request)
-    → (begin_of (plain request) ≡ Some (record { number = 1; offset = 0 }))
+without_marks : (request : Request) → (begin_of (plain request) ≡ Some (game_id 1 0))
     × (end_of (plain request) ≡ Some (2 ^ 64 - 1))
 without_marks request = (refl, refl)
 
 with_marks : (request : Request) (text : Bor (List ℕ)) → text.now ≡ codes "2@22"
-    → (begin_of (record (plain request) { from = Some text })
-    ≡ Some (record { number = 2; offset = 22 }))
+    → (begin_of (record (plain request) { from = Some text }) ≡ Some (game_id 2 22))
     × (end_of (record (plain request) { until = Some text }) ≡ Some 22)
 with_marks request text is = (
   ap mark_in is,
-  ap (λ bytes. option_map (λ (mark : GivenMark). mark.offset) (mark_in bytes)) is,
+  ap (λ bytes. option_map (λ (mark : GameId). mark.offset) (mark_in bytes)) is,
 )
 
 names : (request : Request) → has_several_files request ≡ true

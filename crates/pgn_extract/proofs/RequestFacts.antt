@@ -3,9 +3,9 @@ use Rattle.std.proofs.Common.{◌≡◌, ◌<◌, ◌≤◌, ℕ, nat_lt, true, 
 use Rattle.std.proofs.lemmas.Bool.Decides.{nat_tests}
 use Rattle.std.specs.List.{list_all}
 use Rattle.std.specs.Option.{option_or}
-use Rattle.pgn_extract.specs.Public.GivenMarks.{GivenMark}
 use Rattle.pgn_extract.specs.Public.Requests.{Refusal, first_line, option_refusals, text_refusals, refused, begin_of, end_of, is_one_line, bad_mark}
 use Rattle.pgn_extract.specs.declared.app.command.Request.{Request}
+use Rattle.pgn_extract.specs.declared.marks.GameId.{GameId}
 
 first_of_two : (first second : List Refusal)
     → first_line (first ++ second) ≡ option_or (first_line first) (first_line second)
@@ -35,13 +35,13 @@ pub by_begin : (noted : Bool) (request : Request) → first_line (option_refusal
     → begin_of request ≡ None → refused noted request ≡ Some (bad_mark noted)
 by_begin noted request none begin = by_texts noted request (Some (bad_mark noted)) none (rw begin refl)
 
-pub by_end : (noted : Bool) (request : Request) (begin : GivenMark)
+pub by_end : (noted : Bool) (request : Request) (begin : GameId)
     → first_line (option_refusals request) ≡ None → begin_of request ≡ Some begin
     → end_of request ≡ None
     → refused noted request ≡ Some (bad_mark noted)
 by_end noted request begin none begins ends = by_texts noted request (Some (bad_mark noted)) none (rw (begins, ends) refl)
 
-pub by_stretch : (noted : Bool) (request : Request) (begin : GivenMark) (end : ℕ)
+pub by_stretch : (noted : Bool) (request : Request) (begin : GameId) (end : ℕ)
     → first_line (option_refusals request) ≡ None → begin_of request ≡ Some begin
     → end_of request ≡ Some end → end ≤ begin.offset
     → refused noted request ≡ Some (codes "pgn-extract: --until is not after --from\n")
@@ -49,7 +49,7 @@ by_stretch noted request begin end none begins ends within =
     let short : nat_lt begin.offset end ≡ false = grind (arith, nat_tests) in
     by_texts noted request (Some (codes "pgn-extract: --until is not after --from\n")) none (rw (begins, ends, short) refl)
 
-pub by_lines : (noted : Bool) (request : Request) (begin : GivenMark) (end : ℕ)
+pub by_lines : (noted : Bool) (request : Request) (begin : GameId) (end : ℕ)
     → first_line (option_refusals request) ≡ None → begin_of request ≡ Some begin
     → end_of request ≡ Some end → begin.offset < end
     → list_all (λ condition. is_one_line condition.now) request.conditions.items ≡ false

@@ -45,8 +45,8 @@ run_resumes job io whole summary done pieces all mark =
     (subst (AreMarkedPieces job.limit job.max_depth 0 whole) mark.parted all)
     (subst (λ o. AreMarkedPieces job.limit job.max_depth o (drop o whole) done.pieces)
     mark.placed done.each) in
-    let own : AreVerdicts job.aim job.number rest done.verdicts =
-    subst (λ p. AreVerdicts job.aim job.number p done.verdicts) same done.written.each in record {
+    let own : AreVerdicts job.aim job.id.number rest done.verdicts =
+    subst (λ p. AreVerdicts job.aim job.id.number p done.verdicts) same done.written.each in record {
       verdicts = done.verdicts;
       written = record {
         each = own;

@@ -22,8 +22,8 @@ module _ (job : Job) (io : Io) where
       → job.aim.mode ≡ mode.List → Lists job io whole
   lists_of whole summary done is =
       let (entries, rows, text) =
-      of_pieces job.aim is job.number done.pieces done.verdicts done.written.each in
-      let own = are_entries job.aim job.number done.pieces entries rows in
+      of_pieces job.aim is job.id.number done.pieces done.verdicts done.written.each in
+      let own = are_entries job.aim job.id.number done.pieces entries rows in
       let listed : Adds io.out (listing job.aim.name entries) =
       subst (Adds io.out) text done.written.output in record {
         pieces = done.pieces;
@@ -38,13 +38,13 @@ module _ (job : Job) (io : Io) where
             (subst (AreMarkedPieces job.limit job.max_depth 0 whole) mark.parted each)
             (subst (λ o. AreMarkedPieces job.limit job.max_depth o (drop o whole) done.pieces)
             mark.placed done.each) in
-            let kept : AreEntries job.aim job.number rest (entries_at_least job.number found) =
+            let kept : AreEntries job.aim job.id.number rest (entries_at_least job.id.number found) =
             subst (λ n. AreEntries job.aim n rest (entries_at_least n found)) (sym mark.numbered)
             (rest_entries job.aim mark.before rest 1 found
             (subst (λ p. AreEntries job.aim 1 p found) mark.parted are)) in
-            let one = one_listing job.aim job.number rest entries
-            (entries_at_least job.number found)
-            (subst (λ p. AreEntries job.aim job.number p entries) same own) kept in
+            let one = one_listing job.aim job.id.number rest entries
+            (entries_at_least job.id.number found)
+            (subst (λ p. AreEntries job.aim job.id.number p entries) same own) kept in
             subst (λ e. Adds io.out (listing job.aim.name e)) one listed;
       }
 
@@ -56,12 +56,12 @@ module _ (job : Job) (io : Io) where
   listed_of (Some whole) summary done = lists_of whole summary done
 
   -- a run ends as the run over its blocks, where those before its begin were dropped
-  pub ended : (result : Result Summary RunError) {mid : Option (List ℕ)} {count : ℕ} → io.input.old.moved ≡ 0 → job.offset ≤ largest_offset
-      → Drops io.input.old.bytes mid io.input.old.moved count job.offset
+  pub ended : (result : Result Summary RunError) {mid : Option (List ℕ)} {count : ℕ} → io.input.old.moved ≡ 0 → job.id.offset ≤ largest_offset
+      → Drops io.input.old.bytes mid io.input.old.moved count job.id.offset
       → IfOk result (λ summary.
-      EndsBlocks job.aim job.limit job.max_depth job.number job.offset mid io.input.new.bytes count io.input.new.moved
+      EndsBlocks job.aim job.limit job.max_depth job.id mid io.input.new.bytes count io.input.new.moved
       io.out.old.bytes io.out.new.bytes io.err.old.bytes io.err.new.bytes summary × (io.out.new.flushed ≡ true) × (io.err.new.flushed ≡ true))
-      → IfErr result (BreaksOff job.aim job.limit job.max_depth job.number job.offset mid io.input.new.bytes count io.input.new.moved
+      → IfErr result (BreaksOff job.aim job.limit job.max_depth job.id mid io.input.new.bytes count io.input.new.moved
       io.out.old.bytes io.out.new.bytes io.err.old.bytes io.err.new.bytes)
       → FaultsAre result io → IsRun job io result
   ended (Ok summary) zero small drops ends breaks faults =
@@ -79,9 +79,9 @@ module _ (job : Job) (io : Io) where
   }
 
   -- or with a read that failed among them
-  pub not_begun : {last : Option (List ℕ)} {moved : ℕ} (error : RunError) → error ≡ Read → moved ≡ 0 → job.offset ≤ largest_offset
+  pub not_begun : {last : Option (List ℕ)} {moved : ℕ} (error : RunError) → error ≡ Read → moved ≡ 0 → job.id.offset ≤ largest_offset
       → io.out.new.bytes ≡ io.out.old.bytes → io.err.new.bytes ≡ io.err.old.bytes
-      → DropsSome io.input.old.bytes last moved io.input.new.moved job.offset → FaultsAre (Err error) io → IsRun job io (Err error)
+      → DropsSome io.input.old.bytes last moved io.input.new.moved job.id.offset → FaultsAre (Err error) io → IsRun job io (Err error)
   not_begun error is zero small same_out same_err drops faults = record {
     done = tt;
     lists = tt;

@@ -18,21 +18,22 @@ use Rattle.pgn_extract.specs.declared.output.outcome.RunError.{RunError}
 use Rattle.pgn_extract.specs.declared.output.outcome.RunError.TheVariants.{Write, OutOfMemory}
 use Rattle.pgn_extract.specs.Public.Verdicts.{Verdict, is_faulty}
 use Rattle.pgn_extract.specs.declared.output.outcome.Summary.{Summary}
-use Rattle.pgn_extract.specs.Public.Aims.{Aim}
+use Rattle.pgn_extract.specs.Public.Aims.{Aim, GameId}
 use Rattle.pgn_extract.proofs.Beginnings.{says_kept, writes_more, begins_written, begins_more}
 use Rattle.pgn_extract.proofs.BlocksGiven.{Given, none_given, one_given, all_given, all_but_last, goes_on}
 use Rattle.pgn_extract.proofs.Dropping.{all_read}
 use Rattle.pgn_extract.proofs.VerdictFacts.{count_by-join}
 use Rattle.pgn_extract.proofs.Writing.{appends_none}
+use Rattle.pgn_extract.specs.Public.GivenMarks.{game_id}
 
 -- some blocks are read, and their pieces reported and counted
-pub record Progress (aim : Aim) (limit max_depth number offset : ℕ) (now : Window) (first left : Option (List ℕ)) (moved count : ℕ) (out out' err err' : Option (List ℕ)) (games faulty : ℕ) : Type 0 where
+pub record Progress (aim : Aim) (limit max_depth : ℕ) (id : GameId) (now : Window) (first left : Option (List ℕ)) (moved count : ℕ) (out out' err err' : Option (List ℕ)) (games faulty : ℕ) : Type 0 where
   pub bytes : List ℕ
   pub pieces : List MarkedPiece
-  pub given : Given limit max_depth offset now bytes pieces
+  pub given : Given limit max_depth id.offset now bytes pieces
   pub reads : Reads first left moved count (bytes ++ now.ahead)
   pub verdicts : List Verdict
-  pub written : Writes aim out out' err err' number pieces verdicts
+  pub written : Writes aim out out' err err' id.number pieces verdicts
   pub same : length verdicts ≡ length pieces
   pub counted : games ≡ length pieces
   pub faults : faulty ≡ count_by is_faulty verdicts
@@ -42,10 +43,10 @@ pub record Progress (aim : Aim) (limit max_depth number offset : ℕ) (now : Win
   pub sound : (now.failed ≡ false) × (now.over ≡ false)
 
 -- at the start nothing is read and nothing reported
-pub progress_start : {aim : Aim} {limit max_depth number offset : ℕ} {now : Window} (left : Option (List ℕ)) (moved : ℕ) (out err : Option (List ℕ)) → now ≡ fresh_window offset → offset ≤ 2 ^ 62
-    → Progress aim limit max_depth number offset now left left moved moved out out err err 0 0
-progress_start {aim} {limit} {max_depth} {number} {offset} {now} left moved out err is small =
-    subst (λ (w : Window). Progress aim limit max_depth number offset w left left moved moved out out err err 0 0) (sym is) record {
+pub progress_start : {aim : Aim} {limit max_depth : ℕ} {id : GameId} {now : Window} (left : Option (List ℕ)) (moved : ℕ) (out err : Option (List ℕ)) → now ≡ fresh_window id.offset → id.offset ≤ 2 ^ 62
+    → Progress aim limit max_depth id now left left moved moved out out err err 0 0
+progress_start {aim} {limit} {max_depth} {id} {now} left moved out err is small =
+    subst (λ (w : Window). Progress aim limit max_depth id w left left moved moved out out err err 0 0) (sym is) record {
       bytes = [];
       pieces = [];
       given = none_given refl refl;
@@ -68,8 +69,8 @@ known None last moved count read P reads holds = tt
 known (Some whole) None moved count read P reads holds = absurd reads.bytes
 known (Some whole) (Some rest) moved count read P reads holds = subst P (sym reads.bytes) (holds rest (λ end. end))
 
-module _ {aim : Aim} {limit max_depth number offset : ℕ} {now : Window} {first left : Option (List ℕ)} {moved count : ℕ} {out out' err err' : Option (List ℕ)} {games faulty : ℕ}
-    (p : Progress aim limit max_depth number offset now first left moved count out out' err err' games faulty) where
+module _ {aim : Aim} {limit max_depth : ℕ} {id : GameId} {now : Window} {first left : Option (List ℕ)} {moved count : ℕ} {out out' err err' : Option (List ℕ)} {games faulty : ℕ}
+    (p : Progress aim limit max_depth id now first left moved count out out' err err' games faulty) where
   -- no further block is shorter than the way to the end
   pub nearer : {next : Window} {left' : Option (List ℕ)} {read block : List ℕ} → IsCutOff now next left' read block
       → (2 ^ 62 - next.place) + turns next.ended < (2 ^ 62 - now.place) + turns now.ended
@@ -99,10 +100,10 @@ module _ {aim : Aim} {limit max_depth number offset : ℕ} {now : Window} {first
   -- one more block is reported
   pub progress_more : {next : Window} {left' : Option (List ℕ)} {count' from : ℕ} {read block : List ℕ} {out'' err'' : Option (List ℕ)} {verdict : Summary}
       → IsCutOff now next left' read block → Reads left left' count count' read → from + length block ≡ next.place
-      → WritesBlock aim limit max_depth (number + games) from block out' out'' err' err'' verdict
-      → Progress aim limit max_depth number offset next first left' moved count' out out'' err err'' (games + verdict.games) (faulty + verdict.faulty)
+      → WritesBlock aim limit max_depth (game_id (id.number + games) from) block out' out'' err' err'' verdict
+      → Progress aim limit max_depth id next first left' moved count' out out'' err err'' (games + verdict.games) (faulty + verdict.faulty)
   progress_more {next} {left'} {count'} {from} {read} {block} {out''} {err''} {verdict} cut more place writes =
-      let own = subst (λ n. Writes aim out' out'' err' err'' (number + n) writes.own writes.verdicts) p.counted writes.written in
+      let own = subst (λ n. Writes aim out' out'' err' err'' (id.number + n) writes.own writes.verdicts) p.counted writes.written in
       let reads = total cut more in
       record {
         bytes = p.bytes ++ block;
@@ -126,10 +127,10 @@ module _ {aim : Aim} {limit max_depth number offset : ℕ} {now : Window} {first
   -- one more block is reported in part
   pub block_breaks : {next : Window} {left' : Option (List ℕ)} {count' from : ℕ} {read block : List ℕ} {out'' err'' : Option (List ℕ)} (error : RunError)
       → IsCutOff now next left' read block → Reads left left' count count' read → from + length block ≡ next.place
-      → BeginsBlock aim limit max_depth (number + games) from block out' out'' err' err'' → (error ≡ Write) ⊎ (error ≡ OutOfMemory)
-      → BreaksOff aim limit max_depth number offset first left' moved count' out out'' err err'' error
+      → BeginsBlock aim limit max_depth (game_id (id.number + games) from) block out' out'' err' err'' → (error ≡ Write) ⊎ (error ≡ OutOfMemory)
+      → BreaksOff aim limit max_depth id first left' moved count' out out'' err err'' error
   block_breaks {next} {left'} {count'} {from} {read} {block} {out''} {err''} error cut more place begins kind =
-      let own = subst (λ n. Begins aim out' out'' err' err'' (number + n) begins.own) p.counted begins.written in
+      let own = subst (λ n. Begins aim out' out'' err' err'' (id.number + n) begins.own) p.counted begins.written in
       let reads = total cut more in
       let given = one_given p.given cut place begins.each in
       record {
@@ -138,24 +139,24 @@ module _ {aim : Aim} {limit max_depth number offset : ℕ} {now : Window} {first
         size = let w = cut.within in let q = given.place in omega (arith, length-append (p.bytes ++ block) next.ahead);
         stands =
             let begun = known first left' moved count' ((p.bytes ++ block) ++ next.ahead)
-            (λ whole. BeginsFirst aim limit max_depth number offset whole out out'' err err'') reads
+            (λ whole. BeginsFirst aim limit max_depth id whole out out'' err err'') reads
             (λ rest end.
             let others = goes_on given rest (λ ended. ((cut.last ended).0, end (cut.last ended).1)) in
             record {
               pieces = (p.pieces ++ begins.own) ++ others.0;
-              each = subst (λ t. AreMarkedPieces limit max_depth offset t ((p.pieces ++ begins.own) ++ others.0)) (sym (append_assoc (p.bytes ++ block) next.ahead rest)) others.1;
+              each = subst (λ t. AreMarkedPieces limit max_depth id.offset t ((p.pieces ++ begins.own) ++ others.0)) (sym (append_assoc (p.bytes ++ block) next.ahead rest)) others.1;
               written = begins_more p.written begins.own others.0 own;
             }) in
             elim kind [
-              | inl is ↦ subst (StandsOver aim limit max_depth number offset first ((p.bytes ++ block) ++ next.ahead) out out'' err err'') (sym is) begun
-              | inr is ↦ subst (StandsOver aim limit max_depth number offset first ((p.bytes ++ block) ++ next.ahead) out out'' err err'') (sym is) begun
+              | inl is ↦ subst (StandsOver aim limit max_depth id first ((p.bytes ++ block) ++ next.ahead) out out'' err err'') (sym is) begun
+              | inr is ↦ subst (StandsOver aim limit max_depth id first ((p.bytes ++ block) ++ next.ahead) out out'' err err'') (sym is) begun
             ];
       }
 
   -- all blocks are reported
   pub all_written : {left' : Option (List ℕ)} {count' : ℕ} {out'' err'' : Option (List ℕ)} {summary : Summary} → now.ended ≡ true → Reads left left' count count' []
       → Keeps out' out'' → Keeps err' err'' → summary.games ≡ games → summary.faulty ≡ faulty
-      → EndsBlocks aim limit max_depth number offset first left' moved count' out out'' err err'' summary
+      → EndsBlocks aim limit max_depth id first left' moved count' out out'' err err'' summary
   all_written {left'} {count'} {out''} {err''} {summary} ended more out_kept err_kept counted faults =
       let none = (p.last ended).0 in
       let here : (p.bytes ++ now.ahead) ++ [] ≡ p.bytes = append-nil (p.bytes ++ now.ahead) ∙ ap (λ t. p.bytes ++ t) none ∙ append-nil p.bytes in
@@ -174,7 +175,7 @@ module _ {aim : Aim} {limit max_depth number offset : ℕ} {now : Window} {first
 
   -- all blocks are reported, and a flush failed
   pub flush_breaks : {left' : Option (List ℕ)} {count' : ℕ} {out'' err'' : Option (List ℕ)} (error : RunError) → now.ended ≡ true → Reads left left' count count' []
-      → Keeps out' out'' → Keeps err' err'' → error ≡ Write → BreaksOff aim limit max_depth number offset first left' moved count' out out'' err err'' error
+      → Keeps out' out'' → Keeps err' err'' → error ≡ Write → BreaksOff aim limit max_depth id first left' moved count' out out'' err err'' error
   flush_breaks {left'} {count'} {out''} {err''} error ended more out_kept err_kept is =
       let none = (p.last ended).0 in
       let here : (p.bytes ++ now.ahead) ++ [] ≡ p.bytes = append-nil (p.bytes ++ now.ahead) ∙ ap (λ t. p.bytes ++ t) none ∙ append-nil p.bytes in
@@ -182,24 +183,24 @@ module _ {aim : Aim} {limit max_depth number offset : ℕ} {now : Window} {first
         read = p.bytes;
         reads = subst (λ r. Reads first left' moved count' r) here (reads_join first left left' moved count count' (p.bytes ++ now.ahead) [] p.reads more);
         size = let w = p.within in let q = p.given.place in omega arith;
-        stands = subst (StandsOver aim limit max_depth number offset first p.bytes out out'' err err'') (sym is) (begun first (p.last ended).1);
+        stands = subst (StandsOver aim limit max_depth id first p.bytes out out'' err err'') (sym is) (begun first (p.last ended).1);
       }
     where
-      all : BeginsFirst aim limit max_depth number offset p.bytes out out'' err err''
+      all : BeginsFirst aim limit max_depth id p.bytes out out'' err err''
       all = record {
         pieces = p.pieces ++ [];
-        each = subst (AreMarkedPieces limit max_depth offset p.bytes) (sym (append-nil p.pieces)) (all_given p.given ended (p.last ended).0);
+        each = subst (AreMarkedPieces limit max_depth id.offset p.bytes) (sym (append-nil p.pieces)) (all_given p.given ended (p.last ended).0);
         written = begins_written (says_kept p.written out_kept err_kept) [];
       }
 
-      begun : (f : Option (List ℕ)) → IfSome f (λ whole. whole ≡ p.bytes) → IfSome f (λ whole. BeginsFirst aim limit max_depth number offset whole out out'' err err'')
+      begun : (f : Option (List ℕ)) → IfSome f (λ whole. whole ≡ p.bytes) → IfSome f (λ whole. BeginsFirst aim limit max_depth id whole out out'' err err'')
       begun None is = tt
-      begun (Some whole) is = subst (λ w. BeginsFirst aim limit max_depth number offset w out out'' err err'') (sym is) all
+      begun (Some whole) is = subst (λ w. BeginsFirst aim limit max_depth id w out out'' err err'') (sym is) all
 
   -- the next block could not be read
   pub read_breaks : {left' : Option (List ℕ)} {count' : ℕ} (read : List ℕ) (error : ReadError) → Reads left left' count count' read
       → (now.ended ≡ true → error ≡ cause.Failed) → error ≢ cause.Failed → FailsAfter now.place now.ahead read error
-      → BreaksOff aim limit max_depth number offset first left' moved count' out out' err err' (run_error_of error)
+      → BreaksOff aim limit max_depth id first left' moved count' out out' err err' (run_error_of error)
   read_breaks {left'} {count'} read error more last other fails = by_kind error last other fails
     where
       all : Reads first left' moved count' (p.bytes ++ (now.ahead ++ read))
@@ -208,11 +209,11 @@ module _ {aim : Aim} {limit max_depth number offset : ℕ} {now : Window} {first
       going : (e : ReadError) → (now.ended ≡ true → e ≡ cause.Failed) → e ≢ cause.Failed → now.ended ≡ false
       going e l o = elim (cases_Bool now.ended) [ inl ended ↦ absurd (o (l ended)) | inr is ↦ is ]
 
-      fits : (size : ℕ) → now.place + length (now.ahead ++ read) ≤ size → offset + length (p.bytes ++ (now.ahead ++ read)) ≤ size
+      fits : (size : ℕ) → now.place + length (now.ahead ++ read) ≤ size → id.offset + length (p.bytes ++ (now.ahead ++ read)) ≤ size
       fits size h = let q = p.given.place in omega (arith, length-append p.bytes (now.ahead ++ read))
 
       by_kind : (e : ReadError) → (now.ended ≡ true → e ≡ cause.Failed) → e ≢ cause.Failed → FailsAfter now.place now.ahead read e
-          → BreaksOff aim limit max_depth number offset first left' moved count' out out' err err' (run_error_of e)
+          → BreaksOff aim limit max_depth id first left' moved count' out out' err err' (run_error_of e)
       by_kind cause.Read l o f = record {
         read = p.bytes ++ (now.ahead ++ read);
         reads = all;
@@ -223,14 +224,14 @@ module _ {aim : Aim} {limit max_depth number offset : ℕ} {now : Window} {first
         read = p.bytes ++ (now.ahead ++ read);
         reads = all;
         size = fits (2 ^ 62 + 1) (omega arith);
-        stands = known first left' moved count' (p.bytes ++ (now.ahead ++ read)) (λ whole. BeginsFirst aim limit max_depth number offset whole out out' err err') all
+        stands = known first left' moved count' (p.bytes ++ (now.ahead ++ read)) (λ whole. BeginsFirst aim limit max_depth id whole out out' err err') all
             (λ rest end.
             let others = goes_on p.given (read ++ rest) (λ ended. absurd (both_ways now.ended (going cause.OutOfMemory l o) ended)) in
             let shape : p.bytes ++ (now.ahead ++ (read ++ rest)) ≡ (p.bytes ++ (now.ahead ++ read)) ++ rest =
             ap (λ t. p.bytes ++ t) (sym (append_assoc now.ahead read rest)) ∙ sym (append_assoc p.bytes (now.ahead ++ read) rest) in
             record {
               pieces = p.pieces ++ others.0;
-              each = subst (λ t. AreMarkedPieces limit max_depth offset t (p.pieces ++ others.0)) shape others.1;
+              each = subst (λ t. AreMarkedPieces limit max_depth id.offset t (p.pieces ++ others.0)) shape others.1;
               written = begins_written p.written others.0;
             });
       }

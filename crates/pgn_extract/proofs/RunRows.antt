@@ -18,11 +18,11 @@ use Rattle.pgn_text.specs.Public.Limits.{largest_offset}
 use Rattle.pgn_text.specs.Public.Marks.{MarkedPiece, TooLongBlock, UnreadableRest, AreMarkedPieces}
 use Rattle.pgn_text.specs.Public.Parts.{Part}
 use Rattle.pgn_text.specs.Public.Tallies.{Tallied}
-use Rattle.pgn_extract.specs.Public.Aims.{Aim}
+use Rattle.pgn_extract.specs.Public.Aims.{Aim, GameId}
 use Rattle.pgn_extract.specs.Public.Exports.{IsExportOf, IsGameExport, written_lines, IsGameRecordOf}
 use Rattle.pgn_extract.specs.Public.Exports.IsGameExport.{sound as sound_export, faulty as faulty_export}
 use Rattle.pgn_extract.specs.Public.GameReports.{AreListed, IsFaultOf, IsReplayOf}
-use Rattle.pgn_extract.specs.Public.GivenMarks.{GivenMark, mark_around}
+use Rattle.pgn_extract.specs.Public.GivenMarks.{game_id, mark_around}
 use Rattle.pgn_extract.specs.Public.Listing.{AreEntries, Entry, IsMainReplayOf, entries_at_least, listing}
 use Rattle.pgn_extract.specs.Public.Outcomes.{AppendsFront, BeginsAll, WritesComplete}
 use Rattle.pgn_extract.specs.Public.Requests.{option_refusals, refusals, text_refusals}
@@ -58,10 +58,10 @@ no_turns_where_the_main_line_is_asked : (parts : List Part) (replay : Replay) �
     → IsReplayOf Main parts replay → ⊥
 no_turns_where_the_main_line_is_asked parts replay some is = some is.turns
 
-no_entry_of_no_position : (aim : Aim) (number offset : ℕ) (tags : Heading) (entry : Entry)
-    → AreListed aim number offset tags (record { positions = []; played = []; turns = [] })
+no_entry_of_no_position : (aim : Aim) (id : GameId) (tags : Heading) (entry : Entry)
+    → AreListed aim id tags (record { positions = []; played = []; turns = [] })
     (entry ∷ []) → ⊥
-no_entry_of_no_position aim number offset tags entry are =
+no_entry_of_no_position aim id tags entry are =
     elim are [ ]
 
 main_line_is_written : (aim : Aim) → written_lines (record aim { form = Record }) ≡ Main
@@ -79,23 +79,23 @@ no_empty_export style parts (game, sound, shows, is) = none is.head is.movetext 
     none [] movetext spells = cc
     none (byte ∷ more) movetext spells = cc
 
-no_export_of_no_game : (aim : Aim) (number offset : ℕ) (parts : List Part) (text : List ℕ)
+no_export_of_no_game : (aim : Aim) (id : GameId) (parts : List Part) (text : List ℕ)
     → ((replay : Replay) → IsReplayOf (written_lines aim) parts replay → ⊥)
     → ((fault : Fault) → IsFaultOf (written_lines aim) parts fault → ⊥)
-    → IsGameExport aim number offset parts text → ⊥
-no_export_of_no_game aim number offset parts text unsound faultless is = elim is [
+    → IsGameExport aim id parts text → ⊥
+no_export_of_no_game aim id parts text unsound faultless is = elim is [
   | sound_export replay is_replay written ↦ unsound replay is_replay
   | faulty_export fault is_fault same ↦ faultless fault is_fault
 ]
 
-no_fault_of_a_game_in_the_index : (aim : Aim) (number offset : ℕ) (parts : List Part)
+no_fault_of_a_game_in_the_index : (aim : Aim) (id : GameId) (parts : List Part)
     (text line note : List ℕ)
     → IsGameVerdict (record aim {
       mode =
           modes.Index;
-    }) number offset parts (FaultyGame text line note)
+    }) id parts (FaultyGame text line note)
     → ⊥
-no_fault_of_a_game_in_the_index aim number offset parts text line note is = cc
+no_fault_of_a_game_in_the_index aim id parts text line note is = cc
 
 -- Runs.
 
@@ -103,7 +103,7 @@ refusals_of_options_come_first : (noted : Bool) (request : Request)
     → refusals noted request ≡ option_refusals request ++ text_refusals noted request
 refusals_of_options_come_first noted request = refl
 
-no_mark_of_no_sign : (text : List ℕ) (mark : GivenMark) → mark_around text None ≡ Some mark → ⊥
+no_mark_of_no_sign : (text : List ℕ) (mark : GameId) → mark_around text None ≡ Some mark → ⊥
 no_mark_of_no_sign text mark is = cc
 
 stream_of_a_tally : {T : Type 0} (bytes : T → Option (List ℕ)) (tally : Tallied T) (stream : Stream)
@@ -140,8 +140,7 @@ no_listing_of_no_pieces job io whole none lists = none lists.pieces lists.each
 
 no_entry_unlisted : (job : Job) (io : Io) (whole : List ℕ)
     → ((pieces : List MarkedPiece) (entries : List Entry)
-    → AreEntries job.aim job.number pieces entries → ⊥)
-    → Lists job io whole → ⊥
+    → AreEntries job.aim job.id.number pieces entries → ⊥) → Lists job io whole → ⊥
 no_entry_unlisted job io whole none lists = none lists.pieces lists.entries lists.are
 
 no_rest_unwritten : (aim : Aim) (number : ℕ) (pieces rest : List MarkedPiece)
@@ -170,8 +169,7 @@ nothing_of_an_unknown_path order path output report is = is
 
 no_other_verdicts_of_a_report : (job : Job) (text output faults : List ℕ)
     → ((pieces : List MarkedPiece) (verdicts : List Verdict)
-    → AreVerdicts job.aim job.number pieces verdicts → ⊥)
-    → IsReport job text output faults → ⊥
+    → AreVerdicts job.aim job.id.number pieces verdicts → ⊥) → IsReport job text output faults → ⊥
 no_other_verdicts_of_a_report job text output faults none is =
     none is.pieces is.verdicts is.reported
 
@@ -191,23 +189,21 @@ no_report_of_paths_unwritten order known paths out err none writes = none writes
 
 -- Packs.
 
-no_record_of_no_game : (name : Option (List ℕ)) (number offset : ℕ) (parts : List Part)
+no_record_of_no_game : (name : Option (List ℕ)) (id : GameId) (parts : List Part)
     (records : List PackedGame) → ((replay : Replay) → IsReplayOf Main parts replay → ⊥)
-    → ((fault : Fault) → IsFaultOf Main parts fault → ⊥)
-    → AreGameRecords name number offset parts records → ⊥
-no_record_of_no_game name number offset parts records unsound faultless are = elim are [
+    → ((fault : Fault) → IsFaultOf Main parts fault → ⊥) → AreGameRecords name id parts records → ⊥
+no_record_of_no_game name id parts records unsound faultless are = elim are [
   | sound_record game replay packed is_game shows is_replay is_packed one ↦ unsound replay is_replay
   | faulty_record fault is_fault none ↦ faultless fault is_fault
 ]
 
-no_record_of_a_long_block : (name : Option (List ℕ)) (number offset : ℕ) (packed : PackedGame)
-    → ArePieceRecords name TooLongBlock number offset (packed ∷ []) → ⊥
-no_record_of_a_long_block name number offset packed are = cc
+no_record_of_a_long_block : (name : Option (List ℕ)) (id : GameId) (packed : PackedGame)
+    → ArePieceRecords name TooLongBlock id (packed ∷ []) → ⊥
+no_record_of_a_long_block name id packed are = cc
 
-no_record_of_other_bytes : (name : Option (List ℕ)) (number offset : ℕ) (bytes : List ℕ)
-    (packed : PackedGame)
-    → ArePieceRecords name (UnreadableRest bytes) number offset (packed ∷ []) → ⊥
-no_record_of_other_bytes name number offset bytes packed are = cc
+no_record_of_other_bytes : (name : Option (List ℕ)) (id : GameId) (bytes : List ℕ)
+    (packed : PackedGame) → ArePieceRecords name (UnreadableRest bytes) id (packed ∷ []) → ⊥
+no_record_of_other_bytes name id bytes packed are = cc
 
 no_sound_piece_but_games : (bytes : List ℕ)
     → (IsSoundPiece TooLongBlock → ⊥) × (IsSoundPiece (UnreadableRest bytes) → ⊥)
@@ -433,9 +429,9 @@ no_other_pack_is_named error name aim path whole out other stops = other stops.0
 
 -- What a run leaves as a whole.
 
-no_bytes_of_no_record : (aim : Aim) (number offset : ℕ) (parts : List Part)
-    → IsGameRecordOf aim number offset parts [] → ⊥
-no_bytes_of_no_record aim number offset parts (game, sound, shows, is) = none is.packed is.spells
+no_bytes_of_no_record : (aim : Aim) (id : GameId) (parts : List Part)
+    → IsGameRecordOf aim id parts [] → ⊥
+no_bytes_of_no_record aim id parts (game, sound, shows, is) = none is.packed is.spells
   where
     none : (packed : PackedGame) → [] ≡ record_bytes packed → ⊥
     none packed spells = cc
@@ -445,24 +441,24 @@ no_piece_of_no_complete_block : (limit depth offset : ℕ) (text : List ℕ) (ma
     → AreCompletePieces limit depth offset text marks → ⊥
 no_piece_of_no_complete_block limit depth offset text marks none are = none are.blocks are.complete
 
-no_report_of_an_incomplete_block : (aim : Aim) (limit depth number offset : ℕ) (bytes : List ℕ)
+no_report_of_an_incomplete_block : (aim : Aim) (limit depth : ℕ) (id : GameId) (bytes : List ℕ)
     (out out' err err' : Option (List ℕ))
-    → ((pieces : List MarkedPiece) → AreCompletePieces limit depth offset bytes pieces → ⊥)
-    → WritesComplete aim limit depth number offset bytes out out' err err' → ⊥
-no_report_of_an_incomplete_block aim limit depth number offset bytes out out' err err' none writes =
+    → ((pieces : List MarkedPiece) → AreCompletePieces limit depth id.offset bytes pieces → ⊥)
+    → WritesComplete aim limit depth id bytes out out' err err' → ⊥
+no_report_of_an_incomplete_block aim limit depth id bytes out out' err err' none writes =
     none writes.pieces writes.each
 
-no_other_beginning : (aim : Aim) (limit depth number offset : ℕ) (bytes : List ℕ)
+no_other_beginning : (aim : Aim) (limit depth : ℕ) (id : GameId) (bytes : List ℕ)
     (out out' err err' : Option (List ℕ))
     → ((text : List ℕ) → AppendsFront out out' text → ⊥)
-    → BeginsAll aim limit depth number offset bytes out out' err err' → ⊥
-no_other_beginning aim limit depth number offset bytes out out' err err' none begins =
+    → BeginsAll aim limit depth id bytes out out' err err' → ⊥
+no_other_beginning aim limit depth id bytes out out' err err' none begins =
     none (output_text begins.verdicts) begins.output
 
 -- after an error it is of complete blocks, or a beginning of all
 no_complete_report_of_no_block : (job : Job) (io : Io) (bytes : List ℕ)
     → ((pieces : List MarkedPiece)
-    → AreCompletePieces job.limit job.max_depth job.offset (drop job.offset bytes) pieces → ⊥)
+    → AreCompletePieces job.limit job.max_depth job.id.offset (drop job.id.offset bytes) pieces → ⊥)
     → IsCompleteOf job io bytes → ⊥
 no_complete_report_of_no_block job io bytes none is = none is.pieces is.each
 
@@ -492,8 +488,8 @@ no_run_unlisted job io whole known list none listed =
 -- from a mark on it is the rest
 no_other_rest_is_listed : (job : Job) (io : Io) (whole : List ℕ) (pieces : List MarkedPiece)
     (entries : List Entry) → AreMarkedPieces job.limit job.max_depth 0 whole pieces
-    → IsMarkAmong job.number job.offset pieces → AreEntries job.aim 1 pieces entries
-    → (Adds io.out (listing job.aim.name (entries_at_least job.number entries)) → ⊥)
+    → IsMarkAmong job.id pieces → AreEntries job.aim 1 pieces entries
+    → (Adds io.out (listing job.aim.name (entries_at_least job.id.number entries)) → ⊥)
     → Lists job io whole → ⊥
 no_other_rest_is_listed job io whole pieces entries each mark are none lists =
     none (lists.rest pieces each mark entries are)
@@ -519,7 +515,7 @@ no_other_entries_of_a_record : (aim : Aim) (packed : PackedGame) (text : List �
     → IsReplay Main (tag_in fen_tag game.tags) game.elements replay
     → IsPacked packed.name packed.number packed.offset game replay packed
     → ((entries : List Entry)
-    → AreListed aim packed.number packed.offset (heading_of game) replay entries → ⊥)
+    → AreListed aim (game_id packed.number packed.offset) (heading_of game) replay entries → ⊥)
     → IsRecordListing aim packed text → ⊥
 no_other_entries_of_a_record aim packed text game replay sound is_replay is_packed none is =
     let lines = is game replay sound is_replay is_packed in none lines.0 lines.1

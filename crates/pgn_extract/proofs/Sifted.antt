@@ -20,7 +20,7 @@ use Rattle.pgn_criteria.proofs.WalkFacts.{step_shows_next_position}
 use Rattle.pgn_extract.specs.Public.Aims.{Aim, IsEntry}
 use Rattle.pgn_extract.specs.Private.Finding.{AsksFor}
 use Rattle.pgn_extract.specs.Public.Listing.{AreFields}
-use Rattle.pgn_extract.specs.Private.Packed.{EachOfRecord, StartsThere, ListsRecord}
+use Rattle.pgn_extract.specs.Private.Packed.{raw_id, EachOfRecord, StartsThere, ListsRecord}
 use Rattle.pgn_extract.proofs.PackedFacts.{begins, first_is, kept_start, next_ply, line_ended}
 use Rattle.pgn_extract.proofs.Picks.{leaves_all}
 
@@ -65,7 +65,7 @@ lists_nothing aim raw asked sight text asks starts none = (
       subst (λ (ps : List State). IsMainLine start (main_words game.elements 0) ps replay.played) from.1 own.is_replay.line in
       let are : AreCodes start replay.played packed.plies = subst (λ (P : State). AreCodes P replay.played packed.plies) (kept_start own) own.kept.plies in (
         [],
-        leaves_all raw.number raw.offset (IsEntry aim (heading_of game) replay) (AreFields aim.fields replay) 0 replay.positions
+        leaves_all (raw_id raw) (IsEntry aim (heading_of game) replay) (AreFields aim.fields replay) 0 replay.positions
             (λ n low high entry.
             let met = (asks game replay packed own replay (Main, own.is_replay) n (omega (arith, high))).1 entry.0.2 in
             met_nowhere asked (heading_of game) replay start from.0 (main_words game.elements 0) replay.played packed.plies sight line are seen

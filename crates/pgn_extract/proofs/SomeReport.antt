@@ -14,7 +14,7 @@ use Rattle.pgn_game.specs.Public.Faults.{Fault}
 use Rattle.pgn_game.specs.declared.replays.replayer.Lines.{Lines}
 use Rattle.pgn_game.specs.declared.replays.replayer.Lines.TheVariants.{Main}
 use Rattle.pgn_game.specs.Public.Starts.{fen_tag}
-use Rattle.pgn_extract.specs.Public.Choices.{IfChosen, is_chosen}
+use Rattle.pgn_extract.specs.Public.Choices.{id_of, IfChosen, is_chosen}
 use Rattle.pgn_extract.specs.Public.Index.{fault_text, mark_line}
 use Rattle.pgn_extract.specs.Public.Listing.{AreFields, listing, heading_in}
 use Rattle.pgn_extract.specs.Public.GameReports.{plies_of, cause_text, IsReplayOf, IsFaultOf}
@@ -25,7 +25,7 @@ use Rattle.pgn_extract.specs.Public.Exports.{line_with, lines_in, written_lines,
 use Rattle.pgn_extract.specs.Public.Verdicts.{Verdict, SoundGame, FaultyGame, IsVerdictIn, IsReportedBy, IsPieceVerdict, AreVerdicts, IsUnreadableVerdict}
 use Rattle.pgn_game.specs.Public.Replays.{Replay}
 use Rattle.pgn_criteria.specs.Public.Meeting.{Heading}
-use Rattle.pgn_extract.specs.Public.Aims.{Aim, IsMet, IsWanted, IsEntry}
+use Rattle.pgn_extract.specs.Public.Aims.{Aim, GameId, IsMet, IsWanted, IsEntry}
 use Rattle.pgn_extract.specs.Public.Laws.{TextHasAReport}
 use Rattle.pgn_extract.proofs.Chosen.{some_chosen}
 use Rattle.pgn_extract.proofs.Decided.{IsDecided, all_decided}
@@ -151,7 +151,7 @@ entry_or_none aim tags replay (suc count) fits each = elim (entry_or_none aim ta
   ]
 ]
 
-module _ (aim : Aim) (decided : IsDecided aim) (number offset : ℕ) (parts : List Part) (made : IsMade (ReadableGame parts)) where
+module _ (aim : Aim) (decided : IsDecided aim) (id : GameId) (parts : List Part) (made : IsMade (ReadableGame parts)) where
   -- a ply of a sound game is listed or not
   listed_or_not : (lines : Lines) (replay : Replay) → IsReplayOf lines parts replay → (ply : ℕ) → ply < length replay.positions
       → IsEntry aim (heading_in parts) replay ply ⊎ (IsEntry aim (heading_in parts) replay ply → ⊥)
@@ -166,37 +166,37 @@ module _ (aim : Aim) (decided : IsDecided aim) (number offset : ℕ) (parts : Li
         | inr none ↦ inr (λ has. none has.0 has.1 has.2)
       ]
 
-  some_text : (form : Form) (replay : Replay) → IsReplayOf (lines_in form aim.style) parts replay → (text : List ℕ) × IsTextOf form aim number offset parts text
+  some_text : (form : Form) (replay : Replay) → IsReplayOf (lines_in form aim.style) parts replay → (text : List ℕ) × IsTextOf form aim id parts text
   some_text Standard replay is = some_export_of_parts aim.style parts made.0 made.1 made.2 replay is
   some_text AsItStands replay is = (as_it_stands (spelled parts), refl)
   some_text (Line notation) replay is =
       let own = some_line notation (first_tag fen_tag parts) (items_of parts) (replay, is) in
-      (line_with aim.name number offset own.0, (own.0, own.1, refl))
-  some_text Record replay is = some_record_of_parts aim.name number offset parts made.0 made.1 made.2 replay is
+      (line_with aim.name id own.0, (own.0, own.1, refl))
+  some_text Record replay is = some_record_of_parts aim.name id parts made.0 made.1 made.2 replay is
 
-  written : (replay : Replay) → IsReplayOf (written_lines aim) parts replay → (text : List ℕ) × IsWritten aim number offset parts replay text
+  written : (replay : Replay) → IsReplayOf (written_lines aim) parts replay → (text : List ℕ) × IsWritten aim id parts replay text
   written replay is = elim (selected_or_not aim.select (HasEntry aim (heading_in parts) replay) (has_or_not replay is)) [
     | inl has ↦ let own = some_text aim.form replay is in (own.0, selected has own.1)
     | inr none ↦ ([], unselected none refl)
   ]
 
-  game_reported : (mode : Mode) → (verdict : Verdict) × IsVerdictIn mode aim number offset parts verdict
-  game_reported modes.Index = (SoundGame (mark_line aim.name number offset), refl)
+  game_reported : (mode : Mode) → (verdict : Verdict) × IsVerdictIn mode aim id parts verdict
+  game_reported modes.Index = (SoundGame (mark_line aim.name id), refl)
   game_reported modes.List = elim (answers parts made Main) [
     | inl sound ↦
         let all = plies_of 0 sound.0.positions in
         let some =
-        some_chosen number offset (IsEntry aim (heading_in parts) sound.0) (AreFields aim.fields sound.0) all
+        some_chosen id (IsEntry aim (heading_in parts) sound.0) (AreFields aim.fields sound.0) all
         (λ ply has. listed_or_not Main sound.0 sound.1 ply (within_plies sound.0.positions ply has))
         (λ ply has. some_fields aim.fields Main (first_tag fen_tag parts) (items_of parts) sound.0 sound.1 ply (within_plies sound.0.positions ply has)) in
         (SoundGame (listing aim.name some.0), (sound.0, some.0, sound.1, some.1, refl))
-    | inr faulty ↦ (FaultyGame [] (fault_text aim.name number offset (cause_text faulty.0)) [], (faulty.0, faulty.1, refl, empty_note aim.explain, refl))
+    | inr faulty ↦ (FaultyGame [] (fault_text aim.name id (cause_text faulty.0)) [], (faulty.0, faulty.1, refl, empty_note aim.explain, refl))
   ]
   game_reported modes.Export = elim (answers parts made (written_lines aim)) [
     | inl sound ↦ let text = written sound.0 sound.1 in (SoundGame text.0, (sound.0, sound.1, text.1))
     | inr faulty ↦
         let text = faulty_text modes.Export aim.select (spelled parts) in
-        (FaultyGame text (fault_text aim.name number offset (cause_text faulty.0)) [], (faulty.0, faulty.1, refl, empty_note aim.explain, refl))
+        (FaultyGame text (fault_text aim.name id (cause_text faulty.0)) [], (faulty.0, faulty.1, refl, empty_note aim.explain, refl))
   ]
 
 by_line : (aim : Aim) (line : List ℕ) → (verdict : Verdict) × IsReportedBy aim [] line verdict
@@ -207,37 +207,37 @@ unreadable_reported aim offset bytes line =
     let some = some_stop_note aim.explain offset bytes in
     (FaultyGame (faulty_text aim.mode aim.select bytes) line some.0, (some.0, some.1, some.2, refl))
 
-piece_reported : (kind : PieceKind) (aim : Aim) → IsDecided aim → (number offset : ℕ) → IsMade kind
-    → (verdict : Verdict) × IsPieceVerdict kind aim number offset verdict
-piece_reported (ReadableGame parts) aim decided number offset made = game_reported aim decided number offset parts made aim.mode
-piece_reported (UnreadableRest bytes) aim decided number offset made =
-    unreadable_reported aim offset bytes (fault_text aim.name number offset (codes "unreadable"))
-piece_reported TooLongBlock aim decided number offset made = by_line aim (fault_text aim.name number offset (codes "too long"))
+piece_reported : (kind : PieceKind) (aim : Aim) → IsDecided aim → (id : GameId) → IsMade kind
+    → (verdict : Verdict) × IsPieceVerdict kind aim id verdict
+piece_reported (ReadableGame parts) aim decided id made = game_reported aim decided id parts made aim.mode
+piece_reported (UnreadableRest bytes) aim decided id made =
+    unreadable_reported aim id.offset bytes (fault_text aim.name id (codes "unreadable"))
+piece_reported TooLongBlock aim decided id made = by_line aim (fault_text aim.name id (codes "too long"))
 
 -- a piece, chosen or passed over
-one_reported : (taken : Bool) (kind : PieceKind) (aim : Aim) → IsDecided aim → (number offset : ℕ) → IsMade kind
-    → (verdict : Verdict) × IfChosen taken (IsPieceVerdict kind aim number offset verdict) (verdict ≡ SoundGame [])
-one_reported true kind aim decided number offset made = piece_reported kind aim decided number offset made
-one_reported false kind aim decided number offset made = (SoundGame [], refl)
+one_reported : (taken : Bool) (kind : PieceKind) (aim : Aim) → IsDecided aim → (id : GameId) → IsMade kind
+    → (verdict : Verdict) × IfChosen taken (IsPieceVerdict kind aim id verdict) (verdict ≡ SoundGame [])
+one_reported true kind aim decided id made = piece_reported kind aim decided id made
+one_reported false kind aim decided id made = (SoundGame [], refl)
 
 all_reported : (aim : Aim) → IsDecided aim → (number : ℕ) (pieces : List MarkedPiece) → AreMade pieces
     → (reported : List Verdict) × AreVerdicts aim number pieces reported
 all_reported aim decided number [] made = ([], refl)
 all_reported aim decided number (piece ∷ more) made =
-    let own = one_reported (is_chosen aim.chosen number piece.offset) piece.kind aim decided number piece.offset made.0 in
+    let own = one_reported (is_chosen aim.chosen (id_of number piece)) piece.kind aim decided (id_of number piece) made.0 in
     let rest = all_reported aim decided (number + 1) more made.1 in
     (own.0 ∷ rest.0, (own.0, rest.0, refl, own.1, rest.1))
 
 pub some_report : TextHasAReport
-some_report aim limit max_depth number offset text pieces h =
-    all_reported aim (all_decided aim) number pieces (blocks_made limit max_depth offset h.blocks pieces h.each)
+some_report aim limit max_depth id text pieces h =
+    all_reported aim (all_decided aim) id.number pieces (blocks_made limit max_depth id.offset h.blocks pieces h.each)
 
 made_after : (xs ys : List MarkedPiece) → AreMade (xs ++ ys) → AreMade ys
 made_after [] ys made = made
 made_after (x ∷ xs) ys made = made_after xs ys made.1
 
 -- the last of the pieces of a text are reported in some way too
-pub rest_reported : (aim : Aim) (limit max_depth number offset : ℕ) (text : List ℕ) (before after : List MarkedPiece)
-    → AreMarkedPieces limit max_depth offset text (before ++ after) → (reported : List Verdict) × AreVerdicts aim number after reported
-rest_reported aim limit max_depth number offset text before after h =
-    all_reported aim (all_decided aim) number after (made_after before after (blocks_made limit max_depth offset h.blocks (before ++ after) h.each))
+pub rest_reported : (aim : Aim) (limit max_depth : ℕ) (id : GameId) (text : List ℕ) (before after : List MarkedPiece)
+    → AreMarkedPieces limit max_depth id.offset text (before ++ after) → (reported : List Verdict) × AreVerdicts aim id.number after reported
+rest_reported aim limit max_depth id text before after h =
+    all_reported aim (all_decided aim) id.number after (made_after before after (blocks_made limit max_depth id.offset h.blocks (before ++ after) h.each))

@@ -35,7 +35,7 @@ report_text order pieces verdicts =
 
 read_by : (order : Order) (text : List ℕ) (pieces : List MarkedPiece) (verdicts : List Verdict)
     → ArePieces order.job (take order.end text) pieces
-    → AreVerdicts order.job.aim order.job.number pieces verdicts
+    → AreVerdicts order.job.aim order.job.id.number pieces verdicts
     → IsRead order text (output_text verdicts) (report_text order pieces verdicts)
 read_by order text pieces verdicts each reported = record {
   faults = fault_lines verdicts;
@@ -77,9 +77,9 @@ path_written order path Unknown known = absurd (known refl)
 path_written order path NoFile known = ([], unopened_line path, (refl, names_unopened path))
 path_written order path (FileOf text) known =
     let job = order.job in
-    let whole = drop job.offset (take order.end text) in
-    let pieces = marked_pieces_exist job.limit job.max_depth job.offset whole in
-    let verdicts = rest_reported job.aim job.limit job.max_depth job.number job.offset whole []
+    let whole = drop job.id.offset (take order.end text) in
+    let pieces = marked_pieces_exist job.limit job.max_depth job.id.offset whole in
+    let verdicts = rest_reported job.aim job.limit job.max_depth job.id whole []
     pieces.0 pieces.1 in (
       output_text verdicts.0,
       report_text order pieces.0 verdicts.0,

@@ -79,14 +79,14 @@ two_written order first second output report out err off to_output to_report are
 pub listed_alone : (job : Job) (text output faults : List ℕ) → job.aim.mode ≡ modes.List → IsReport
     job text output faults
     → (pieces : List MarkedPiece) × (entries : List Entry) × ArePieces job text pieces × AreEntries
-    job.aim job.number pieces entries
+    job.aim job.id.number pieces entries
     × (output ≡ listing job.aim.name entries)
 listed_alone job text output faults lists is =
-    let rows = of_pieces job.aim lists job.number is.pieces is.verdicts is.reported in (
+    let rows = of_pieces job.aim lists job.id.number is.pieces is.verdicts is.reported in (
       is.pieces,
       rows.0,
       is.each,
-      are_entries job.aim job.number is.pieces rows.0 rows.1,
+      are_entries job.aim job.id.number is.pieces rows.0 rows.1,
       is.outputs
           ∙ rows.2,
     )

@@ -10,7 +10,7 @@ use Rattle.pgn_extract.specs.Public.Index.{fault_text}
 use Rattle.pgn_extract.specs.Public.Notes.{IsNote}
 use Rattle.pgn_extract.specs.Public.Verdicts.{Verdict, SoundGame, FaultyGame, without_note, AreVerdicts, output_of, fault_line_of, output_text, fault_lines, is_faulty}
 use Rattle.pgn_extract.specs.declared.engine.report.Report.{Report}
-use Rattle.pgn_extract.specs.Public.Aims.{Aim}
+use Rattle.pgn_extract.specs.Public.Aims.{Aim, GameId}
 use Rattle.pgn_extract.proofs.ChoiceFacts.{if_passed, if_taken}
 
 -- what goes to the output of some, and then of others
@@ -80,15 +80,15 @@ pub joined : (front one whole : List ℕ) → whole ≡ front ++ (one ++ []) →
 joined front one whole e = ap (λ t. front ++ t) (sym (append-nil one)) ∙ sym e
 
 -- the one piece of a block over the limit, where it is chosen
-pub reports_too_long : (aim : Aim) (report : Report) (number offset : ℕ) (note : List ℕ) → is_chosen aim.chosen number offset ≡ true
+pub reports_too_long : (aim : Aim) (report : Report) (id : GameId) (note : List ℕ) → is_chosen aim.chosen id ≡ true
     → IsNote aim.explain note → report.output.items ≡ []
-    → report.faults.items ≡ fault_text aim.name number offset (codes "too long") ++ note → report.games ≡ 1 → report.faulty ≡ 1
-    → Reports aim report number (too_long_piece offset ∷ [])
-reports_too_long aim report number offset note taken noted output faults games faulty =
-    let line = fault_text aim.name number offset (codes "too long") in
+    → report.faults.items ≡ fault_text aim.name id (codes "too long") ++ note → report.games ≡ 1 → report.faulty ≡ 1
+    → Reports aim report id.number (too_long_piece id.offset ∷ [])
+reports_too_long aim report id note taken noted output faults games faulty =
+    let line = fault_text aim.name id (codes "too long") in
     record {
       verdicts = FaultyGame [] line note ∷ [];
-      each = (FaultyGame [] line note, [], refl, if_taken (is_chosen aim.chosen number offset) _ taken (note, noted, refl), refl);
+      each = (FaultyGame [] line note, [], refl, if_taken (is_chosen aim.chosen id) _ taken (note, noted, refl), refl);
       output = output;
       faults = faults ∙ sym (append-nil (line ++ note));
       same = refl;
@@ -97,11 +97,11 @@ reports_too_long aim report number offset note taken noted output faults games f
     }
 
 -- and where it is passed over
-pub reports_passed : (aim : Aim) (report : Report) (number offset : ℕ) → is_chosen aim.chosen number offset ≡ false → report.output.items ≡ []
-    → report.faults.items ≡ [] → report.games ≡ 1 → report.faulty ≡ 0 → Reports aim report number (too_long_piece offset ∷ [])
-reports_passed aim report number offset passed output faults games faulty = record {
+pub reports_passed : (aim : Aim) (report : Report) (id : GameId) → is_chosen aim.chosen id ≡ false → report.output.items ≡ []
+    → report.faults.items ≡ [] → report.games ≡ 1 → report.faulty ≡ 0 → Reports aim report id.number (too_long_piece id.offset ∷ [])
+reports_passed aim report id passed output faults games faulty = record {
   verdicts = SoundGame [] ∷ [];
-  each = (SoundGame [], [], refl, if_passed (is_chosen aim.chosen number offset) _ passed refl, refl);
+  each = (SoundGame [], [], refl, if_passed (is_chosen aim.chosen id) _ passed refl, refl);
   output = output;
   faults = faults;
   same = refl;

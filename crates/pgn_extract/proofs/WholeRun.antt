@@ -43,7 +43,7 @@ none_complete limit max_depth offset = record {
 module _ (job : Job) (io : Io) where
   -- the whole input is reported
   pub ends_whole : (first mid last : Option (List ℕ)) {moved count moved' : ℕ} {summary : Summary}
-      → Drops first mid moved count job.offset → EndsBlocks job.aim job.limit job.max_depth job.number job.offset mid last count moved' io.out.old.bytes io.out.new.bytes io.err.old.bytes io.err.new.bytes summary
+      → Drops first mid moved count job.id.offset → EndsBlocks job.aim job.limit job.max_depth job.id mid last count moved' io.out.old.bytes io.out.new.bytes io.err.old.bytes io.err.new.bytes summary
       → IfSome first (λ whole. Completes job io whole summary)
   ends_whole None mid last d e = tt
   ends_whole (Some whole) None last d e = absurd d.reads.bytes
@@ -52,26 +52,26 @@ module _ (job : Job) (io : Io) where
         let dropped = d.within in let read = e.size in
         omega (arith, ap length d.reads.bytes, length-append d.dropped rest, ap length e.all);
     pieces = e.pieces;
-    each = subst (λ t. AreMarkedPieces job.limit job.max_depth job.offset t e.pieces) (sym kept) e.each;
+    each = subst (λ t. AreMarkedPieces job.limit job.max_depth job.id.offset t e.pieces) (sym kept) e.each;
     verdicts = e.verdicts;
     written = e.written;
     games = e.games;
     faulty = e.faulty;
   }
     where
-      kept : drop job.offset whole ≡ e.read
-      kept = ap (drop job.offset) d.reads.bytes ∙ drop_is job.offset d.dropped rest d.within (λ less. nothing_left whole d.dropped rest d.reads.bytes (d.end less)) ∙ e.all
+      kept : drop job.id.offset whole ≡ e.read
+      kept = ap (drop job.id.offset) d.reads.bytes ∙ drop_is job.id.offset d.dropped rest d.within (λ less. nothing_left whole d.dropped rest d.reads.bytes (d.end less)) ∙ e.all
 
   -- a read failed within the bytes to be dropped
-  pub skip_stands : (first last : Option (List ℕ)) {moved : ℕ} (error : RunError) → error ≡ Read → moved ≡ 0 → job.offset ≤ 2 ^ 62
+  pub skip_stands : (first last : Option (List ℕ)) {moved : ℕ} (error : RunError) → error ≡ Read → moved ≡ 0 → job.id.offset ≤ 2 ^ 62
       → io.out.new.bytes ≡ io.out.old.bytes → io.err.new.bytes ≡ io.err.old.bytes
-      → DropsSome first last moved io.input.new.moved job.offset → IfSome first (λ whole. Stops error job io whole)
+      → DropsSome first last moved io.input.new.moved job.id.offset → IfSome first (λ whole. Stops error job io whole)
   skip_stands None last error is zero small same_out same_err d = tt
   skip_stands (Some whole) None error is zero small same_out same_err d = absurd d.reads.bytes
   skip_stands (Some whole) (Some rest) {moved} error is zero small same_out same_err d =
       subst (λ e. Stops e job io whole) (sym is) record {
         pieces = [];
-        each = subst (λ t. AreCompletePieces job.limit job.max_depth job.offset t []) (sym none) (none_complete job.limit job.max_depth job.offset);
+        each = subst (λ t. AreCompletePieces job.limit job.max_depth job.id.offset t []) (sym none) (none_complete job.limit job.max_depth job.id.offset);
         verdicts = [];
         written = record { each = refl; output = subst (λ o. Appends io.out.old.bytes o []) (sym same_out) (appends_none io.out.old.bytes); faults = subst (λ o. Appends io.err.old.bytes o []) (sym same_err) (appends_none io.err.old.bytes) };
       }
@@ -79,22 +79,22 @@ module _ (job : Job) (io : Io) where
       size : length d.dropped ≡ io.input.new.moved
       size = let w = d.within in let c = d.reads.count (omega arith) in omega arith
 
-      none : drop job.offset (take io.input.new.moved whole) ≡ []
-      none = ap (λ t. drop job.offset (take io.input.new.moved t)) d.reads.bytes ∙ ap (drop job.offset) (take_at d.dropped rest io.input.new.moved size) ∙ drop_all job.offset d.dropped d.within
+      none : drop job.id.offset (take io.input.new.moved whole) ≡ []
+      none = ap (λ t. drop job.id.offset (take io.input.new.moved t)) d.reads.bytes ∙ ap (drop job.id.offset) (take_at d.dropped rest io.input.new.moved size) ∙ drop_all job.id.offset d.dropped d.within
 
   -- what stands after an error, over the whole input
-  pub stands_whole : (first mid last : Option (List ℕ)) {moved count : ℕ} (error : RunError) → moved ≡ 0 → job.offset ≤ 2 ^ 62
-      → Drops first mid moved count job.offset → BreaksOff job.aim job.limit job.max_depth job.number job.offset mid last count io.input.new.moved io.out.old.bytes io.out.new.bytes io.err.old.bytes io.err.new.bytes error
+  pub stands_whole : (first mid last : Option (List ℕ)) {moved count : ℕ} (error : RunError) → moved ≡ 0 → job.id.offset ≤ 2 ^ 62
+      → Drops first mid moved count job.id.offset → BreaksOff job.aim job.limit job.max_depth job.id mid last count io.input.new.moved io.out.old.bytes io.out.new.bytes io.err.old.bytes io.err.new.bytes error
       → IfSome first (λ whole. Stops error job io whole)
   stands_whole None mid last error zero small d b = tt
   stands_whole (Some whole) None last error zero small d b = absurd d.reads.bytes
   stands_whole (Some whole) (Some rest) None error zero small d b = absurd b.reads.bytes
   stands_whole (Some whole) (Some rest) (Some after) {moved} {count} error zero small d b = by_kind error b.stands
     where
-      kept : drop job.offset whole ≡ rest
-      kept = ap (drop job.offset) d.reads.bytes ∙ drop_is job.offset d.dropped rest d.within (λ less. nothing_left whole d.dropped rest d.reads.bytes (d.end less))
+      kept : drop job.id.offset whole ≡ rest
+      kept = ap (drop job.id.offset) d.reads.bytes ∙ drop_is job.id.offset d.dropped rest d.within (λ less. nothing_left whole d.dropped rest d.reads.bytes (d.end less))
 
-      none_read : length d.dropped < job.offset → b.read ≡ []
+      none_read : length d.dropped < job.id.offset → b.read ≡ []
       none_read less = no_bytes b.read after (sym b.reads.bytes ∙ nothing_left whole d.dropped rest d.reads.bytes (d.end less))
 
       shape : whole ≡ (d.dropped ++ b.read) ++ after
@@ -107,34 +107,34 @@ module _ (job : Job) (io : Io) where
           let there : io.input.new.moved ≡ count + length b.read = b.reads.count (omega arith) in
           omega (arith, length-append d.dropped b.read)
 
-      read_part : drop job.offset (take io.input.new.moved whole) ≡ b.read
+      read_part : drop job.id.offset (take io.input.new.moved whole) ≡ b.read
       read_part =
-          ap (λ t. drop job.offset (take io.input.new.moved t)) shape ∙ ap (drop job.offset) (take_at (d.dropped ++ b.read) after io.input.new.moved size)
-          ∙ drop_is job.offset d.dropped b.read d.within none_read
+          ap (λ t. drop job.id.offset (take io.input.new.moved t)) shape ∙ ap (drop job.id.offset) (take_at (d.dropped ++ b.read) after io.input.new.moved size)
+          ∙ drop_is job.id.offset d.dropped b.read d.within none_read
 
-      begun : BeginsFirst job.aim job.limit job.max_depth job.number job.offset rest io.out.old.bytes io.out.new.bytes io.err.old.bytes io.err.new.bytes
-          → BeginsAll job.aim job.limit job.max_depth job.number job.offset (drop job.offset whole) io.out.old.bytes io.out.new.bytes io.err.old.bytes io.err.new.bytes
+      begun : BeginsFirst job.aim job.limit job.max_depth job.id rest io.out.old.bytes io.out.new.bytes io.err.old.bytes io.err.new.bytes
+          → BeginsAll job.aim job.limit job.max_depth job.id (drop job.id.offset whole) io.out.old.bytes io.out.new.bytes io.err.old.bytes io.err.new.bytes
       begun s =
-          begun_all job.aim job.limit job.max_depth job.number job.offset (drop job.offset whole) io.out.old.bytes io.out.new.bytes io.err.old.bytes io.err.new.bytes
-          (subst (λ t. BeginsFirst job.aim job.limit job.max_depth job.number job.offset t io.out.old.bytes io.out.new.bytes io.err.old.bytes io.err.new.bytes) (sym kept) s)
+          begun_all job.aim job.limit job.max_depth job.id (drop job.id.offset whole) io.out.old.bytes io.out.new.bytes io.err.old.bytes io.err.new.bytes
+          (subst (λ t. BeginsFirst job.aim job.limit job.max_depth job.id t io.out.old.bytes io.out.new.bytes io.err.old.bytes io.err.new.bytes) (sym kept) s)
 
-      by_kind : (e : RunError) → StandsOver job.aim job.limit job.max_depth job.number job.offset (Some rest) b.read io.out.old.bytes io.out.new.bytes io.err.old.bytes io.err.new.bytes e
+      by_kind : (e : RunError) → StandsOver job.aim job.limit job.max_depth job.id (Some rest) b.read io.out.old.bytes io.out.new.bytes io.err.old.bytes io.err.new.bytes e
           → Stops e job io whole
-      by_kind Read s = subst (λ t. WritesComplete job.aim job.limit job.max_depth job.number job.offset t io.out.old.bytes io.out.new.bytes io.err.old.bytes io.err.new.bytes) (sym read_part) s
+      by_kind Read s = subst (λ t. WritesComplete job.aim job.limit job.max_depth job.id t io.out.old.bytes io.out.new.bytes io.err.old.bytes io.err.new.bytes) (sym read_part) s
       by_kind Write s = begun s
       by_kind OutOfMemory s = begun s
       by_kind InputTooLong s =
-          elim (cases_lt (length d.dropped) job.offset) [
+          elim (cases_lt (length d.dropped) job.id.offset) [
             | inl less ↦ absurd (not_nil s.kept s.byte [] (sym s.parted ∙ none_read less))
             | inr more ↦
                 let front : whole ≡ (d.dropped ++ s.kept) ++ (s.byte ∷ [] ++ after) =
                 d.reads.bytes ∙ ap (λ t. d.dropped ++ t) (b.reads.bytes ∙ ap (λ t. t ++ after) s.parted ∙ append_assoc s.kept (s.byte ∷ []) after)
                 ∙ sym (append_assoc d.dropped s.kept (s.byte ∷ [] ++ after)) in
                 let full : length (d.dropped ++ s.kept) ≡ 2 ^ 62 = (let w = d.within in let f = s.full in omega (arith, length-append d.dropped s.kept)) in
-                let part : drop job.offset (take (2 ^ 62) whole) ≡ s.kept =
-                ap (λ t. drop job.offset (take (2 ^ 62) t)) front ∙ ap (drop job.offset) (take_at (d.dropped ++ s.kept) (s.byte ∷ [] ++ after) (2 ^ 62) full)
-                ∙ drop_at d.dropped s.kept job.offset (let w = d.within in omega arith) in (
+                let part : drop job.id.offset (take (2 ^ 62) whole) ≡ s.kept =
+                ap (λ t. drop job.id.offset (take (2 ^ 62) t)) front ∙ ap (drop job.id.offset) (take_at (d.dropped ++ s.kept) (s.byte ∷ [] ++ after) (2 ^ 62) full)
+                ∙ drop_at d.dropped s.kept job.id.offset (let w = d.within in omega arith) in (
                   omega (arith, full, ap length front, length-append (d.dropped ++ s.kept) (s.byte ∷ [] ++ after)),
-                  subst (λ t. WritesComplete job.aim job.limit job.max_depth job.number job.offset t io.out.old.bytes io.out.new.bytes io.err.old.bytes io.err.new.bytes) (sym part) s.written,
+                  subst (λ t. WritesComplete job.aim job.limit job.max_depth job.id t io.out.old.bytes io.out.new.bytes io.err.old.bytes io.err.new.bytes) (sym part) s.written,
                 )
           ]

@@ -12,21 +12,13 @@ pub(crate) mod showing;
 mod ten_lines;
 
 use crate::entries::kept::push_kept;
+use crate::marks::GameId;
 use crate::output::texts::{MARK_ROOM, push_entry, push_named_mark};
 use crate::settings::Settings;
 use pgn_criteria::{Criteria, Search};
 use pgn_game::{GameFault, MainLine};
 use pgn_text::RawGame;
 use std::alloc::{AllocError, Global};
-
-/// Which game it is.
-#[derive(Clone, Copy)]
-pub struct GameMark {
-    /// Its number among the pieces.
-    pub number: u64,
-    /// The offset of its first byte.
-    pub offset: u64,
-}
 
 /// What is asked of a game, and which one it is.
 #[derive(Clone, Copy)]
@@ -36,7 +28,7 @@ pub struct GameContext<'a> {
     /// What is asked.
     pub settings: &'a Settings,
     /// Which game it is.
-    pub own: GameMark,
+    pub own: GameId,
 }
 
 /// What is asked of the positions of a game, and what the lines of its entries begin with.
@@ -44,7 +36,7 @@ pub struct GameContext<'a> {
 struct Finder<'s, 'a> {
     settings: &'s Settings,
     search: Search<'a>,
-    own: GameMark,
+    own: GameId,
     mark: Vec<u8>,
 }
 
@@ -58,8 +50,8 @@ impl<'s, 'a> Finder<'s, 'a> {
         is_open: bool,
     ) -> Result<bool, AllocError>
         requires plain { is_plain self.now.settings.now.fields ≡ true }
-        requires marked { self.now.mark.items ≡ named_mark self.now.settings.now.name self.now.own.number self.now.own.offset }
-        ensures { IfOk result (GoesOn (aim_of self.now.settings.now) self.now.own.number self.now.own.offset self.now.search line.now text.old.items text.new.items is_open) }
+        requires marked { self.now.mark.items ≡ named_mark self.now.settings.now.name self.now.own }
+        ensures { IfOk result (GoesOn (aim_of self.now.settings.now) self.now.own self.now.search line.now text.old.items text.new.items is_open) }
     {
         let ply = line.plies();
         if !is_open || ply > self.settings.max_ply as usize {
@@ -82,9 +74,9 @@ impl<'s, 'a> Finder<'s, 'a> {
     ) -> Result<(), GameFault<'b>>
         requires plain { is_plain self.now.settings.now.fields ≡ true }
         requires asks { AsksFor (aim_of self.now.settings.now) game.now self.now.search }
-        requires marked { self.now.mark.items ≡ named_mark self.now.settings.now.name self.now.own.number self.now.own.offset }
+        requires marked { self.now.mark.items ≡ named_mark self.now.settings.now.name self.now.own }
         ensures { MatchResult result
-            (λ _. AddsEntries (aim_of self.now.settings.now) self.now.own.number self.now.own.offset game.now text.old.items text.new.items)
+            (λ _. AddsEntries (aim_of self.now.settings.now) self.now.own game.now text.old.items text.new.items)
             (λ fault. IfSome (fault_of fault) (StopsAtFault game.now text.old.items text.new.items)) }
     {
         let mut line = MainLine::begin(alloc, game)?;
@@ -106,7 +98,7 @@ pub fn push_found<'a>(
     requires plain { is_plain context.settings.now.fields ≡ true }
     requires criteria { context.settings.now.criteria ≡ Some criteria.now }
     ensures { MatchResult result
-        (λ _. AddsEntries (aim_of context.entry.settings.now) context.entry.own.number context.entry.own.offset game.now text.old.items text.new.items)
+        (λ _. AddsEntries (aim_of context.entry.settings.now) context.entry.own game.now text.old.items text.new.items)
         (λ fault. IfSome (fault_of fault) (StopsAtFault game.now text.old.items text.new.items)) }
 {
     let GameContext {
@@ -118,7 +110,7 @@ pub fn push_found<'a>(
         return push_kept(text, context, criteria, game);
     };
     let mut mark = Vec::with_capacity(alloc, MARK_ROOM)?;
-    push_named_mark(&mut mark, &settings.name, own.number, own.offset)?;
+    push_named_mark(&mut mark, &settings.name, own)?;
     let finder = Finder {
         settings,
         search,

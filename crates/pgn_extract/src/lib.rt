@@ -26,12 +26,11 @@ mod settings;
 
 pub use app::command::Request;
 pub use app::files::{Files, Stream, Task, Total, run_files, run_input};
-pub use app::mark::Mark;
 pub use app::order::{Order, accept, has_names, settings_of};
 pub use app::{messages, program, status};
 pub use engine::{run, run_skipping};
 pub use explain::kinds::{HEAD, folder_note, kind_note};
-pub use marks::{Marks, Met};
+pub use marks::{GameId, Marks, Met};
 pub use output::file_name::FileName;
 pub use output::outcome::{RunError, Summary};
 pub use packed::searching::{SearchError, Searched, search};

@@ -1,9 +1,19 @@
-//! The marks of the pieces that are reported.
-ghost use Rattle.std.specs.Prelude.{◌≡◌, ℕ, map, is_some};
+//! Which piece it is, and the marks of those that are reported.
+ghost use Rattle.std.specs.Prelude.{◌≡◌, map, is_some};
 ghost use Rattle.pgn_extract.specs.Private.MarkOrder.{given_of};
 ghost use Rattle.pgn_extract.specs.Public.Choices.{is_among};
+ghost use Rattle.pgn_extract.specs.declared.marks.GameId.{GameId};
 
 use std::marker::Model;
+
+/// Which game it is, or which piece.
+#[derive(Clone, Copy, Debug, PartialEq, Eq)]
+pub struct GameId {
+    /// Its number among the pieces, counted from 1.
+    pub number: u64,
+    /// The offset of its first byte.
+    pub offset: u64,
+}
 
 /// Marks in their order, each once: pairs of a number and an offset.
 #[derive(Debug, Drop)]
@@ -14,9 +24,9 @@ pub struct Marks {
 impl Model for Marks {
     ghost use Rattle.std.specs.Prelude.{List, map};
     ghost use Rattle.pgn_extract.specs.Private.MarkOrder.{AreInOrder, given_of};
-    ghost use Rattle.pgn_extract.specs.Public.GivenMarks.{GivenMark};
+    ghost use Rattle.pgn_extract.specs.declared.marks.GameId.{GameId};
 
-    ghost Value = { List GivenMark };
+    ghost Value = { List GameId };
 
     ghost view = { λ marks. map given_of marks.pairs.items };
 
@@ -26,8 +36,7 @@ impl Model for Marks {
 impl Marks {
     /// The marks that these pairs are, whatever their order.
     pub(crate) fn of_pairs(mut pairs: Vec<(u64, u64)>) -> Marks
-        ensures { (number offset : ℕ) → is_among result number offset
-            ≡ is_among (map given_of pairs.items) number offset }
+        ensures { (id : GameId) → is_among result id ≡ is_among (map given_of pairs.items) id }
     {
         pairs.sort_unstable();
         pairs.dedup();
@@ -35,10 +44,10 @@ impl Marks {
     }
 
     /// Where among them the mark of this piece stands.
-    pub(crate) fn place(&self, number: u64, offset: u64) -> Option<usize>
-        ensures { is_some result ≡ is_among self.now number offset }
+    pub(crate) fn place(&self, id: GameId) -> Option<usize>
+        ensures { is_some result ≡ is_among self.now id }
     {
-        match self.pairs.binary_search(&(number, offset)) {
+        match self.pairs.binary_search(&(id.number, id.offset)) {
             Ok(place) => Some(place),
             Err(_) => None,
         }
@@ -49,9 +58,10 @@ impl Marks {
         self.pairs.len()
     }
 
-    /// The number and the offset of the mark at the place, if there is one.
-    pub(crate) fn at(&self, place: usize) -> Option<(u64, u64)> {
-        self.pairs.get(place).copied()
+    /// The mark at the place, if there is one.
+    pub(crate) fn at(&self, place: usize) -> Option<GameId> {
+        let (number, offset) = *self.pairs.get(place)?;
+        Some(GameId { number, offset })
     }
 }
 

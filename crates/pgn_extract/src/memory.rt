@@ -14,6 +14,7 @@ ghost use Rattle.pgn_extract.specs.Public.Runs.{ArePieces, job_of};
 ghost use Rattle.pgn_extract.specs.Public.Searching.{ArePackLines, HasNoGame, IsIndexOfSoundGames, IsPackOf, of_all};
 ghost use Rattle.pgn_extract.specs.Public.Several.{IsReport, NamesUnopened};
 ghost use Rattle.pgn_extract.specs.Public.Verdicts.{Verdict, AreVerdicts, IsSameReport, fault_lines, is_faulty, output_text};
+ghost use Rattle.pgn_extract.specs.Public.GivenMarks.{game_id};
 
 use crate::app::files::{Files, Task, run_files};
 use crate::engine::run;
@@ -158,11 +159,11 @@ pub fn resume_text<'a>(
     requires number { (1 ≤ settings.now.number) × (settings.now.number ≤ 2 ^ 62) }
     requires offset { settings.now.offset ≤ largest_offset }
     ensures rest { OnOk result ((pieces : List MarkedPiece) → AreMarkedPieces block_limit depth_limit 0 input.old.inner.now pieces
-        → IsMarkAmong settings.now.number settings.now.offset pieces → (all : List Verdict) → AreVerdicts (aim_of settings.now) 1 pieces all
+        → IsMarkAmong (game_id settings.now.number settings.now.offset) pieces → (all : List Verdict) → AreVerdicts (aim_of settings.now) 1 pieces all
         → (own : List Verdict) × IsSameReport (aim_of settings.now) own (verdicts_at_least settings.now.number 1 all)
         × (out.new.inner.items ≡ out.old.inner.items ++ output_text own) × (err.new.inner.items ≡ err.old.inner.items ++ fault_lines own)) }
     ensures listed { OnOk result (settings.now.mode ≡ Mode.List → (pieces : List MarkedPiece) → AreMarkedPieces block_limit depth_limit 0 input.old.inner.now pieces
-        → IsMarkAmong settings.now.number settings.now.offset pieces → (entries : List Entry) → AreEntries (aim_of settings.now) 1 pieces entries
+        → IsMarkAmong (game_id settings.now.number settings.now.offset) pieces → (entries : List Entry) → AreEntries (aim_of settings.now) 1 pieces entries
         → out.new.inner.items ≡ out.old.inner.items ++ listing settings.now.name (entries_at_least settings.now.number entries)) }
 {
     complete_runs();

@@ -13,7 +13,7 @@ ghost use Rattle.pgn_criteria.specs.Public.ByMarks.{has_marks, NoneMeets};
 ghost use Rattle.pgn_criteria.specs.Public.Meeting.{heading_of};
 ghost use Rattle.pgn_criteria.specs.Public.Sieves.{codes_in};
 ghost use Rattle.pgn_extract.specs.Private.MarkedPacked.{StartsWith, AreMetWith};
-ghost use Rattle.pgn_extract.specs.Private.Packed.{PutsRecord, LeavesRecord, EachOfRecord, HasNoText, record_aim, Grows, ShowsInitial, StartsThere, GoesOnSeen, ListsRecord};
+ghost use Rattle.pgn_extract.specs.Private.Packed.{raw_id, PutsRecord, LeavesRecord, EachOfRecord, HasNoText, record_aim, Grows, ShowsInitial, StartsThere, GoesOnSeen, ListsRecord};
 
 mod kept_packed;
 mod marked_packed;
@@ -21,6 +21,7 @@ mod record_lines;
 pub(crate) mod searching;
 
 use crate::entries::listing::push_lines;
+use crate::marks::GameId;
 use crate::output::texts::{MARK_ROOM, push_entry, push_mark};
 use crate::packed::kept_packed::push_kept_record;
 use crate::packed::record_lines::RecordLines;
@@ -66,10 +67,14 @@ fn push_record_title(text: &mut Vec<u8>, record: &RawRecord<'_>) -> Result<(), A
 
 /// Appends the mark that the lines of the record begin with, after the name of its file where it has one.
 pub(crate) fn push_record_mark(text: &mut Vec<u8>, record: &RawRecord<'_>) -> Result<(), AllocError>
-    ensures { OnOk result (text.new.items ≡ text.old.items ++ named_mark record.now.name record.now.number record.now.offset) }
+    ensures { OnOk result (text.new.items ≡ text.old.items ++ named_mark record.now.name (raw_id record.now)) }
 {
     push_record_title(text, record)?;
-    push_mark(text, record.number(), record.offset())
+    let id = GameId {
+        number: record.number(),
+        offset: record.offset(),
+    };
+    push_mark(text, id)
 }
 
 /// The fault of a record for that of its FEN tag.
@@ -140,9 +145,9 @@ impl<'s, 'r, 'a> Walker<'s, 'r, 'a> {
         is_open: bool,
     ) -> Result<bool, AllocError>
         requires plain { is_plain self.now.settings.now.fields ≡ true }
-        requires marked { self.now.mark.items ≡ named_mark self.now.record.now.name self.now.record.now.number self.now.record.now.offset }
+        requires marked { self.now.mark.items ≡ named_mark self.now.record.now.name (raw_id self.now.record.now) }
         ensures { IfOk result (λ still. Grows text.old.items text.new.items
-            × GoesOnSeen (record_aim (aim_of self.now.settings.now) self.now.record.now) self.now.record.now.number self.now.record.now.offset
+            × GoesOnSeen (record_aim (aim_of self.now.settings.now) self.now.record.now) (raw_id self.now.record.now)
             self.now.search walk.now ply text.old.items text.new.items is_open still) }
     {
         if !is_open || ply > self.settings.max_ply as usize {
@@ -158,7 +163,7 @@ impl<'s, 'r, 'a> Walker<'s, 'r, 'a> {
     /// Walks over the plies of the game, and adds the lines of its entries. It goes no further than an entry may stand.
     fn walk(&self, text: &mut Vec<u8>, walk: &mut Walk<Bits>) -> Result<(), AllocError>
         requires plain { is_plain self.now.settings.now.fields ≡ true }
-        requires marked { self.now.mark.items ≡ named_mark self.now.record.now.name self.now.record.now.number self.now.record.now.offset }
+        requires marked { self.now.mark.items ≡ named_mark self.now.record.now.name (raw_id self.now.record.now) }
         requires asks { EachOfRecord self.now.record.now (λ game replay packed. AsksFor (aim_of self.now.settings.now) game self.now.search) }
         requires starts { StartsThere self.now.record.now walk.old }
         ensures { OnOk result (ListsRecord (aim_of self.now.settings.now) self.now.record.now text.old.items text.new.items) }
@@ -310,7 +315,7 @@ fn push_entries<'a>(
 
 /// Adds the line of a packed game in the index. Its plies are not read.
 fn push_record_line(text: &mut Vec<u8>, record: &RawRecord<'_>) -> Result<(), AllocError>
-    ensures { OnOk result (text.new.items ≡ text.old.items ++ mark_line record.now.name record.now.number record.now.offset) }
+    ensures { OnOk result (text.new.items ≡ text.old.items ++ mark_line record.now.name (raw_id record.now)) }
 {
     push_record_mark(text, record)?;
     text.push(b'\n')?;

@@ -33,7 +33,7 @@ use Rattle.pgn_extract.specs.declared.output.outcome.RunError.{RunError}
 use Rattle.pgn_extract.specs.declared.output.outcome.RunError.TheVariants.{Read, Write, OutOfMemory, InputTooLong}
 use Rattle.pgn_extract.specs.declared.output.outcome.Summary.{Summary}
 use Rattle.pgn_criteria.specs.Public.Meeting.{heading_of, Heading}
-use Rattle.pgn_extract.specs.Public.Aims.{Aim}
+use Rattle.pgn_extract.specs.Public.Aims.{Aim, GameId}
 use Rattle.pgn_extract.specs.Public.Choices.{IfChosen, is_chosen}
 use Rattle.pgn_text.specs.Public.LeftMarks.{mark_place}
 use Rattle.pgn_extract.specs.Public.Listing.{Entry, listing}
@@ -42,6 +42,11 @@ use Rattle.pgn_extract.specs.declared.settings.Form.TheVariants.{Standard, AsItS
 use Rattle.pgn_extract.specs.declared.settings.Select.TheVariants.{Matching}
 use Rattle.pgn_extract.specs.Private.Finding.{named_mark}
 use Rattle.pgn_extract.specs.Public.GameReports.{AreListed}
+use Rattle.pgn_extract.specs.Public.GivenMarks.{game_id}
+
+-- the piece at this place of the block that begins there
+abbrev pub id_at : GameId → ℕ → GameId
+id_at id place = game_id id.number (id.offset + place)
 
 -- a body that is shown has no more bytes than the limit
 abbrev pub IsShown : ℕ → Body → Type 0
@@ -66,9 +71,9 @@ pub record AddsVerdict (old new : Report) (verdict : Verdict) (count : ℕ) : Ty
   pub faulty : new.faulty ≡ old.faulty + (if is_faulty verdict then 1 else 0)
 
 -- what the listing reports of the game that is given is added; the game isn't counted yet
-abbrev pub AddsListed : Aim → Report → Report → ℕ → ℕ → GameText → Type 0
-AddsListed aim old new number offset game =
-    (at : ℕ) (parts : List Part) → ShowsGame game at parts → (verdict : Verdict) × IsListed aim verdict number offset parts × AddsVerdict old new verdict 0
+abbrev pub AddsListed : Aim → Report → Report → GameId → GameText → Type 0
+AddsListed aim old new id game =
+    (at : ℕ) (parts : List Part) → ShowsGame game at parts → (verdict : Verdict) × IsListed aim verdict id parts × AddsVerdict old new verdict 0
 
 -- where there are no criteria, the ply is listed of a main line with so many plies
 abbrev pub IsPlainEntry : Aim → ℕ → ℕ → Type 0
@@ -80,48 +85,48 @@ lines_from marked ply zero = []
 lines_from marked ply (suc count) = (marked ++ 32 ∷ decimal ply ++ 10 ∷ []) ++ lines_from marked (ply + 1) count
 
 -- the lines of the entries of any main line with so many plies are added
-abbrev pub AddsPlies : Aim → ℕ → ℕ → ℕ → List ℕ → List ℕ → Type 0
-AddsPlies aim number offset plies old new =
+abbrev pub AddsPlies : Aim → GameId → ℕ → List ℕ → List ℕ → Type 0
+AddsPlies aim id plies old new =
     (tags : Heading) (replay : Replay) → length replay.positions ≡ plies + 1
-    → (entries : List Entry) × AreListed aim number offset tags replay entries × (new ≡ old ++ listing aim.name entries)
+    → (entries : List Entry) × AreListed aim id tags replay entries × (new ≡ old ++ listing aim.name entries)
 
 -- the same of a game with this mark, whatever it says
 abbrev pub AddsLines : Aim → List ℕ → ℕ → List ℕ → List ℕ → Type 0
 AddsLines aim marked plies old new =
-    (name : Option (List ℕ)) (number offset : ℕ) → marked ≡ named_mark name number offset → AddsPlies (record aim { name = name }) number offset plies old new
+    (name : Option (List ℕ)) (id : GameId) → marked ≡ named_mark name id → AddsPlies (record aim { name = name }) id plies old new
 
 -- the text of the game that is given: its export, or the game as it stands, or its line, or its record
-abbrev pub IsGivenText : Form → Aim → ℕ → ℕ → GameText → List ℕ → Type 0
-IsGivenText Standard aim number offset game text = IsExport aim.style game text
-IsGivenText AsItStands aim number offset game text = text ≡ as_it_stands game.text
-IsGivenText (Line notation) aim number offset game text =
-    (own : List ℕ) × IsGameLine notation (tag_in fen_tag game.tags) game.elements own × (text ≡ line_with aim.name number offset own)
-IsGivenText Record aim number offset game text = IsRecordOf aim.name number offset game text
+abbrev pub IsGivenText : Form → Aim → GameId → GameText → List ℕ → Type 0
+IsGivenText Standard aim id game text = IsExport aim.style game text
+IsGivenText AsItStands aim id game text = text ≡ as_it_stands game.text
+IsGivenText (Line notation) aim id game text =
+    (own : List ℕ) × IsGameLine notation (tag_in fen_tag game.tags) game.elements own × (text ≡ line_with aim.name id own)
+IsGivenText Record aim id game text = IsRecordOf aim.name id.number id.offset game text
 
 -- the sound game that is given is selected
 abbrev pub IsGameSelected : Aim → GameText → Replay → Type 0
 IsGameSelected aim game replay = IsSelected aim.select (HasEntry aim (heading_of game) replay)
 
 -- what is written of the game that is given: its text where it is selected, and else nothing
-abbrev pub IsGameWritten : Aim → ℕ → ℕ → GameText → Replay → List ℕ → Type 0
-IsGameWritten aim number offset game replay text =
-    (IsGameSelected aim game replay × IsGivenText aim.form aim number offset game text) ⊎ ((IsGameSelected aim game replay → ⊥) × (text ≡ []))
+abbrev pub IsGameWritten : Aim → GameId → GameText → Replay → List ℕ → Type 0
+IsGameWritten aim id game replay text =
+    (IsGameSelected aim game replay × IsGivenText aim.form aim id game text) ⊎ ((IsGameSelected aim game replay → ⊥) × (text ≡ []))
 
 -- the lines of the game that are written are sound, and what is written of it is added
-abbrev pub AddsText : Aim → ℕ → ℕ → GameText → List ℕ → List ℕ → Type 0
-AddsText aim number offset game old new =
+abbrev pub AddsText : Aim → GameId → GameText → List ℕ → List ℕ → Type 0
+AddsText aim id game old new =
     (replay : Replay) × IsReplay (written_lines aim) (tag_in fen_tag game.tags) game.elements replay
-    × (text : List ℕ) × IsGameWritten aim number offset game replay text × (new ≡ old ++ text)
+    × (text : List ℕ) × IsGameWritten aim id game replay text × (new ≡ old ++ text)
 
 -- the lines of the game that are written have the fault, and nothing is added
 abbrev pub LeavesText : Aim → GameText → List ℕ → List ℕ → Fault → Type 0
 LeavesText aim game old new fault = IsFault (written_lines aim) (tag_in fen_tag game.tags) game.elements fault × (new ≡ old)
 
 -- they are sound, and the text of the game, selected or not, is added
-abbrev pub PutsText : Aim → ℕ → ℕ → GameText → List ℕ → List ℕ → Type 0
-PutsText aim number offset game old new =
+abbrev pub PutsText : Aim → GameId → GameText → List ℕ → List ℕ → Type 0
+PutsText aim id game old new =
     (replay : Replay) × IsReplay (written_lines aim) (tag_in fen_tag game.tags) game.elements replay
-    × (text : List ℕ) × IsGivenText aim.form aim number offset game text × (new ≡ old ++ text)
+    × (text : List ℕ) × IsGivenText aim.form aim id game text × (new ≡ old ++ text)
 
 -- each sound game is written, whatever its moves
 pub record TakesAll (aim : Aim) : Type 0 where
@@ -130,14 +135,14 @@ pub record TakesAll (aim : Aim) : Type 0 where
   pub select : aim.select ≡ Matching
 
 -- the same of what the export reports
-abbrev pub AddsExported : Aim → Report → Report → ℕ → ℕ → GameText → Type 0
-AddsExported aim old new number offset game =
-    (at : ℕ) (parts : List Part) → ShowsGame game at parts → (verdict : Verdict) × IsExported aim verdict number offset parts × AddsVerdict old new verdict 0
+abbrev pub AddsExported : Aim → Report → Report → GameId → GameText → Type 0
+AddsExported aim old new id game =
+    (at : ℕ) (parts : List Part) → ShowsGame game at parts → (verdict : Verdict) × IsExported aim verdict id parts × AddsVerdict old new verdict 0
 
 -- the same of what the mode reports
-abbrev pub AddsGame : Aim → Report → Report → ℕ → ℕ → GameText → Type 0
-AddsGame aim old new number offset game =
-    (at : ℕ) (parts : List Part) → ShowsGame game at parts → (verdict : Verdict) × IsGameVerdict aim number offset parts verdict × AddsVerdict old new verdict 0
+abbrev pub AddsGame : Aim → Report → Report → GameId → GameText → Type 0
+AddsGame aim old new id game =
+    (at : ℕ) (parts : List Part) → ShowsGame game at parts → (verdict : Verdict) × IsGameVerdict aim id parts verdict × AddsVerdict old new verdict 0
 
 -- what is reported of the piece in the mode is added, and the piece counted
 abbrev pub AddsMark : Aim → Report → Report → ℕ → MarkedPiece → Type 0
@@ -149,9 +154,9 @@ IsPieceOf offset block piece =
     (before : List spec.Piece) × (after : List spec.Piece) × spec.ArePieces depth_limit (offset == 0) [] (before ++ piece ∷ after) block
 
 -- the same, of the piece that is given of the block that begins at the offset
-abbrev pub AddsPiece : Aim → Report → Report → ℕ → ℕ → List ℕ → Piece → Type 0
-AddsPiece aim old new number offset block piece =
-    (shown : spec.Piece) → IsPiece piece shown → IsPieceOf offset block shown → AddsMark aim old new number (marked offset shown)
+abbrev pub AddsPiece : Aim → Report → Report → GameId → List ℕ → Piece → Type 0
+AddsPiece aim old new id block piece =
+    (shown : spec.Piece) → IsPiece piece shown → IsPieceOf id.offset block shown → AddsMark aim old new id.number (marked id.offset shown)
 
 -- the note names the byte at which the block, which begins at the offset, stops agreeing with games from the place `begin` on
 abbrev pub NamesBlockStop : Bool → ℕ → List ℕ → ℕ → List ℕ → Type 0
@@ -160,20 +165,20 @@ NamesBlockStop true offset block begin note =
     (place : ℕ) × IsErrorPosition depth_limit (offset == 0) block begin place × NamesByte (offset + place) note
 
 -- bytes of the block from the place `begin` on that are no game are reported so
-abbrev pub IsBlockVerdict : Aim → ℕ → ℕ → List ℕ → ℕ → Verdict → Type 0
-IsBlockVerdict aim number offset block begin verdict =
-    (note : List ℕ) × IsNote aim.explain note × NamesBlockStop aim.explain offset block begin note
-    × (verdict ≡ FaultyGame (faulty_text aim.mode aim.select (drop begin block)) (fault_text aim.name number (offset + begin) (codes "unreadable")) note)
+abbrev pub IsBlockVerdict : Aim → GameId → List ℕ → ℕ → Verdict → Type 0
+IsBlockVerdict aim id block begin verdict =
+    (note : List ℕ) × IsNote aim.explain note × NamesBlockStop aim.explain id.offset block begin note
+    × (verdict ≡ FaultyGame (faulty_text aim.mode aim.select (drop begin block)) (fault_text aim.name (id_at id begin) (codes "unreadable")) note)
 
 -- so the index reports the piece whose mark is given, in the block that begins at the offset, where it is chosen
-abbrev pub IsMarkVerdict : Aim → ℕ → ℕ → List ℕ → PieceStart → Verdict → Type 0
-IsMarkVerdict aim number offset block (mark.Game place) verdict = verdict ≡ SoundGame (mark_line aim.name number (offset + place))
-IsMarkVerdict aim number offset block (mark.Unreadable place) verdict = IsBlockVerdict aim number offset block place verdict
+abbrev pub IsMarkVerdict : Aim → GameId → List ℕ → PieceStart → Verdict → Type 0
+IsMarkVerdict aim id block (mark.Game place) verdict = verdict ≡ SoundGame (mark_line aim.name (id_at id place))
+IsMarkVerdict aim id block (mark.Unreadable place) verdict = IsBlockVerdict aim id block place verdict
 
 -- and so it does whether it is or not
-abbrev pub IsMarkReport : Aim → ℕ → ℕ → List ℕ → PieceStart → Verdict → Type 0
-IsMarkReport aim number offset block mark verdict =
-    IfChosen (is_chosen aim.chosen number (offset + mark_place mark)) (IsMarkVerdict aim number offset block mark verdict) (verdict ≡ SoundGame [])
+abbrev pub IsMarkReport : Aim → GameId → List ℕ → PieceStart → Verdict → Type 0
+IsMarkReport aim id block mark verdict =
+    IfChosen (is_chosen aim.chosen (id_at id (mark_place mark))) (IsMarkVerdict aim id block mark verdict) (verdict ≡ SoundGame [])
 
 -- of what is reported of these pieces a beginning is written; the report has the rest, and counts the pieces
 pub record Gathers (aim : Aim) (report : Report) (out out' err err' : Option (List ℕ)) (number : ℕ) (pieces : List MarkedPiece) : Type 0 where
@@ -190,10 +195,10 @@ pub record Gathers (aim : Aim) (report : Report) (out out' err err' : Option (Li
   pub faulty : report.faulty ≡ count_by is_faulty verdicts
 
 -- the same of the pieces of the block
-pub record GathersBlock (aim : Aim) (report : Report) (limit max_depth number offset : ℕ) (block : List ℕ) (out out' err err' : Option (List ℕ)) : Type 0 where
+pub record GathersBlock (aim : Aim) (report : Report) (limit max_depth : ℕ) (id : GameId) (block : List ℕ) (out out' err err' : Option (List ℕ)) : Type 0 where
   pub own : List MarkedPiece
-  pub each : AreOfBlock limit max_depth offset block own
-  pub written : Gathers aim report out out' err err' number own
+  pub each : AreOfBlock limit max_depth id.offset block own
+  pub written : Gathers aim report out out' err err' id.number own
   pub few : length own ≤ length block
 
 -- what the one report has is written, or the other has it still; the counts stay
@@ -212,11 +217,11 @@ abbrev pub too_long_piece : ℕ → MarkedPiece
 too_long_piece offset = record { offset = offset; kind = TooLongBlock }
 
 -- the pieces of the block are reported and counted
-pub record WritesBlock (aim : Aim) (limit max_depth number offset : ℕ) (block : List ℕ) (out out' err err' : Option (List ℕ)) (summary : Summary) : Type 0 where
+pub record WritesBlock (aim : Aim) (limit max_depth : ℕ) (id : GameId) (block : List ℕ) (out out' err err' : Option (List ℕ)) (summary : Summary) : Type 0 where
   pub own : List MarkedPiece
-  pub each : AreOfBlock limit max_depth offset block own
+  pub each : AreOfBlock limit max_depth id.offset block own
   pub verdicts : List Verdict
-  pub written : Writes aim out out' err err' number own verdicts
+  pub written : Writes aim out out' err err' id.number own verdicts
   pub same : length verdicts ≡ length own
   pub games : summary.games ≡ length own
   pub faulty : summary.faulty ≡ count_by is_faulty verdicts
@@ -233,10 +238,10 @@ pub record Begins (aim : Aim) (out out' err err' : Option (List ℕ)) (number : 
   pub faults : AppendsFront err err' (fault_lines verdicts)
 
 -- what is reported is a beginning of what is to be reported of the block's pieces
-pub record BeginsBlock (aim : Aim) (limit max_depth number offset : ℕ) (block : List ℕ) (out out' err err' : Option (List ℕ)) : Type 0 where
+pub record BeginsBlock (aim : Aim) (limit max_depth : ℕ) (id : GameId) (block : List ℕ) (out out' err err' : Option (List ℕ)) : Type 0 where
   pub own : List MarkedPiece
-  pub each : AreOfBlock limit max_depth offset block own
-  pub written : Begins aim out out' err err' number own
+  pub each : AreOfBlock limit max_depth id.offset block own
+  pub written : Begins aim out out' err err' id.number own
 
 -- reads dropped at most so many bytes, and fewer only at the end
 pub record Drops (left left' : Option (List ℕ)) (moved moved' most : ℕ) : Type 0 where
@@ -252,49 +257,49 @@ pub record DropsSome (left left' : Option (List ℕ)) (moved moved' most : ℕ) 
   pub within : length dropped ≤ most
 
 -- all bytes that were left are read, and their pieces reported and counted
-pub record EndsBlocks (aim : Aim) (limit max_depth number offset : ℕ) (left left' : Option (List ℕ)) (moved moved' : ℕ) (out out' err err' : Option (List ℕ)) (summary : Summary) : Type 0 where
+pub record EndsBlocks (aim : Aim) (limit max_depth : ℕ) (id : GameId) (left left' : Option (List ℕ)) (moved moved' : ℕ) (out out' err err' : Option (List ℕ)) (summary : Summary) : Type 0 where
   pub read : List ℕ
   pub reads : Reads left left' moved moved' read
   pub all : IfSome left (λ whole. whole ≡ read)
-  pub size : offset + length read ≤ largest_offset
+  pub size : id.offset + length read ≤ largest_offset
   pub pieces : List MarkedPiece
-  pub each : AreMarkedPieces limit max_depth offset read pieces
+  pub each : AreMarkedPieces limit max_depth id.offset read pieces
   pub verdicts : List Verdict
-  pub written : Writes aim out out' err err' number pieces verdicts
+  pub written : Writes aim out out' err err' id.number pieces verdicts
   pub games : summary.games ≡ length pieces
   pub faulty : summary.faulty ≡ count_by is_faulty verdicts
 
 -- one byte past the largest offset is read, and the pieces of the complete blocks before it are reported
-pub record WritesUpToEnd (aim : Aim) (limit max_depth number offset : ℕ) (read : List ℕ) (out out' err err' : Option (List ℕ)) : Type 0 where
+pub record WritesUpToEnd (aim : Aim) (limit max_depth : ℕ) (id : GameId) (read : List ℕ) (out out' err err' : Option (List ℕ)) : Type 0 where
   pub kept : List ℕ
   pub byte : ℕ
   pub parted : read ≡ kept ++ byte ∷ []
-  pub full : offset + length kept ≡ largest_offset
-  pub written : WritesComplete aim limit max_depth number offset kept out out' err err'
+  pub full : id.offset + length kept ≡ largest_offset
+  pub written : WritesComplete aim limit max_depth id kept out out' err err'
 
 -- the same of all pieces of the bytes
-pub record BeginsFirst (aim : Aim) (limit max_depth number offset : ℕ) (bytes : List ℕ) (out out' err err' : Option (List ℕ)) : Type 0 where
+pub record BeginsFirst (aim : Aim) (limit max_depth : ℕ) (id : GameId) (bytes : List ℕ) (out out' err err' : Option (List ℕ)) : Type 0 where
   pub pieces : List MarkedPiece
-  pub each : AreMarkedPieces limit max_depth offset bytes pieces
-  pub written : Begins aim out out' err err' number pieces
+  pub each : AreMarkedPieces limit max_depth id.offset bytes pieces
+  pub written : Begins aim out out' err err' id.number pieces
 
 -- what stands after an error, of the bytes read and those that were left
-abbrev pub StandsOver : Aim → ℕ → ℕ → ℕ → ℕ → Option (List ℕ) → List ℕ → Option (List ℕ) → Option (List ℕ) → Option (List ℕ) → Option (List ℕ) → RunError → Type 0
-StandsOver aim limit max_depth number offset left read out out' err err' Read =
-    WritesComplete aim limit max_depth number offset read out out' err err'
-StandsOver aim limit max_depth number offset left read out out' err err' InputTooLong =
-    WritesUpToEnd aim limit max_depth number offset read out out' err err'
-StandsOver aim limit max_depth number offset left read out out' err err' Write =
-    IfSome left (λ whole. BeginsFirst aim limit max_depth number offset whole out out' err err')
-StandsOver aim limit max_depth number offset left read out out' err err' OutOfMemory =
-    IfSome left (λ whole. BeginsFirst aim limit max_depth number offset whole out out' err err')
+abbrev pub StandsOver : Aim → ℕ → ℕ → GameId → Option (List ℕ) → List ℕ → Option (List ℕ) → Option (List ℕ) → Option (List ℕ) → Option (List ℕ) → RunError → Type 0
+StandsOver aim limit max_depth id left read out out' err err' Read =
+    WritesComplete aim limit max_depth id read out out' err err'
+StandsOver aim limit max_depth id left read out out' err err' InputTooLong =
+    WritesUpToEnd aim limit max_depth id read out out' err err'
+StandsOver aim limit max_depth id left read out out' err err' Write =
+    IfSome left (λ whole. BeginsFirst aim limit max_depth id whole out out' err err')
+StandsOver aim limit max_depth id left read out out' err err' OutOfMemory =
+    IfSome left (λ whole. BeginsFirst aim limit max_depth id whole out out' err err')
 
 -- the blocks were read and reported in part, and then something failed
-pub record BreaksOff (aim : Aim) (limit max_depth number offset : ℕ) (left left' : Option (List ℕ)) (moved moved' : ℕ) (out out' err err' : Option (List ℕ)) (error : RunError) : Type 0 where
+pub record BreaksOff (aim : Aim) (limit max_depth : ℕ) (id : GameId) (left left' : Option (List ℕ)) (moved moved' : ℕ) (out out' err err' : Option (List ℕ)) (error : RunError) : Type 0 where
   pub read : List ℕ
   pub reads : Reads left left' moved moved' read
-  pub size : offset + length read ≤ largest_offset + 1
-  pub stands : StandsOver aim limit max_depth number offset left read out out' err err' error
+  pub size : id.offset + length read ≤ largest_offset + 1
+  pub stands : StandsOver aim limit max_depth id left read out out' err err' error
 
 -- the error of a run for the error of its reader
 abbrev pub run_error_of : ReadError → RunError

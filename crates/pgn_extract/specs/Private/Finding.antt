@@ -13,7 +13,7 @@ use Rattle.pgn_game.specs.Public.Starts.{fen_tag, IsStart}
 use Rattle.pgn_game.specs.declared.replays.replayer.Lines.TheVariants.{Main}
 use Rattle.pgn_criteria.specs.Public.Meeting.{heading_of, Meets}
 use Rattle.pgn_criteria.specs.declared.condition.Condition.{Condition}
-use Rattle.pgn_extract.specs.Public.Aims.{Aim, IsMet, IsWanted, IsEntry}
+use Rattle.pgn_extract.specs.Public.Aims.{Aim, GameId, IsMet, IsWanted, IsEntry}
 use Rattle.pgn_extract.specs.Public.Exports.{HasEntry}
 use Rattle.pgn_extract.specs.Public.GameReports.{plies_of, AreChosen, AreListed}
 use Rattle.pgn_extract.specs.Public.Index.{mark, titled}
@@ -21,8 +21,8 @@ use Rattle.pgn_extract.specs.Public.Listing.{Entry, AreFields, listing}
 use Rattle.pgn_extract.specs.declared.settings.Fields.{Fields}
 
 -- the mark that a line begins with, after the name of its file where lines have one: `NAME:N@O`
-abbrev pub named_mark : Option (List ℕ) → ℕ → ℕ → List ℕ
-named_mark name number offset = titled (codes ":") name ++ mark number offset
+abbrev pub named_mark : Option (List ℕ) → GameId → List ℕ
+named_mark name id = titled (codes ":") name ++ mark id
 
 -- it is a replay of the game: of its main line or of all its lines
 abbrev pub IsOfGame : GameText → Replay → Type 0
@@ -61,10 +61,10 @@ abbrev pub StopsInLine : PlayedLine → List ℕ → List ℕ → Fault → Type
 StopsInLine line old new fault = IsMoveFault line.position line.plies line.words fault × (more : List ℕ) × (new ≡ old ++ more)
 
 -- the lines of the entries of the game are added
-abbrev pub AddsEntries : Aim → ℕ → ℕ → GameText → List ℕ → List ℕ → Type 0
-AddsEntries aim number offset game old new =
+abbrev pub AddsEntries : Aim → GameId → GameText → List ℕ → List ℕ → Type 0
+AddsEntries aim id game old new =
     (replay : Replay) × IsReplay Main (tag_in fen_tag game.tags) game.elements replay
-    × (entries : List Entry) × AreListed aim number offset (heading_of game) replay entries × (new ≡ old ++ listing aim.name entries)
+    × (entries : List Entry) × AreListed aim id (heading_of game) replay entries × (new ≡ old ++ listing aim.name entries)
 
 -- the game has the fault, and something may be added already
 abbrev pub StopsAtFault : GameText → List ℕ → List ℕ → Fault → Type 0
@@ -88,30 +88,30 @@ pub record IsPlayedTo (fen : Option (List ℕ)) (items : List Item) (line : Play
   pub faults : (fault : Fault) → IsMoveFault line.position line.plies line.words fault → IsMoveFault start 0 (main_words items 0) fault
 
 -- the entries at these positions are found, and their lines added; once it isn't on, no later ply is an entry
-pub record Finds (aim : Aim) (number offset : ℕ) (game : GameText) (asked : List State) (old new : List ℕ) (on : Bool) : Type 0 where
+pub record Finds (aim : Aim) (id : GameId) (game : GameText) (asked : List State) (old new : List ℕ) (on : Bool) : Type 0 where
   pub found : List Entry
   pub written : new ≡ old ++ listing aim.name found
   pub completes : (replay : Replay) → IsOfGame game replay → (rest : List State) → replay.positions ≡ asked ++ rest → (later : List Entry)
-      → AreChosen number offset (IsEntry aim (heading_of game) replay) (AreFields aim.fields replay) (plies_of (length asked) rest) later
-      → AreListed aim number offset (heading_of game) replay (found ++ later)
+      → AreChosen id (IsEntry aim (heading_of game) replay) (AreFields aim.fields replay) (plies_of (length asked) rest) later
+      → AreListed aim id (heading_of game) replay (found ++ later)
   pub quiet : on ≡ true → aim.first ≡ true → (replay : Replay) → IsOfGame game replay → (rest : List State) → replay.positions ≡ asked ++ rest
       → (n : ℕ) → n < length asked → IsWanted aim (heading_of game) replay n → ⊥
   pub shut : on ≡ false → (replay : Replay) → IsOfGame game replay → (rest : List State) → replay.positions ≡ asked ++ rest
       → (n : ℕ) → length asked ≤ n → n < length replay.positions → IsEntry aim (heading_of game) replay n → ⊥
 
 -- at the next position no entry is left out
-abbrev pub GoesOn : Aim → ℕ → ℕ → List (List (Condition (List ℕ))) → PlayedLine → List ℕ → List ℕ → Bool → Bool → Type 0
-GoesOn aim number offset asked line old new on still =
+abbrev pub GoesOn : Aim → GameId → List (List (Condition (List ℕ))) → PlayedLine → List ℕ → List ℕ → Bool → Bool → Type 0
+GoesOn aim id asked line old new on still =
     (game : GameText) → AsksFor aim game asked → (before : List State) (played : List Move) (text : List ℕ)
     → IsPlayedTo (tag_in fen_tag game.tags) game.elements line before played
-    → Finds aim number offset game before text old on → Finds aim number offset game (before ++ line.position ∷ []) text new still
+    → Finds aim id game before text old on → Finds aim id game (before ++ line.position ∷ []) text new still
 
 -- the main line of the game is kept, and after so many plies, of which it is said whether they are met, no entry is left out
-abbrev pub GoesOnAt : Aim → ℕ → ℕ → Replay → ℕ → Bool → List ℕ → List ℕ → Bool → Bool → Type 0
-GoesOnAt aim number offset kept ply met old new on still =
+abbrev pub GoesOnAt : Aim → GameId → Replay → ℕ → Bool → List ℕ → List ℕ → Bool → Bool → Type 0
+GoesOnAt aim id kept ply met old new on still =
     (game : GameText) → IsOfGame game kept → (IsTrue met ↔ IsMet aim.criteria (heading_of game) kept ply)
     → (before : List State) (P : State) (rest : List State) → kept.positions ≡ before ++ P ∷ rest → length before ≡ ply
-    → (text : List ℕ) → Finds aim number offset game before text old on → Finds aim number offset game (before ++ P ∷ []) text new still
+    → (text : List ℕ) → Finds aim id game before text old on → Finds aim id game (before ++ P ∷ []) text new still
 
 -- the main line of the game is sound, and has an entry or has none
 abbrev pub IsChosen : Aim → GameText → Bool → Type 0

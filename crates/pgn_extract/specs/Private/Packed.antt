@@ -12,11 +12,16 @@ use Rattle.pgn_game.specs.declared.replays.replayer.Lines.TheVariants.{Main}
 use Rattle.pgn_criteria.specs.Public.Meeting.{heading_of}
 use Rattle.pgn_criteria.specs.Public.Walks.{Sight, IsSightOf}
 use Rattle.pgn_criteria.specs.declared.condition.Condition.{Condition}
-use Rattle.pgn_extract.specs.Public.Aims.{Aim}
+use Rattle.pgn_extract.specs.Public.Aims.{Aim, GameId}
 use Rattle.pgn_extract.specs.Private.Finding.{AsksFor, Finds}
 use Rattle.pgn_extract.specs.Public.GameReports.{AreListed}
 use Rattle.pgn_extract.specs.Public.Listing.{Entry, listing}
 use Rattle.pgn_extract.specs.Public.Searching.{AreRecordLines, IsOfNoGame}
+use Rattle.pgn_extract.specs.Public.GivenMarks.{game_id}
+
+-- which game it is
+abbrev pub raw_id : RawRecord → GameId
+raw_id raw = game_id raw.number raw.offset
 
 -- the lines of a record are added to the text, of whatever packed game it is
 abbrev pub PutsRecord : Aim → RawRecord → List ℕ → List ℕ → Type 0
@@ -69,13 +74,13 @@ abbrev pub StartsThere : RawRecord → Sight → Type 0
 StartsThere raw sight = EachOfRecord raw (λ game replay packed. (P : State) × (slice_get replay.positions 0 ≡ Some P) × IsSightOf P sight)
 
 -- at the position that is seen no entry is left out
-abbrev pub GoesOnSeen : Aim → ℕ → ℕ → List (List (Condition (List ℕ))) → Sight → ℕ → List ℕ → List ℕ → Bool → Bool → Type 0
-GoesOnSeen aim number offset asked sight ply old new on still =
+abbrev pub GoesOnSeen : Aim → GameId → List (List (Condition (List ℕ))) → Sight → ℕ → List ℕ → List ℕ → Bool → Bool → Type 0
+GoesOnSeen aim id asked sight ply old new on still =
     (game : GameText) → AsksFor aim game asked → (before : List State) (P : State) → length before ≡ ply → IsSightOf P sight
-    → (text : List ℕ) → Finds aim number offset game before text old on → Finds aim number offset game (before ++ P ∷ []) text new still
+    → (text : List ℕ) → Finds aim id game before text old on → Finds aim id game (before ++ P ∷ []) text new still
 
 -- the lines of the entries of each game that has the record are added
 abbrev pub ListsRecord : Aim → RawRecord → List ℕ → List ℕ → Type 0
 ListsRecord aim raw old new =
     Grows old new × EachOfRecord raw (λ game replay packed.
-    (entries : List Entry) × AreListed aim raw.number raw.offset (heading_of game) replay entries × (new ≡ old ++ listing raw.name entries))
+    (entries : List Entry) × AreListed aim (raw_id raw) (heading_of game) replay entries × (new ≡ old ++ listing raw.name entries))

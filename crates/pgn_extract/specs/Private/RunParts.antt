@@ -20,29 +20,29 @@ PassesOn old new out err = Passes old new out.old.bytes out.new.bytes err.old.by
 -- of what is reported of the pieces of the block a beginning is written; the report has the rest, and counts the pieces
 abbrev pub GathersPieces : Job → Report → Passage → Passage → List ℕ → Type 0
 GathersPieces job report out err block =
-    GathersBlock job.aim report job.limit job.max_depth job.number job.offset block out.old.bytes out.new.bytes err.old.bytes err.new.bytes
+    GathersBlock job.aim report job.limit job.max_depth job.id block out.old.bytes out.new.bytes err.old.bytes err.new.bytes
 
 -- the pieces of the block are reported and counted
 abbrev pub WritesPieces : Job → Passage → Passage → List ℕ → Summary → Type 0
 WritesPieces job out err block summary =
-    WritesBlock job.aim job.limit job.max_depth job.number job.offset block out.old.bytes out.new.bytes err.old.bytes err.new.bytes summary
+    WritesBlock job.aim job.limit job.max_depth job.id block out.old.bytes out.new.bytes err.old.bytes err.new.bytes summary
 
 -- a beginning of what is to be reported of them is
 abbrev pub BeginsPieces : Job → Passage → Passage → List ℕ → Type 0
 BeginsPieces job out err block =
-    BeginsBlock job.aim job.limit job.max_depth job.number job.offset block out.old.bytes out.new.bytes err.old.bytes err.new.bytes
+    BeginsBlock job.aim job.limit job.max_depth job.id block out.old.bytes out.new.bytes err.old.bytes err.new.bytes
 
 -- the bytes that were left are all read, their pieces reported and counted, and both writers flushed
 abbrev pub Finished : Job → Io → Summary → Type 0
 Finished job io summary =
-    EndsBlocks job.aim job.limit job.max_depth job.number job.offset io.input.old.bytes io.input.new.bytes io.input.old.moved io.input.new.moved
+    EndsBlocks job.aim job.limit job.max_depth job.id io.input.old.bytes io.input.new.bytes io.input.old.moved io.input.new.moved
     io.out.old.bytes io.out.new.bytes io.err.old.bytes io.err.new.bytes summary
     × (io.out.new.flushed ≡ true) × (io.err.new.flushed ≡ true)
 
 -- they are read and reported in part, and then something failed
 abbrev pub Broken : Job → Io → RunError → Type 0
 Broken job io error =
-    BreaksOff job.aim job.limit job.max_depth job.number job.offset io.input.old.bytes io.input.new.bytes io.input.old.moved io.input.new.moved
+    BreaksOff job.aim job.limit job.max_depth job.id io.input.old.bytes io.input.new.bytes io.input.old.moved io.input.new.moved
     io.out.old.bytes io.out.new.bytes io.err.old.bytes io.err.new.bytes error
 
 -- the writers failed exactly where the answer is that a write did, and one of them at most

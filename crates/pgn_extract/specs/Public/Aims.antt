@@ -4,18 +4,18 @@ use Rattle.pgn_game.specs.Public.Replays.{Replay}
 use Rattle.pgn_game.specs.declared.exports.style.Style.{Style}
 use Rattle.pgn_criteria.specs.Public.Meeting.{Heading, Meets}
 use Rattle.pgn_criteria.specs.declared.condition.Condition.{Condition}
-use Rattle.pgn_extract.specs.Public.GivenMarks.{GivenMark}
 use Rattle.pgn_extract.specs.declared.settings.Fields.{Fields}
 use Rattle.pgn_extract.specs.declared.settings.Form.{Form}
 use Rattle.pgn_extract.specs.declared.settings.Mode.{Mode}
 use Rattle.pgn_extract.specs.declared.settings.Select.{Select}
 use Rattle.pgn_extract.specs.declared.settings.Settings.{Settings}
+pub use Rattle.pgn_extract.specs.declared.marks.GameId.{GameId}
 
 -- what is to be reported of each piece, and the name that its lines have, if they have one; where marks are chosen, nothing is of the pieces that have
 -- none of them; the criteria are alternatives of conditions
 pub record Aim : Type 0 where
   pub name : Option (List ℕ)
-  pub chosen : Option (List GivenMark)
+  pub chosen : Option (List GameId)
   pub mode : Mode
   pub criteria : Option (List (List (Condition (List ℕ))))
   pub min_ply : ℕ

@@ -16,8 +16,8 @@ use Rattle.pgn_game.specs.declared.replays.replayer.Lines.{Lines}
 use Rattle.pgn_game.specs.declared.replays.replayer.Lines.TheVariants.{Main}
 use Rattle.pgn_game.specs.declared.exports.style.Style.{Style}
 use Rattle.pgn_criteria.specs.Public.Meeting.{Heading}
-use Rattle.pgn_extract.specs.Public.Aims.{Aim, IsEntry}
-use Rattle.pgn_extract.specs.Public.Choices.{IfChosen, is_chosen}
+use Rattle.pgn_extract.specs.Public.Aims.{Aim, GameId, IsEntry}
+use Rattle.pgn_extract.specs.Public.Choices.{id_of, IfChosen, is_chosen}
 use Rattle.pgn_extract.specs.Public.Index.{mark, titled}
 use Rattle.pgn_extract.specs.Public.Listing.{heading_in}
 use Rattle.pgn_extract.specs.Public.GameReports.{IsReplayOf, IsFaultOf}
@@ -57,30 +57,30 @@ IsSelected Others entry = entry → ⊥
 IsSelected Faulty entry = ⊥
 
 -- a game on a line of its own: its mark, after the name of its file where lines have one, its start and its moves
-abbrev pub line_with : Option (List ℕ) → ℕ → ℕ → List ℕ → List ℕ
-line_with name number offset own = (titled (codes ":") name ++ mark number offset) ++ 32 ∷ own ++ 10 ∷ []
+abbrev pub line_with : Option (List ℕ) → GameId → List ℕ → List ℕ
+line_with name id own = (titled (codes ":") name ++ mark id) ++ 32 ∷ own ++ 10 ∷ []
 
-abbrev pub IsGameLineOf : Notation → Aim → ℕ → ℕ → List Part → List ℕ → Type 0
-IsGameLineOf notation aim number offset parts text =
-    (own : List ℕ) × IsGameLine notation (first_tag fen_tag parts) (items_of parts) own × (text ≡ line_with aim.name number offset own)
+abbrev pub IsGameLineOf : Notation → Aim → GameId → List Part → List ℕ → Type 0
+IsGameLineOf notation aim id parts text =
+    (own : List ℕ) × IsGameLine notation (first_tag fen_tag parts) (items_of parts) own × (text ≡ line_with aim.name id own)
 
 -- the text is the record of the game that these parts make, under the name of its file where lines have one
-abbrev pub IsGameRecordOf : Aim → ℕ → ℕ → List Part → List ℕ → Type 0
-IsGameRecordOf aim number offset parts text =
-    (game : GameText) × IsGameText game × ShowsGame game game.at parts × IsRecordOf aim.name number offset game text
+abbrev pub IsGameRecordOf : Aim → GameId → List Part → List ℕ → Type 0
+IsGameRecordOf aim id parts text =
+    (game : GameText) × IsGameText game × ShowsGame game game.at parts × IsRecordOf aim.name id.number id.offset game text
 
 -- the text of a game that is selected: its export, or the game as it stands, or its line, or its record
-abbrev pub IsTextOf : Form → Aim → ℕ → ℕ → List Part → List ℕ → Type 0
-IsTextOf Standard aim number offset parts text = IsExportOf aim.style parts text
-IsTextOf AsItStands aim number offset parts text = text ≡ as_it_stands (spelled parts)
-IsTextOf (Line notation) aim number offset parts text = IsGameLineOf notation aim number offset parts text
-IsTextOf Record aim number offset parts text = IsGameRecordOf aim number offset parts text
+abbrev pub IsTextOf : Form → Aim → GameId → List Part → List ℕ → Type 0
+IsTextOf Standard aim id parts text = IsExportOf aim.style parts text
+IsTextOf AsItStands aim id parts text = text ≡ as_it_stands (spelled parts)
+IsTextOf (Line notation) aim id parts text = IsGameLineOf notation aim id parts text
+IsTextOf Record aim id parts text = IsGameRecordOf aim id parts text
 
 -- what is written of a sound game: its text where it is selected, once however many entries it has, and else nothing
-pub data IsWritten (aim : Aim) (number offset : ℕ) (parts : List Part) (replay : Replay) (text : List ℕ) : Type 0 where
-  selected : IsSelected aim.select (HasEntry aim (heading_in parts) replay) → IsTextOf aim.form aim number offset parts text
-      → IsWritten aim number offset parts replay text
-  unselected : (IsSelected aim.select (HasEntry aim (heading_in parts) replay) → ⊥) → text ≡ [] → IsWritten aim number offset parts replay text
+pub data IsWritten (aim : Aim) (id : GameId) (parts : List Part) (replay : Replay) (text : List ℕ) : Type 0 where
+  selected : IsSelected aim.select (HasEntry aim (heading_in parts) replay) → IsTextOf aim.form aim id parts text
+      → IsWritten aim id parts replay text
+  unselected : (IsSelected aim.select (HasEntry aim (heading_in parts) replay) → ⊥) → text ≡ [] → IsWritten aim id parts replay text
 
 -- what a mode writes of faulty bytes: where the export selects them, the bytes as they stand, and else nothing
 abbrev pub faulty_text : Mode → Select → List ℕ → List ℕ
@@ -91,22 +91,22 @@ faulty_text modes.Export Others bytes = []
 faulty_text modes.Export Faulty bytes = as_it_stands bytes
 
 -- what is written of a game, sound or faulty
-pub data IsGameExport (aim : Aim) (number offset : ℕ) (parts : List Part) (text : List ℕ) : Type 0 where
-  sound : (replay : Replay) → IsReplayOf (written_lines aim) parts replay → IsWritten aim number offset parts replay text
-      → IsGameExport aim number offset parts text
+pub data IsGameExport (aim : Aim) (id : GameId) (parts : List Part) (text : List ℕ) : Type 0 where
+  sound : (replay : Replay) → IsReplayOf (written_lines aim) parts replay → IsWritten aim id parts replay text
+      → IsGameExport aim id parts text
   faulty : (fault : Fault) → IsFaultOf (written_lines aim) parts fault → text ≡ faulty_text modes.Export aim.select (spelled parts)
-      → IsGameExport aim number offset parts text
+      → IsGameExport aim id parts text
 
 -- what is written of a piece that is chosen: nothing of a block over the limit, whose bytes are not kept
-abbrev pub IsPieceExport : Aim → ℕ → ℕ → PieceKind → List ℕ → Type 0
-IsPieceExport aim number offset (ReadableGame parts) text = IsGameExport aim number offset parts text
-IsPieceExport aim number offset (UnreadableRest bytes) text = text ≡ faulty_text modes.Export aim.select bytes
-IsPieceExport aim number offset TooLongBlock text = text ≡ []
+abbrev pub IsPieceExport : Aim → GameId → PieceKind → List ℕ → Type 0
+IsPieceExport aim id (ReadableGame parts) text = IsGameExport aim id parts text
+IsPieceExport aim id (UnreadableRest bytes) text = text ≡ faulty_text modes.Export aim.select bytes
+IsPieceExport aim id TooLongBlock text = text ≡ []
 
 -- what is written of pieces in a row that are numbered from a number on: that of the first, where it is chosen, and then that of the others
 abbrev pub AreExports : Aim → ℕ → List MarkedPiece → List ℕ → Type 0
 AreExports aim number [] text = text ≡ []
 AreExports aim number (piece ∷ more) text =
     (own : List ℕ) × (rest : List ℕ) × (text ≡ own ++ rest)
-    × IfChosen (is_chosen aim.chosen number piece.offset) (IsPieceExport aim number piece.offset piece.kind own) (own ≡ [])
+    × IfChosen (is_chosen aim.chosen (id_of number piece)) (IsPieceExport aim (id_of number piece) piece.kind own) (own ≡ [])
     × AreExports aim (number + 1) more rest

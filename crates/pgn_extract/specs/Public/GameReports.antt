@@ -8,7 +8,7 @@ use Rattle.pgn_game.specs.Public.Replays.{Replay, IsReplay}
 use Rattle.pgn_game.specs.declared.replays.replayer.Lines.{Lines}
 use Rattle.pgn_game.specs.Public.Starts.{fen_tag}
 use Rattle.pgn_criteria.specs.Public.Meeting.{Heading}
-use Rattle.pgn_extract.specs.Public.Aims.{Aim, IsEntry}
+use Rattle.pgn_extract.specs.Public.Aims.{Aim, GameId, IsEntry}
 use Rattle.pgn_extract.specs.Public.Listing.{Entry, AreFields}
 
 -- the game of these parts is sound in these lines, and this is their replay
@@ -31,14 +31,14 @@ plies_of ply [] = []
 plies_of ply (position ∷ more) = ply ∷ plies_of (ply + 1) more
 
 -- of a game with this mark these are the entries at those of the plies that have the fact, in their order, each with what is shown of its ply
-pub data AreChosen (number offset : ℕ) (P : ℕ → Type 0) (S : ℕ → List ℕ → Type 0) : List ℕ → List Entry → Type 0 where
-  none : AreChosen number offset P S [] []
-  keep : (ply : ℕ) (shown all : List ℕ) (chosen : List Entry) → P ply → S ply shown → AreChosen number offset P S all chosen
-      → AreChosen number offset P S (ply ∷ all) (record { number = number; offset = offset; ply = ply; shown = shown } ∷ chosen)
-  leave : (ply : ℕ) (all : List ℕ) (chosen : List Entry) → (P ply → ⊥) → AreChosen number offset P S all chosen
-      → AreChosen number offset P S (ply ∷ all) chosen
+pub data AreChosen (id : GameId) (P : ℕ → Type 0) (S : ℕ → List ℕ → Type 0) : List ℕ → List Entry → Type 0 where
+  none : AreChosen id P S [] []
+  keep : (ply : ℕ) (shown all : List ℕ) (chosen : List Entry) → P ply → S ply shown → AreChosen id P S all chosen
+      → AreChosen id P S (ply ∷ all) (record { id = id; ply = ply; shown = shown } ∷ chosen)
+  leave : (ply : ℕ) (all : List ℕ) (chosen : List Entry) → (P ply → ⊥) → AreChosen id P S all chosen
+      → AreChosen id P S (ply ∷ all) chosen
 
 -- the entries that a sound game with these tags lists, of its positions from ply 0 on
-abbrev pub AreListed : Aim → ℕ → ℕ → Heading → Replay → List Entry → Type 0
-AreListed aim number offset tags replay entries =
-    AreChosen number offset (IsEntry aim tags replay) (AreFields aim.fields replay) (plies_of 0 replay.positions) entries
+abbrev pub AreListed : Aim → GameId → Heading → Replay → List Entry → Type 0
+AreListed aim id tags replay entries =
+    AreChosen id (IsEntry aim tags replay) (AreFields aim.fields replay) (plies_of 0 replay.positions) entries

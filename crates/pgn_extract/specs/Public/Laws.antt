@@ -14,7 +14,7 @@ use Rattle.pgn_extract.specs.Public.Resuming.{IsMarkAmong, WritesRest}
 use Rattle.pgn_extract.specs.Public.Runs.{Io, Job, job_of, ArePieces, Adds, Completes, IsRun}
 use Rattle.pgn_extract.specs.Public.Searching.{IsSearch, PacksAll, of_all}
 use Rattle.pgn_extract.specs.Public.Verdicts.{Verdict, AreVerdicts, IsSameReport, output_text, fault_lines, is_faulty}
-use Rattle.pgn_extract.specs.Public.Aims.{Aim, aim_of}
+use Rattle.pgn_extract.specs.Public.Aims.{Aim, GameId, aim_of}
 use Rattle.pgn_extract.specs.declared.output.outcome.Summary.{Summary}
 use Rattle.pgn_extract.specs.declared.packed.searching.Searched.{Searched}
 use Rattle.pgn_extract.specs.declared.settings.Settings.{Settings}
@@ -22,17 +22,18 @@ use Rattle.pgn_extract.specs.declared.settings.Form.TheVariants.{AsItStands}
 use Rattle.pgn_extract.specs.declared.settings.Mode.TheVariants as modes
 use Rattle.pgn_extract.specs.declared.settings.Select.{Select}
 use Rattle.pgn_extract.specs.declared.settings.Select.TheVariants.{Matching, Others, Faulty}
+use Rattle.pgn_extract.specs.Public.Choices.{id_of}
 
 -- the pieces of each text have entries, which are one list
 abbrev pub PiecesHaveOneListing : Type 0
 PiecesHaveOneListing =
-    (aim : Aim) (limit max_depth number offset : ℕ) (text : List ℕ) (pieces : List MarkedPiece) → AreMarkedPieces limit max_depth offset text pieces
-    → (entries : List Entry) × AreEntries aim number pieces entries × ((others : List Entry) → AreEntries aim number pieces others → others ≡ entries)
+    (aim : Aim) (limit max_depth : ℕ) (id : GameId) (text : List ℕ) (pieces : List MarkedPiece) → AreMarkedPieces limit max_depth id.offset text pieces
+    → (entries : List Entry) × AreEntries aim id.number pieces entries × ((others : List Entry) → AreEntries aim id.number pieces others → others ≡ entries)
 
 -- each piece of a text has a mark, which is one of them: its number, counted from 1, and its offset, which is within the text and no lower than
 -- the pieces before it are many
 pub record HasAMark (text : List ℕ) (before : List MarkedPiece) (piece : MarkedPiece) (after : List MarkedPiece) : Type 0 where
-  pub among : IsMarkAmong (length before + 1) piece.offset (before ++ piece ∷ after)
+  pub among : IsMarkAmong (id_of (length before + 1) piece) (before ++ piece ∷ after)
   pub within : piece.offset < length text
   pub few : length before ≤ piece.offset
   -- so it is one at which a run can begin
@@ -47,8 +48,8 @@ EachPieceHasAMark =
 -- the pieces of each text are reported in some way, whatever is to be reported
 abbrev pub TextHasAReport : Type 0
 TextHasAReport =
-    (aim : Aim) (limit max_depth number offset : ℕ) (text : List ℕ) (pieces : List MarkedPiece)
-    → AreMarkedPieces limit max_depth offset text pieces → (reported : List Verdict) × AreVerdicts aim number pieces reported
+    (aim : Aim) (limit max_depth : ℕ) (id : GameId) (text : List ℕ) (pieces : List MarkedPiece)
+    → AreMarkedPieces limit max_depth id.offset text pieces → (reported : List Verdict) × AreVerdicts aim id.number pieces reported
 
 -- and in only one way, but for the notes
 abbrev pub TextHasOneReport : Type 0
@@ -57,10 +58,10 @@ TextHasOneReport =
     → AreVerdicts aim number pieces reported → AreVerdicts aim number pieces others → IsSameReport aim others reported
 
 -- the text that begins at the offset has these pieces, which are numbered from a number on and reported so
-pub record IsTextReported (aim : Aim) (limit max_depth number offset : ℕ) (text : List ℕ) (pieces : List MarkedPiece)
+pub record IsTextReported (aim : Aim) (limit max_depth : ℕ) (id : GameId) (text : List ℕ) (pieces : List MarkedPiece)
     (reported : List Verdict) : Type 0 where
-  pub each : AreMarkedPieces limit max_depth offset text pieces
-  pub written : AreVerdicts aim number pieces reported
+  pub each : AreMarkedPieces limit max_depth id.offset text pieces
+  pub written : AreVerdicts aim id.number pieces reported
 
 -- in the export's mode what a run writes of pieces, by their verdicts, is the exports of the games among them
 abbrev pub ExportsAreWritten : Type 0
@@ -145,9 +146,9 @@ pub data IsInOneOf (text first second third : List ℕ) : Type 0 where
 -- of the games with an entry, those without one and the faulty ones, each written as it stands, just one export has a piece, and all of it
 abbrev pub PieceIsInOneExport : Type 0
 PieceIsInOneExport =
-    (aim : Aim) (number offset : ℕ) (kind : PieceKind) (matching others faulty : List ℕ)
-    → IsPieceExport (as_they_stand Matching aim) number offset kind matching → IsPieceExport (as_they_stand Others aim) number offset kind others
-    → IsPieceExport (as_they_stand Faulty aim) number offset kind faulty
+    (aim : Aim) (id : GameId) (kind : PieceKind) (matching others faulty : List ℕ)
+    → IsPieceExport (as_they_stand Matching aim) id kind matching → IsPieceExport (as_they_stand Others aim) id kind others
+    → IsPieceExport (as_they_stand Faulty aim) id kind faulty
     → IsInOneOf (piece_as_it_stands kind) matching others faulty
 
 -- a note names one byte at most, and so the note on bytes that are no game names that at which they stop agreeing with games
@@ -174,22 +175,22 @@ pub record AreJoined (aim : Aim) (before after first second : List MarkedPiece) 
 -- from those of the first
 abbrev pub PartsJoin : Type 0
 PartsJoin =
-    (aim : Aim) (limit max_depth number offset : ℕ) (text : List ℕ)
+    (aim : Aim) (limit max_depth : ℕ) (id : GameId) (text : List ℕ)
     (before : List MarkedPiece) (piece : MarkedPiece) (after : List MarkedPiece) (all : List Verdict)
-    → IsTextReported aim limit max_depth number offset text (before ++ piece ∷ after) all
+    → IsTextReported aim limit max_depth id text (before ++ piece ∷ after) all
     → (first second : List MarkedPiece) (front rest : List Verdict)
-    → IsTextReported aim limit max_depth number offset (take (piece.offset - offset) text) first front
-    → IsTextReported aim limit max_depth (number + length first) piece.offset (drop (piece.offset - offset) text) second rest
+    → IsTextReported aim limit max_depth id (take (piece.offset - id.offset) text) first front
+    → IsTextReported aim limit max_depth (id_of (id.number + length first) piece) (drop (piece.offset - id.offset) text) second rest
     → AreJoined aim before (piece ∷ after) first second all front rest
 
 -- so two runs over a text, the first up to a mark and the second from it on, report what one run over the whole reports, where no explanations
 -- are asked for
 abbrev pub PartsAreReported : Type 0
 PartsAreReported =
-    (aim : Aim) (limit max_depth number offset : ℕ) (text : List ℕ) (pieces first second : List MarkedPiece) (all front rest : List Verdict)
-    → aim.explain ≡ false → AreMarkedPieces limit max_depth 0 text pieces → IsMarkAmong number offset pieces → AreVerdicts aim 1 pieces all
-    → AreMarkedPieces limit max_depth 0 (take offset text) first → AreVerdicts aim 1 first front
-    → AreMarkedPieces limit max_depth offset (drop offset text) second → AreVerdicts aim number second rest
+    (aim : Aim) (limit max_depth : ℕ) (id : GameId) (text : List ℕ) (pieces first second : List MarkedPiece) (all front rest : List Verdict)
+    → aim.explain ≡ false → AreMarkedPieces limit max_depth 0 text pieces → IsMarkAmong id pieces → AreVerdicts aim 1 pieces all
+    → AreMarkedPieces limit max_depth 0 (take id.offset text) first → AreVerdicts aim 1 first front
+    → AreMarkedPieces limit max_depth id.offset (drop id.offset text) second → AreVerdicts aim id.number second rest
     → (output_text all ≡ output_text front ++ output_text rest) × (fault_lines all ≡ fault_lines front ++ fault_lines rest)
     × (count_by is_faulty all ≡ count_by is_faulty front + count_by is_faulty rest)
 
@@ -200,14 +201,14 @@ abbrev pub RunIndexes : Type 0
 RunIndexes =
     (job : Job) (io : Io) (whole : List ℕ) (summary : Summary)
     (done : Completes job io whole summary) → job.aim.mode ≡ modes.Index
-    → Adds io.out (index job.aim.chosen job.aim.name job.number done.pieces)
+    → Adds io.out (index job.aim.chosen job.aim.name job.id.number done.pieces)
 
 -- and in that of the export by the exports of the games among them.
 abbrev pub RunExports : Type 0
 RunExports =
     (job : Job) (io : Io) (whole : List ℕ) (summary : Summary)
     (done : Completes job io whole summary) → job.aim.mode ≡ modes.Export
-    → (text : List ℕ) × AreExports job.aim job.number done.pieces text × Adds io.out text
+    → (text : List ℕ) × AreExports job.aim job.id.number done.pieces text × Adds io.out text
 
 -- Begun at a mark of one of the pieces of the whole input, the run reported just those from it on,
 -- as a run over the whole reports them.
@@ -215,6 +216,6 @@ abbrev pub RunResumes : Type 0
 RunResumes =
     (job : Job) (io : Io) (whole : List ℕ) (summary : Summary) → Completes job io whole summary
     → (pieces : List MarkedPiece) → AreMarkedPieces job.limit job.max_depth 0 whole pieces
-    → (mark : IsMarkAmong job.number job.offset pieces)
-    → WritesRest job.aim job.number pieces (mark.piece ∷ mark.after)
+    → (mark : IsMarkAmong job.id pieces)
+    → WritesRest job.aim job.id.number pieces (mark.piece ∷ mark.after)
     io.out.old.bytes io.out.new.bytes io.err.old.bytes io.err.new.bytes

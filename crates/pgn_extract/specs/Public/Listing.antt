@@ -11,21 +11,20 @@ use Rattle.pgn_text.specs.Public.Parts.{Part}
 use Rattle.pgn_game.specs.Public.Replays.{Replay, IsMainReplay}
 use Rattle.pgn_game.specs.Public.Starts.{fen_tag}
 use Rattle.pgn_criteria.specs.Public.Meeting.{Heading}
-use Rattle.pgn_extract.specs.Public.Aims.{Aim, IsEntry}
+use Rattle.pgn_extract.specs.Public.Aims.{Aim, GameId, IsEntry}
 use Rattle.pgn_extract.specs.Public.Choices.{is_chosen}
 use Rattle.pgn_extract.specs.Public.Index.{mark, titled}
 use Rattle.pgn_extract.specs.declared.settings.Fields.{Fields}
 
--- an entry: a game, by its number and the offset of its first byte, a ply of its main line, and what its line shows after the ply
+-- an entry: a game, a ply of its main line, and what its line shows after the ply
 pub record Entry : Type 0 where
-  pub number : ℕ
-  pub offset : ℕ
+  pub id : GameId
   pub ply : ℕ
   pub shown : List ℕ
 
 -- its line, `N@O P` and what it shows, after the name of its file where lines have one
 abbrev pub entry_line : Option (List ℕ) → Entry → List ℕ
-entry_line name entry = (titled (codes ":") name ++ mark entry.number entry.offset) ++ 32 ∷ decimal entry.ply ++ (entry.shown ++ 10 ∷ [])
+entry_line name entry = (titled (codes ":") name ++ mark entry.id) ++ 32 ∷ decimal entry.ply ++ (entry.shown ++ 10 ∷ [])
 
 -- the lines of entries
 abbrev pub listing : Option (List ℕ) → List Entry → List ℕ
@@ -71,9 +70,9 @@ pub record IsPlyOfGame (aim : Aim) (number : ℕ) (pieces : List MarkedPiece) (e
   pub place : ℕ
   pub parts : List Part
   pub replay : Replay
-  pub game : slice_get pieces place ≡ Some (record { offset = entry.offset; kind = ReadableGame parts })
-  pub numbered : entry.number ≡ number + place
-  pub chosen : is_chosen aim.chosen entry.number entry.offset ≡ true
+  pub game : slice_get pieces place ≡ Some (record { offset = entry.id.offset; kind = ReadableGame parts })
+  pub numbered : entry.id.number ≡ number + place
+  pub chosen : is_chosen aim.chosen entry.id ≡ true
   pub is_replay : IsMainReplayOf parts replay
   pub within : entry.ply < length replay.positions
   pub listed : IsEntry aim (heading_in parts) replay entry.ply
@@ -81,7 +80,7 @@ pub record IsPlyOfGame (aim : Aim) (number : ℕ) (pieces : List MarkedPiece) (e
 
 -- the first entry is of an earlier game, or of the same and at a lower ply
 abbrev pub IsEarlier : Entry → Entry → Type 0
-IsEarlier first second = (first.number < second.number) ⊎ ((first.number ≡ second.number) × (first.ply < second.ply))
+IsEarlier first second = (first.id.number < second.id.number) ⊎ ((first.id.number ≡ second.id.number) × (first.ply < second.ply))
 
 -- each entry is earlier than all after it, so none is there twice
 abbrev pub Ascend : List Entry → Type 0
@@ -96,4 +95,4 @@ pub record AreEntries (aim : Aim) (number : ℕ) (pieces : List MarkedPiece) (en
 
 -- of entries, those of the games whose number is at least `least`
 abbrev pub entries_at_least : ℕ → List Entry → List Entry
-entries_at_least least entries = filter (λ entry. nat_le least entry.number) entries
+entries_at_least least entries = filter (λ entry. nat_le least entry.id.number) entries

@@ -4,8 +4,8 @@ use Rattle.std.specs.List.{list_all}
 use Rattle.pgn_game.specs.declared.exports.notation.Notation.TheVariants.{San, Uci}
 use Rattle.pgn_game.specs.declared.exports.style.Style.{Style}
 use Rattle.pgn_criteria.specs.declared.condition.Condition.{Condition}
-use Rattle.pgn_extract.specs.Public.Aims.{Aim}
-use Rattle.pgn_extract.specs.Public.GivenMarks.{GivenMark, mark_in}
+use Rattle.pgn_extract.specs.Public.Aims.{Aim, GameId}
+use Rattle.pgn_extract.specs.Public.GivenMarks.{game_id, mark_in}
 use Rattle.pgn_extract.specs.declared.app.command.Request.{Request}
 use Rattle.pgn_extract.specs.declared.settings.Form.{Form}
 use Rattle.pgn_extract.specs.declared.settings.Form.TheVariants.{Standard, AsItStands, Line, Record}
@@ -46,7 +46,7 @@ asked_style request = record {
 
 -- all that a run is to do, with notes or without, with these criteria, and of the pieces with these
 -- marks; its lines have no name yet
-abbrev pub asked : Bool → Request → Option (List (List (Condition (List ℕ)))) → Option (List GivenMark)
+abbrev pub asked : Bool → Request → Option (List (List (Condition (List ℕ)))) → Option (List GameId)
     → Aim
 asked noted request criteria chosen = record {
   name = None;
@@ -73,9 +73,9 @@ asks_names request = request.with_names || has_several_files request && not requ
 
 -- where the run begins: at the mark of `--from`, and at the first game without it; nowhere where
 -- its text is no mark
-abbrev pub begin_of : Request → Option GivenMark
+abbrev pub begin_of : Request → Option GameId
 begin_of request = elim request.from [
-  | None ↦ Some (record { number = 1; offset = 0 })
+  | None ↦ Some (game_id 1 0)
   | Some text ↦ mark_in text.now
 ]
 
@@ -111,7 +111,7 @@ has_style request = request.no_comments || request.no_glyphs || request.no_varia
     || request.keep_commands || request.roster || is_some request.width
 
 -- the run ends after it begins
-abbrev pub is_stretch : Option GivenMark → Option ℕ → Bool
+abbrev pub is_stretch : Option GameId → Option ℕ → Bool
 is_stretch None end = false
 is_stretch (Some begin) None = false
 is_stretch (Some begin) (Some end) = nat_lt begin.offset end

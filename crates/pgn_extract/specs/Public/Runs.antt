@@ -4,7 +4,7 @@ use Rattle.std.specs.Io.KnownBytes.{Appends}
 use Rattle.pgn_text.specs.Public.Limits.{block_limit, depth_limit, largest_offset}
 use Rattle.pgn_text.specs.Public.Marks.{MarkedPiece, AreMarkedPieces}
 use Rattle.pgn_text.specs.Public.Tallies.{Tallied}
-use Rattle.pgn_extract.specs.Public.Aims.{Aim, aim_of}
+use Rattle.pgn_extract.specs.Public.Aims.{Aim, GameId, aim_of}
 use Rattle.pgn_extract.specs.Public.Listing.{Entry, AreEntries, entries_at_least, listing}
 use Rattle.pgn_extract.specs.Public.Outcomes.{Writes, WritesComplete, BeginsAll}
 use Rattle.pgn_extract.specs.Public.Resuming.{IsMarkAmong}
@@ -14,6 +14,7 @@ use Rattle.pgn_extract.specs.declared.output.outcome.RunError.TheVariants.{Read,
 use Rattle.pgn_extract.specs.declared.output.outcome.Summary.{Summary}
 use Rattle.pgn_extract.specs.declared.settings.Mode.TheVariants as mode
 use Rattle.pgn_extract.specs.declared.settings.Settings.{Settings}
+use Rattle.pgn_extract.specs.Public.GivenMarks.{IsGameMark, game_id}
 
 -- What is asked.
 
@@ -22,11 +23,10 @@ pub record Job : Type 0 where
   pub aim : Aim
   pub limit : ℕ
   pub max_depth : ℕ
-  pub number : ℕ
-  pub offset : ℕ
+  pub id : GameId
 
 abbrev pub job_at : Settings → ℕ → ℕ → Job
-job_at settings number offset = record { aim = aim_of settings; limit = block_limit; max_depth = depth_limit; number = number; offset = offset }
+job_at settings number offset = record { aim = aim_of settings; limit = block_limit; max_depth = depth_limit; id = game_id number offset }
 
 abbrev pub job_of : Settings → Job
 job_of settings = job_at settings settings.number settings.offset
@@ -62,11 +62,10 @@ abbrev pub io_of : {R O E : Type 0} → (R → Option (List ℕ)) → (O → Opt
 io_of left out_bytes err_bytes input input' out out' err err' =
     record { input = passage left input input'; out = passage out_bytes out out'; err = passage err_bytes err err' }
 
--- nothing has failed, no byte is read, and the numbers are small enough
+-- nothing has failed, no byte is read, and the run begins at a mark
 abbrev pub IsReady : {R O E : Type 0} → Job → Tallied R → Tallied O → Tallied E → Type 0
 IsReady job input out err =
-    (input.faulted ≡ false) × (out.faulted ≡ false) × (err.faulted ≡ false) × (input.moved ≡ 0)
-    × (1 ≤ job.number) × (job.number ≤ 2 ^ 62) × (job.offset ≤ largest_offset)
+    (input.faulted ≡ false) × (out.faulted ≡ false) × (err.faulted ≡ false) × (input.moved ≡ 0) × IsGameMark job.id
 
 -- What stands then. Of an input whose bytes are known:
 abbrev pub OnInput : Io → (List ℕ → Type 0) → Type 0
@@ -74,7 +73,7 @@ OnInput io P = IfSome io.input.old.bytes P
 
 -- the pieces of the input from the offset on
 abbrev pub ArePieces : Job → List ℕ → List MarkedPiece → Type 0
-ArePieces job whole pieces = AreMarkedPieces job.limit job.max_depth job.offset (drop job.offset whole) pieces
+ArePieces job whole pieces = AreMarkedPieces job.limit job.max_depth job.id.offset (drop job.id.offset whole) pieces
 
 -- the stream grew by these bytes
 abbrev pub Adds : Passage → List ℕ → Type 0
@@ -82,7 +81,7 @@ Adds stream bytes = Appends stream.old.bytes stream.new.bytes bytes
 
 -- the pieces are reported so, and the output and standard error grew by what is reported
 abbrev pub AreWritten : Job → Io → List MarkedPiece → List Verdict → Type 0
-AreWritten job io pieces verdicts = Writes job.aim io.out.old.bytes io.out.new.bytes io.err.old.bytes io.err.new.bytes job.number pieces verdicts
+AreWritten job io pieces verdicts = Writes job.aim io.out.old.bytes io.out.new.bytes io.err.old.bytes io.err.new.bytes job.id.number pieces verdicts
 
 -- At `Ok`: all pieces are reported and counted, the input is not too long, and both writers are flushed.
 pub record Completes (job : Job) (io : Io) (whole : List ℕ) (summary : Summary) : Type 0 where
@@ -103,12 +102,11 @@ pub record Lists (job : Job) (io : Io) (whole : List ℕ) : Type 0 where
   pub pieces : List MarkedPiece
   pub each : ArePieces job whole pieces
   pub entries : List Entry
-  pub are : AreEntries job.aim job.number pieces entries
+  pub are : AreEntries job.aim job.id.number pieces entries
   pub listed : Adds io.out (listing job.aim.name entries)
   pub rest : (all : List MarkedPiece) → AreMarkedPieces job.limit job.max_depth 0 whole all
-      → IsMarkAmong job.number job.offset all
-      → (found : List Entry) → AreEntries job.aim 1 all found
-      → Adds io.out (listing job.aim.name (entries_at_least job.number found))
+      → IsMarkAmong job.id all → (found : List Entry) → AreEntries job.aim 1 all found
+      → Adds io.out (listing job.aim.name (entries_at_least job.id.number found))
 
 abbrev pub Listed : Job → Io → Type 0
 Listed job io = OnInput io (λ whole. job.aim.mode ≡ mode.List → Lists job io whole)
@@ -116,12 +114,12 @@ Listed job io = OnInput io (λ whole. job.aim.mode ≡ mode.List → Lists job i
 -- At an error: the pieces of the complete blocks among some bytes from the offset on are reported, and nothing else;
 abbrev pub IsCompleteOf : Job → Io → List ℕ → Type 0
 IsCompleteOf job io bytes =
-    WritesComplete job.aim job.limit job.max_depth job.number job.offset (drop job.offset bytes) io.out.old.bytes io.out.new.bytes io.err.old.bytes io.err.new.bytes
+    WritesComplete job.aim job.limit job.max_depth job.id (drop job.id.offset bytes) io.out.old.bytes io.out.new.bytes io.err.old.bytes io.err.new.bytes
 
 -- or a beginning of the whole report is written.
 abbrev pub IsBegun : Job → Io → List ℕ → Type 0
 IsBegun job io whole =
-    BeginsAll job.aim job.limit job.max_depth job.number job.offset (drop job.offset whole) io.out.old.bytes io.out.new.bytes io.err.old.bytes io.err.new.bytes
+    BeginsAll job.aim job.limit job.max_depth job.id (drop job.id.offset whole) io.out.old.bytes io.out.new.bytes io.err.old.bytes io.err.new.bytes
 
 abbrev pub Stops : RunError → Job → Io → List ℕ → Type 0
 Stops Read job io whole = IsCompleteOf job io (take io.input.new.moved whole)

@@ -14,7 +14,7 @@ use Rattle.pgn_game.specs.Public.Replays.{Replay, IsReplay}
 use Rattle.pgn_game.specs.Public.Starts.{fen_tag}
 use Rattle.pgn_game.specs.declared.replays.replayer.Lines.TheVariants.{Main}
 use Rattle.pgn_criteria.specs.Public.Meeting.{heading_of}
-use Rattle.pgn_extract.specs.Public.Aims.{Aim}
+use Rattle.pgn_extract.specs.Public.Aims.{Aim, GameId}
 use Rattle.pgn_extract.specs.Public.Exports.{AreExports}
 use Rattle.pgn_extract.specs.Public.Index.{mark_line}
 use Rattle.pgn_extract.specs.declared.settings.Form.TheVariants.{Record}
@@ -27,27 +27,29 @@ use Rattle.pgn_extract.specs.Public.Outcomes.{AppendsFront}
 use Rattle.pgn_extract.specs.declared.packed.searching.SearchError.{SearchError}
 use Rattle.pgn_extract.specs.declared.packed.searching.SearchError.TheVariants.{Read, Write, OutOfMemory, InputTooLong, BadPack}
 use Rattle.pgn_extract.specs.declared.packed.searching.Searched.{Searched}
+use Rattle.pgn_extract.specs.Public.GivenMarks.{game_id}
+use Rattle.pgn_extract.specs.Public.Choices.{id_of}
 
 -- What was packed.
 
 -- the records of a game that can be read: of a sound one what is kept of it, and of a faulty one none
-pub data AreGameRecords (name : Option (List ℕ)) (number offset : ℕ) (parts : List Part) (records : List PackedGame) : Type 0 where
+pub data AreGameRecords (name : Option (List ℕ)) (id : GameId) (parts : List Part) (records : List PackedGame) : Type 0 where
   sound : (game : GameText) (replay : Replay) (packed : PackedGame) → IsGameText game → ShowsGame game game.at parts → IsReplayOf Main parts replay
-      → IsPacked name number offset game replay packed → records ≡ packed ∷ [] → AreGameRecords name number offset parts records
-  faulty : (fault : Fault) → IsFaultOf Main parts fault → records ≡ [] → AreGameRecords name number offset parts records
+      → IsPacked name id.number id.offset game replay packed → records ≡ packed ∷ [] → AreGameRecords name id parts records
+  faulty : (fault : Fault) → IsFaultOf Main parts fault → records ≡ [] → AreGameRecords name id parts records
 
 -- the records of a piece: only a game that can be read has one
-abbrev pub ArePieceRecords : Option (List ℕ) → PieceKind → ℕ → ℕ → List PackedGame → Type 0
-ArePieceRecords name (ReadableGame parts) number offset records = AreGameRecords name number offset parts records
-ArePieceRecords name (UnreadableRest bytes) number offset records = records ≡ []
-ArePieceRecords name TooLongBlock number offset records = records ≡ []
+abbrev pub ArePieceRecords : Option (List ℕ) → PieceKind → GameId → List PackedGame → Type 0
+ArePieceRecords name (ReadableGame parts) id records = AreGameRecords name id parts records
+ArePieceRecords name (UnreadableRest bytes) id records = records ≡ []
+ArePieceRecords name TooLongBlock id records = records ≡ []
 
 -- the records of pieces that are numbered from a number on, each with the name of their file: of each sound game one, in their order
 abbrev pub AreRecords : Option (List ℕ) → ℕ → List MarkedPiece → List PackedGame → Type 0
 AreRecords name number [] records = records ≡ []
 AreRecords name number (piece ∷ more) records =
     (own : List PackedGame) × (rest : List PackedGame) × (records ≡ own ++ rest)
-    × ArePieceRecords name piece.kind number piece.offset own × AreRecords name (number + 1) more rest
+    × ArePieceRecords name piece.kind (id_of number piece) own × AreRecords name (number + 1) more rest
 
 -- the bytes are the pack of all sound games of these pieces
 pub record IsPackOf (name : Option (List ℕ)) (number : ℕ) (pieces : List MarkedPiece) (bytes : List ℕ) : Type 0 where
@@ -65,21 +67,21 @@ pub record PacksAll (packing : Aim) : Type 0 where
   pub select : packing.select ≡ Matching
 
 -- these pieces of the text that begins at the offset, numbered from a number on, are packed in these bytes
-pub record PacksText (packing : Aim) (number offset : ℕ) (text : List ℕ) (pieces : List MarkedPiece) (bytes : List ℕ) : Type 0 where
+pub record PacksText (packing : Aim) (id : GameId) (text : List ℕ) (pieces : List MarkedPiece) (bytes : List ℕ) : Type 0 where
   pub all : PacksAll packing
   pub short : IfSome packing.name (λ name. length name ≤ longest_name)
   pub shown : IsTrue (is_shown_name packing.name)
-  pub counted : 1 ≤ number
-  pub few : number ≤ 2 ^ 62
-  pub within : offset + length text ≤ largest_offset
-  pub each : AreMarkedPieces block_limit depth_limit offset text pieces
-  pub exported : AreExports packing number pieces bytes
+  pub counted : 1 ≤ id.number
+  pub few : id.number ≤ 2 ^ 62
+  pub within : id.offset + length text ≤ largest_offset
+  pub each : AreMarkedPieces block_limit depth_limit id.offset text pieces
+  pub exported : AreExports packing id.number pieces bytes
 
 -- these bytes are then the pack of the pieces
 abbrev pub PackedTextIsAPack : Type 0
 PackedTextIsAPack =
-    (packing : Aim) (number offset : ℕ) (text : List ℕ) (pieces : List MarkedPiece) (bytes : List ℕ)
-    → PacksText packing number offset text pieces bytes → IsPackOf packing.name number pieces bytes
+    (packing : Aim) (id : GameId) (text : List ℕ) (pieces : List MarkedPiece) (bytes : List ℕ)
+    → PacksText packing id text pieces bytes → IsPackOf packing.name id.number pieces bytes
 
 -- What is found in a pack.
 
@@ -92,11 +94,11 @@ abbrev pub IsRecordListing : Aim → PackedGame → List ℕ → Type 0
 IsRecordListing aim packed text =
     (game : GameText) (replay : Replay) → IsGameText game → IsReplay Main (tag_in fen_tag game.tags) game.elements replay
     → IsPacked packed.name packed.number packed.offset game replay packed
-    → (entries : List Entry) × AreListed aim packed.number packed.offset (heading_of game) replay entries × (text ≡ listing packed.name entries)
+    → (entries : List Entry) × AreListed aim (game_id packed.number packed.offset) (heading_of game) replay entries × (text ≡ listing packed.name entries)
 
 -- the lines of a record in a mode: in that of the index its mark, else its listing
 abbrev pub AreRecordLines : Mode → Aim → PackedGame → List ℕ → Type 0
-AreRecordLines modes.Index aim packed text = text ≡ mark_line packed.name packed.number packed.offset
+AreRecordLines modes.Index aim packed text = text ≡ mark_line packed.name (game_id packed.number packed.offset)
 AreRecordLines modes.List aim packed text = IsRecordListing aim packed text
 AreRecordLines modes.Export aim packed text = IsRecordListing aim packed text
 
@@ -148,7 +150,7 @@ IsSoundPiece TooLongBlock = ⊥
 pub data IsIndexOfSoundGames (name : Option (List ℕ)) : ℕ → List MarkedPiece → List ℕ → Type 0 where
   none : (number : ℕ) → IsIndexOfSoundGames name number [] []
   keep : (number : ℕ) (piece : MarkedPiece) (more : List MarkedPiece) (text : List ℕ) → IsSoundPiece piece.kind → IsIndexOfSoundGames name (number + 1) more text
-      → IsIndexOfSoundGames name number (piece ∷ more) (mark_line name number piece.offset ++ text)
+      → IsIndexOfSoundGames name number (piece ∷ more) (mark_line name (id_of number piece) ++ text)
   leave : (number : ℕ) (piece : MarkedPiece) (more : List MarkedPiece) (text : List ℕ) → (IsSoundPiece piece.kind → ⊥) → IsIndexOfSoundGames name (number + 1) more text
       → IsIndexOfSoundGames name number (piece ∷ more) text
 

@@ -82,7 +82,7 @@ pub record IsReport (job : Job) (text output faults : List ℕ) : Type 0 where
   pub pieces : List MarkedPiece
   pub each : ArePieces job text pieces
   pub verdicts : List Verdict
-  pub reported : AreVerdicts job.aim job.number pieces verdicts
+  pub reported : AreVerdicts job.aim job.id.number pieces verdicts
   pub outputs : output ≡ output_text verdicts
   pub lines : faults ≡ fault_lines verdicts
 

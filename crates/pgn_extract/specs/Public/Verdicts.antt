@@ -8,8 +8,8 @@ use Rattle.pgn_game.specs.declared.replays.replayer.Lines.TheVariants.{Main}
 use Rattle.pgn_extract.specs.Public.Index.{fault_text, mark_line}
 use Rattle.pgn_extract.specs.Public.Listing.{Entry, listing, heading_in}
 use Rattle.pgn_extract.specs.Public.GameReports.{AreListed, IsReplayOf, IsFaultOf, cause_text}
-use Rattle.pgn_extract.specs.Public.Aims.{Aim}
-use Rattle.pgn_extract.specs.Public.Choices.{IfChosen, is_chosen}
+use Rattle.pgn_extract.specs.Public.Aims.{Aim, GameId}
+use Rattle.pgn_extract.specs.Public.Choices.{id_of, IfChosen, is_chosen}
 use Rattle.pgn_extract.specs.Public.Exports.{written_lines, IsWritten, faulty_text}
 use Rattle.pgn_extract.specs.Public.Notes.{IsNote, NamesStop}
 use Rattle.pgn_extract.specs.declared.settings.Mode.{Mode}
@@ -53,30 +53,30 @@ fault_lines [] = []
 fault_lines (verdict ∷ more) = fault_line_of verdict ++ fault_lines more
 
 -- the game is reported in the listing: where it is sound, by the lines of the entries that it lists, else by the line of its fault
-abbrev pub IsListed : Aim → Verdict → ℕ → ℕ → List Part → Type 0
-IsListed aim (SoundGame text) number offset parts =
-    (replay : Replay) × (entries : List Entry) × IsReplayOf Main parts replay × AreListed aim number offset (heading_in parts) replay entries × (text ≡ listing aim.name entries)
-IsListed aim (FaultyGame text line note) number offset parts =
-    (fault : Fault) × IsFaultOf Main parts fault × (line ≡ fault_text aim.name number offset (cause_text fault)) × IsNote aim.explain note × (text ≡ [])
+abbrev pub IsListed : Aim → Verdict → GameId → List Part → Type 0
+IsListed aim (SoundGame text) id parts =
+    (replay : Replay) × (entries : List Entry) × IsReplayOf Main parts replay × AreListed aim id (heading_in parts) replay entries × (text ≡ listing aim.name entries)
+IsListed aim (FaultyGame text line note) id parts =
+    (fault : Fault) × IsFaultOf Main parts fault × (line ≡ fault_text aim.name id (cause_text fault)) × IsNote aim.explain note × (text ≡ [])
 
 -- the game is reported in the export: where it is sound in the lines that are written, by what is written of it, else by the line of its fault,
 -- and by its bytes where the faulty ones are selected
-abbrev pub IsExported : Aim → Verdict → ℕ → ℕ → List Part → Type 0
-IsExported aim (SoundGame text) number offset parts =
-    (replay : Replay) × IsReplayOf (written_lines aim) parts replay × IsWritten aim number offset parts replay text
-IsExported aim (FaultyGame text line note) number offset parts =
-    (fault : Fault) × IsFaultOf (written_lines aim) parts fault × (line ≡ fault_text aim.name number offset (cause_text fault)) × IsNote aim.explain note
+abbrev pub IsExported : Aim → Verdict → GameId → List Part → Type 0
+IsExported aim (SoundGame text) id parts =
+    (replay : Replay) × IsReplayOf (written_lines aim) parts replay × IsWritten aim id parts replay text
+IsExported aim (FaultyGame text line note) id parts =
+    (fault : Fault) × IsFaultOf (written_lines aim) parts fault × (line ≡ fault_text aim.name id (cause_text fault)) × IsNote aim.explain note
     × (text ≡ faulty_text modes.Export aim.select (spelled parts))
 
 -- a game that can be read is reported so in a mode: in the index by its mark, in the listing and in the export as above
-abbrev pub IsVerdictIn : Mode → Aim → ℕ → ℕ → List Part → Verdict → Type 0
-IsVerdictIn modes.Index aim number offset parts verdict = verdict ≡ SoundGame (mark_line aim.name number offset)
-IsVerdictIn modes.List aim number offset parts verdict = IsListed aim verdict number offset parts
-IsVerdictIn modes.Export aim number offset parts verdict = IsExported aim verdict number offset parts
+abbrev pub IsVerdictIn : Mode → Aim → GameId → List Part → Verdict → Type 0
+IsVerdictIn modes.Index aim id parts verdict = verdict ≡ SoundGame (mark_line aim.name id)
+IsVerdictIn modes.List aim id parts verdict = IsListed aim verdict id parts
+IsVerdictIn modes.Export aim id parts verdict = IsExported aim verdict id parts
 
 -- a game that can be read is reported so
-abbrev pub IsGameVerdict : Aim → ℕ → ℕ → List Part → Verdict → Type 0
-IsGameVerdict aim number offset parts verdict = IsVerdictIn aim.mode aim number offset parts verdict
+abbrev pub IsGameVerdict : Aim → GameId → List Part → Verdict → Type 0
+IsGameVerdict aim id parts verdict = IsVerdictIn aim.mode aim id parts verdict
 
 -- the piece is faulty: these bytes go to the output, this line to standard error, and a note after it where explanations are asked for
 abbrev pub IsReportedBy : Aim → List ℕ → List ℕ → Verdict → Type 0
@@ -90,16 +90,16 @@ IsUnreadableVerdict aim offset bytes line verdict =
     × (verdict ≡ FaultyGame (faulty_text aim.mode aim.select bytes) line note)
 
 -- a piece that is chosen is reported so, by what it is: what can't be read is reported by the same line in each mode
-abbrev pub IsPieceVerdict : PieceKind → Aim → ℕ → ℕ → Verdict → Type 0
-IsPieceVerdict (ReadableGame parts) aim number offset verdict = IsGameVerdict aim number offset parts verdict
-IsPieceVerdict (UnreadableRest bytes) aim number offset verdict =
-    IsUnreadableVerdict aim offset bytes (fault_text aim.name number offset (codes "unreadable")) verdict
-IsPieceVerdict TooLongBlock aim number offset verdict = IsReportedBy aim [] (fault_text aim.name number offset (codes "too long")) verdict
+abbrev pub IsPieceVerdict : PieceKind → Aim → GameId → Verdict → Type 0
+IsPieceVerdict (ReadableGame parts) aim id verdict = IsGameVerdict aim id parts verdict
+IsPieceVerdict (UnreadableRest bytes) aim id verdict =
+    IsUnreadableVerdict aim id.offset bytes (fault_text aim.name id (codes "unreadable")) verdict
+IsPieceVerdict TooLongBlock aim id verdict = IsReportedBy aim [] (fault_text aim.name id (codes "too long")) verdict
 
 -- the piece with this number is reported so in the mode: where it is not chosen, nothing goes anywhere
 abbrev pub IsVerdict : Aim → ℕ → MarkedPiece → Verdict → Type 0
 IsVerdict aim number piece verdict =
-    IfChosen (is_chosen aim.chosen number piece.offset) (IsPieceVerdict piece.kind aim number piece.offset verdict) (verdict ≡ SoundGame [])
+    IfChosen (is_chosen aim.chosen (id_of number piece)) (IsPieceVerdict piece.kind aim (id_of number piece) verdict) (verdict ≡ SoundGame [])
 
 -- the pieces in a row, which are numbered from a number on, are reported so one after the other
 abbrev pub AreVerdicts : Aim → ℕ → List MarkedPiece → List Verdict → Type 0

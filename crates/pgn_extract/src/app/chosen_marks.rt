@@ -5,12 +5,12 @@ ghost use Rattle.pgn_extract.specs.Private.MarkLines.{AreMarksOf, line_mark, pai
 ghost use Rattle.pgn_extract.specs.Private.MarkOrder.{given_of};
 ghost use Rattle.pgn_extract.specs.Public.Choices.{is_among};
 ghost use Rattle.pgn_extract.specs.Public.Index.{shown_name};
+ghost use Rattle.pgn_extract.specs.declared.marks.GameId.{GameId};
 
-use crate::app::mark::Mark;
 use crate::app::mark_lines::{NamedLines, is_beside, is_elsewhere};
 use crate::app::messages;
 use crate::app::order::Order;
-use crate::marks::{Marks, Met};
+use crate::marks::{GameId, Marks, Met};
 use crate::output::file_name::{FileName, shown_bytes};
 use crate::output::outcome::RunError;
 use crate::output::texts::{push_mark, push_number};
@@ -104,10 +104,9 @@ impl MarksFile {
     }
 
     /// Adds the mark of a line, where the run can meet it.
-    fn add_mark(&mut self, order: &Order<'_>, mark: Mark) -> Result<(), AllocError>
+    fn add_mark(&mut self, order: &Order<'_>, mark: GameId) -> Result<(), AllocError>
         ensures { OnOk result (self.new.pairs.items ≡ self.old.pairs.items
-            ++ pairs_of order.now.mark.offset order.now.end
-            (Some (record { number = mark.number; offset = mark.offset }))) }
+            ++ pairs_of order.now.mark.offset order.now.end (Some mark)) }
     {
         self.has_marks = true;
         if order.mark.offset <= mark.offset && mark.offset < order.end {
@@ -169,8 +168,7 @@ impl MarksFile {
 
     /// The marks, and what may be said of them at the end.
     pub fn into_marks(self) -> (Marks, Unmarked)
-        ensures { (number offset : ℕ) → is_among result.0 number offset
-            ≡ is_among (map given_of self.pairs.items) number offset }
+        ensures { (id : GameId) → is_among result.0 id ≡ is_among (map given_of self.pairs.items) id }
     {
         let MarksFile {
             names,
@@ -241,9 +239,9 @@ impl Unmarked {
     /// which lines have none. Nothing where all is well.
     fn end_lines(&self, alloc: Global, marks: &Marks, met: Met) -> Result<Vec<u8>, AllocError> {
         let mut lines = Vec::new(alloc);
-        if let Some((number, offset)) = marks.at(met.first_missed()) {
+        if let Some(id) = marks.at(met.first_missed()) {
             let mut first = Vec::new(alloc);
-            push_mark(&mut first, number, offset)?;
+            push_mark(&mut first, id)?;
             let missed = marks.len().saturating_sub(met.count);
             let parts = [
                 b" of the marks are of no game in ".as_slice(),

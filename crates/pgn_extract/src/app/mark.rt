@@ -1,26 +1,15 @@
 //! The mark of a game, `N@O`: its number and the offset in the file of its first byte.
-ghost use Rattle.std.specs.Prelude.{◌≡◌, ◌≤◌, ◌<◌, ◌^◌, ◌==◌, length, option_map, position, IfSome};
-ghost use Rattle.pgn_text.specs.Public.Limits.{largest_offset};
-ghost use Rattle.pgn_extract.specs.Public.GivenMarks.{mark_in, number_in};
+ghost use Rattle.std.specs.Prelude.{◌≡◌, ◌≤◌, ◌<◌, ◌^◌, ◌==◌, length, position, IfSome};
+ghost use Rattle.pgn_extract.specs.Public.GivenMarks.{IsGameMark, mark_in, number_in};
 
+use crate::marks::GameId;
 use pgn_text::LARGEST_OFFSET;
 
-/// A game's number, counted from 1, and the offset of its first byte.
-#[derive(Clone, Copy, Debug, PartialEq, Eq)]
-pub struct Mark {
-    pub number: u64,
-    pub offset: u64,
-    ghost numbered: { (1 ≤ number) × (number ≤ 2 ^ 62) },
-    ghost placed: { offset ≤ largest_offset },
-}
-
-impl Mark {
-    /// The mark of a file's first game, if the file begins with it: where a run begins by default.
-    pub const FIRST: Mark = Mark {
-        number: 1,
-        offset: 0,
-    };
-}
+/// The mark of a file's first game, if the file begins with it: where a run begins by default.
+pub const FIRST: GameId = GameId {
+    number: 1,
+    offset: 0,
+};
 
 /// 2^62, the largest number and the largest offset of a mark.
 pub const MAX: u64 = LARGEST_OFFSET;
@@ -30,9 +19,9 @@ const MAX_DIGITS: usize = 19;
 
 /// Reads `N@O` as it is given to `--from`: each number has 1 to 19 decimal digits, N is from 1 to
 /// 2^62 and O from 0 to 2^62. `None` for any other text.
-pub fn read_mark(text: &[u8]) -> Option<Mark>
-    ensures { option_map (λ mark. record { number = mark.number; offset = mark.offset }) result
-        ≡ mark_in text.now }
+pub fn read_mark(text: &[u8]) -> Option<GameId>
+    ensures mark { result ≡ mark_in text.now }
+    ensures bound { IfSome result (λ mark. IsGameMark mark) }
 {
     let Some(at) = place_of_sign(text) else {
         return None;
@@ -46,7 +35,7 @@ pub fn read_mark(text: &[u8]) -> Option<Mark>
     if number == 0 {
         return None;
     }
-    Some(Mark { number, offset })
+    Some(GameId { number, offset })
 }
 
 /// Where the first `@` stands.

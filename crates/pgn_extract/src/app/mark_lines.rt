@@ -2,7 +2,8 @@
 ghost use Rattle.std.specs.Prelude.{◌≡◌, ◌<◌, ◌++◌, ℕ, List, codes, length, not, option_map, position, IfOk, IfSome};
 ghost use Rattle.pgn_extract.specs.Private.MarkLines.{front_mark, is_mark_byte, line_mark, mark_of_rest, rest_after};
 
-use crate::app::mark::{Mark, read_mark};
+use crate::app::mark::read_mark;
+use crate::marks::GameId;
 use std::alloc::{AllocError, Global};
 
 /// How the report of a bad game begins, where lines have no name.
@@ -24,9 +25,8 @@ fn end_of_mark(text: &[u8]) -> Option<usize>
 }
 
 /// The mark at the front of a text, if there is one.
-fn front_mark(text: &[u8]) -> Option<Mark>
-    ensures { option_map (λ mark. record { number = mark.number; offset = mark.offset }) result
-        ≡ front_mark text.now }
+fn front_mark(text: &[u8]) -> Option<GameId>
+    ensures { result ≡ front_mark text.now }
 {
     match end_of_mark(text) {
         Some(end) => read_mark(&text[..end]),
@@ -42,9 +42,8 @@ fn rest_after<'a>(prefix: &[u8], text: &'a [u8]) -> Option<&'a [u8]>
 }
 
 /// The mark that follows a prefix, if there is one.
-fn mark_after(prefix: &[u8], text: &[u8]) -> Option<Mark>
-    ensures { option_map (λ mark. record { number = mark.number; offset = mark.offset }) result
-        ≡ mark_of_rest (rest_after prefix.now text.now) }
+fn mark_after(prefix: &[u8], text: &[u8]) -> Option<GameId>
+    ensures { result ≡ mark_of_rest (rest_after prefix.now text.now) }
 {
     match rest_after(prefix, text) {
         Some(rest) => front_mark(rest),
@@ -77,11 +76,10 @@ impl NamedLines {
     }
 
     /// The mark of a line that has this name, or none.
-    pub fn mark(&self, line: &[u8]) -> Option<Mark>
+    pub fn mark(&self, line: &[u8]) -> Option<GameId>
         ensures { (name : List ℕ) → self.now.line.items ≡ name ++ codes ":"
             → self.now.report.items ≡ codes "pgn-extract: " ++ name ++ codes ": game "
-            → option_map (λ mark. record { number = mark.number; offset = mark.offset }) result
-            ≡ line_mark name line.now }
+            → result ≡ line_mark name line.now }
     {
         if let Some(mark) = front_mark(line) {
             return Some(mark);

@@ -1,15 +1,16 @@
 //! What is asked for: which of it is refused, and the settings of a run.
-ghost use Rattle.std.specs.Prelude.{◌≡◌, ◌||◌, true, option_map, IfErr, IfOk, OnOk};
+ghost use Rattle.std.specs.Prelude.{◌≡◌, ◌||◌, true, option_map, IfErr, IfOk, IfSome, OnOk};
 ghost use Rattle.pgn_extract.specs.Public.Aims.{aim_of};
+ghost use Rattle.pgn_extract.specs.Public.GivenMarks.{IsGameMark};
 ghost use Rattle.pgn_extract.specs.Public.Listing.{is_plain};
 ghost use Rattle.pgn_extract.specs.Public.Requests.{asked, asked_form, asked_mode, asked_select, asked_style, asks_names};
 ghost use Rattle.pgn_extract.specs.Public.Requests.{bad_mark, begin_of, end_of, file_refusals, first_line, gives_mark, has_style, option_refusals, refused};
 
 use crate::app::command::{DEFAULT_WIDTH, Request};
 use crate::app::conditions::are_lines;
-use crate::app::mark::{Mark, read_mark};
+use crate::app::mark::{FIRST, read_mark};
 use crate::app::messages;
-use crate::marks::Marks;
+use crate::marks::{GameId, Marks};
 use crate::settings::{Fields, Form, Mode, Select, Settings};
 use pgn_criteria::Criteria;
 use pgn_game::{Notation, Style};
@@ -20,11 +21,12 @@ pub struct Order<'a> {
     /// The options.
     pub request: Request<'a>,
     /// Where the run begins.
-    pub mark: Mark,
+    pub mark: GameId,
     /// The offset before which it ends.
     pub end: u64,
     /// Whether refusals and faulty games have notes.
     pub noted: bool,
+    ghost bound: { IsGameMark mark },
 }
 
 /// Tests what is asked for, or answers the line that refuses it: of the options, of the marks, or
@@ -34,8 +36,7 @@ pub fn accept(request: Request<'_>, watched: bool) -> Result<Order<'_>, &'static
         ≡ Some line.now) }
     ensures taken { OnOk result (refused (request.entry.explain || watched) request.entry ≡ None) }
     ensures request { IfOk result (λ order. order.request ≡ request.entry) }
-    ensures begin { IfOk result (λ order. begin_of request.entry
-        ≡ Some (record { number = order.mark.number; offset = order.mark.offset })) }
+    ensures begin { IfOk result (λ order. begin_of request.entry ≡ Some order.mark) }
     ensures end { IfOk result (λ order. end_of request.entry ≡ Some order.end) }
     ensures noted { IfOk result (λ order. order.noted ≡ (request.entry.explain || watched)) }
 {
@@ -236,13 +237,13 @@ pub fn packed_settings(order: &Order<'_>, criteria: Option<Criteria>) -> Setting
 }
 
 /// The mark that the run begins at: that of `--from`, and `1@0` without it. `None` for a bad one.
-fn mark_of(request: &Request<'_>) -> Option<Mark>
-    ensures { option_map (λ mark. record { number = mark.number; offset = mark.offset }) result
-        ≡ begin_of request.now }
+fn mark_of(request: &Request<'_>) -> Option<GameId>
+    ensures mark { result ≡ begin_of request.now }
+    ensures bound { IfSome result (λ mark. IsGameMark mark) }
 {
     match request.from {
         Some(text) => read_mark(text.as_bytes()),
-        None => Some(Mark::FIRST),
+        None => Some(FIRST),
     }
 }
 

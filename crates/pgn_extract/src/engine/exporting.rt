@@ -135,7 +135,7 @@ fn push_game_line<'a>(
     game: &RawGame<'a>,
 ) -> Result<(), GameFault<'a>>
     ensures text { OnOk result ((line : List ℕ) × IsGameLine notation (tag_in fen_tag game.now.tags) game.now.elements line
-        × (text.new.items ≡ text.old.items ++ line_with context.entry.settings.now.name context.entry.own.number context.entry.own.offset line)) }
+        × (text.new.items ≡ text.old.items ++ line_with context.entry.settings.now.name context.entry.own line)) }
     ensures fault { IfErr result (λ fault. IfSome (fault_of fault) (StopsAtFault game.now text.old.items text.new.items)) }
 {
     let GameContext {
@@ -143,7 +143,7 @@ fn push_game_line<'a>(
         settings,
         own,
     } = context;
-    push_named_mark(text, &settings.name, own.number, own.offset)?;
+    push_named_mark(text, &settings.name, own)?;
     text.extend_from_slice(b" ")?;
     push_line(alloc, game, notation, text)?;
     text.extend_from_slice(b"\n")?;
@@ -159,7 +159,7 @@ fn put_game_line<'a>(
 ) -> Result<(), GameFault<'a>>
     requires { context.settings.now.form ≡ Line notation }
     ensures { MatchResult result
-        (λ _. PutsText (aim_of context.entry.settings.now) context.entry.own.number context.entry.own.offset game.now text.old.items text.new.items)
+        (λ _. PutsText (aim_of context.entry.settings.now) context.entry.own game.now text.old.items text.new.items)
         (λ fault. IfSome (fault_of fault) (LeavesText (aim_of context.entry.settings.now) game.now text.old.items text.new.items)) }
 {
     let length = text.len();
@@ -190,7 +190,7 @@ fn put_game_record<'a>(
 ) -> Result<(), GameFault<'a>>
     requires { context.settings.now.form ≡ Record }
     ensures { MatchResult result
-        (λ _. PutsText (aim_of context.entry.settings.now) context.entry.own.number context.entry.own.offset game.now text.old.items text.new.items)
+        (λ _. PutsText (aim_of context.entry.settings.now) context.entry.own game.now text.old.items text.new.items)
         (λ fault. IfSome (fault_of fault) (LeavesText (aim_of context.entry.settings.now) game.now text.old.items text.new.items)) }
 {
     let GameContext {
@@ -235,7 +235,7 @@ fn put_text<'a>(
     game: &RawGame<'a>,
 ) -> Result<(), GameFault<'a>>
     ensures { MatchResult result
-        (λ _. PutsText (aim_of context.entry.settings.now) context.entry.own.number context.entry.own.offset game.now text.old.items text.new.items)
+        (λ _. PutsText (aim_of context.entry.settings.now) context.entry.own game.now text.old.items text.new.items)
         (λ fault. IfSome (fault_of fault) (LeavesText (aim_of context.entry.settings.now) game.now text.old.items text.new.items)) }
 {
     let GameContext {
@@ -271,7 +271,7 @@ fn put_chosen<'a>(
 ) -> Result<(), GameFault<'a>>
     requires { IsChosen (aim_of context.settings.now) game.now has }
     ensures { MatchResult result
-        (λ _. AddsText (aim_of context.entry.settings.now) context.entry.own.number context.entry.own.offset game.now text.old.items text.new.items)
+        (λ _. AddsText (aim_of context.entry.settings.now) context.entry.own game.now text.old.items text.new.items)
         (λ fault. IfSome (fault_of fault) (LeavesText (aim_of context.entry.settings.now) game.now text.old.items text.new.items)) }
 {
     let GameContext {
@@ -297,7 +297,7 @@ fn put_by_entry<'a>(
     game: &RawGame<'a>,
 ) -> Result<(), GameFault<'a>>
     ensures { MatchResult result
-        (λ _. AddsText (aim_of context.entry.settings.now) context.entry.own.number context.entry.own.offset game.now text.old.items text.new.items)
+        (λ _. AddsText (aim_of context.entry.settings.now) context.entry.own game.now text.old.items text.new.items)
         (λ fault. IfSome (fault_of fault) (LeavesText (aim_of context.entry.settings.now) game.now text.old.items text.new.items)) }
 {
     let GameContext {
@@ -319,7 +319,7 @@ pub fn put_selected<'a>(
     game: &RawGame<'a>,
 ) -> Result<(), GameFault<'a>>
     ensures { MatchResult result
-        (λ _. AddsText (aim_of context.entry.settings.now) context.entry.own.number context.entry.own.offset game.now text.old.items text.new.items)
+        (λ _. AddsText (aim_of context.entry.settings.now) context.entry.own game.now text.old.items text.new.items)
         (λ fault. IfSome (fault_of fault) (LeavesText (aim_of context.entry.settings.now) game.now text.old.items text.new.items)) }
 {
     let GameContext {

@@ -9,6 +9,7 @@ ghost use Rattle.pgn_extract.specs.declared.settings.Mode.TheVariants.{Index};
 
 use crate::engine::report::{BlockContext, Report, add_mark, report_too_long};
 use crate::explain::notes::line_after;
+use crate::marks::GameId;
 use crate::output::outcome::{RunError, Summary};
 use crate::output::write_all::write_all;
 use crate::settings::{Mode, Settings};
@@ -130,8 +131,10 @@ fn report_marks<'a, O: Write, E: Write>(
         let context = BlockContext {
             alloc: work.alloc,
             settings: work.settings,
-            number: work.number + report.games,
-            offset,
+            id: GameId {
+                number: work.number + report.games,
+                offset,
+            },
             bytes,
         };
         add_mark(report, context, mark)?;
@@ -166,8 +169,10 @@ fn report_games<'a, O: Write, E: Write>(
         let context = BlockContext {
             alloc: work.alloc,
             settings: work.settings,
-            number: work.number + report.games,
-            offset,
+            id: GameId {
+                number: work.number + report.games,
+                offset,
+            },
             bytes,
         };
         report.add_piece(context, &piece)?;
@@ -200,13 +205,13 @@ fn report_block<'a, O: Write, E: Write>(
             Mode::Index => report_marks(out, err, report, work, bytes),
             Mode::List | Mode::Export => report_games(out, err, report, work, bytes),
         },
-        Body::TooLong(size) => Ok(report_too_long(
-            report,
-            work.settings,
-            work.number,
-            offset,
-            size,
-        )?),
+        Body::TooLong(size) => {
+            let id = GameId {
+                number: work.number,
+                offset,
+            };
+            Ok(report_too_long(report, work.settings, id, size)?)
+        }
     }
 }
 

@@ -17,11 +17,11 @@ ghost use Rattle.pgn_game.specs.Public.Replays.{fault_of};
 use crate::engine::exporting::{push_faulty, put_selected, written_lines};
 use crate::entries::listing::push_plies;
 use crate::entries::showing::push_shown;
-use crate::entries::{GameContext, GameMark, push_found};
+use crate::entries::{GameContext, push_found};
 use crate::explain::move_notes::{Site, push_game_note};
 use crate::explain::notes::{Origin, Spot, push_stop_note, push_too_long_note};
 use crate::explain::players::push_players;
-use crate::marks::Met;
+use crate::marks::{GameId, Met};
 use crate::output::texts::{push_fault_line, push_game_fault, push_mark_line};
 use crate::settings::{Mode, Settings};
 use pgn_game::{GameFault, Lines, count_plies};
@@ -86,9 +86,9 @@ impl Report {
         self.output.len() + self.faults.len() >= LARGE
     }
 
-    /// Whether the piece with this number and offset is passed over; else its mark is met.
-    fn passes_over(&mut self, settings: &Settings, number: u64, offset: u64) -> bool
-        ensures passed { result ≡ not (is_chosen (aim_of settings.now).chosen number offset) }
+    /// Whether the piece is passed over; else its mark is met.
+    fn passes_over(&mut self, settings: &Settings, id: GameId) -> bool
+        ensures passed { result ≡ not (is_chosen (aim_of settings.now).chosen id) }
         ensures output { self.new.output ≡ self.old.output }
         ensures faults { self.new.faults ≡ self.old.faults }
         ensures counts { (self.new.games ≡ self.old.games) × (self.new.faulty ≡ self.old.faulty) }
@@ -96,7 +96,7 @@ impl Report {
         let Some(marks) = &settings.chosen else {
             return false;
         };
-        let Some(place) = marks.place(number, offset) else {
+        let Some(place) = marks.place(id) else {
             return true;
         };
         self.met.meet(place);
@@ -129,7 +129,7 @@ fn push_entries<'a>(
     game: &RawGame<'a>,
 ) -> Result<(), GameFault<'a>>
     ensures { MatchResult result
-        (λ _. AddsEntries (aim_of context.entry.settings.now) context.entry.own.number context.entry.own.offset game.now text.old.items text.new.items)
+        (λ _. AddsEntries (aim_of context.entry.settings.now) context.entry.own game.now text.old.items text.new.items)
         (λ fault. IfSome (fault_of fault) (StopsAtFault game.now text.old.items text.new.items)) }
 {
     if context.settings.fields.is_empty()
@@ -147,10 +147,8 @@ pub struct BlockContext<'a> {
     pub alloc: Global,
     /// What is asked.
     pub settings: &'a Settings,
-    /// The number of the piece.
-    pub number: u64,
-    /// The offset of the first of the bytes.
-    pub offset: u64,
+    /// The number of the piece, and the offset of the first of the bytes.
+    pub id: GameId,
     /// The bytes.
     pub bytes: &'a [u8],
 }
@@ -167,20 +165,14 @@ impl Report {
         requires faulty { self.old.faulty + 1 < 2 ^ 64 }
         requires room { site.origin.offset + length site.block.now < 2 ^ 64 }
         ensures { OnOk result ((own : Fault) × (note : List ℕ) × (fault_of fault.entry ≡ Some own) × IsNote context.entry.settings.now.explain note
-            × AddsVerdict self.old self.new (FaultyGame [] (fault_text context.entry.settings.now.name context.entry.own.number context.entry.own.offset (cause_text own)) note) 0) }
+            × AddsVerdict self.old self.new (FaultyGame [] (fault_text context.entry.settings.now.name context.entry.own (cause_text own)) note) 0) }
     {
         let GameContext {
             alloc,
             settings,
             own,
         } = context;
-        push_game_fault(
-            &mut self.faults,
-            &settings.name,
-            own.number,
-            own.offset,
-            fault,
-        )?;
+        push_game_fault(&mut self.faults, &settings.name, own, fault)?;
         self.faulty += 1;
         if !settings.explain {
             return Ok(());
@@ -204,7 +196,7 @@ impl Report {
     ) -> Result<(), AllocError>
         requires faulty { self.old.faulty + 1 < 2 ^ 64 }
         requires room { site.origin.offset + length site.block.now < 2 ^ 64 }
-        ensures { OnOk result (AddsListed (aim_of context.entry.settings.now) self.old self.new context.entry.own.number context.entry.own.offset game.now) }
+        ensures { OnOk result (AddsListed (aim_of context.entry.settings.now) self.old self.new context.entry.own game.now) }
     {
         let length = self.output.len();
         match push_entries(&mut self.output, context, game) {
@@ -227,7 +219,7 @@ impl Report {
         requires room { site.origin.offset + length site.block.now < 2 ^ 64 }
         requires criteria { context.settings.now.criteria ≡ None }
         requires plain { is_plain context.settings.now.fields ≡ true }
-        ensures { OnOk result (AddsListed (aim_of context.entry.settings.now) self.old self.new context.entry.own.number context.entry.own.offset game.now) }
+        ensures { OnOk result (AddsListed (aim_of context.entry.settings.now) self.old self.new context.entry.own game.now) }
     {
         match count_plies(context.alloc, game) {
             Ok(plies) => push_plies(&mut self.output, context, plies),
@@ -244,7 +236,7 @@ impl Report {
     ) -> Result<(), AllocError>
         requires faulty { self.old.faulty + 1 < 2 ^ 64 }
         requires room { site.origin.offset + length site.block.now < 2 ^ 64 }
-        ensures { OnOk result (AddsListed (aim_of context.entry.settings.now) self.old self.new context.entry.own.number context.entry.own.offset game.now) }
+        ensures { OnOk result (AddsListed (aim_of context.entry.settings.now) self.old self.new context.entry.own game.now) }
     {
         if context.settings.fields.is_empty() && context.settings.criteria.is_none() {
             return self.add_plies(context, site, game);
@@ -261,7 +253,7 @@ impl Report {
     ) -> Result<(), AllocError>
         requires faulty { self.old.faulty + 1 < 2 ^ 64 }
         requires room { site.origin.offset + length site.block.now < 2 ^ 64 }
-        ensures { OnOk result (AddsExported (aim_of context.entry.settings.now) self.old self.new context.entry.own.number context.entry.own.offset game.now) }
+        ensures { OnOk result (AddsExported (aim_of context.entry.settings.now) self.old self.new context.entry.own game.now) }
     {
         game.invariant();
         match put_selected(&mut self.output, context, game) {
@@ -284,13 +276,11 @@ impl Report {
     ) -> Result<(), AllocError>
         requires faulty { self.old.faulty + 1 < 2 ^ 64 }
         requires room { site.origin.offset + length site.block.now < 2 ^ 64 }
-        ensures { OnOk result (AddsGame (aim_of context.entry.settings.now) self.old self.new context.entry.own.number context.entry.own.offset game.now) }
+        ensures { OnOk result (AddsGame (aim_of context.entry.settings.now) self.old self.new context.entry.own game.now) }
     {
         let GameContext { settings, own, .. } = context;
         match settings.mode {
-            Mode::Index => {
-                push_mark_line(&mut self.output, &settings.name, own.number, own.offset)
-            }
+            Mode::Index => push_mark_line(&mut self.output, &settings.name, own),
             Mode::List => self.add_listed(context, site, game),
             Mode::Export => self.add_exported(context, site, game),
         }
@@ -300,16 +290,15 @@ impl Report {
     #[cold]
     fn add_unreadable(&mut self, context: BlockContext<'_>, at: usize) -> Result<(), AllocError>
         requires place { at ≤ length context.bytes.now }
-        requires room { context.offset + length context.bytes.now < 2 ^ 64 }
+        requires room { context.id.offset + length context.bytes.now < 2 ^ 64 }
         requires faulty { self.old.faulty + 1 < 2 ^ 64 }
-        ensures { OnOk result ((verdict : Verdict) × IsBlockVerdict (aim_of context.entry.settings.now) context.entry.number context.entry.offset context.entry.bytes.now at verdict
+        ensures { OnOk result ((verdict : Verdict) × IsBlockVerdict (aim_of context.entry.settings.now) context.entry.id context.entry.bytes.now at verdict
             × AddsVerdict self.old self.new verdict 0) }
     {
         let BlockContext {
             alloc,
             settings,
-            number,
-            offset,
+            id,
             bytes,
         } = context;
         push_faulty(
@@ -318,19 +307,17 @@ impl Report {
             settings.select,
             &bytes[at..],
         )?;
-        push_fault_line(
-            &mut self.faults,
-            &settings.name,
-            number,
-            offset + at as u64,
-            b"unreadable",
-        )?;
+        let own = GameId {
+            offset: id.offset + at as u64,
+            ..id
+        };
+        push_fault_line(&mut self.faults, &settings.name, own, b"unreadable")?;
         self.faulty += 1;
         if !settings.explain {
             return Ok(());
         }
         let origin = Origin {
-            offset,
+            offset: id.offset,
             line: self.line,
         };
         push_stop_note(&mut self.faults, origin, bytes, at)?;
@@ -344,30 +331,28 @@ impl Report {
         piece: &Piece<'a>,
     ) -> Result<(), AllocError>
         requires place { piece_place piece.now ≤ length context.bytes.now }
-        requires room { context.offset + length context.bytes.now < 2 ^ 64 }
+        requires room { context.id.offset + length context.bytes.now < 2 ^ 64 }
         requires counts { (self.old.games + 1 < 2 ^ 64) × (self.old.faulty + 1 < 2 ^ 64) }
-        ensures { OnOk result (AddsPiece (aim_of context.entry.settings.now) self.old self.new context.entry.number context.entry.offset context.entry.bytes.now piece.now) }
+        ensures { OnOk result (AddsPiece (aim_of context.entry.settings.now) self.old self.new context.entry.id context.entry.bytes.now piece.now) }
     {
         self.games += 1;
         let BlockContext {
             alloc,
             settings,
-            number,
-            offset,
+            id,
             bytes,
         } = context;
         match piece {
             Piece::Game(game) => {
-                let offset_of_game = offset + game.at() as u64;
-                if self.passes_over(settings, number, offset_of_game) {
+                let own = GameId {
+                    offset: id.offset + game.at() as u64,
+                    ..id
+                };
+                if self.passes_over(settings, own) {
                     return Ok(());
                 }
-                let own = GameMark {
-                    number,
-                    offset: offset_of_game,
-                };
                 let origin = Origin {
-                    offset,
+                    offset: id.offset,
                     line: self.line,
                 };
                 let site = Site {
@@ -383,7 +368,11 @@ impl Report {
                 self.add_game(context, site, game)
             }
             Piece::Unreadable { at } => {
-                if self.passes_over(settings, number, offset + *at as u64) {
+                let rest = GameId {
+                    offset: id.offset + *at as u64,
+                    ..id
+                };
+                if self.passes_over(settings, rest) {
                     return Ok(());
                 }
                 self.add_unreadable(context, *at)
@@ -396,24 +385,17 @@ impl Report {
 pub fn report_too_long(
     report: &mut Report,
     settings: &Settings,
-    number: u64,
-    offset: u64,
+    id: GameId,
     size: u64,
 ) -> Result<(), AllocError>
-    ensures { OnOk result (Reports (aim_of settings.now) report.new number (too_long_piece offset ∷ [])) }
+    ensures { OnOk result (Reports (aim_of settings.now) report.new id.number (too_long_piece id.offset ∷ [])) }
 {
     report.clear();
     report.games = 1;
-    if report.passes_over(settings, number, offset) {
+    if report.passes_over(settings, id) {
         return Ok(());
     }
-    push_fault_line(
-        &mut report.faults,
-        &settings.name,
-        number,
-        offset,
-        b"too long",
-    )?;
+    push_fault_line(&mut report.faults, &settings.name, id, b"too long")?;
     report.faulty = 1;
     if !settings.explain {
         return Ok(());
@@ -428,24 +410,29 @@ pub fn add_mark(
     mark: PieceStart,
 ) -> Result<(), AllocError>
     requires place { mark_place mark ≤ length context.bytes.now }
-    requires room { context.offset + length context.bytes.now < 2 ^ 64 }
+    requires room { context.id.offset + length context.bytes.now < 2 ^ 64 }
     requires counts { (index.old.games + 1 < 2 ^ 64) × (index.old.faulty + 1 < 2 ^ 64) }
-    ensures { OnOk result ((verdict : Verdict) × IsMarkReport (aim_of context.entry.settings.now) context.entry.number context.entry.offset context.entry.bytes.now mark verdict
+    ensures { OnOk result ((verdict : Verdict) × IsMarkReport (aim_of context.entry.settings.now) context.entry.id context.entry.bytes.now mark verdict
         × AddsVerdict index.old index.new verdict 1) }
 {
     index.games += 1;
     match mark {
         PieceStart::Game(at) => {
-            let offset = context.offset + at as u64;
-            if index.passes_over(context.settings, context.number, offset) {
+            let own = GameId {
+                offset: context.id.offset + at as u64,
+                ..context.id
+            };
+            if index.passes_over(context.settings, own) {
                 return Ok(());
             }
-            let name = &context.settings.name;
-            push_mark_line(&mut index.output, name, context.number, offset)
+            push_mark_line(&mut index.output, &context.settings.name, own)
         }
         PieceStart::Unreadable(at) => {
-            let offset = context.offset + at as u64;
-            if index.passes_over(context.settings, context.number, offset) {
+            let own = GameId {
+                offset: context.id.offset + at as u64,
+                ..context.id
+            };
+            if index.passes_over(context.settings, own) {
                 return Ok(());
             }
             index.add_unreadable(context, at)

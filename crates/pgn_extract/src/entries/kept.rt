@@ -9,8 +9,9 @@ ghost use Rattle.pgn_extract.specs.Public.Aims.{aim_of};
 ghost use Rattle.pgn_extract.specs.Private.Finding.{named_mark, AddsEntries, StopsAtFault, IsChosen, IsOfSomeGame, GoesOnAt};
 ghost use Rattle.pgn_extract.specs.Public.Listing.{IsNextField, AreFields};
 
+use crate::entries::GameContext;
 use crate::entries::showing::push_fen;
-use crate::entries::{GameContext, GameMark};
+use crate::marks::GameId;
 use crate::output::texts::{MARK_ROOM, push_named_mark, push_ply};
 use crate::settings::Settings;
 use chess::san;
@@ -48,7 +49,7 @@ fn push_played(
 struct Kept<'s> {
     settings: &'s Settings,
     replayed: Replayed,
-    own: GameMark,
+    own: GameId,
     mark: Vec<u8>,
 }
 
@@ -77,8 +78,8 @@ impl<'s> Kept<'s> {
     ) -> Result<bool, AllocError>
         requires within { ply ≤ length self.now.replayed.played }
         requires of_game { IsOfSomeGame self.now.replayed }
-        requires marked { self.now.mark.items ≡ named_mark self.now.settings.now.name self.now.own.number self.now.own.offset }
-        ensures { IfOk result (GoesOnAt (aim_of self.now.settings.now) self.now.own.number self.now.own.offset self.now.replayed ply is_met text.old.items text.new.items is_open) }
+        requires marked { self.now.mark.items ≡ named_mark self.now.settings.now.name self.now.own }
+        ensures { IfOk result (GoesOnAt (aim_of self.now.settings.now) self.now.own self.now.replayed ply is_met text.old.items text.new.items is_open) }
     {
         if !is_open || ply > self.settings.max_ply as usize {
             return Ok(false);
@@ -100,8 +101,8 @@ impl<'s> Kept<'s> {
     ) -> Result<(), AllocError>
         requires is_replay { IsReplay Main (tag_in fen_tag game.now.tags) game.now.elements self.now.replayed }
         requires criteria { self.now.settings.now.criteria ≡ Some criteria.now }
-        requires marked { self.now.mark.items ≡ named_mark self.now.settings.now.name self.now.own.number self.now.own.offset }
-        ensures { OnOk result (AddsEntries (aim_of self.now.settings.now) self.now.own.number self.now.own.offset game.now text.old.items text.new.items) }
+        requires marked { self.now.mark.items ≡ named_mark self.now.settings.now.name self.now.own }
+        ensures { OnOk result (AddsEntries (aim_of self.now.settings.now) self.now.own game.now text.old.items text.new.items) }
     {
         let met = criteria.met_plies(alloc, game, &self.replayed)?;
         let mut is_open = true;
@@ -124,7 +125,7 @@ pub fn push_kept<'a>(
 ) -> Result<(), GameFault<'a>>
     requires criteria { context.settings.now.criteria ≡ Some criteria.now }
     ensures { MatchResult result
-        (λ _. AddsEntries (aim_of context.entry.settings.now) context.entry.own.number context.entry.own.offset game.now text.old.items text.new.items)
+        (λ _. AddsEntries (aim_of context.entry.settings.now) context.entry.own game.now text.old.items text.new.items)
         (λ fault. IfSome (fault_of fault) (StopsAtFault game.now text.old.items text.new.items)) }
 {
     let GameContext {
@@ -134,7 +135,7 @@ pub fn push_kept<'a>(
     } = context;
     let replayed = replay(alloc, game, Lines::Main)?;
     let mut mark = Vec::with_capacity(alloc, MARK_ROOM)?;
-    push_named_mark(&mut mark, &settings.name, own.number, own.offset)?;
+    push_named_mark(&mut mark, &settings.name, own)?;
     let kept = Kept {
         settings,
         replayed,

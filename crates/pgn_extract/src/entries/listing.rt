@@ -31,7 +31,7 @@ pub fn push_plies(
 ) -> Result<(), AllocError>
     requires criteria { context.settings.now.criteria ≡ None }
     requires plain { is_plain context.settings.now.fields ≡ true }
-    ensures { OnOk result (AddsPlies (aim_of context.entry.settings.now) context.entry.own.number context.entry.own.offset plies text.old.items text.new.items) }
+    ensures { OnOk result (AddsPlies (aim_of context.entry.settings.now) context.entry.own plies text.old.items text.new.items) }
 {
     let GameContext {
         alloc,
@@ -39,7 +39,7 @@ pub fn push_plies(
         own,
     } = context;
     let mut mark = Vec::with_capacity(alloc, MARK_ROOM)?;
-    push_named_mark(&mut mark, &settings.name, own.number, own.offset)?;
+    push_named_mark(&mut mark, &settings.name, own)?;
     push_lines(text, alloc, settings, &mark, plies)
 }
 

@@ -5,8 +5,9 @@ ghost use Rattle.pgn_game.specs.Public.Replays.{Replay, fault_of};
 ghost use Rattle.pgn_extract.specs.Public.Aims.{aim_of};
 ghost use Rattle.pgn_extract.specs.Private.Finding.{named_mark, AsksFor, AddsEntries, StopsAtFault, StopsInLine, GoesOn, asked_of, ShowsPosition, ShowsNext, ShowsHere};
 
+use crate::entries::GameContext;
 use crate::entries::kept::push_kept;
-use crate::entries::{GameContext, GameMark};
+use crate::marks::GameId;
 use crate::output::texts::{MARK_ROOM, push_named_mark, push_ply};
 use crate::settings::{Fields, Settings};
 use pgn_criteria::Search;
@@ -69,7 +70,7 @@ fn push_entry_line<'a>(
 struct Shower<'s, 'a> {
     settings: &'s Settings,
     search: Option<Search<'a>>,
-    own: GameMark,
+    own: GameId,
     mark: Vec<u8>,
 }
 
@@ -102,9 +103,9 @@ impl<'s, 'a> Shower<'s, 'a> {
         line: &MainLine<'_, 'b>,
         is_open: bool,
     ) -> Result<bool, GameFault<'b>>
-        requires marked { self.now.mark.items ≡ named_mark self.now.settings.now.name self.now.own.number self.now.own.offset }
+        requires marked { self.now.mark.items ≡ named_mark self.now.settings.now.name self.now.own }
         ensures { MatchResult result
-            (GoesOn (aim_of self.now.settings.now) self.now.own.number self.now.own.offset (asked_of self.now.search) line.now text.old.items text.new.items is_open)
+            (GoesOn (aim_of self.now.settings.now) self.now.own (asked_of self.now.search) line.now text.old.items text.new.items is_open)
             (λ fault. IfSome (fault_of fault) (StopsInLine line.now text.old.items text.new.items)) }
     {
         let ply = line.plies();
@@ -126,9 +127,9 @@ impl<'s, 'a> Shower<'s, 'a> {
         game: &RawGame<'b>,
     ) -> Result<(), GameFault<'b>>
         requires asks { AsksFor (aim_of self.now.settings.now) game.now (asked_of self.now.search) }
-        requires marked { self.now.mark.items ≡ named_mark self.now.settings.now.name self.now.own.number self.now.own.offset }
+        requires marked { self.now.mark.items ≡ named_mark self.now.settings.now.name self.now.own }
         ensures { MatchResult result
-            (λ _. AddsEntries (aim_of self.now.settings.now) self.now.own.number self.now.own.offset game.now text.old.items text.new.items)
+            (λ _. AddsEntries (aim_of self.now.settings.now) self.now.own game.now text.old.items text.new.items)
             (λ fault. IfSome (fault_of fault) (StopsAtFault game.now text.old.items text.new.items)) }
     {
         let mut line = MainLine::begin(alloc, game)?;
@@ -148,7 +149,7 @@ pub fn push_shown<'a>(
     game: &RawGame<'a>,
 ) -> Result<(), GameFault<'a>>
     ensures { MatchResult result
-        (λ _. AddsEntries (aim_of context.entry.settings.now) context.entry.own.number context.entry.own.offset game.now text.old.items text.new.items)
+        (λ _. AddsEntries (aim_of context.entry.settings.now) context.entry.own game.now text.old.items text.new.items)
         (λ fault. IfSome (fault_of fault) (StopsAtFault game.now text.old.items text.new.items)) }
 {
     let GameContext {
@@ -166,7 +167,7 @@ pub fn push_shown<'a>(
         None => None,
     };
     let mut mark = Vec::with_capacity(alloc, MARK_ROOM)?;
-    push_named_mark(&mut mark, &settings.name, own.number, own.offset)?;
+    push_named_mark(&mut mark, &settings.name, own)?;
     let shower = Shower {
         settings,
         search,

@@ -6,6 +6,7 @@ ghost use Rattle.pgn_extract.specs.Private.Finding.{named_mark};
 ghost use Rattle.pgn_extract.specs.Public.Index.{mark, titled, mark_line, fault_text};
 ghost use Rattle.pgn_extract.specs.Public.GameReports.{cause_text};
 
+use crate::marks::GameId;
 use crate::output::file_name::FileName;
 use itoa::Buffer;
 use pgn_game::GameFault;
@@ -23,13 +24,13 @@ pub fn push_number(text: &mut Vec<u8>, number: usize) -> Result<(), AllocError>
 }
 
 /// Appends the mark `N@O`.
-pub fn push_mark(text: &mut Vec<u8>, number: u64, offset: u64) -> Result<(), AllocError>
-    ensures { OnOk result (text.new.items ≡ text.old.items ++ mark number offset) }
+pub fn push_mark(text: &mut Vec<u8>, id: GameId) -> Result<(), AllocError>
+    ensures { OnOk result (text.new.items ≡ text.old.items ++ mark id) }
 {
     let mut buffer = Buffer::new();
-    text.extend_from_slice(buffer.format(number).as_bytes())?;
+    text.extend_from_slice(buffer.format(id.number).as_bytes())?;
     text.push(b'@')?;
-    text.extend_from_slice(buffer.format(offset).as_bytes())?;
+    text.extend_from_slice(buffer.format(id.offset).as_bytes())?;
     Ok(())
 }
 
@@ -49,25 +50,23 @@ pub fn push_title(text: &mut Vec<u8>, name: &Option<FileName>, gap: &[u8]) -> Re
 pub fn push_named_mark(
     text: &mut Vec<u8>,
     name: &Option<FileName>,
-    number: u64,
-    offset: u64,
+    id: GameId,
 ) -> Result<(), AllocError>
-    ensures { OnOk result (text.new.items ≡ text.old.items ++ named_mark name.now number offset) }
+    ensures { OnOk result (text.new.items ≡ text.old.items ++ named_mark name.now id) }
 {
     push_title(text, name, b":")?;
-    push_mark(text, number, offset)
+    push_mark(text, id)
 }
 
 /// Appends the line of a game in the index.
 pub fn push_mark_line(
     text: &mut Vec<u8>,
     name: &Option<FileName>,
-    number: u64,
-    offset: u64,
+    id: GameId,
 ) -> Result<(), AllocError>
-    ensures { OnOk result (text.new.items ≡ text.old.items ++ mark_line name.now number offset) }
+    ensures { OnOk result (text.new.items ≡ text.old.items ++ mark_line name.now id) }
 {
-    push_named_mark(text, name, number, offset)?;
+    push_named_mark(text, name, id)?;
     text.push(b'\n')?;
     Ok(())
 }
@@ -113,15 +112,14 @@ pub fn count_up(line: &mut Vec<u8>, mark: &[u8], ply: usize) -> Result<(), Alloc
 fn push_faulty_mark(
     text: &mut Vec<u8>,
     name: &Option<FileName>,
-    number: u64,
-    offset: u64,
+    id: GameId,
 ) -> Result<(), AllocError>
-    ensures { OnOk result (text.new.items ≡ text.old.items ++ (codes "pgn-extract: " ++ titled (codes ": ") name.now ++ codes "game " ++ mark number offset ++ codes ": ")) }
+    ensures { OnOk result (text.new.items ≡ text.old.items ++ (codes "pgn-extract: " ++ titled (codes ": ") name.now ++ codes "game " ++ mark id ++ codes ": ")) }
 {
     text.extend_from_slice(b"pgn-extract: ")?;
     push_title(text, name, b": ")?;
     text.extend_from_slice(b"game ")?;
-    push_mark(text, number, offset)?;
+    push_mark(text, id)?;
     text.extend_from_slice(b": ")?;
     Ok(())
 }
@@ -130,13 +128,12 @@ fn push_faulty_mark(
 pub fn push_fault_line(
     text: &mut Vec<u8>,
     name: &Option<FileName>,
-    number: u64,
-    offset: u64,
+    id: GameId,
     cause: &[u8],
 ) -> Result<(), AllocError>
-    ensures { OnOk result (text.new.items ≡ text.old.items ++ fault_text name.now number offset cause.now) }
+    ensures { OnOk result (text.new.items ≡ text.old.items ++ fault_text name.now id cause.now) }
 {
-    push_faulty_mark(text, name, number, offset)?;
+    push_faulty_mark(text, name, id)?;
     text.extend_from_slice(cause)?;
     text.push(b'\n')?;
     Ok(())
@@ -175,13 +172,12 @@ fn push_cause(text: &mut Vec<u8>, fault: GameFault<'_>) -> Result<(), AllocError
 pub fn push_game_fault(
     text: &mut Vec<u8>,
     name: &Option<FileName>,
-    number: u64,
-    offset: u64,
+    id: GameId,
     fault: GameFault<'_>,
 ) -> Result<(), AllocError>
-    ensures { OnOk result ((own : Fault) × (fault_of fault.entry ≡ Some own) × (text.new.items ≡ text.old.items ++ fault_text name.now number offset (cause_text own))) }
+    ensures { OnOk result ((own : Fault) × (fault_of fault.entry ≡ Some own) × (text.new.items ≡ text.old.items ++ fault_text name.now id (cause_text own))) }
 {
-    push_faulty_mark(text, name, number, offset)?;
+    push_faulty_mark(text, name, id)?;
     push_cause(text, fault)?;
     text.push(b'\n')?;
     Ok(())

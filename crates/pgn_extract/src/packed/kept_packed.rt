@@ -7,7 +7,7 @@ ghost use Rattle.pgn_extract.specs.Public.Aims.{aim_of};
 ghost use Rattle.pgn_extract.specs.Private.Finding.{named_mark};
 ghost use Rattle.pgn_extract.specs.Private.KeptPacked.{IsStartOf, IsKeptOf};
 ghost use Rattle.pgn_extract.specs.Public.Listing.{is_plain};
-ghost use Rattle.pgn_extract.specs.Private.Packed.{EachOfRecord, HasNoText, ListsRecord};
+ghost use Rattle.pgn_extract.specs.Private.Packed.{raw_id, EachOfRecord, HasNoText, ListsRecord};
 
 use crate::output::texts::MARK_ROOM;
 use crate::packed::record_lines::RecordLines;
@@ -79,7 +79,7 @@ impl<'s, 'r, 'a> RecordLines<'s, 'r, 'a> {
         requires criteria { self.now.settings.now.criteria ≡ Some criteria.now }
         requires shows { IsRawOfGame self.now.raw.now }
         requires kept { IsKeptOf self.now.raw.now replayed.now }
-        requires marked { self.now.mark.items ≡ named_mark self.now.raw.now.name self.now.raw.now.number self.now.raw.now.offset }
+        requires marked { self.now.mark.items ≡ named_mark self.now.raw.now.name (raw_id self.now.raw.now) }
         ensures { OnOk result (ListsRecord (aim_of self.now.settings.now) self.now.raw.now text.old.items text.new.items) }
     {
         let met = criteria.met_packed(alloc, self.raw, replayed)?;

@@ -5,7 +5,7 @@ ghost use Rattle.pgn_extract.specs.Public.Aims.{aim_of};
 ghost use Rattle.pgn_extract.specs.Private.Finding.{named_mark};
 ghost use Rattle.pgn_extract.specs.Public.Listing.{is_plain};
 ghost use Rattle.pgn_extract.specs.Private.MarkedPacked.{StartsWith, AreMetWith};
-ghost use Rattle.pgn_extract.specs.Private.Packed.{EachOfRecord, ListsRecord};
+ghost use Rattle.pgn_extract.specs.Private.Packed.{raw_id, EachOfRecord, ListsRecord};
 
 use crate::packed::record_lines::RecordLines;
 use chess::Side;
@@ -21,7 +21,7 @@ impl<'s, 'r, 'a> RecordLines<'s, 'r, 'a> {
         turn: Side,
     ) -> Result<(), AllocError>
         requires plain { is_plain self.now.settings.now.fields ≡ true }
-        requires marked { self.now.mark.items ≡ named_mark self.now.raw.now.name self.now.raw.now.number self.now.raw.now.offset }
+        requires marked { self.now.mark.items ≡ named_mark self.now.raw.now.name (raw_id self.now.raw.now) }
         requires starts { StartsWith self.now.raw.now turn }
         requires met { EachOfRecord self.now.raw.now (λ game replay packed. AreMetWith marks.bits (heading_of game) self.now.settings.now.criteria) }
         ensures { OnOk result (ListsRecord (aim_of self.now.settings.now) self.now.raw.now text.old.items text.new.items) }

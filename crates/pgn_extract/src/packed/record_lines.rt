@@ -4,7 +4,7 @@ ghost use Rattle.pgn_game.specs.Public.Replays.{Replay};
 ghost use Rattle.pgn_extract.specs.Public.Aims.{aim_of};
 ghost use Rattle.pgn_extract.specs.Private.Finding.{named_mark, GoesOnAt};
 ghost use Rattle.pgn_extract.specs.Public.Listing.{is_plain};
-ghost use Rattle.pgn_extract.specs.Private.Packed.{record_aim, Grows};
+ghost use Rattle.pgn_extract.specs.Private.Packed.{raw_id, record_aim, Grows};
 
 use crate::output::texts::push_entry;
 use crate::settings::Settings;
@@ -30,9 +30,9 @@ impl<'s, 'r, 'a> RecordLines<'s, 'r, 'a> {
         is_open: bool,
     ) -> Result<bool, AllocError>
         requires plain { is_plain self.now.settings.now.fields ≡ true }
-        requires marked { self.now.mark.items ≡ named_mark self.now.raw.now.name self.now.raw.now.number self.now.raw.now.offset }
+        requires marked { self.now.mark.items ≡ named_mark self.now.raw.now.name (raw_id self.now.raw.now) }
         ensures { IfOk result (λ still. Grows text.old.items text.new.items
-            × ((kept : Replay) → GoesOnAt (record_aim (aim_of self.now.settings.now) self.now.raw.now) self.now.raw.now.number self.now.raw.now.offset kept ply is_met
+            × ((kept : Replay) → GoesOnAt (record_aim (aim_of self.now.settings.now) self.now.raw.now) (raw_id self.now.raw.now) kept ply is_met
             text.old.items text.new.items is_open still)) }
     {
         if !is_open || ply > self.settings.max_ply as usize {

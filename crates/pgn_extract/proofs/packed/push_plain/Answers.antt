@@ -8,13 +8,14 @@ use Rattle.pgn_extract.specs.Private.Finding.{named_mark}
 use Rattle.pgn_extract.specs.Public.Listing.{listing}
 use Rattle.pgn_extract.proofs.PackedFacts.{plies_counted}
 use Rattle.pgn_extract.proofs.packed.push_plain.Goals as goal
+use Rattle.pgn_extract.specs.Private.Packed.{raw_id}
 
 pub returns-clause-ok : goal.returns-clause-ok
 returns-clause-ok c =
     let raw = c.args.record.now in
-    let marked : c.deref.result.now ≡ named_mark raw.name raw.number raw.offset =
-    c.deref.ensures.value ∙ c.in_ok-push_record_mark.ensures ∙ ap (λ t. t ++ named_mark raw.name raw.number raw.offset) c.in_ok-mark.ensures.items in
-    let adds = c.in_ok-push_lines.ensures raw.name raw.number raw.offset marked in
+    let marked : c.deref.result.now ≡ named_mark raw.name (raw_id raw) =
+    c.deref.ensures.value ∙ c.in_ok-push_record_mark.ensures ∙ ap (λ t. t ++ named_mark raw.name (raw_id raw)) c.in_ok-mark.ensures.items in
+    let adds = c.in_ok-push_lines.ensures raw.name (raw_id raw) marked in
     let count = length c.plies.result.now / 3 in
     let any : Replay = record { positions = replicate (count + 1) initial; played = []; turns = [] } in
     let tags : Heading = record { named = λ name. None; result = [] } in

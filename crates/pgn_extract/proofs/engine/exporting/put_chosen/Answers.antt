@@ -38,7 +38,7 @@ returns-then-is_as_it_stands c =
     let game = c.args.game.now in
     let old = c.args.text.now.items in
     let text = c.in_ok-push_as_is.ensures ∙ ap (λ bytes. old ++ as_it_stands bytes) c.text.ensures in
-    let put = game_put aim c.args.context.own.number c.args.context.own.offset game old c.push_as_is.new.text.items (c.is_as_it_stands.ensures.0 c.if-is_as_it_stands.true)
+    let put = game_put aim c.args.context.own game old c.push_as_is.new.text.items (c.is_as_it_stands.ensures.0 c.if-is_as_it_stands.true)
     c.in_ok-check_written.ensures text in
     let reports = c.is_selected.ensures game put.0 (c.requires.1 put.0 (written_lines aim, put.1)) in
     (put.0, put.1, put.2, inl (reports.0 c.if-not-is_selected.false, put.3), put.4)

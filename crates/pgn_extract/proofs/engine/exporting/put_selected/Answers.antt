@@ -17,7 +17,7 @@ returns-then-takes_all c =
     let aim = aim_of c.args.context.settings.now in
     let game = c.args.game.now in
     MatchResult-weaker c.put_text.result c.put_text.ensures
-    (λ _ put. (put.0, put.1, put.2, all_written aim c.args.context.own.number c.args.context.own.offset game put.0 put.2 (c.takes_all.ensures c.if-takes_all.true) put.1 put.3, put.4))
+    (λ _ put. (put.0, put.1, put.2, all_written aim c.args.context.own game put.0 put.2 (c.takes_all.ensures c.if-takes_all.true) put.1 put.3, put.4))
     (λ fault reports. reports)
 
 pub returns-in-Faulty : goal.returns-in-Faulty

@@ -9,7 +9,7 @@ use Rattle.pgn_extract.proofs.engine.piecewise.report_block.Goals as goal
 pub returns-in_err-report_too_long-in-TooLong-clause-stopped : goal.returns-in_err-report_too_long-in-TooLong-clause-stopped
 returns-in_err-report_too_long-in-TooLong-clause-stopped g c =
     let p = err_from_is_err_and c.from_residual.result c.from_residual.ensures.1 in
-    rw p.1 (λ bytes shows. begins_none _ _ _ _ _ bytes _ _)
+    rw p.1 (λ bytes shows. begins_none _ _ _ _ bytes _ _)
 
 pub returns-in_ok-report_too_long-in-TooLong-clause-done : goal.returns-in_ok-report_too_long-in-TooLong-clause-done
 returns-in_ok-report_too_long-in-TooLong-clause-done g c = λ bytes shows.

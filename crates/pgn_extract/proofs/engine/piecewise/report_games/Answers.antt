@@ -4,10 +4,11 @@ use Rattle.pgn_extract.specs.Public.Aims.{aim_of}
 use Rattle.pgn_extract.proofs.BlockWritten.{front_none, written_soundly}
 use Rattle.pgn_extract.proofs.Listed.{listed_none, listed_more, listed_passed, listed_begun, listed_all}
 use Rattle.pgn_extract.proofs.engine.piecewise.report_games.Goals as goal
+use Rattle.pgn_extract.specs.Public.GivenMarks.{game_id}
 
 pub loop-piece-init : goal.loop-piece-init
 loop-piece-init g c = (
-  listed_none (aim_of c.args.work.settings.now) _ c.args.bytes.now _ c.args.work.number c.args.work.block.offset _ _
+  listed_none (aim_of c.args.work.settings.now) _ c.args.bytes.now _ (game_id c.args.work.number c.args.work.block.offset) _ _
       (c.into_iter-piece-iterator.ensures.into_iter_gives ∙ c.games-piece-items.ensures)
       c.clear.ensures.output c.clear.ensures.faults c.clear.ensures.counts.0 c.clear.ensures.counts.1,
   c.requires.sound.0,

@@ -2,9 +2,10 @@ use Rattle.std.proofs.Common.{◌≡◌, false}
 use Rattle.pgn_extract.specs.Public.Aims.{aim_of}
 use Rattle.pgn_extract.proofs.Listed.{Listed}
 use Rattle.pgn_extract.proofs.engine.piecewise.report_games.Given as goal
+use Rattle.pgn_extract.specs.Public.GivenMarks.{game_id}
 
 abbrev pub invariant-loop-piece : goal.invariant-loop-piece
 invariant-loop-piece g l =
-    Listed (aim_of l.work.settings.now) l.initial.piece-iterator l.piece-iterator l.report l.work.number l.offset
+    Listed (aim_of l.work.settings.now) l.initial.piece-iterator l.piece-iterator l.report (game_id l.work.number l.offset)
     (g.O.Write.contents l.fn.out.inner) (g.O.Write.contents l.out.inner) (g.E.Write.contents l.fn.err.inner) (g.E.Write.contents l.err.inner)
     × (l.out.faulted ≡ false) × (l.err.faulted ≡ false)

@@ -4,10 +4,11 @@ use Rattle.pgn_extract.specs.Public.Aims.{aim_of}
 use Rattle.pgn_extract.proofs.BlockWritten.{front_none, written_soundly}
 use Rattle.pgn_extract.proofs.Indexed.{indexed_none, indexed_more, indexed_passed, indexed_begun, indexed_all}
 use Rattle.pgn_extract.proofs.engine.piecewise.report_marks.Goals as goal
+use Rattle.pgn_extract.specs.Public.GivenMarks.{game_id}
 
 pub loop-mark-init : goal.loop-mark-init
 loop-mark-init g c = (
-  indexed_none (aim_of c.args.work.settings.now) _ c.args.bytes.now _ c.args.work.number c.args.work.block.offset _ _
+  indexed_none (aim_of c.args.work.settings.now) _ c.args.bytes.now _ (game_id c.args.work.number c.args.work.block.offset) _ _
       (c.into_iter-mark-iterator.ensures.into_iter_gives ∙ c.marks-mark-items.ensures)
       c.clear.ensures.output c.clear.ensures.faults c.clear.ensures.counts.0 c.clear.ensures.counts.1,
   c.requires.sound.0,

@@ -36,10 +36,10 @@ returns c game asks before played text to so_far =
     let met : (tags : Heading) (replay : Replay) (ply : ℕ) → IsTrue c.is_met.result ↔ SomeHold tags replay ply P c.args.self.now.search =
     λ tags replay ply. subst (λ p. IsTrue c.is_met.result ↔ SomeHold tags replay ply p c.args.self.now.search) c.position.ensures (c.is_met.ensures c.position.result.now (seen_itself c.position.result.now) tags replay ply) in
     let ply : c.plies-ply.result ≡ length before = c.plies-ply.ensures ∙ sym to.count in
-    let marked : c.deref.result.now ≡ named_mark c.args.self.now.settings.now.name own.number own.offset = c.deref.ensures.value ∙ c.requires.marked in
+    let marked : c.deref.result.now ≡ named_mark c.args.self.now.settings.now.name own = c.deref.ensures.value ∙ c.requires.marked in
     keeps_one P so_far [] c.if-not-is_open.false
     (is_wanted (aim_of c.args.self.now.settings.now) game c.args.self.now.search asks before P c.is_met.result met c.if-not-is_met.false
     (omega (arith, ply, c.if-ply-self-2.false)) (omega (arith, ply, c.if-ply-self.false)))
     (λ replay own rest is. no_fields c.args.self.now.settings.now.fields c.requires.plain replay (length before))
     (c.in_ok-push_entry.ensures ∙ ap (λ m. c.args.text.now.items ++ (m ++ 32 ∷ decimal c.plies-ply.result ++ 10 ∷ [])) marked
-    ∙ ap (λ n. c.args.text.now.items ++ (named_mark c.args.self.now.settings.now.name own.number own.offset ++ 32 ∷ decimal n ++ 10 ∷ [])) ply)
+    ∙ ap (λ n. c.args.text.now.items ++ (named_mark c.args.self.now.settings.now.name own ++ 32 ∷ decimal n ++ 10 ∷ [])) ply)

@@ -15,7 +15,7 @@ loop-text-init c =
     let finder = c.args.self.now in
     let text = c.args.text.now.items in
     let to = played_none c.in_ok-line.ensures in
-    let start = finds_none (aim_of finder.settings.now) finder.own.number finder.own.offset c.args.game.now finder.search text (not c.is_empty.result) c.requires.asks
+    let start = finds_none (aim_of finder.settings.now) finder.own c.args.game.now finder.search text (not c.is_empty.result) c.requires.asks
     (λ off. eqb-true (length finder.search) 0 (sym c.is_empty.ensures ∙ not-false c.is_empty.result off)) in
     ([], [], to, c.in_ok-is_open.ensures c.args.game.now c.requires.asks [] [] text to start)
 

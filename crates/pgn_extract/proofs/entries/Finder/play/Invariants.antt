@@ -10,7 +10,7 @@ use Rattle.pgn_extract.proofs.entries.Finder.play.Given as goal
 abbrev pub invariant-loop-text : goal.invariant-loop-text
 invariant-loop-text l =
     (before : List State) × (played : List Move) × IsPlayedTo (tag_in fen_tag l.game.tags) l.game.elements l.line before played
-    × Finds (aim_of l.self.settings.now) l.self.own.number l.self.own.offset l.game (before ++ l.line.position ∷ []) l.fn.text.items l.text.items l.is_open
+    × Finds (aim_of l.self.settings.now) l.self.own l.game (before ++ l.line.position ∷ []) l.fn.text.items l.text.items l.is_open
 
 abbrev pub decreases-loop-text : goal.decreases-loop-text
 decreases-loop-text l = length l.line.words

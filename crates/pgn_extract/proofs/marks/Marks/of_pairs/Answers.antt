@@ -9,6 +9,6 @@ invariant_of-result c =
     rw is (deduped_in_order _ c.sort_unstable.ensures.sorted)
 
 pub returns : goal.returns
-returns c = λ number offset.
+returns c = λ id.
     let is = dedup_is _ _ _ c.dedup.ensures.filtered in
-    rw is (same_marks _ number offset ∙ sym (same_permuted _ _ number offset c.sort_unstable.ensures.permutation))
+    rw is (same_marks _ id ∙ sym (same_permuted _ _ id c.sort_unstable.ensures.permutation))

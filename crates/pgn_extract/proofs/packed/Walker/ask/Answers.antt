@@ -1,7 +1,7 @@
 use Rattle.std.proofs.Common.{◌≡◌, ◌∷◌, ◌++◌, [], length, decimal, sym, ap, append-nil, ◌∙◌, arith}
 use Rattle.pgn_extract.specs.Public.Aims.{aim_of}
 use Rattle.pgn_extract.specs.Private.Finding.{named_mark}
-use Rattle.pgn_extract.specs.Private.Packed.{record_aim}
+use Rattle.pgn_extract.specs.Private.Packed.{raw_id, record_aim}
 use Rattle.pgn_extract.proofs.FieldTexts.{no_fields}
 use Rattle.pgn_extract.proofs.Found.{leaves_shut, leaves_past, leaves_unwanted, keeps_one, is_wanted, not_wanted}
 use Rattle.pgn_extract.proofs.packed.Walker.ask.Goals as goal
@@ -33,11 +33,11 @@ returns c = (
   (c.deref.result.now ++ 32 ∷ decimal c.args.ply ++ 10 ∷ [], c.in_ok-push_entry.ensures),
   λ game asks before P at sight text so_far.
       let raw = c.args.self.now.record.now in
-      let marked : c.deref.result.now ≡ named_mark raw.name raw.number raw.offset = c.deref.ensures.value ∙ c.requires.marked in
+      let marked : c.deref.result.now ≡ named_mark raw.name (raw_id raw) = c.deref.ensures.value ∙ c.requires.marked in
       keeps_one P so_far [] c.if-not-is_open.false
       (is_wanted (record_aim (aim_of c.args.self.now.settings.now) raw) game c.args.self.now.search asks before P c.is_met.result (c.is_met.ensures P sight) c.if-not-is_met.false
       (omega (arith, at, c.if-ply-self-2.false)) (omega (arith, at, c.if-ply-self.false)))
       (λ replay own rest is. no_fields c.args.self.now.settings.now.fields c.requires.plain replay (length before))
       (c.in_ok-push_entry.ensures ∙ ap (λ m. c.args.text.now.items ++ (m ++ 32 ∷ decimal c.args.ply ++ 10 ∷ [])) marked
-      ∙ ap (λ n. c.args.text.now.items ++ (named_mark raw.name raw.number raw.offset ++ 32 ∷ decimal n ++ 10 ∷ [])) (sym at)),
+      ∙ ap (λ n. c.args.text.now.items ++ (named_mark raw.name (raw_id raw) ++ 32 ∷ decimal n ++ 10 ∷ [])) (sym at)),
 )

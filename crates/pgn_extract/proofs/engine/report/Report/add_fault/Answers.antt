@@ -10,7 +10,7 @@ use Rattle.pgn_extract.proofs.engine.report.Report.add_fault.Goals as goal
 pub returns-then-not-settings : goal.returns-then-not-settings
 returns-then-not-settings c =
     let of = c.in_ok-push_game_fault.ensures in
-    let line = fault_text c.args.context.settings.now.name c.args.context.own.number c.args.context.own.offset (cause_text of.0) in (
+    let line = fault_text c.args.context.settings.now.name c.args.context.own (cause_text of.0) in (
       of.0,
       [],
       of.1,
@@ -26,7 +26,7 @@ returns-then-not-settings c =
 pub returns : goal.returns
 returns c =
     let of = c.in_ok-push_game_fault.ensures in
-    let line = fault_text c.args.context.settings.now.name c.args.context.own.number c.args.context.own.offset (cause_text of.0) in
+    let line = fault_text c.args.context.settings.now.name c.args.context.own (cause_text of.0) in
     let note = c.in_ok-push_game_note.ensures in
     on_ok_weaker c.push_players.result
     (λ more. (

@@ -1,4 +1,4 @@
-use Rattle.std.proofs.Common.{◌+◌, true, drop, [], ◌++◌, refl, sym, ap, subst, ◌∙◌, append_assoc, codes, arith}
+use Rattle.std.proofs.Common.{true, drop, [], ◌++◌, refl, sym, ap, subst, ◌∙◌, append_assoc, codes, arith}
 use Rattle.std.proofs.lemmas.List.{append-nil}
 use Rattle.std.proofs.lemmas.Result.{on_ok_weaker}
 use Rattle.pgn_extract.specs.Public.Exports.{faulty_text}
@@ -9,16 +9,17 @@ use Rattle.pgn_extract.specs.declared.explain.notes.Origin.{Origin}
 use Rattle.pgn_extract.proofs.NoteLines.{names_more, names_stop, no_note, notes_join, stop_note}
 use Rattle.pgn_extract.proofs.RestOfBlock.{rest_taken}
 use Rattle.pgn_extract.proofs.engine.report.Report.add_unreadable.Goals as goal
+use Rattle.pgn_extract.specs.Private.Blockwise.{id_at}
 
 pub returns : goal.returns
 returns c =
-    let line = fault_text c.args.context.settings.now.name c.args.context.number (c.args.context.offset + c.args.at) (codes "unreadable") in
+    let line = fault_text c.args.context.settings.now.name (id_at c.args.context.id c.args.at) (codes "unreadable") in
     let text = faulty_text c.args.context.settings.now.mode c.args.context.settings.now.select (drop c.args.at c.args.context.bytes.now) in
     let written = c.in_ok-push_faulty.ensures ∙ ap (λ bytes. c.args.self.now.output.items ++ faulty_text c.args.context.settings.now.mode c.args.context.settings.now.select bytes) (rest_taken c.args.at c.args.context.bytes.now) in
-    let origin : Origin = record { offset = c.args.context.offset; line = c.args.self.now.line } in
+    let origin : Origin = record { offset = c.args.context.id.offset; line = c.args.self.now.line } in
     let note = c.in_ok-push_stop_note.ensures in
     let explain = c.args.context.settings.now.explain in
-    let offset = c.args.context.offset in
+    let offset = c.args.context.id.offset in
     let block = c.args.context.bytes.now in
     on_ok_weaker c.push_players.result
     (λ more. (
@@ -43,10 +44,10 @@ returns c =
 
 pub returns-then-not-settings : goal.returns-then-not-settings
 returns-then-not-settings c =
-    let line = fault_text c.args.context.settings.now.name c.args.context.number (c.args.context.offset + c.args.at) (codes "unreadable") in
+    let line = fault_text c.args.context.settings.now.name (id_at c.args.context.id c.args.at) (codes "unreadable") in
     let text = faulty_text c.args.context.settings.now.mode c.args.context.settings.now.select (drop c.args.at c.args.context.bytes.now) in
     let written = c.in_ok-push_faulty.ensures ∙ ap (λ bytes. c.args.self.now.output.items ++ faulty_text c.args.context.settings.now.mode c.args.context.settings.now.select bytes) (rest_taken c.args.at c.args.context.bytes.now) in
-    let none = no_note c.args.context.settings.now.explain c.if-not-settings.true c.args.context.offset c.args.context.bytes.now c.args.at in (
+    let none = no_note c.args.context.settings.now.explain c.if-not-settings.true c.args.context.id.offset c.args.context.bytes.now c.args.at in (
       FaultyGame text line [],
       ([], none.0, none.1, refl),
       record {

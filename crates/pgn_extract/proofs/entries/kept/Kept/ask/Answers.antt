@@ -28,7 +28,7 @@ returns c game own reports before P rest is at text so_far =
     let aim = aim_of settings in
     let kept = c.args.self.now.replayed in
     let start = c.args.text.now.items in
-    let named = named_mark settings.name mine.number mine.offset in
+    let named = named_mark settings.name mine in
     let added = c.in_ok-push_line.ensures in
     let shown = added.0 in
     keeps_one P so_far shown c.if-not-is_open.false

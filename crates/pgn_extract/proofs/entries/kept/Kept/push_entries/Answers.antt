@@ -16,7 +16,7 @@ loop-ply-init c =
     let mine = c.args.self.now.own in
     record {
       within = omega arith;
-      looked = looked_none (aim_of c.args.self.now.settings.now) mine.number mine.offset c.args.game.now c.args.self.now.replayed c.args.criteria.now c.args.text.now.items c.requires.criteria;
+      looked = looked_none (aim_of c.args.self.now.settings.now) mine c.args.game.now c.args.self.now.replayed c.args.criteria.now c.args.text.now.items c.requires.criteria;
     }
 
 pub ask-requires-clause-within : goal.ask-requires-clause-within

@@ -6,7 +6,7 @@ use Rattle.pgn_extract.proofs.entries.kept.Kept.push_entries.Given as goal
 abbrev pub invariant-loop-ply : goal.invariant-loop-ply
 invariant-loop-ply l = record {
   within : l.ply ≤ length l.met.items;
-  looked : IsLookedThrough (aim_of l.self.settings.now) l.self.own.number l.self.own.offset l.game l.self.replayed l.ply l.fn.text.items l.text.items l.is_open;
+  looked : IsLookedThrough (aim_of l.self.settings.now) l.self.own l.game l.self.replayed l.ply l.fn.text.items l.text.items l.is_open;
 }
 
 abbrev pub decreases-loop-ply : goal.decreases-loop-ply

@@ -33,7 +33,7 @@ returns c game asks before played text to so_far =
     let P = line.position in
     let own = c.args.self.now.own in
     let settings = c.args.self.now.settings.now in
-    let named = named_mark settings.name own.number own.offset in
+    let named = named_mark settings.name own in
     let start = c.args.text.now.items in
     let met : (tags : Heading) (replay : Replay) (ply : ℕ) → IsTrue c.is_met.result ↔ SomeHold tags replay ply P (asked_of c.args.self.now.search) =
     λ tags replay ply. subst (λ p. IsTrue c.is_met.result ↔ SomeHold tags replay ply p (asked_of c.args.self.now.search)) c.position.ensures (c.is_met.ensures tags replay ply) in

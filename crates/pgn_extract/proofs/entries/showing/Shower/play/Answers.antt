@@ -15,7 +15,7 @@ loop-text-init c =
     let finder = c.args.self.now in
     let text = c.args.text.now.items in
     let to = played_none c.in_ok-line.ensures in
-    let start = finds_none (aim_of finder.settings.now) finder.own.number finder.own.offset c.args.game.now (asked_of finder.search) text c.is_open.result c.requires.asks c.is_open.ensures in
+    let start = finds_none (aim_of finder.settings.now) finder.own c.args.game.now (asked_of finder.search) text c.is_open.result c.requires.asks c.is_open.ensures in
     ([], [], to, c.in_ok-is_open.ensures c.args.game.now c.requires.asks [] [] text to start)
 
 pub returns-in_err-is_open : goal.returns-in_err-is_open

@@ -9,7 +9,7 @@ use Rattle.pgn_criteria.specs.Public.Meeting.{heading_of}
 use Rattle.pgn_criteria.specs.declared.condition.Condition.{Condition}
 use Rattle.pgn_extract.specs.Public.Aims.{aim_of, IsMet}
 use Rattle.pgn_extract.specs.Public.GameReports.{AreListed}
-use Rattle.pgn_extract.specs.Private.Packed.{record_aim}
+use Rattle.pgn_extract.specs.Private.Packed.{raw_id, record_aim}
 use Rattle.pgn_extract.proofs.Found.{finds_all}
 use Rattle.pgn_extract.proofs.KeptFacts.{looked_none, looks_on, looks_whole}
 use Rattle.pgn_extract.proofs.packed.record_lines.RecordLines.push_kept.Goals as goal
@@ -21,7 +21,7 @@ loop-ply-init c =
       within = omega arith;
       grown = ([], sym (append-nil c.args.text.now.items));
       looked = λ game replay packed own.
-          looked_none (record_aim (aim_of c.args.self.now.settings.now) raw) raw.number raw.offset game c.args.replayed.now c.args.criteria.now c.args.text.now.items c.requires.criteria;
+          looked_none (record_aim (aim_of c.args.self.now.settings.now) raw) (raw_id raw) game c.args.replayed.now c.args.criteria.now c.args.text.now.items c.requires.criteria;
     }
 
 pub loop-ply-preserved : goal.loop-ply-preserved
@@ -60,7 +60,7 @@ returns c = (
       let at = c.loop-ply.invariant.looked game replay packed own in
       let whole = looks_whole at (omega (arith, met.each, c.len.ensures, c.loop-ply-test.false)) in (
         at.finds.found,
-        subst (λ (r : Replay). AreListed (record_aim (aim_of c.args.self.now.settings.now) raw) raw.number raw.offset (heading_of game) r at.finds.found) (sym same)
+        subst (λ (r : Replay). AreListed (record_aim (aim_of c.args.self.now.settings.now) raw) (raw_id raw) (heading_of game) r at.finds.found) (sym same)
             (finds_all at.finds kept (Main, is_replay) whole),
         at.finds.written,
       ),

@@ -3,7 +3,7 @@ use Rattle.std.specs.Prelude.{◌==◌, ◌/◌, ◌%◌}
 use Rattle.pgn_criteria.specs.Public.ByMarks.{has_marks}
 use Rattle.pgn_criteria.specs.Public.Sieves.{codes_in}
 use Rattle.pgn_extract.specs.Public.Aims.{aim_of}
-use Rattle.pgn_extract.specs.Private.Packed.{record_aim}
+use Rattle.pgn_extract.specs.Private.Packed.{raw_id, record_aim}
 use Rattle.pgn_extract.proofs.MarkedFacts.{IsMarkedTo, size_of, codes_count, next_shorter, marked_first, marked_on, pass_to, pass_all, marked_enough}
 use Rattle.pgn_extract.proofs.packed.record_lines.RecordLines.push_marked.Goals as goal
 
@@ -18,7 +18,7 @@ loop-is_open-init c =
       within = omega arith;
       grown = c.in_ok-is_open.ensures.0;
       marked = λ game replay packed own.
-          subst (λ (bytes : List ℕ). IsMarkedTo aim raw.number raw.offset game replay packed c.args.turn (codes_in bytes) c.args.text.now.items c.ask.new.text.items c.in_ok-is_open.is_open)
+          subst (λ (bytes : List ℕ). IsMarkedTo aim (raw_id raw) game replay packed c.args.turn (codes_in bytes) c.args.text.now.items c.ask.new.text.items c.in_ok-is_open.is_open)
           (sym c.plies-plies.ensures)
           (marked_first own aim set (c.requires.met game replay packed own) c.args.turn (c.requires.starts game replay packed own) c.has-is_met.result met (c.in_ok-is_open.ensures.1 replay));
     }
@@ -56,7 +56,7 @@ loop-is_open-preserved c =
       grown = (grown.0 ++ added.0, added.1 ∙ ap (λ t. t ++ added.0) grown.1 ∙ append_assoc start grown.0 added.0);
       marked = λ game replay packed own.
           let met = c.requires.met game replay packed own in
-          let to = subst (λ on. IsMarkedTo aim raw.number raw.offset game replay packed c.loop-is_open.side rest start c.loop-is_open.text.items on) c.loop-is_open-test.true
+          let to = subst (λ on. IsMarkedTo aim (raw_id raw) game replay packed c.loop-is_open.side rest start c.loop-is_open.text.items on) c.loop-is_open-test.true
           (c.loop-is_open.invariant.marked game replay packed own) in
           let before = pass_to own aim set met rest c.loop-is_open.side c.in-Some.next after to c.in-Some.ensures in
           let count = size_of own aim set met c.plies-plies.result.now c.plies-plies.ensures in
@@ -71,7 +71,7 @@ returns-in_default c = (
       let aim = record_aim (aim_of c.args.self.now.settings.now) raw in
       let rest = codes_in c.loop-is_open.rest.now in
       pass_all own aim c.args.marks.bits (c.requires.met game replay packed own) rest c.loop-is_open.side
-      (subst (λ on. IsMarkedTo aim raw.number raw.offset game replay packed c.loop-is_open.side rest c.args.text.now.items c.loop-is_open.text.items on) c.loop-is_open-test.true
+      (subst (λ on. IsMarkedTo aim (raw_id raw) game replay packed c.loop-is_open.side rest c.args.text.now.items c.loop-is_open.text.items on) c.loop-is_open-test.true
       (c.loop-is_open.invariant.marked game replay packed own))
       c.in_default.ensures,
 )
