@@ -97,13 +97,12 @@ to_ply aim number (piece ∷ more) entries (own, rest, parted, here, others) ent
           let of = own_ply aim piece.kind (id_of number piece) own taken.1 entry first in
           let place = of.4 in
           let same : entry.id ≡ id_of number piece = ap (λ (e : Entry). e.id) place.is in
-          let numbered : entry.id.number ≡ number = ap (λ (i : GameId). i.number) same in
           record {
             place = 0;
             parts = of.0;
             replay = of.1;
             game = ap (λ (p : MarkedPiece). Some p) (ap (λ k. record { offset = piece.offset; kind = k }) of.2 ∙ ap (λ (i : GameId). record { offset = i.offset; kind = ReadableGame of.0 }) (sym same));
-            numbered = numbered ∙ omega arith;
+            numbered = ap (λ (i : GameId). i.number) same ∙ omega arith;
             chosen = subst (λ i. is_chosen aim.chosen i ≡ true) (sym same) taken.0;
             is_replay = main_of of.3;
             within = within_plies of.1.positions entry.ply place.among;

@@ -255,7 +255,7 @@ next_after before later played more text same is =
     (subst (λ b. of (slice_get more 0) b) (sym (at_end before later)) is)
 
 -- a replay of the game goes on with what is left of the line
-left_of : {fen : Option (List ℕ)} {items : List Item} {line : PlayedLine} {before : List State} {played : List Move} → IsPlayedTo fen items line before played
+pub left_of : {fen : Option (List ℕ)} {items : List Item} {line : PlayedLine} {before : List State} {played : List Move} → IsPlayedTo fen items line before played
     → (replay : Replay) → IsSomeReplay fen items replay → GoesOnWith line before played replay.positions replay.played
 left_of {fen} {items} to replay (lines, is) =
     to.parts replay.positions replay.played

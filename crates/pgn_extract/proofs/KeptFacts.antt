@@ -23,7 +23,7 @@ use Rattle.pgn_extract.proofs.Picks.{same_met}
 use Rattle.pgn_extract.proofs.Sought.{one_main}
 
 -- replays with the same positions and moves meet the same criteria
-met_there : (criteria : Option (List (List (Condition (List ℕ))))) (heading : Heading) (kept other : Replay) → kept.positions ≡ other.positions → kept.played ≡ other.played
+pub met_there : (criteria : Option (List (List (Condition (List ℕ))))) (heading : Heading) (kept other : Replay) → kept.positions ≡ other.positions → kept.played ≡ other.played
     → (ply : ℕ) → IsMet criteria heading kept ply → IsMet criteria heading other ply
 met_there None heading kept other positions played ply met = tt
 met_there (Some alternatives) heading kept other positions played ply met = met_alike heading kept other positions played ply alternatives met

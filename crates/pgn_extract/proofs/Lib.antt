@@ -16,13 +16,16 @@ pub mod ReportRows
 pub mod RunRows
 pub mod Exported
 pub mod FieldTexts
+pub mod Finds
 pub mod GameExport
 pub mod Gathered
 pub mod GameVerdict
 pub mod Indexed
 pub mod JoinedParts
 pub mod KeptFacts
+pub mod KeptLines
 pub mod PackedFacts
+pub mod PlayedFacts
 pub mod KeptPackedFacts
 pub mod Listed
 pub mod OneExports

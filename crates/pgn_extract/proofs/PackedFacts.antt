@@ -37,7 +37,7 @@ use Rattle.pgn_extract.proofs.Found.{finds_none, finds_all, leaves_shut}
 -- ---- the start
 
 -- a main line begins where it is played from
-line_begins : (P : State) (words : List (List ℕ)) (positions : List State) (played : List Move) → IsMainLine P words positions played → (later : List State) × (positions ≡ P ∷ later)
+pub line_begins : (P : State) (words : List (List ℕ)) (positions : List State) (played : List Move) → IsMainLine P words positions played → (later : List State) × (positions ≡ P ∷ later)
 line_begins P [] positions played line = ([], line.0)
 line_begins P (word ∷ words) positions played line = (line.1, line.3)
 

@@ -14,3 +14,7 @@ pub mod SeveralPacks
 pub mod PackStops
 pub mod MarkOrder
 pub mod MarkLines
+pub mod KeptLines
+pub mod Lines
+pub mod Sinks
+pub mod PlayedLines

@@ -1,24 +1,30 @@
-//! The entries of a game, found while its main line is played.
-ghost use Rattle.std.specs.Prelude.{◌≡◌, true, MatchResult, IfOk, IfSome, Some};
+//! The entries of a game, found while its main line is played, or once it is kept.
+ghost use Rattle.std.specs.Prelude.{◌≡◌, ◌≤◌, ◌↔◌, ℕ, IsTrue, MatchResult, IfSome};
+ghost use Rattle.pgn_text.specs.Public.GameTexts.{tag_in};
+ghost use Rattle.pgn_game.specs.Public.Faults.{IsFault};
 ghost use Rattle.pgn_game.specs.Public.Replays.{fault_of};
+ghost use Rattle.pgn_game.specs.Public.Starts.{fen_tag};
+ghost use Rattle.pgn_game.specs.declared.replays.replayer.Lines.TheVariants.{Main};
 ghost use Rattle.pgn_extract.specs.Public.Aims.{aim_of};
-ghost use Rattle.pgn_extract.specs.Private.Finding.{named_mark, AsksFor, AddsEntries, StopsAtFault, GoesOn};
-ghost use Rattle.pgn_extract.specs.Public.Listing.{is_plain};
+ghost use Rattle.pgn_extract.specs.Private.Finding.{AddsEntries, StopsAtFault, IsChosen};
 
-pub(crate) mod choosing;
-mod kept;
+pub(crate) mod finding;
+pub(crate) mod kept;
+pub(crate) mod line;
 pub(crate) mod listing;
-pub(crate) mod showing;
+mod played;
+mod sink;
 mod ten_lines;
 
-use crate::entries::kept::push_kept;
+use crate::entries::finding::Finder;
+use crate::entries::kept::{Kept, has_kept};
+use crate::entries::played::{Anything, find_played};
 use crate::marks::GameId;
-use crate::output::texts::{MARK_ROOM, push_entry, push_named_mark};
-use crate::settings::Settings;
-use pgn_criteria::{Criteria, Search};
-use pgn_game::{GameFault, MainLine};
+use crate::output::texts::{MARK_ROOM, push_named_mark};
+use crate::settings::{Fields, Settings};
+use pgn_game::{GameFault, count_plies};
 use pgn_text::RawGame;
-use std::alloc::{AllocError, Global};
+use std::alloc::Global;
 
 /// What is asked of a game, and which one it is.
 #[derive(Clone, Copy)]
@@ -31,72 +37,13 @@ pub struct GameContext<'a> {
     pub own: GameId,
 }
 
-/// What is asked of the positions of a game, and what the lines of its entries begin with.
-#[derive(Drop)]
-struct Finder<'s, 'a> {
-    settings: &'s Settings,
-    search: Search<'a>,
-    own: GameId,
-    mark: Vec<u8>,
-}
-
-impl<'s, 'a> Finder<'s, 'a> {
-    /// Adds the line of the position that is reached, if it is an entry. Answers whether a later one may be one.
-    #[inline(always)]
-    fn ask(
-        &self,
-        text: &mut Vec<u8>,
-        line: &MainLine<'_, '_>,
-        is_open: bool,
-    ) -> Result<bool, AllocError>
-        requires plain { is_plain self.now.settings.now.fields ≡ true }
-        requires marked { self.now.mark.items ≡ named_mark self.now.settings.now.name self.now.own }
-        ensures { IfOk result (GoesOn (aim_of self.now.settings.now) self.now.own self.now.search line.now text.old.items text.new.items is_open) }
-    {
-        let ply = line.plies();
-        if !is_open || ply > self.settings.max_ply as usize {
-            return Ok(false);
-        }
-        if ply < (self.settings.min_ply as usize) || !self.search.is_met(line.position()) {
-            return Ok(true);
-        }
-        push_entry(text, &self.mark, ply)?;
-        Ok(!self.settings.first)
-    }
-
-    /// Plays the main line of the game, and adds the lines of its entries.
-    #[inline(never)]
-    fn play<'b>(
-        &self,
-        alloc: Global,
-        text: &mut Vec<u8>,
-        game: &RawGame<'b>,
-    ) -> Result<(), GameFault<'b>>
-        requires plain { is_plain self.now.settings.now.fields ≡ true }
-        requires asks { AsksFor (aim_of self.now.settings.now) game.now self.now.search }
-        requires marked { self.now.mark.items ≡ named_mark self.now.settings.now.name self.now.own }
-        ensures { MatchResult result
-            (λ _. AddsEntries (aim_of self.now.settings.now) self.now.own game.now text.old.items text.new.items)
-            (λ fault. IfSome (fault_of fault) (StopsAtFault game.now text.old.items text.new.items)) }
-    {
-        let mut line = MainLine::begin(alloc, game)?;
-        let mut is_open = self.ask(text, &line, !self.search.is_empty())?;
-        while line.advance()? {
-            is_open = self.ask(text, &line, is_open)?;
-        }
-        Ok(())
-    }
-}
-
-/// Adds the lines of the entries of a game by criteria, which show no more than the ply, or answers its fault. Each position is asked as it is reached, and none is kept.
-pub fn push_found<'a>(
+/// Adds the lines of the entries of a game, or answers its fault. Each position is asked as it is
+/// reached, and none is kept, unless the criteria speak of the moves at each ply.
+pub fn push_entries<'a>(
     text: &mut Vec<u8>,
     context: GameContext<'a>,
-    criteria: &'a Criteria,
     game: &RawGame<'a>,
 ) -> Result<(), GameFault<'a>>
-    requires plain { is_plain context.settings.now.fields ≡ true }
-    requires criteria { context.settings.now.criteria ≡ Some criteria.now }
     ensures { MatchResult result
         (λ _. AddsEntries (aim_of context.entry.settings.now) context.entry.own game.now text.old.items text.new.items)
         (λ fault. IfSome (fault_of fault) (StopsAtFault game.now text.old.items text.new.items)) }
@@ -106,16 +53,53 @@ pub fn push_found<'a>(
         settings,
         own,
     } = context;
-    let Some(search) = criteria.watch(alloc, game)? else {
-        return push_kept(text, context, criteria, game);
-    };
     let mut mark = Vec::with_capacity(alloc, MARK_ROOM)?;
     push_named_mark(&mut mark, &settings.name, own)?;
     let finder = Finder {
         settings,
-        search,
-        own,
+        fields: settings.fields,
         mark,
     };
-    finder.play(alloc, text, game)
+    let Some(criteria) = &settings.criteria else {
+        return find_played(&finder, alloc, game, Anything, text);
+    };
+    let Some(question) = criteria.watch(alloc, game)? else {
+        let mut line = Kept::of_game(alloc, criteria, game)?;
+        finder.find(&mut line, text, true)?;
+        return Ok(());
+    };
+    find_played(&finder, alloc, game, question, text)
+}
+
+/// Whether a main line with so many plies has one within the bounds.
+fn is_within(settings: &Settings, plies: usize) -> bool
+    ensures { IsTrue result ↔ ((ply : ℕ) × (ply ≤ plies) × (settings.now.min_ply ≤ ply) × (ply ≤ settings.now.max_ply)) }
+{
+    settings.min_ply <= settings.max_ply && settings.min_ply as usize <= plies
+}
+
+/// Whether a game has an entry, or the fault of its main line.
+pub fn has_entry<'a>(
+    alloc: Global,
+    settings: &'a Settings,
+    game: &RawGame<'a>,
+) -> Result<bool, GameFault<'a>>
+    ensures { MatchResult result
+        (IsChosen (aim_of settings.now) game.now)
+        (λ fault. IfSome (fault_of fault) (IsFault Main (tag_in fen_tag game.now.tags) game.now.elements)) }
+{
+    let Some(criteria) = &settings.criteria else {
+        return Ok(is_within(settings, count_plies(alloc, game)?));
+    };
+    let Some(question) = criteria.watch(alloc, game)? else {
+        return has_kept(alloc, settings, criteria, game);
+    };
+    let finder = Finder {
+        settings,
+        fields: Fields::NONE,
+        mark: Vec::new(alloc),
+    };
+    let mut found = false;
+    find_played(&finder, alloc, game, question, &mut found)?;
+    Ok(found)
 }

@@ -39,6 +39,12 @@ pub struct Fields {
 }
 
 impl Fields {
+    /// The line ends after the ply.
+    pub const NONE: Fields = Fields {
+        fen: false,
+        next: false,
+    };
+
     /// Whether the line ends after the ply.
     pub fn is_empty(&self) -> bool
         ensures { result ≡ is_plain self.now }

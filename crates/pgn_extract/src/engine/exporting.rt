@@ -15,7 +15,7 @@ ghost use Rattle.pgn_criteria.specs.Public.Meeting.{heading_of};
 ghost use Rattle.pgn_extract.specs.declared.settings.Form.TheVariants.{AsItStands, Line, Record};
 
 use crate::entries::GameContext;
-use crate::entries::choosing::has_entry;
+use crate::entries::has_entry;
 use crate::output::texts::push_named_mark;
 use crate::settings::{Form, Mode, Select, Settings};
 use pgn_game::pack::{GameOrigin, push_record};

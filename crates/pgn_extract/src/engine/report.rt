@@ -5,7 +5,6 @@ ghost use Rattle.pgn_text.specs.Public.LeftMarks.{mark_place};
 ghost use Rattle.pgn_extract.specs.Public.Aims.{aim_of};
 ghost use Rattle.pgn_extract.specs.Public.Choices.{is_chosen};
 ghost use Rattle.pgn_extract.specs.Private.Blockwise.{Reports, AddsVerdict, AddsGame, AddsListed, AddsExported, AddsPiece, IsBlockVerdict, IsMarkReport, too_long_piece};
-ghost use Rattle.pgn_extract.specs.Private.Finding.{AddsEntries, StopsAtFault};
 ghost use Rattle.pgn_extract.specs.Public.Index.{fault_text};
 ghost use Rattle.pgn_extract.specs.Public.Listing.{is_plain};
 ghost use Rattle.pgn_extract.specs.Public.GameReports.{cause_text};
@@ -16,8 +15,7 @@ ghost use Rattle.pgn_game.specs.Public.Replays.{fault_of};
 
 use crate::engine::exporting::{push_faulty, put_selected, written_lines};
 use crate::entries::listing::push_plies;
-use crate::entries::showing::push_shown;
-use crate::entries::{GameContext, push_found};
+use crate::entries::{GameContext, push_entries};
 use crate::explain::move_notes::{Site, push_game_note};
 use crate::explain::notes::{Origin, Spot, push_stop_note, push_too_long_note};
 use crate::explain::players::push_players;
@@ -120,24 +118,6 @@ fn replayed_lines(settings: &Settings) -> Lines {
         Mode::Index | Mode::List => Lines::Main,
         Mode::Export => written_lines(settings),
     }
-}
-
-/// Adds the lines of the entries of a game, or answers its fault.
-fn push_entries<'a>(
-    text: &mut Vec<u8>,
-    context: GameContext<'a>,
-    game: &RawGame<'a>,
-) -> Result<(), GameFault<'a>>
-    ensures { MatchResult result
-        (λ _. AddsEntries (aim_of context.entry.settings.now) context.entry.own game.now text.old.items text.new.items)
-        (λ fault. IfSome (fault_of fault) (StopsAtFault game.now text.old.items text.new.items)) }
-{
-    if context.settings.fields.is_empty()
-        && let Some(criteria) = &context.settings.criteria
-    {
-        return push_found(text, context, criteria, game);
-    }
-    push_shown(text, context, game)
 }
 
 /// The bytes of a block, and what is to be reported of a piece of it.

@@ -1,19 +1,20 @@
 //! The entries of a game whose criteria speak of its moves at each ply: its main line is replayed and kept, and then looked through.
-ghost use Rattle.std.specs.Prelude.{◌≡◌, ◌≤◌, ◌<◌, ◌∷◌, ◌++◌, [], List, ℕ, MatchResult, IfOk, IfSome, Some, OnOk, length, decimal};
+ghost use Rattle.std.specs.Prelude.{◌≡◌, ◌≤◌, ◌<◌, ◌+◌, ◌-◌, ◌++◌, [], List, ℕ, MatchResult, IfSome, Some, None, OnOk, length, refl};
+ghost use Rattle.chess.specs.Public.Positions.{State};
 ghost use Rattle.pgn_text.specs.Public.GameTexts.{tag_in};
+ghost use Rattle.pgn_game.specs.Public.CodeLines.{IsLegalLine};
 ghost use Rattle.pgn_game.specs.Public.Faults.{IsFault};
-ghost use Rattle.pgn_game.specs.Public.Replays.{IsReplay, fault_of};
+ghost use Rattle.pgn_game.specs.Public.Replays.{fault_of};
 ghost use Rattle.pgn_game.specs.Public.Starts.{fen_tag};
 ghost use Rattle.pgn_game.specs.declared.replays.replayer.Lines.TheVariants.{Main};
-ghost use Rattle.pgn_extract.specs.Public.Aims.{aim_of};
-ghost use Rattle.pgn_extract.specs.Private.Finding.{named_mark, AddsEntries, StopsAtFault, IsChosen, IsOfSomeGame, GoesOnAt};
-ghost use Rattle.pgn_extract.specs.Public.Listing.{IsNextField, AreFields};
+ghost use Rattle.pgn_extract.specs.Public.Aims.{Aim, aim_of};
+ghost use Rattle.pgn_extract.specs.Private.Finding.{IsChosen};
+ghost use Rattle.pgn_extract.specs.Private.KeptLines.{IsKeptWith};
+ghost use Rattle.pgn_extract.specs.Public.Listing.{IsNextField};
 
-use crate::entries::GameContext;
-use crate::entries::showing::push_fen;
-use crate::marks::GameId;
-use crate::output::texts::{MARK_ROOM, push_named_mark, push_ply};
-use crate::settings::Settings;
+use crate::entries::line::Line;
+use crate::entries::played::push_fen;
+use crate::settings::{Fields, Settings};
 use chess::san;
 use pgn_criteria::Criteria;
 use pgn_game::{GameFault, Lines, Replayed, replay};
@@ -28,7 +29,7 @@ fn push_played(
     ply: usize,
 ) -> Result<(), AllocError>
     requires within { ply ≤ length replayed.now.played }
-    requires of_game { IsOfSomeGame replayed.now }
+    requires legal { (start : State) × IsLegalLine start replayed.now }
     ensures { OnOk result ((shown : List ℕ) × IsNextField is_asked replayed.now ply shown × (text.new.items ≡ text.old.items ++ shown)) }
 {
     if !is_asked {
@@ -39,111 +40,81 @@ fn push_played(
         text.extend_from_slice(b"-")?;
         return Ok(());
     }
-    pgn_game::laws::one_legal_move();
     text.extend_from_slice(san(replayed.position(ply), replayed.played(ply)).as_bytes())?;
     Ok(())
 }
 
-/// A game whose main line is kept, and what the lines of its entries begin with.
+/// A main line that is kept, with what is known of each of its positions: whether it is met.
 #[derive(Drop)]
-struct Kept<'s> {
-    settings: &'s Settings,
+pub(crate) struct Kept {
     replayed: Replayed,
-    own: GameId,
-    mark: Vec<u8>,
+    met: Vec<bool>,
+    ply: usize,
+    ghost within: { ply < length met.items },
+    ghost sized: { length met.items ≡ length replayed.played + 1 },
 }
 
-impl<'s> Kept<'s> {
-    /// Appends the line of a ply: the mark of the game, the ply, and what is shown after it.
-    fn push_line(&self, text: &mut Vec<u8>, ply: usize) -> Result<(), AllocError>
-        requires within { ply ≤ length self.now.replayed.played }
-        requires of_game { IsOfSomeGame self.now.replayed }
-        ensures { OnOk result ((shown : List ℕ) × AreFields self.now.settings.now.fields self.now.replayed ply shown
-            × (text.new.items ≡ text.old.items ++ (self.now.mark.items ++ 32 ∷ decimal ply ++ (shown ++ 10 ∷ [])))) }
-    {
-        push_ply(text, &self.mark, ply)?;
-        push_fen(text, self.settings.fields.fen, self.replayed.position(ply))?;
-        push_played(text, self.settings.fields.next, &self.replayed, ply)?;
-        text.extend_from_slice(b"\n")?;
-        Ok(())
-    }
-
-    /// Adds the line of a ply of which it is known whether it meets the criteria, if it is an entry. Answers whether a later one may be one.
-    fn ask(
-        &self,
-        text: &mut Vec<u8>,
-        ply: usize,
-        is_met: bool,
-        is_open: bool,
-    ) -> Result<bool, AllocError>
-        requires within { ply ≤ length self.now.replayed.played }
-        requires of_game { IsOfSomeGame self.now.replayed }
-        requires marked { self.now.mark.items ≡ named_mark self.now.settings.now.name self.now.own }
-        ensures { IfOk result (GoesOnAt (aim_of self.now.settings.now) self.now.own self.now.replayed ply is_met text.old.items text.new.items is_open) }
-    {
-        if !is_open || ply > self.settings.max_ply as usize {
-            return Ok(false);
-        }
-        if ply < (self.settings.min_ply as usize) || !is_met {
-            return Ok(true);
-        }
-        self.push_line(text, ply)?;
-        Ok(!self.settings.first)
-    }
-
-    /// Adds the lines of the entries of the game.
-    fn push_entries<'a>(
-        &self,
+impl Kept {
+    /// The main line of the game, or its fault.
+    pub(crate) fn of_game<'a>(
         alloc: Global,
-        text: &mut Vec<u8>,
         criteria: &'a Criteria,
         game: &RawGame<'a>,
-    ) -> Result<(), AllocError>
-        requires is_replay { IsReplay Main (tag_in fen_tag game.now.tags) game.now.elements self.now.replayed }
-        requires criteria { self.now.settings.now.criteria ≡ Some criteria.now }
-        requires marked { self.now.mark.items ≡ named_mark self.now.settings.now.name self.now.own }
-        ensures { OnOk result (AddsEntries (aim_of self.now.settings.now) self.now.own game.now text.old.items text.new.items) }
+    ) -> Result<Self, GameFault<'a>>
+        ensures { MatchResult result
+            (λ line. ((start : State) × IsLegalLine start line.replayed) × ((aim : Aim) → aim.criteria ≡ Some criteria.now
+            → (P : State) × IsKeptWith line.replayed line.met.items line.ply aim game.now [] P))
+            (λ fault. IfSome (fault_of fault) (IsFault Main (tag_in fen_tag game.now.tags) game.now.elements)) }
     {
-        let met = criteria.met_plies(alloc, game, &self.replayed)?;
-        let mut is_open = true;
-        let mut ply = 0;
-        while ply < met.len() {
-            is_open = self.ask(text, ply, met[ply], is_open)?;
-            ply += 1;
-        }
-        Ok(())
+        let replayed = replay(alloc, game, Lines::Main)?;
+        let met = criteria.met_plies(alloc, game, &replayed)?;
+        pgn_game::laws::one_legal_move();
+        Ok(Kept {
+            replayed,
+            met,
+            ply: 0,
+        })
     }
 }
 
-/// Adds the lines of the entries of a game by criteria, with what they show after the ply, or answers its fault. The positions of its main
-/// line are kept meanwhile.
-pub fn push_kept<'a>(
-    text: &mut Vec<u8>,
-    context: GameContext<'a>,
-    criteria: &'a Criteria,
-    game: &RawGame<'a>,
-) -> Result<(), GameFault<'a>>
-    requires criteria { context.settings.now.criteria ≡ Some criteria.now }
-    ensures { MatchResult result
-        (λ _. AddsEntries (aim_of context.entry.settings.now) context.entry.own game.now text.old.items text.new.items)
-        (λ fault. IfSome (fault_of fault) (StopsAtFault game.now text.old.items text.new.items)) }
-{
-    let GameContext {
-        alloc,
-        settings,
-        own,
-    } = context;
-    let replayed = replay(alloc, game, Lines::Main)?;
-    let mut mark = Vec::with_capacity(alloc, MARK_ROOM)?;
-    push_named_mark(&mut mark, &settings.name, own)?;
-    let kept = Kept {
-        settings,
-        replayed,
-        own,
-        mark,
-    };
-    kept.push_entries(alloc, text, criteria, game)?;
-    Ok(())
+impl Line for Kept {
+    type Fault = AllocError;
+
+    ghost At = { λ own aim game before P. IsKeptWith own.replayed own.met.items own.ply aim game before P };
+
+    ghost Valid = { λ own. (start : State) × IsLegalLine start own.replayed };
+
+    ghost size = { λ own. length own.met.items - own.ply };
+
+    ghost fault_of = { λ _. None };
+
+    #[inline(always)]
+    fn ply(&self) -> usize {
+        self.ply
+    }
+
+    #[inline(always)]
+    fn is_met(&self) -> bool {
+        self.met[self.ply]
+    }
+
+    fn push_fields(&self, text: &mut Vec<u8>, fields: Fields) -> Result<(), AllocError> {
+        push_fen(text, fields.fen, self.replayed.position(self.ply))?;
+        push_played(text, fields.next, &self.replayed, self.ply)
+    }
+
+    #[inline(always)]
+    fn advance(&mut self, is_open: bool) -> Result<bool, AllocError> {
+        if !is_open || self.met.len() - self.ply < 2 {
+            return Ok(false);
+        }
+        self.ply += 1;
+        Ok(true)
+    }
+
+    ghost stands = { λ own aim game before P at. at.stands };
+
+    ghost memory = { λ error fault from. refl };
 }
 
 /// Whether a game has an entry by criteria, or the fault of its main line. The positions of its main line are kept meanwhile.

@@ -1,10 +1,8 @@
 use Rattle.std.proofs.Common.{◌≡◌, ◌∷◌, ◌++◌, [], refl, sym, ap, subst, append_assoc, ◌∙◌, arith}
 use Rattle.std.specs.Prelude.{codes}
-use Rattle.pgn_text.specs.Public.GameTexts.{tag_in}
-use Rattle.pgn_game.specs.Public.Starts.{fen_tag}
-use Rattle.pgn_criteria.proofs.MeetFacts.{legal_moves}
 use Rattle.pgn_extract.specs.Public.Listing.{IsNextField}
 use Rattle.pgn_extract.proofs.KeptFacts.{next_played, none_played}
+use Rattle.pgn_extract.proofs.KeptLines.{legal_there}
 use Rattle.pgn_extract.proofs.entries.kept.push_played.Goals as goal
 
 pub returns-then-ply-plies : goal.returns-then-ply-plies
@@ -19,9 +17,8 @@ returns-then-ply-plies c =
 
 pub san-requires : goal.san-requires
 san-requires c =
-    let game = c.requires.of_game.0 in
-    legal_moves c.one_legal_move.ensures (tag_in fen_tag game.tags) game.elements c.args.replayed.now c.requires.of_game.1
-    c.args.ply c.position.result.now c.played.result c.position.ensures c.played.ensures
+    let (start, line) = c.requires.legal in
+    legal_there start c.args.replayed.now line c.args.ply c.position.result.now c.played.result c.position.ensures c.played.ensures
 
 pub returns : goal.returns
 returns c =

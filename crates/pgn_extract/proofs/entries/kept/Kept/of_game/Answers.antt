@@ -1,0 +1,17 @@
+use Rattle.std.proofs.Common.{◌↔◌, List, ℕ, Option, IsTrue, sym, subst}
+use Rattle.pgn_criteria.specs.Public.Meeting.{heading_of}
+use Rattle.pgn_criteria.specs.declared.condition.Condition.{Condition}
+use Rattle.pgn_extract.specs.Public.Aims.{IsMet}
+use Rattle.pgn_extract.proofs.KeptLines.{legal_line, begins_kept}
+use Rattle.pgn_extract.proofs.entries.kept.Kept.of_game.Goals as goal
+
+pub returns : goal.returns
+returns c =
+    let game = c.args.game.now in
+    let kept = c.in_ok-replayed.replayed in
+    let is = c.in_ok-replayed.ensures in
+    let met = c.in_ok-met.ensures in (
+      legal_line game kept is,
+      λ aim given. begins_kept game kept is c.in_ok-met.met.items aim met.each
+          (λ n r here. subst (λ (o : Option (List (List (Condition (List ℕ))))). IsTrue r ↔ IsMet o (heading_of game) kept n) (sym given) (met.reports n r here)),
+    )

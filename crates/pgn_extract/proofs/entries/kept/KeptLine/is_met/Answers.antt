@@ -1,0 +1,15 @@
+use Rattle.std.proofs.Common.{◌≡◌, Some, sym, ap, ◌∙◌, arith}
+use Rattle.std.specs.List.{slice_get}
+use Rattle.std.proofs.lemmas.Option.{slice_get-get_or}
+use Rattle.pgn_extract.proofs.KeptLines.{reports_there, size_left}
+use Rattle.pgn_extract.proofs.entries.kept.KeptLine.is_met.Goals as goal
+
+pub returns : goal.returns
+returns c aim game before P at =
+    let kept = c.args.self.now.replayed in
+    let met = c.args.self.now.met.items in
+    let ply = c.args.self.now.ply in
+    let size = size_left kept met ply aim game before P at in
+    let here : slice_get met ply ≡ Some c.index.result.now =
+    slice_get-get_or met ply c.index.result.now (omega (arith, size)) ∙ ap Some (sym c.index.ensures) in
+    reports_there kept met ply aim game before P c.index.result.now at here

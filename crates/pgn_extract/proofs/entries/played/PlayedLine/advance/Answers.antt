@@ -1,0 +1,17 @@
+use Rattle.std.proofs.Common.{◌≡◌, Bool, true, false, subst}
+use Rattle.std.proofs.lemmas.Option.{IfSome_then}
+use Rattle.std.proofs.lemmas.Result.{MatchResult-weaker}
+use Rattle.pgn_game.specs.Public.Faults.{Fault, IsMoveFault}
+use Rattle.pgn_game.specs.Public.PlayedLines.{HasAdvanced}
+use Rattle.pgn_extract.specs.Private.Lines.{Where, GoesTo, HasFault}
+use Rattle.pgn_extract.specs.Private.PlayedLines.{IsPlayedWith}
+use Rattle.pgn_extract.proofs.PlayedFacts.{moves_on, fails_moved}
+use Rattle.pgn_extract.proofs.entries.played.PlayedLine.advance.Goals as goal
+
+pub returns-clause-moved : goal.returns-clause-moved
+returns-clause-moved g c =
+    let asked = g.Q.Question.asked c.args.self.now.question in
+    let old = c.args.self.now.line in
+    MatchResult-weaker c.advance.result c.advance.ensures
+    (moves_on asked old c.advance.new.self c.args._is_open)
+    (λ fault met. IfSome_then _ met (fails_moved old asked))

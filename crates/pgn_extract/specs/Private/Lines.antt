@@ -1,0 +1,143 @@
+-- The main line of a game, whose positions are asked one after the other: what is known where it
+-- stands, and what a finder hands on.
+use Rattle.std.specs.Prelude.{◌≡◌, ◌↔◌, ◌<◌, ◌≤◌, ◌+◌, ◌++◌, ◌∷◌, ℕ, Bool, true, false, List, [], length, Option, IsTrue, decimal}
+use Rattle.chess.specs.Public.Positions.{State}
+use Rattle.pgn_text.specs.Public.GameTexts.{GameText, tag_in}
+use Rattle.pgn_game.specs.Public.Faults.{Fault, IsFault}
+use Rattle.pgn_game.specs.Public.Replays.{Replay, IsReplay, IsSoundGame}
+use Rattle.pgn_game.specs.Public.Starts.{fen_tag}
+use Rattle.pgn_game.specs.declared.replays.replayer.Lines.TheVariants.{Main}
+use Rattle.pgn_criteria.specs.Public.Meeting.{heading_of}
+use Rattle.pgn_extract.specs.Public.Aims.{Aim, GameId, IsMet, IsWanted, IsEntry, aim_of}
+use Rattle.pgn_extract.specs.Public.GameReports.{plies_of, AreChosen, AreListed}
+use Rattle.pgn_extract.specs.Public.Listing.{Entry, AreFields}
+use Rattle.pgn_extract.specs.declared.settings.Fields.{Fields}
+use Rattle.pgn_extract.specs.declared.settings.Settings.{Settings}
+use Rattle.pgn_extract.specs.Private.Finding.{IsOfGame}
+
+-- so it is of each replay of the game that has these positions, then this one, and then others
+abbrev pub EachReplay : GameText → List State → State → (Replay → Type 0) → Type 0
+EachReplay game before P So =
+    (replay : Replay) → IsOfGame game replay → (rest : List State)
+    → replay.positions ≡ before ++ P ∷ rest → So replay
+
+-- each replay of the game has these positions, then this one, and then others
+abbrev pub Stands : GameText → List State → State → Type 0
+Stands game before P =
+    (replay : Replay) → IsOfGame game replay
+    → (rest : List State) × (replay.positions ≡ before ++ P ∷ rest)
+
+-- so it is of each game whose line stands there, if the line asks what the aim asks: these
+-- positions are passed, and this one is reached
+abbrev pub Where : (Aim → GameText → List State → State → Type 0)
+    → (Aim → GameText → List State → State → Type 0) → Type 0
+Where At So =
+    (aim : Aim) (game : GameText) (before : List State) (P : State)
+    → At aim game before P → So aim game before P
+
+-- this tells whether the position that is reached meets the criteria
+abbrev pub MeetsHere : Bool → Aim → GameText → List State → State → Type 0
+MeetsHere met aim game before P =
+    EachReplay game before P
+    (λ replay. IsTrue met ↔ IsMet aim.criteria (heading_of game) replay (length before))
+
+-- this is what is shown there of the fields
+abbrev pub ShowsFields : Fields → List ℕ → Aim → GameText → List State → State → Type 0
+ShowsFields fields shown aim game before P =
+    fields ≡ aim.fields
+    → EachReplay game before P (λ replay. AreFields aim.fields replay (length before) shown)
+
+-- the main line of the game has this fault
+abbrev pub HasFault : Fault → Aim → GameText → List State → State → Type 0
+HasFault fault aim game before P = IsFault Main (tag_in fen_tag game.tags) game.elements fault
+
+-- none of so many positions after the one that is reached is wanted
+abbrev pub NoneOf : ℕ → Aim → GameText → List State → State → Type 0
+NoneOf count aim game before P =
+    EachReplay game before P (λ replay.
+    (n : ℕ) → length before < n → n ≤ length before + count → n < length replay.positions
+    → IsWanted aim (heading_of game) replay n → ⊥)
+
+-- none of all that follow is
+abbrev pub NoneAfter : Aim → GameText → List State → State → Type 0
+NoneAfter aim game before P =
+    EachReplay game before P (λ replay.
+    (n : ℕ) → length before < n → n < length replay.positions
+    → IsWanted aim (heading_of game) replay n → ⊥)
+
+-- the line goes on, past positions that are not wanted; or it is sound and at its end, or none is
+-- wanted that follows, or no more is asked for
+abbrev pub GoesTo : (Aim → GameText → List State → State → Type 0) → Bool → Bool
+    → Aim → GameText → List State → State → Type 0
+GoesTo At on true aim game before P =
+    (passed : List State) × (next : State) × At aim game (before ++ P ∷ passed) next
+    × NoneOf (length passed) aim game before P
+GoesTo At on false aim game before P =
+    IsSoundGame Main (tag_in fen_tag game.tags) game.elements
+    × (on ≡ true → NoneAfter aim game before P)
+
+-- nothing is met where it stands and after
+abbrev pub IsNeverMet : Aim → GameText → List State → State → Type 0
+IsNeverMet aim game before P =
+    EachReplay game before P (λ replay.
+    (n : ℕ) → length before ≤ n → n < length replay.positions
+    → IsMet aim.criteria (heading_of game) replay n → ⊥)
+
+-- the entries at these positions are found and handed on; once it isn't on, no later ply is an entry
+pub record Finds (aim : Aim) (id : GameId) (game : GameText) (Got : List Entry → Type 0)
+    (asked : List State) (on : Bool) : Type 0 where
+  pub found : List Entry
+  pub got : Got found
+  pub completes : (replay : Replay) → IsOfGame game replay → (rest : List State)
+      → replay.positions ≡ asked ++ rest → (later : List Entry)
+      → AreChosen id (IsEntry aim (heading_of game) replay) (AreFields aim.fields replay)
+          (plies_of (length asked) rest) later
+      → AreListed aim id (heading_of game) replay (found ++ later)
+  pub quiet : on ≡ true → aim.first ≡ true → (replay : Replay) → IsOfGame game replay
+      → (rest : List State) → replay.positions ≡ asked ++ rest
+      → (n : ℕ) → n < length asked → IsWanted aim (heading_of game) replay n → ⊥
+  pub shut : on ≡ false → (replay : Replay) → IsOfGame game replay → (rest : List State)
+      → replay.positions ≡ asked ++ rest
+      → (n : ℕ) → length asked ≤ n → n < length replay.positions
+      → IsEntry aim (heading_of game) replay n → ⊥
+
+-- what settings ask, with these fields, under whatever name
+abbrev pub aim_with : Settings → Fields → Option (List ℕ) → Aim
+aim_with settings fields name = record (aim_of settings) { fields = fields; name = name }
+
+-- at the position that is reached no entry is left out
+abbrev pub Asks : {S : Type 0} → (S → List Entry → S → Type 0) → Settings → Fields
+    → (Aim → GameText → List State → State → Type 0) → S → S → Bool → Bool → Type 0
+Asks {S} Gets settings fields At old new on still =
+    (name : Option (List ℕ)) (id : GameId) (game : GameText) (before : List State) (P : State)
+    → At (aim_with settings fields name) game before P → (start : S)
+    → Finds (aim_with settings fields name) id game (λ got. Gets start got old) before on
+    → Finds (aim_with settings fields name) id game (λ got. Gets start got new)
+        (before ++ P ∷ []) still
+
+-- each game at whose start the line stands has this fault
+abbrev pub Fails : (Aim → GameText → List State → State → Type 0) → Settings → Fields → Fault
+    → Type 0
+Fails At settings fields fault =
+    (name : Option (List ℕ)) (game : GameText) (P : State)
+    → At (aim_with settings fields name) game [] P
+    → HasFault fault (aim_with settings fields name) game [] P
+
+-- the main line of the game is sound, and its entries are handed on
+abbrev pub HandsOn : Aim → GameId → GameText → (List Entry → Type 0) → Type 0
+HandsOn aim id game Got =
+    (replay : Replay) × IsReplay Main (tag_in fen_tag game.tags) game.elements replay
+    × (entries : List Entry) × AreListed aim id (heading_of game) replay entries × Got entries
+
+-- the line of an entry after the mark of its game, and the lines of several
+abbrev pub marked_line : List ℕ → Entry → List ℕ
+marked_line mark entry = mark ++ 32 ∷ decimal entry.ply ++ (entry.shown ++ 10 ∷ [])
+
+abbrev pub marked_lines : List ℕ → List Entry → List ℕ
+marked_lines mark [] = []
+marked_lines mark (entry ∷ more) = marked_line mark entry ++ marked_lines mark more
+
+-- one was handed on, or one before
+abbrev pub or_some : Bool → List Entry → Bool
+or_some found [] = found
+or_some found (entry ∷ more) = true

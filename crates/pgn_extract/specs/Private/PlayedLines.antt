@@ -1,0 +1,20 @@
+-- A main line that is played while it is asked.
+use Rattle.std.specs.Prelude.{◌≡◌, ℕ, List}
+use Rattle.chess.specs.Public.Positions.{State}
+use Rattle.chess.specs.declared.moves.Move.{Move}
+use Rattle.pgn_text.specs.Public.GameTexts.{GameText, tag_in}
+use Rattle.pgn_game.specs.Public.PlayedLines.{PlayedLine}
+use Rattle.pgn_game.specs.Public.Starts.{fen_tag}
+use Rattle.pgn_criteria.specs.declared.condition.Condition.{Condition}
+use Rattle.pgn_extract.specs.Public.Aims.{Aim}
+use Rattle.pgn_extract.specs.Private.Finding.{AsksFor, IsPlayedTo}
+use Rattle.pgn_extract.specs.Private.Lines.{Stands}
+
+-- the game is played up to here, and is asked in place of the aim's criteria
+pub record IsPlayedWith (line : PlayedLine) (asked : List (List (Condition (List ℕ)))) (aim : Aim)
+    (game : GameText) (before : List State) (P : State) : Type 0 where
+  pub asks : AsksFor aim game asked
+  pub here : P ≡ line.position
+  pub played : List Move
+  pub to : IsPlayedTo (tag_in fen_tag game.tags) game.elements line before played
+  pub stands : Stands game before P

@@ -1,0 +1,174 @@
+//! A main line whose positions are asked while it is played.
+ghost use Rattle.std.specs.Prelude.{◌≡◌, ◌↔◌, ◌++◌, ℕ, List, false, Option, IsTrue, IfErr, IfSome, OnOk, length};
+ghost use Rattle.std.proofs.Common.{ap};
+ghost use Rattle.pgn_text.specs.Public.GameTexts.{tag_in};
+ghost use Rattle.pgn_game.specs.Public.Faults.{IsFault};
+ghost use Rattle.pgn_game.specs.Public.Starts.{fen_tag};
+ghost use Rattle.pgn_game.specs.declared.replays.replayer.Lines.TheVariants.{Main};
+ghost use Rattle.pgn_extract.specs.Public.Aims.{GameId, aim_of};
+ghost use Rattle.pgn_extract.specs.Private.Lines.{aim_with, HandsOn};
+ghost use Rattle.pgn_criteria.specs.Public.Meeting.{Heading, SomeHold};
+ghost use Rattle.pgn_criteria.specs.declared.condition.Condition.{Condition};
+ghost use Rattle.pgn_game.specs.Public.Replays.{Replay, fault_of};
+ghost use Rattle.pgn_extract.specs.Private.Finding.{AsksFor, StopsInLine, ShowsPosition, ShowsNext};
+ghost use Rattle.pgn_extract.specs.Private.PlayedLines.{IsPlayedWith};
+
+use crate::entries::finding::Finder;
+use crate::entries::line::Line;
+use crate::entries::sink::Sink;
+use crate::settings::Fields;
+use pgn_criteria::Search;
+use pgn_game::{GameFault, GamePosition, MainLine};
+use pgn_text::RawGame;
+use std::alloc::{AllocError, Global};
+
+/// What each position is asked.
+pub(crate) trait Question: Drop {
+    /// Alternatives of conditions on a position.
+    ghost asked: { Self → List (List (Condition (List ℕ))) };
+
+    /// Whether a position may meet them: not where there is none.
+    fn is_open(&self) -> bool
+        ensures { result ≡ false → length (asked self.now) ≡ 0 };
+
+    /// Whether the position meets them.
+    fn is_met(&self, position: &GamePosition) -> bool
+        ensures { (heading : Heading) (replay : Replay) (ply : ℕ)
+            → IsTrue result ↔ SomeHold heading replay ply position.now (asked self.now) };
+}
+
+impl<'a> Question for Search<'a> {
+    ghost asked = { λ search. search };
+
+    #[inline(always)]
+    fn is_open(&self) -> bool {
+        !self.is_empty()
+    }
+
+    #[inline(always)]
+    fn is_met(&self, position: &GamePosition) -> bool {
+        Search::is_met(self, position)
+    }
+}
+
+/// Every position is looked for.
+#[derive(Drop)]
+pub(crate) struct Anything;
+
+impl Question for Anything {
+    ghost use Rattle.std.specs.Prelude.{[], ◌∷◌};
+
+    ghost asked = { λ _. [] ∷ [] };
+
+    #[inline(always)]
+    fn is_open(&self) -> bool {
+        true
+    }
+
+    #[inline(always)]
+    fn is_met(&self, _: &GamePosition) -> bool {
+        true
+    }
+}
+
+/// Appends what a line shows of the position that is reached: its text in FEN after a blank, where
+/// that is asked for.
+pub(crate) fn push_fen(
+    text: &mut Vec<u8>,
+    is_asked: bool,
+    position: &GamePosition,
+) -> Result<(), AllocError>
+    ensures { OnOk result ((shown : List ℕ) × ShowsPosition is_asked position.now shown × (text.new.items ≡ text.old.items ++ shown)) }
+{
+    if is_asked {
+        text.push(b' ')?;
+        text.extend_from_slice(position.fen().as_bytes())?;
+    }
+    Ok(())
+}
+
+/// Appends the text of the next move after a blank, where that is asked for. A move that cannot be
+/// played is answered as a fault.
+#[inline(always)]
+fn push_next<'a>(
+    text: &mut Vec<u8>,
+    is_asked: bool,
+    line: &MainLine<'_, 'a>,
+) -> Result<(), GameFault<'a>>
+    ensures shown { OnOk result ((shown : List ℕ) × ShowsNext is_asked line.now shown × (text.new.items ≡ text.old.items ++ shown)) }
+    ensures fault { IfErr result (λ fault. IfSome (fault_of fault) (StopsInLine line.now text.old.items text.new.items)) }
+    ensures kept { (some : List ℕ) × (text.new.items ≡ text.old.items ++ some) }
+{
+    if !is_asked {
+        return Ok(());
+    }
+    text.extend_from_slice(b" ")?;
+    line.push_next(text)
+}
+
+/// A main line while it is played.
+#[derive(Drop)]
+pub(crate) struct Played<'g, 'a, Q: Question> {
+    pub(crate) line: MainLine<'g, 'a>,
+    pub(crate) question: Q,
+}
+
+impl<'g, 'a, Q: Question> Line for Played<'g, 'a, Q> {
+    type Fault = GameFault<'a>;
+
+    ghost At = { λ own aim game before P. IsPlayedWith own.line (Q.asked own.question) aim game before P };
+
+    ghost Valid = { λ own. Unit {0} };
+
+    ghost size = { λ own. length own.line.words };
+
+    ghost fault_of = { λ fault. fault_of fault };
+
+    #[inline(always)]
+    fn ply(&self) -> usize {
+        self.line.plies()
+    }
+
+    #[inline(always)]
+    fn is_met(&self) -> bool {
+        self.question.is_met(self.line.position())
+    }
+
+    #[inline(always)]
+    fn push_fields(&self, text: &mut Vec<u8>, fields: Fields) -> Result<(), GameFault<'a>> {
+        push_fen(text, fields.fen, self.line.position())?;
+        push_next(text, fields.next, &self.line)
+    }
+
+    #[inline(always)]
+    fn advance(&mut self, _is_open: bool) -> Result<bool, GameFault<'a>> {
+        self.line.advance()
+    }
+
+    ghost stands = { λ own aim game before P at. at.stands };
+
+    ghost memory = { λ error fault from. ap fault_of from };
+}
+
+/// Plays the main line of the game, and hands on its entries.
+#[inline(never)]
+pub(crate) fn find_played<'a, Q: Question, S: Sink>(
+    finder: &Finder<'_>,
+    alloc: Global,
+    game: &RawGame<'a>,
+    question: Q,
+    sink: &mut S,
+) -> Result<(), GameFault<'a>>
+    requires takes { S.Takes finder.now.fields }
+    requires asks { AsksFor (aim_of finder.now.settings.now) game.now (Q.asked question) }
+    ensures found { OnOk result ((name : Option (List ℕ)) (id : GameId)
+        → HandsOn (aim_with finder.now.settings.now finder.now.fields name) id game.now
+        (λ got. S.Gets finder.now.mark.items sink.old got sink.new)) }
+    ensures fault { IfErr result (λ fault. IfSome (fault_of fault)
+        (λ own. IsFault Main (tag_in fen_tag game.now.tags) game.now.elements own × S.Grew sink.old sink.new)) }
+{
+    let is_open = question.is_open();
+    let line = MainLine::begin(alloc, game)?;
+    let mut line = Played { line, question };
+    finder.find(&mut line, sink, is_open)
+}

@@ -1,0 +1,93 @@
+//! What is done with the entries that are found.
+ghost use Rattle.std.specs.Prelude.{◌≡◌, ◌∷◌, ◌++◌, [], ℕ, List, true, OnOk, IfErr, IfSome, length, refl};
+ghost use Rattle.pgn_extract.specs.Public.Listing.{Entry, is_plain};
+ghost use Rattle.pgn_extract.specs.Private.Lines.{Where, ShowsFields, HasFault, marked_lines, or_some};
+ghost use Rattle.pgn_extract.specs.Private.Sinks.{PutsHere, lines_none, lines_more, some_more, grows_none, grows_more};
+
+use crate::entries::line::Line;
+use crate::output::texts::push_ply;
+use crate::settings::Fields;
+
+/// What entries are handed to.
+pub(crate) trait Sink {
+    ghost use Rattle.pgn_extract.specs.declared.settings.Fields.{Fields};
+
+    /// Of entries whose lines begin with this mark, these were handed to it since.
+    ghost Gets: { List ℕ → Self → List Entry → Self → Type 0 };
+
+    /// It took something since, or nothing.
+    ghost Grew: { Self → Self → Type 0 };
+
+    /// It takes entries with these fields.
+    ghost Takes: { Fields → Type 0 };
+
+    /// Takes the entry where the line stands.
+    fn put<L: Line>(&mut self, mark: &[u8], line: &L, fields: Fields) -> Result<(), L::Fault>
+        requires takes { Takes fields }
+        requires valid { L.Valid line.now }
+        ensures put { OnOk result (PutsHere (Gets mark.now self.old) (L.At line.now) fields self.new) }
+        ensures fault { IfErr result (λ fault. IfSome (L.fault_of fault)
+            (λ own. Where (L.At line.now) (HasFault own) × Grew self.old self.new)) }
+        ensures kept { OnOk result (Grew self.old self.new) };
+
+    /// At first none was handed on.
+    ghost none: { (mark : List ℕ) (sink : Self) → Gets mark sink [] sink };
+
+    /// What is handed on later follows.
+    ghost more: { (mark : List ℕ) (a b c : Self) (xs ys : List Entry)
+        → Gets mark a xs b → Gets mark b ys c → Gets mark a (xs ++ ys) c };
+
+    /// It may take nothing.
+    ghost stays: { (sink : Self) → Grew sink sink };
+
+    /// What is taken later is taken since.
+    ghost grows: { (a b c : Self) → Grew a b → Grew b c → Grew a c };
+}
+
+/// The lines of entries, one after the other.
+impl Sink for Vec<u8> {
+    ghost Gets = { λ mark old entries new. new.items ≡ old.items ++ marked_lines mark entries };
+
+    ghost Grew = { λ old new. (some : List ℕ) × (new.items ≡ old.items ++ some) };
+
+    ghost Takes = { λ fields. Unit {0} };
+
+    #[inline(always)]
+    fn put<L: Line>(&mut self, mark: &[u8], line: &L, fields: Fields) -> Result<(), L::Fault> {
+        push_ply(self, mark, line.ply())?;
+        line.push_fields(self, fields)?;
+        self.extend_from_slice(b"\n")?;
+        Ok(())
+    }
+
+    ghost none = { λ mark sink. lines_none mark sink.items };
+
+    ghost more = { λ mark a b c xs ys first then. lines_more mark a.items b.items c.items xs ys first then };
+
+    ghost stays = { λ sink. grows_none sink.items };
+
+    ghost grows = { λ a b c first then. grows_more a.items b.items c.items first then };
+}
+
+/// Whether there is one.
+impl Sink for bool {
+    ghost Gets = { λ mark old entries new. new ≡ or_some old entries };
+
+    ghost Grew = { λ old new. Unit {0} };
+
+    ghost Takes = { λ fields. is_plain fields ≡ true };
+
+    #[inline(always)]
+    fn put<L: Line>(&mut self, _: &[u8], _: &L, _: Fields) -> Result<(), L::Fault> {
+        *self = true;
+        Ok(())
+    }
+
+    ghost none = { λ mark sink. refl };
+
+    ghost more = { λ mark a b c xs ys first then. some_more a b c xs ys first then };
+
+    ghost stays = { λ sink. tt };
+
+    ghost grows = { λ a b c first then. tt };
+}
